@@ -1,0 +1,3 @@
+-- Laws on Booleans, numbers, membership and lists that speak of no index.
+pub mod Bools
+pub mod Member

@@ -1,0 +1,47 @@
+-- Membership in a list, by recursion. Assumes nothing.
+use mathlib.Core.Path.{_≡_, refl, sym, _∙_, subst}
+use mathlib.Core.Bool.{Bool, true, false, cond}
+use mathlib.Core.Logic.{_⊎_, inl, inr, ⊎-elim}
+use mathlib.Core.List.{List, [], _∷_, _++_}
+use Prim.Native.Nat.{ℕ, zero, suc, _<_}
+use native.Mathlib.Omega.{arith}
+use lib.ListN.{length, getD}
+use Rattle.basics.specs.Bools.{clash}
+
+abbrev pub In : {A : Type 0} → A → List A → Type 0
+In a [] = ⊥
+In a (x ∷ xs) = (a ≡ x) ⊎ In a xs
+
+module _ {A : Type 0} where
+  pub in-append-left : (a : A) (xs ys : List A) → In a xs → In a (xs ++ ys)
+  in-append-left a [] ys m = absurd m
+  in-append-left a (x ∷ xs) ys (inl e) = inl e
+  in-append-left a (x ∷ xs) ys (inr m) = inr (in-append-left a xs ys m)
+
+  pub in-append-right : (a : A) (xs ys : List A) → In a ys → In a (xs ++ ys)
+  in-append-right a [] ys m = m
+  in-append-right a (x ∷ xs) ys m = inr (in-append-right a xs ys m)
+
+  pub in-append-get : (a : A) (xs ys : List A) → In a (xs ++ ys) → In a xs ⊎ In a ys
+  in-append-get a [] ys m = inr m
+  in-append-get a (x ∷ xs) ys (inl e) = inl (inl e)
+  in-append-get a (x ∷ xs) ys (inr m) = ⊎-elim (λ (p : In a xs). inl (inr p)) (λ (q : In a ys). inr q) (in-append-get a xs ys m)
+
+  -- membership where a test decides whether an element is kept
+  pub in-cond-get : (a x : A) (xs : List A) (b : Bool) → In a (cond b (x ∷ xs) xs) → ((b ≡ true) × (a ≡ x)) ⊎ In a xs
+  in-cond-get a x xs true (inl e) = inl (refl, e)
+  in-cond-get a x xs true (inr m) = inr m
+  in-cond-get a x xs false m = inr m
+
+  pub in-cond-here : (x : A) (xs : List A) (b : Bool) → b ≡ true → In x (cond b (x ∷ xs) xs)
+  in-cond-here x xs true t = inl refl
+  in-cond-here x xs false t = clash t refl
+
+  pub in-cond-there : (a x : A) (xs : List A) (b : Bool) → In a xs → In a (cond b (x ∷ xs) xs)
+  in-cond-there a x xs true m = inr m
+  in-cond-there a x xs false m = m
+
+  pub in-getD : (xs : List A) (i : ℕ) (z : A) → i < length xs → In (getD xs i z) xs
+  in-getD [] i z h = absurd (omega arith)
+  in-getD (x ∷ xs) zero z h = inl refl
+  in-getD (x ∷ xs) (suc i) z h = inr (in-getD xs i z (omega arith))

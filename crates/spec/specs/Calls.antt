@@ -1,0 +1,126 @@
+-- What each operation answers and leaves in every lent slice: the refusal table and the contracts. Assumes nothing: these are
+-- definitions.
+use mathlib.Core.Path.{_≡_}
+use mathlib.Core.Bool.{Bool, _&&_, _||_, not, cond}
+use mathlib.Core.List.{List, _++_}
+use Prim.Native.Nat.{ℕ, zero, suc, _*_}
+use lib.Dec.{ltb, eqb}
+use lib.ListN.{length, drop, replicate}
+use Rattle.spec.specs.Dictionary.{longest-text, Lexicon, lexicon, dictionary-refusal}
+use Rattle.spec.specs.Numbers.{index-of}
+use Rattle.spec.specs.Index.{n-of, entries-of, readable}
+use Rattle.spec.specs.Reception.{recovered, received}
+use Rattle.spec.specs.Search.{find}
+use Rattle.spec.specs.Cut.{cut-down}
+use Rattle.spec.specs.Tally.{tally}
+use Rattle.spec.specs.declared.Answer.{Answer}
+use Rattle.spec.specs.declared.TallyAnswer.{TallyAnswer}
+
+-- THE LINES OF THE REFUSAL TABLE beside 1 to 3, which `dictionary-refusal` has
+
+-- Line 4: "text longer than 65,535"
+unfoldable pub text-too-long : (text : List ℕ) → Bool
+text-too-long ts = ltb longest-text (length ts)
+
+-- Line 5: "index not readable"
+unfoldable pub unreadable : Lexicon → (index : List ℕ) → Bool
+unreadable lex xs = not (readable longest-text lex xs)
+
+-- Line 6: "search string empty or longer than 256"
+unfoldable pub string-wrong : (string : List ℕ) → Bool
+string-wrong s = eqb (length s) 0 || ltb 256 (length s)
+
+-- Line 7: "work slice, of 16-bit numbers, shorter than 8n of them"
+unfoldable pub work-short : (n work : ℕ) → Bool
+work-short n w = ltb w (8 * n)
+
+-- Line 8: "output shorter than the whole result"
+unfoldable pub output-short : (result output : ℕ) → Bool
+output-short r o = ltb o r
+
+-- Line 9: "index readable, but no text has it"
+unfoldable pub no-text : Lexicon → (index : List ℕ) → Bool
+no-text lex xs = not (received longest-text lex xs)
+
+-- THE ORDER: "The lowest applicable number is returned; an operation tests only what it is handed."
+
+unfoldable pub or-else : (a b : ℕ) → ℕ
+or-else a b = cond (eqb a 0) b a
+
+unfoldable pub build-refusal : (chars lengths text : List ℕ) → (output work : ℕ) → ℕ
+build-refusal cs ls ts o w =
+    or-else (dictionary-refusal cs ls)
+    (cond (text-too-long ts) 4
+    (cond (work-short (length ts) w) 7
+    (cond (output-short (length (index-of (lexicon cs ls) ts)) o) 8 0)))
+
+-- 1 to 3, 5: what every operation on an index tests first
+unfoldable pub index-refusal : (chars lengths index : List ℕ) → ℕ
+index-refusal cs ls xs = or-else (dictionary-refusal cs ls) (cond (unreadable (lexicon cs ls) xs) 5 0)
+
+unfoldable pub reception-refusal : (chars lengths index : List ℕ) → (work : ℕ) → ℕ
+reception-refusal cs ls xs w =
+    or-else (index-refusal cs ls xs) (cond (work-short (n-of xs) w) 7 (cond (no-text (lexicon cs ls) xs) 9 0))
+
+-- "for recovery, shorter than n; where no result exists, 8 is not given": 8 only where no line of reception is met
+unfoldable pub recovery-refusal : (chars lengths index : List ℕ) → (output work : ℕ) → ℕ
+recovery-refusal cs ls xs o w = or-else (reception-refusal cs ls xs w) (cond (output-short (n-of xs) o) 8 0)
+
+-- search and the cut-down index, with the length of their result
+unfoldable pub find-refusal : (chars lengths index string : List ℕ) → (result output : ℕ) → ℕ
+find-refusal cs ls xs s r o =
+    or-else (index-refusal cs ls xs) (cond (string-wrong s) 6 (cond (output-short r o) 8 0))
+
+-- ANSWERS AND SLICES
+
+-- a value where no line is met, and another on a refusal
+unfoldable pub accepted {ℓ} : {A : Type ℓ} → (refusal : ℕ) → A → A → A
+accepted r x y = cond (eqb r 0) x y
+
+-- the number that the table fixes, and the count of an accepted call; beside a refusal the count is 0
+unfoldable pub Answers : (refusal count : ℕ) → Answer → Type 0
+Answers n c r = (r .refusal ≡ n) × (r .count ≡ accepted n c 0)
+
+-- "output past that count is unchanged"
+unfoldable pub in-front : (new old : List ℕ) → List ℕ
+in-front new old = new ++ drop (length new) old
+
+-- "An accepted call returns the count of numbers written"; "After a refusal every output slice is unchanged."
+unfoldable pub Puts : (refusal : ℕ) → (result : List ℕ) → Answer → (out out-now : List ℕ) → Type 0
+Puts n xs r o z = Answers n (length xs) r × (z ≡ accepted n (in-front xs o) o)
+
+-- "The work slice is all zeros after every call, refused or not."
+unfoldable pub zeros : List ℕ → List ℕ
+zeros xs = replicate (length xs) 0
+
+-- THE OPERATIONS. "An accepted call returns the count of numbers written (reception: n; admission: the number of words; tally: M)"
+
+unfoldable pub Admit-says : (chars lengths : List ℕ) → Answer → Type 0
+Admit-says cs ls r = Answers (dictionary-refusal cs ls) (length ls) r
+
+unfoldable pub Build-says : (chars lengths text : List ℕ) → Answer → (out out-now work work-now : List ℕ) → Type 0
+Build-says cs ls ts r o z w v =
+    Puts (build-refusal cs ls ts (length o) (length w)) (index-of (lexicon cs ls) ts) r o z × (v ≡ zeros w)
+
+unfoldable pub Receive-says : (chars lengths index : List ℕ) → Answer → (work work-now : List ℕ) → Type 0
+Receive-says cs ls xs r w v = Answers (reception-refusal cs ls xs (length w)) (n-of xs) r × (v ≡ zeros w)
+
+unfoldable pub Recover-says : (chars lengths index : List ℕ) → Answer → (out out-now work work-now : List ℕ) → Type 0
+Recover-says cs ls xs r o z w v =
+    Puts (recovery-refusal cs ls xs (length o) (length w)) (recovered (lexicon cs ls) xs) r o z × (v ≡ zeros w)
+
+unfoldable pub Search-says : (chars lengths index string : List ℕ) → Answer → (out out-now : List ℕ) → Type 0
+Search-says cs ls xs s r o z =
+    let found = find (lexicon cs ls) xs s in Puts (find-refusal cs ls xs s (length found) (length o)) found r o z
+
+unfoldable pub Cut-says : (chars lengths index string : List ℕ) → Answer → (out out-now : List ℕ) → Type 0
+Cut-says cs ls xs s r o z =
+    let cut = cut-down (lexicon cs ls) xs s in Puts (find-refusal cs ls xs s (length cut) (length o)) cut r o z
+
+-- "A refusal gives its number and 32 zeros."
+unfoldable pub Tally-says : (chars lengths index : List ℕ) → TallyAnswer → Type 0
+Tally-says cs ls xs r =
+    let n = index-refusal cs ls xs in
+    (r .refusal ≡ n)
+    × (r .count ≡ accepted n (entries-of xs) 0)
+    × (r .«by_length» ≡ accepted n (tally (lexicon cs ls) xs) (replicate 32 0))

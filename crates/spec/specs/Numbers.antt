@@ -1,0 +1,63 @@
+-- How the numbers of an index lie: entries in order, a directory line for each key, then the positions. Assumes nothing: these
+-- are definitions.
+use mathlib.Core.Bool.{Bool, _&&_, _||_, not, cond}
+use mathlib.Core.List.{List, [], _∷_, _++_}
+use Prim.Native.Nat.{ℕ}
+use lib.Dec.{ltb, eqb}
+use lib.ListN.{length}
+use Rattle.spec.specs.Dictionary.{Lexicon}
+use Rattle.spec.specs.Words.{Key, Entry, entries}
+
+-- "the pairs (kind, value) ascend strictly"
+unfoldable pub key-before : Key → Key → Bool
+key-before a b = ltb (a .kind) (b .kind) || (eqb (a .kind) (b .kind) && ltb (a .value) (b .value))
+
+-- by key, then by position
+unfoldable pub entry-before : Entry → Entry → Bool
+entry-before e f =
+    key-before (e .key-of) (f .key-of) || (not (key-before (f .key-of) (e .key-of)) && ltb (e .at) (f .at))
+
+unfoldable pub into : Entry → List Entry → List Entry
+into e [] = e ∷ []
+into e (f ∷ fs) = cond (entry-before e f) (e ∷ f ∷ fs) (f ∷ into e fs)
+
+unfoldable pub sorted : List Entry → List Entry
+sorted [] = []
+sorted (e ∷ es) = into e (sorted es)
+
+-- A directory line with its positions (the field's term: posting list).
+pub record Line : Type 0 where
+  pub key-of : Key
+  pub places : List ℕ
+
+unfoldable pub line : Key → List ℕ → Line
+line k ps = record { key-of = k; places = ps }
+
+unfoldable pub with-entry : Entry → List Line → List Line
+with-entry e [] = line (e .key-of) (e .at ∷ []) ∷ []
+with-entry e (l ∷ ls) =
+    cond (key-before (e .key-of) (l .key-of)) (line (e .key-of) (e .at ∷ []) ∷ l ∷ ls) (line (l .key-of) (e .at ∷ l .places) ∷ ls)
+
+-- entries in order, put together under their keys
+unfoldable pub lines-of : List Entry → List Line
+lines-of [] = []
+lines-of (e ∷ es) = with-entry e (lines-of es)
+
+-- "K directory lines of kind, value, count"
+unfoldable pub directory : List Line → List ℕ
+directory [] = []
+directory (l ∷ ls) = l .key-of .kind ∷ l .key-of .value ∷ length (l .places) ∷ directory ls
+
+-- "then all positions, key after key in directory order"
+unfoldable pub positions : List Line → List ℕ
+positions [] = []
+positions (l ∷ ls) = l .places ++ positions ls
+
+-- "An index is a slice of 16-bit numbers: n; K, the number of keys; K directory lines of kind, value, count; then all positions"
+unfoldable pub numbers : (n : ℕ) → List Line → List ℕ
+numbers n ls = (n ∷ length ls ∷ []) ++ directory ls ++ positions ls
+
+-- "As numbers, a text's index is the one readable slice [..] with the text's n and exactly the entries of its complete maximal
+-- word index"
+unfoldable pub index-of : Lexicon → (text : List ℕ) → List ℕ
+index-of lex ts = numbers (length ts) (lines-of (sorted (entries lex ts)))
