@@ -1,0 +1,107 @@
+-- `words_ascend` meets its contract. The invariant: the words up to the one before word i ascend, and its code is at hand. The
+-- measure is how many words are left. Assumes nothing.
+use mathlib.Core.Path.{_≡_, refl, sym, _∙_}
+use Prim.Native.Nat.{_-_, _<_}
+use native.Mathlib.Omega.{arith}
+use borrow.Author.Needs.{needs}
+use borrow.Author.Tests.{not-true, not-false}
+use lib.ListN.{length}
+use Rattle.laws.specs.WordOrder.{part, code}
+use Rattle.laws.specs.Admission.{Words-read, words-start, words-end, words-step, words-stop, next-some, next-room, no-words}
+use Rattle.dictionary.proofs.admission.words_ascend.Statement.{statement}
+use Rattle.dictionary.proofs.admission.words_ascend.Tie as tie
+
+abbrev Inv-loop : tie.InvT-loop
+Inv-loop chars lengths at₀ next₀ at-code₀ i₀ at next at-code i = Words-read chars lengths at next i × (at-code ≡ code (part chars at next))
+
+abbrev μ-loop : tie.MeasureT-loop
+μ-loop chars lengths at₀ next₀ at-code₀ i₀ at next at-code i = length lengths - i
+
+returns : tie.Need-returns Inv-loop μ-loop
+returns c = no-words (c .before .before .before .args .chars .now) (c .before .before .before .args .lengths .now) (c .if1 .taken)
+
+shared-slice-read-next : tie.Need-shared-slice-read-next Inv-loop μ-loop
+shared-slice-read-next c = search needs
+
+cast-next : tie.Need-cast-next Inv-loop μ-loop
+cast-next c = omega (arith, c .shared-slice-known3 .given 0)
+
+prefix-code-requires : tie.Need-prefix-code-requires Inv-loop μ-loop
+prefix-code-requires c κs =
+    let first = words-start (c .before .before .before .before .args .chars .now) (c .before .before .before .before .args .lengths .now) (c .before .before .before .before .pre) (omega arith) in
+    (first .some, omega (arith, first .room))
+
+loop-holds : tie.Need-loop-holds Inv-loop μ-loop
+loop-holds c = (
+  words-start (c .before .before .before .before .before .args .chars .now) (c .before .before .before .before .before .args .lengths .now) (c .before .before .before .before .before .pre) (omega arith),
+  c .prefix-code .ensures,
+)
+
+mul-end : tie.Need-mul-end Inv-loop μ-loop
+mul-end c = search needs
+
+shared-slice-read-end : tie.Need-shared-slice-read-end Inv-loop μ-loop
+shared-slice-read-end c = search needs
+
+cast-end : tie.Need-cast-end Inv-loop μ-loop
+cast-end c = omega (arith, c .shared-slice-known4 .given (c .before .before .loop .i))
+
+add-end : tie.Need-add-end Inv-loop μ-loop
+add-end c = omega (arith, next-room (c .before .before .before .before .before .before .before .before .args .chars .now) (c .before .before .before .before .before .before .before .before .args .lengths .now) (c .before .before .loop .at) (c .before .before .loop .next) (c .before .before .loop .i) (c .before .before .loop .inv .0) (c .before .loop-test .taken))
+
+prefix-code-requires-2 : tie.Need-prefix-code-requires-2 Inv-loop μ-loop
+prefix-code-requires-2 c κs = (
+  next-some (c .before .before .before .before .before .before .before .before .args .chars .now) (c .before .before .before .before .before .before .before .before .args .lengths .now) (c .before .before .loop .at) (c .before .before .loop .next) (c .before .before .loop .i) (c .before .before .loop .inv .0) (c .before .loop-test .taken),
+  next-room (c .before .before .before .before .before .before .before .before .args .chars .now) (c .before .before .before .before .before .before .before .before .args .lengths .now) (c .before .before .loop .at) (c .before .before .loop .next) (c .before .before .loop .i) (c .before .before .loop .inv .0) (c .before .loop-test .taken),
+)
+
+neighbours-ascend-requires : tie.Need-neighbours-ascend-requires Inv-loop μ-loop
+neighbours-ascend-requires c κs =
+    record {
+      first = omega (arith, c .before .before .before .loop .inv .0 .some);
+      second = omega arith;
+      room = next-room (c .before .before .before .before .before .before .before .before .before .args .chars .now) (c .before .before .before .before .before .before .before .before .before .args .lengths .now) (c .before .before .before .loop .at) (c .before .before .before .loop .next) (c .before .before .before .loop .i) (c .before .before .before .loop .inv .0) (c .before .before .loop-test .taken);
+      first-code = c .before .before .before .loop .inv .1;
+      second-code = c .prefix-code2 .ensures;
+    }
+
+returns-2 : tie.Need-returns-2 Inv-loop μ-loop
+returns-2 c = words-stop (c .before .before .before .before .before .before .before .before .before .before .before .args .chars .now) (c .before .before .before .before .before .before .before .before .before .before .before .args .lengths .now) (c .before .before .before .before .before .loop .at) (c .before .before .before .before .before .loop .next) (c .before .before .before .before .before .loop .i) (c .before .before .before .before .before .loop .inv .0) (c .before .before .before .before .loop-test .taken) (sym (c .before .neighbours-ascend .ensures) ∙ not-true (c .before .neighbours-ascend .result) (c .if2 .taken))
+
+add-i : tie.Need-add-i Inv-loop μ-loop
+add-i c = search needs
+
+loop-less : tie.Need-loop-less Inv-loop μ-loop
+loop-less c = search needs
+
+loop-again : tie.Need-loop-again Inv-loop μ-loop
+loop-again c = (
+  words-step (c .before .before .before .before .before .before .before .before .before .before .before .args .chars .now) (c .before .before .before .before .before .before .before .before .before .before .before .args .lengths .now) (c .before .before .before .before .before .loop .at) (c .before .before .before .before .before .loop .next) (c .before .before .before .before .before .loop .i) (c .before .before .before .before .before .loop .inv .0) (c .before .before .before .before .loop-test .taken) (sym (c .before .neighbours-ascend .ensures) ∙ not-false (c .before .neighbours-ascend .result) (c .if2 .left)),
+  c .before .before .prefix-code2 .ensures,
+)
+
+returns-3 : tie.Need-returns-3 Inv-loop μ-loop
+returns-3 c = words-end (c .before .before .before .before .before .before .before .args .chars .now) (c .before .before .before .before .before .before .before .args .lengths .now) (c .before .loop .at) (c .before .loop .next) (c .before .loop .i) (c .before .loop .inv .0) (c .loop-test .left)
+
+pub words-ascend-spec : {M : Type 1} → statement M
+words-ascend-spec =
+    tie.close
+    (tie.spec
+    Inv-loop
+    μ-loop
+    returns
+    shared-slice-read-next
+    cast-next
+    prefix-code-requires
+    loop-holds
+    mul-end
+    shared-slice-read-end
+    cast-end
+    add-end
+    prefix-code-requires-2
+    neighbours-ascend-requires
+    returns-2
+    add-i
+    loop-less
+    loop-again
+    returns-3)

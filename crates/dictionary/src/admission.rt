@@ -1,0 +1,169 @@
+// Admission of a dictionary: lines 1, 2 and 3 of the refusal table, in that order.
+//
+// One pass over the lengths without a branch in it, and one over the words and their neighbours. Neighbours in a dictionary often
+// share a first character, and a loop over the shared ones is mispredicted at nearly every word. So the first three characters
+// of each word are packed into one number, and two neighbours are told apart by one comparison; only words that share all three
+// are compared character by character. The cost is linear in the characters lent.
+ghost use mathlib.Core.Path.{_≡_};
+ghost use mathlib.Core.Bool.{_&&_, cond};
+ghost use Prim.Native.Nat.{_+_, _≤_, _<_};
+ghost use lib.Dec.{eqb};
+ghost use lib.ListN.{length};
+ghost use Rattle.spec.specs.Dictionary.{lengths-good, total, words-from, word-before, ascend, dictionary-refusal};
+ghost use Rattle.spec.specs.Calls.{Admit-says};
+ghost use Rattle.laws.specs.WordOrder.{part, code, Neighbours};
+ghost use Rattle.laws.specs.Admission.{Fitting};
+use spec::Answer;
+
+// Whether every length is 1 to 32 and they add up to `count`.
+fn lengths_fit(lengths: &[u16], count: usize) -> bool
+    requires { ⌜ length (now lengths) ≤ 4096 ⌝ }
+    ensures { λ r. ⌜ r ≡ (lengths-good (now (lengths .entry)) && eqb (total (now (lengths .entry))) count) ⌝ }
+{
+    let mut sum: u32 = 0;
+    let mut good = true;
+    let mut i = 0;
+    while i < lengths.len() {
+        let long = lengths[i];
+        good = good & (1 <= long) & (long <= 32);
+        sum += long as u32;
+        i += 1;
+    }
+    good & (sum as usize == count)
+}
+
+// The next position, or the same one at the end.
+fn next_within(at: usize, last: usize) -> usize
+    requires { ⌜ at ≤ last ⌝ }
+    ensures within { λ r. ⌜ r ≤ last ⌝ }
+    ensures next { λ r. ⌜ (at < last → r ≡ at + 1) ⌝ }
+{
+    if at < last { at + 1 } else { at }
+}
+
+// One more than the character's number, or 0 where the word has ended.
+fn digit(present: bool, character: u16) -> u64
+    ensures value { λ r. ⌜ r ≡ cond present (character + 1) 0 ⌝ }
+    ensures small { λ r. ⌜ r ≤ 65536 ⌝ }
+{
+    let number = character as u64 + 1;
+    if present { number } else { 0 }
+}
+
+// The first three characters of the word from `at` to `end` as one number. A read past the word is of the next word, and not used.
+fn prefix_code(chars: &[u16], at: usize, end: usize) -> u64
+    requires { ⌜ (at < end) × (end ≤ length (now chars)) ⌝ }
+    ensures { λ r. ⌜ r ≡ code (part (now (chars .entry)) at end) ⌝ }
+{
+    let last = chars.len() - 1;
+    let second = next_within(at, last);
+    let third = next_within(second, last);
+    let long = end - at;
+    let a = digit(true, chars[at]);
+    let b = digit(1 < long, chars[second]);
+    let c = digit(2 < long, chars[third]);
+    (a * 131072 + b) * 131072 + c
+}
+
+// Whether one word comes before another, character by character, a proper prefix first.
+fn comes_before(left: &[u16], right: &[u16]) -> bool
+    ensures { λ r. ⌜ r ≡ word-before (now (left .entry)) (now (right .entry)) ⌝ }
+{
+    let mut i = 0;
+    while i < left.len() {
+        if right.len() <= i {
+            return false;
+        }
+        let x = left[i];
+        let y = right[i];
+        if x < y {
+            return true;
+        }
+        if y < x {
+            return false;
+        }
+        i += 1;
+    }
+    left.len() < right.len()
+}
+
+// Whether the word from `at` to `next` comes before the one from `next` to `end`. Their codes decide where they differ.
+fn neighbours_ascend(
+    chars: &[u16],
+    at: usize,
+    next: usize,
+    end: usize,
+    at_code: u64,
+    next_code: u64,
+) -> bool
+    requires { ⌜ Neighbours (now chars) at next end «at_code» «next_code» ⌝ }
+    ensures { λ r. ⌜ r ≡ word-before (part (now (chars .entry)) at next) (part (now (chars .entry)) next end) ⌝ }
+{
+    if at_code < next_code {
+        return true;
+    }
+    if next_code < at_code {
+        return false;
+    }
+    comes_before(&chars[at..next], &chars[next..end])
+}
+
+// Whether the words ascend strictly.
+fn words_ascend(chars: &[u16], lengths: &[u16]) -> bool
+    requires { ⌜ Fitting (now chars) (now lengths) ⌝ }
+    ensures { λ r. ⌜ r ≡ ascend (words-from (now (lengths .entry)) (now (chars .entry))) ⌝ }
+{
+    if lengths.len() == 0 {
+        return true;
+    }
+    let mut at = 0;
+    let mut next = lengths[0] as usize;
+    let mut at_code = prefix_code(chars, at, next);
+    let mut i = 1;
+    while i < lengths.len() {
+        let end = next + lengths[i] as usize;
+        let next_code = prefix_code(chars, next, end);
+        if !neighbours_ascend(chars, at, next, end, at_code, next_code) {
+            return false;
+        }
+        at = next;
+        next = end;
+        at_code = next_code;
+        i += 1;
+    }
+    true
+}
+
+// The number of the first line of 1 to 3 that the dictionary meets, or 0.
+pub fn refusal_of(chars: &[u16], lengths: &[u16]) -> u32
+    ensures { λ r. ⌜ r ≡ dictionary-refusal (now (chars .entry)) (now (lengths .entry)) ⌝ }
+{
+    if 4096 < lengths.len() {
+        return 1;
+    }
+    if 65535 < chars.len() {
+        return 1;
+    }
+    if !lengths_fit(lengths, chars.len()) {
+        return 2;
+    }
+    if !words_ascend(chars, lengths) {
+        return 3;
+    }
+    0
+}
+
+// Admits a dictionary: answers the number of words, or the refusal.
+pub fn admit(chars: &[u16], lengths: &[u16]) -> Answer
+    ensures { λ r. ⌜ Admit-says (now (chars .entry)) (now (lengths .entry)) r ⌝ }
+{
+    let refusal = refusal_of(chars, lengths);
+    if refusal == 0 {
+        Answer {
+            refusal,
+            count: lengths.len(),
+        }
+    } else {
+        Answer { refusal, count: 0 }
+    }
+}

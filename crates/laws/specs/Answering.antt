@@ -1,0 +1,25 @@
+-- From the refusal number to what a call says: one law for an accepted call, one for a refusal. Assumes nothing.
+use mathlib.Core.Path.{_≡_, sym, _∙_}
+use Prim.Native.Nat.{ℕ}
+use lib.Dec.{eqb}
+use borrow.Author.Tests.{eq-eqb, ne-eqb}
+use Rattle.spec.specs.declared.Answer.{Answer}
+use Rattle.spec.specs.Calls.{accepted, Answers}
+
+module _ {ℓ} {A : Type ℓ} (n : ℕ) (x y : A) where
+  pub accepted-yes : n ≡ 0 → accepted n x y ≡ x
+  unfolding accepted
+  accepted-yes e = rw (eq-eqb n 0 e)
+
+  pub accepted-no : (n ≡ 0 → ⊥) → accepted n x y ≡ y
+  unfolding accepted
+  accepted-no ne = rw (ne-eqb n 0 ne)
+
+module _ (n c : ℕ) (r : Answer) (number : r .refusal ≡ n) where
+  pub answers-accepted : n ≡ 0 → r .count ≡ c → Answers n c r
+  unfolding Answers
+  answers-accepted none count = (number, count ∙ sym (accepted-yes n c 0 none))
+
+  pub answers-refused : (n ≡ 0 → ⊥) → r .count ≡ 0 → Answers n c r
+  unfolding Answers
+  answers-refused some count = (number, count ∙ sym (accepted-no n c 0 some))
