@@ -1,0 +1,14 @@
+// The face of the library: every public operation once, for C and Rust to link. No operation has a `requires`, and each contract
+// fixes the answer and the final content of every slice lent to be written, for refused input too. A slice lent to be read
+// stays as it was by its type.
+ghost use Rattle.spec.specs.Calls.{Admit-says};
+use spec::Answer;
+
+// Admits a dictionary, lent as all characters run together and a list of lengths. Refusals 1, 2, 3; accepted it answers the number
+// of words.
+#[no_mangle]
+pub extern "C" fn mopekihua_admit(chars: &[u16], lengths: &[u16]) -> Answer
+    ensures { λ r. ⌜ Admit-says (now (chars .entry)) (now (lengths .entry)) r ⌝ }
+{
+    dictionary::admission::admit(chars, lengths)
+}

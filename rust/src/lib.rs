@@ -1,0 +1,81 @@
+//! A safe face over Mopekihua, a full-text index whose functions are proved
+//! to answer what their definitions say.
+//!
+//! The functions here hand lent slices to the static library
+//! `libmopekihua.a` and type its answers. They copy nothing and allocate
+//! nothing.
+//!
+//! # Dictionaries
+//!
+//! A character is a 16-bit number; no number has a special meaning. A
+//! dictionary has up to 4,096 words of 1 to 32 characters, 65,535 characters
+//! in all at most. It is lent as all characters run together and a list of
+//! lengths, and its words ascend strictly, compared character by character, a
+//! proper prefix first. [`admit`] says whether that holds.
+//!
+//! ```
+//! // The words ab, abc and bcd.
+//! let chars: Vec<u16> = "ababcbcd".encode_utf16().collect();
+//! assert_eq!(mopekihua::admit(&chars, &[2, 3, 3]), Ok(3));
+//! ```
+//!
+//! # What is proved and what is not
+//!
+//! The library's code is proved: for every input, declined ones too, the
+//! answer is the one that the definition gives, and the call ends. Not checked
+//! by the prover: that this crate declares the C functions as the library has
+//! them, the few lines that turn slices into pointers and numbers into
+//! [`Refusal`], and the compilers and the linker. The tests of this crate run
+//! the library through these declarations and compare it with a plain reading
+//! of the definitions in Rust.
+//!
+//! # Building
+//!
+//! `make lib` in the repository's root proves the library and writes it to
+//! where this crate looks for it. The environment variable `MOPEKIHUA_LIB_DIR`
+//! names another folder.
+
+#![deny(missing_docs, unsafe_op_in_unsafe_fn)]
+
+mod ffi;
+mod refusal;
+
+pub use refusal::Refusal;
+
+/// Admits a dictionary, and answers its number of words.
+///
+/// `chars` are the characters of all words run together, `lengths` the length
+/// of each word, in order. The cost is linear in the characters lent.
+///
+/// # Errors
+///
+/// The first that applies:
+///
+/// - [`Refusal::DictionaryTooLarge`]: more than 4,096 lengths, or more than
+///   65,535 characters;
+/// - [`Refusal::LengthsWrong`]: a length is 0 or above 32, or the lengths do
+///   not add up to the number of characters;
+/// - [`Refusal::WordsNotAscending`]: a word is equal to the one before it, or
+///   sorts below it.
+///
+/// # Examples
+///
+/// A dictionary without words is one.
+///
+/// ```
+/// assert_eq!(mopekihua::admit(&[], &[]), Ok(0));
+/// ```
+///
+/// Words ascend by their numbers, and a proper prefix comes first.
+///
+/// ```
+/// use mopekihua::{Refusal, admit};
+///
+/// let chars: Vec<u16> = "図図面面".encode_utf16().collect();
+/// assert_eq!(admit(&chars, &[1, 2, 1]), Ok(3));
+/// assert_eq!(admit(&chars, &[1, 1, 2]), Err(Refusal::WordsNotAscending));
+/// assert_eq!(admit(&chars, &[1, 2]), Err(Refusal::LengthsWrong));
+/// ```
+pub fn admit(chars: &[u16], lengths: &[u16]) -> Result<usize, Refusal> {
+    ffi::admit(chars, lengths).into_result()
+}

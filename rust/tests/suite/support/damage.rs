@@ -1,0 +1,103 @@
+//! Ways to damage a dictionary. Some may leave it right, as a changed
+//! character may: the oracle says which.
+
+use super::dictionary::Dictionary;
+use super::random::Random;
+
+#[derive(Clone, Copy, Debug)]
+pub enum Damage {
+    SwapNeighbours,
+    RepeatWord,
+    LengthOneMore,
+    LengthOneLess,
+    LengthZero,
+    LengthAboveLimit,
+    DropCharacters,
+    AddCharacters,
+    ChangeCharacter,
+    MoveBorder,
+    DropLength,
+    TooManyLengths,
+    TooManyCharacters,
+}
+
+impl Damage {
+    pub const ALL: [Damage; 13] = [
+        Damage::SwapNeighbours,
+        Damage::RepeatWord,
+        Damage::LengthOneMore,
+        Damage::LengthOneLess,
+        Damage::LengthZero,
+        Damage::LengthAboveLimit,
+        Damage::DropCharacters,
+        Damage::AddCharacters,
+        Damage::ChangeCharacter,
+        Damage::MoveBorder,
+        Damage::DropLength,
+        Damage::TooManyLengths,
+        Damage::TooManyCharacters,
+    ];
+
+    /// The refusal that a right dictionary of some 40 words meets after this
+    /// damage; none where it depends on the dictionary.
+    pub fn meets(self) -> Option<usize> {
+        match self {
+            Damage::TooManyLengths | Damage::TooManyCharacters => Some(1),
+            Damage::LengthOneMore
+            | Damage::LengthOneLess
+            | Damage::LengthZero
+            | Damage::LengthAboveLimit
+            | Damage::DropCharacters
+            | Damage::AddCharacters
+            | Damage::DropLength => Some(2),
+            Damage::SwapNeighbours | Damage::RepeatWord => Some(3),
+            Damage::ChangeCharacter | Damage::MoveBorder => None,
+        }
+    }
+
+    /// Does this damage to a dictionary of at least two words whose lengths add
+    /// up.
+    pub fn apply(self, dictionary: &mut Dictionary, random: &mut Random) {
+        let number = random.place(dictionary.lengths.len());
+        let neighbour = random.place(dictionary.lengths.len() - 1);
+        let chars_len = dictionary.chars.len();
+        let Dictionary { chars, lengths } = dictionary;
+        match self {
+            Damage::SwapNeighbours => swap_neighbours(dictionary, neighbour),
+            Damage::RepeatWord => repeat_word(dictionary, number),
+            Damage::LengthOneMore => lengths[number] += 1,
+            Damage::LengthOneLess => lengths[number] -= 1,
+            Damage::LengthZero => lengths[number] = 0,
+            Damage::LengthAboveLimit => lengths[number] = random.one_of(&[33, 34, 256, 65535]),
+            Damage::DropCharacters => chars.truncate(random.place(chars_len)),
+            Damage::AddCharacters => {
+                chars.extend((0..random.within(1, 40)).map(|_| random.character()));
+            }
+            Damage::ChangeCharacter => chars[random.place(chars_len)] = random.character(),
+            Damage::MoveBorder => {
+                lengths[neighbour] += 1;
+                lengths[neighbour + 1] -= 1;
+            }
+            Damage::DropLength => {
+                lengths.remove(number);
+            }
+            Damage::TooManyLengths => lengths.resize(random.within(4097, 4100), 1),
+            Damage::TooManyCharacters => chars.resize(random.within(65_536, 65_540), 0),
+        }
+    }
+}
+
+fn swap_neighbours(dictionary: &mut Dictionary, first: usize) {
+    let start = dictionary.start(first);
+    let first_len = usize::from(dictionary.lengths[first]);
+    let second_len = usize::from(dictionary.lengths[first + 1]);
+    dictionary.chars[start..start + first_len + second_len].rotate_left(first_len);
+    dictionary.lengths.swap(first, first + 1);
+}
+
+fn repeat_word(dictionary: &mut Dictionary, number: usize) {
+    let word = dictionary.word(number);
+    let start = dictionary.start(number);
+    dictionary.lengths.insert(number, word.len() as u16);
+    dictionary.chars.splice(start..start, word);
+}

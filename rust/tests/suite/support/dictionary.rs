@@ -1,0 +1,155 @@
+//! Dictionaries as they are lent, and what the library answers to one.
+
+use std::collections::BTreeSet;
+use std::fmt;
+
+use super::random::Random;
+
+#[derive(Clone, Default)]
+pub struct Dictionary {
+    pub chars: Vec<u16>,
+    pub lengths: Vec<u16>,
+}
+
+/// Few enough numbers to read where a test fails.
+impl fmt::Debug for Dictionary {
+    fn fmt(&self, f: &mut fmt::Formatter<'_>) -> fmt::Result {
+        let few = |numbers: &[u16]| numbers[..numbers.len().min(100)].to_vec();
+        f.debug_struct("Dictionary")
+            .field("chars_len", &self.chars.len())
+            .field("chars", &few(&self.chars))
+            .field("lengths_len", &self.lengths.len())
+            .field("lengths", &few(&self.lengths))
+            .finish()
+    }
+}
+
+impl Dictionary {
+    /// The words in the order given.
+    pub fn of<W: AsRef<[u16]>>(words: impl IntoIterator<Item = W>) -> Self {
+        let mut dictionary = Dictionary::default();
+        for word in words {
+            dictionary.push(word.as_ref());
+        }
+        dictionary
+    }
+
+    /// The words of a string, in the order given.
+    pub fn spelt(words: &str) -> Self {
+        Self::of(
+            words
+                .split_whitespace()
+                .map(|word| word.encode_utf16().collect::<Vec<u16>>()),
+        )
+    }
+
+    /// `count` words of one character each, 0, 1, 2 and so on.
+    pub fn of_single_characters(count: u16) -> Self {
+        Self::of((0..count).map(|character| [character]))
+    }
+
+    /// Ascending words with `total` characters in all: each starts with its own
+    /// number, and they are 32 characters long but for the last.
+    pub fn of_total_length(total: usize) -> Self {
+        let all = vec![0xFFFF; total];
+        let mut dictionary = Self::of(all.chunks(32));
+        for (number, at) in (0..total).step_by(32).enumerate() {
+            dictionary.chars[at] = number as u16;
+        }
+        dictionary
+    }
+
+    /// An admitted dictionary of at most `most` words over few characters, so
+    /// that words share beginnings and are prefixes of each other.
+    pub fn random(random: &mut Random, most: usize) -> Self {
+        let alphabet: Vec<u16> = (0..random.within(1, 4))
+            .map(|_| match random.within(0, 3) {
+                0 => random.one_of(&[0x0000, 0xFFFF, 0x7FFF, 0x8000, 0xD83D, 0xDC00]),
+                _ => random.character(),
+            })
+            .collect();
+        let longest = random.one_of(&[1, 2, 3, 6, 32]);
+        let words: BTreeSet<Vec<u16>> = (0..random.within(0, most))
+            .map(|_| {
+                let length = random.within(1, longest);
+                (0..length).map(|_| random.one_of(&alphabet)).collect()
+            })
+            .collect();
+        Self::of(words)
+    }
+
+    /// Near the two limits of refusal 1, on either side of them; words ascend.
+    pub fn random_large(random: &mut Random) -> Self {
+        match random.within(0, 2) {
+            0 => Self::of_single_characters(random.within(4090, 4102) as u16),
+            1 => Self::of_total_length(random.within(65_530, 65_541)),
+            _ => {
+                let mut dictionary = Self::of_total_length(random.within(65_000, 65_541));
+                let split = random.place(dictionary.lengths.len() - 1);
+                // A word of 32 characters cut in two keeps the sum; the second
+                // half starts with 0xFFFF, so the words no longer ascend.
+                dictionary.lengths[split] = 16;
+                dictionary.lengths.insert(split, 16);
+                dictionary
+            }
+        }
+    }
+
+    pub fn push(&mut self, word: &[u16]) {
+        self.chars.extend_from_slice(word);
+        self.lengths.push(word.len() as u16);
+    }
+
+    /// Where the word with this number starts among the characters.
+    pub fn start(&self, number: usize) -> usize {
+        self.lengths[..number].iter().map(|&l| usize::from(l)).sum()
+    }
+
+    pub fn word(&self, number: usize) -> Vec<u16> {
+        let start = self.start(number);
+        self.chars[start..start + usize::from(self.lengths[number])].to_vec()
+    }
+
+    /// The library's answer: the number of words or of the refusal.
+    ///
+    /// The slices are lent out of the middle of larger ones, once between zeros
+    /// and once between 0xFFFF: all must be as before, and the answer must not
+    /// depend on what lies beside the slices.
+    pub fn admit(&self) -> Result<usize, u32> {
+        let between_zeros = self.admit_between(0x0000);
+        assert_eq!(between_zeros, self.admit_between(0xFFFF), "{self:?}");
+        between_zeros
+    }
+
+    fn admit_between(&self, guard: u16) -> Result<usize, u32> {
+        let chars = Guarded::new(&self.chars, guard);
+        let lengths = Guarded::new(&self.lengths, guard);
+        let answer = mopekihua::admit(chars.inner(), lengths.inner());
+        chars.assert_unchanged(&self.chars, guard);
+        lengths.assert_unchanged(&self.lengths, guard);
+        answer.map_err(mopekihua::Refusal::number)
+    }
+}
+
+/// A slice between two runs of guard numbers.
+struct Guarded(Vec<u16>);
+
+impl Guarded {
+    const WIDTH: usize = 40;
+
+    fn new(inner: &[u16], guard: u16) -> Self {
+        let run = [guard; Self::WIDTH];
+        Guarded([&run, inner, &run].concat())
+    }
+
+    fn inner(&self) -> &[u16] {
+        &self.0[Self::WIDTH..self.0.len() - Self::WIDTH]
+    }
+
+    fn assert_unchanged(&self, inner: &[u16], guard: u16) {
+        assert!(
+            self.0 == Self::new(inner, guard).0,
+            "a lent slice was changed"
+        );
+    }
+}

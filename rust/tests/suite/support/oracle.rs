@@ -1,0 +1,30 @@
+//! The definitions read as plainly as they are written, with no regard to cost.
+
+/// Admission: the number of words, or the number of the refusal.
+pub fn admit(chars: &[u16], lengths: &[u16]) -> Result<usize, u32> {
+    if lengths.len() > 4096 || chars.len() > 65535 {
+        return Err(1);
+    }
+    let sum: u64 = lengths.iter().map(|&length| u64::from(length)).sum();
+    let all_allowed = lengths.iter().all(|length| (1..=32).contains(length));
+    if !all_allowed || sum != chars.len() as u64 {
+        return Err(2);
+    }
+    let words = split(chars, lengths);
+    if words.windows(2).any(|pair| pair[0] >= pair[1]) {
+        return Err(3);
+    }
+    Ok(words.len())
+}
+
+/// The words of a dictionary whose lengths add up.
+fn split(chars: &[u16], lengths: &[u16]) -> Vec<Vec<u16>> {
+    let mut rest = chars;
+    let mut words = Vec::new();
+    for &length in lengths {
+        let (word, after) = rest.split_at(usize::from(length));
+        words.push(word.to_vec());
+        rest = after;
+    }
+    words
+}
