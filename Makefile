@@ -1,0 +1,85 @@
+# What a reader types, and the steps that the gate (.ci/run) is made of.
+
+.DEFAULT_GOAL := help
+.PHONY: run test lib fmt clean help check check-fmt check-c check-rust example need-rt
+.NOTPARALLEL:
+
+# A failed step of a pipeline fails its recipe.
+SHELL := bash
+.SHELLFLAGS := -euo pipefail -c
+
+CC ?= cc
+CFLAGS := -std=c11 -Wall -Wextra -Werror -pedantic -O2
+CXXFLAGS := -std=c++11 -Wall -Wextra -Werror -pedantic
+
+# Everything is built under target/, whatever the environment says, and the
+# Rust crate links the library that is built here.
+export CARGO_TARGET_DIR := $(CURDIR)/target/rust
+export CARGO_NET_OFFLINE := true
+export MOPEKIHUA_LIB_DIR := $(CURDIR)/target/staticlib
+CARGO := cd rust && cargo
+
+## run: prove the library, and run the C example on it
+run: example
+	@target/examples/admit
+
+## test: the whole gate
+test:
+	@.ci/run
+
+## lib: prove the library and write target/staticlib/libmopekihua.a
+lib: need-rt
+	rt staticlib mopekihua
+
+## fmt: put every source file into its layout
+fmt: need-rt
+	rt fmt
+	$(CARGO) fmt
+
+## clean: remove everything that was built
+clean:
+	rm -rf target
+
+## help: this list
+help:
+	@sed -n 's/^## /  make /p' Makefile
+
+# The gate after `rt ci`.
+check: check-fmt check-c check-rust
+
+example: lib
+	@mkdir -p target/examples
+	$(CC) $(CFLAGS) -Iinclude examples/admit.c target/staticlib/libmopekihua.a \
+	  -o target/examples/admit
+
+check-fmt: need-rt
+	rt fmt --check
+	$(CARGO) fmt --check
+
+# The header is included twice, alone: it brings what it needs and guards itself.
+TWICE := printf '\#include "mopekihua.h"\n\#include "mopekihua.h"\n'
+
+check-c: example
+	target/examples/admit | diff examples/admit.out -
+	$(TWICE) | $(CC) -x c $(CFLAGS) -Iinclude -fsyntax-only -
+	@if printf '#include <stdint.h>\n' | $(CC) -x c++ -fsyntax-only - 2>/dev/null; then \
+	  set -x; $(TWICE) | $(CC) -x c++ $(CXXFLAGS) -Iinclude -fsyntax-only -; \
+	else \
+	  echo 'skipped: $(CC) does not compile C++, so the header is only checked as C'; \
+	fi
+
+check-rust: lib
+	@if cargo clippy --version >/dev/null 2>&1; then \
+	  set -x; $(CARGO) clippy --locked --release --all-targets -- -D warnings; \
+	else \
+	  echo 'skipped: there is no cargo clippy'; \
+	fi
+	$(CARGO) test --locked --release
+	$(CARGO) doc --locked --no-deps
+
+check-rust: export RUSTDOCFLAGS := -D warnings
+
+need-rt:
+	@command -v rt >/dev/null || { \
+	  echo "rt is not on PATH: install the Rattle toolchain, which proves and builds the library" >&2; \
+	  exit 1; }
