@@ -45,3 +45,8 @@ module _ {A : Type 0} where
   in-getD [] i z h = absurd (omega arith)
   in-getD (x ∷ xs) zero z h = inl refl
   in-getD (x ∷ xs) (suc i) z h = inr (in-getD xs i z (omega arith))
+
+  -- what holds of the head and of the members of the tail holds of every member
+  pub all-cons {ℓ} : (P : A → Type ℓ) (x : A) (xs : List A) → P x → ((a : A) → In a xs → P a) → (a : A) → In a (x ∷ xs) → P a
+  all-cons P x xs p h a (inl e) = subst P (sym e) p
+  all-cons P x xs p h a (inr m) = h a m

@@ -36,6 +36,20 @@ pub record Is-entry (lex : Lexicon) (ts : List ℕ) (e : Entry) : Type 0 where
   pub long-is : e .long ≡ length (spells lex (e .key-of))
   pub stand : Stand (spells lex (e .key-of)) ts (e .at)
 
+-- entries that a readable index of n characters may have
+pub record Sound-entry (lex : Lexicon) (n : ℕ) (e : Entry) : Type 0 where
+  pub is-key : Is-key lex (e .key-of)
+  pub long-is : e .long ≡ length (spells lex (e .key-of))
+  pub from : 1 ≤ e .at
+  pub within : e .at + e .long ≤ suc n
+
+abbrev pub Sound : Lexicon → (n : ℕ) → List Entry → Type 0
+Sound lex n es = (e : Entry) → In e es → Sound-entry lex n e
+
+-- no two entries start at one place
+abbrev pub Own-places : List Entry → Type 0
+Own-places es = (e f : Entry) → In e es → In f es → e .at ≡ f .at → e ≡ f
+
 -- one entry contains another
 pub record Contains (e f : Entry) : Type 0 where
   pub starts : e .at ≤ f .at

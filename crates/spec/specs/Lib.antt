@@ -9,4 +9,5 @@ pub mod Cut
 pub mod Tally
 pub mod Calls
 pub mod Promise
+pub mod Beyond
 pub mod Examples

@@ -1,0 +1,150 @@
+-- A text's index is readable, has the text's n and its maximal entries, and is the only such slice. Assumes nothing.
+use mathlib.Core.Path.{_≡_, refl, sym, ap, _∙_, subst}
+use mathlib.Core.Bool.{true}
+use mathlib.Core.List.{List, [], _∷_}
+use Prim.Native.Nat.{ℕ, suc, _≤_}
+use native.Mathlib.Omega.{arith}
+use lib.Dec.{leb}
+use lib.ListN.{length, length-append}
+use borrow.Author.Tests.{leb-true}
+use Rattle.basics.specs.Bools.{and-right}
+use Rattle.basics.specs.Member.{In}
+use Rattle.spec.specs.Dictionary.{Lexicon, all-chars, is-text, lexicon, admitted}
+use Rattle.spec.specs.Words.{Key, Entry, entry, entries}
+use Rattle.spec.specs.Numbers.{Line, sorted, lines-of, positions, index-of}
+use Rattle.spec.specs.Index.{n-of, entries-of, lines-in, readable}
+use Rattle.spec.specs.Beyond.{Among, Under, Tells, Only-readable}
+use Rattle.laws.specs.Facts.{Sound, entries-at, flat, Good-lines}
+use Rattle.laws.specs.KeyOrder.{entry-eq}
+use Rattle.laws.specs.Slices.{n-of-numbers, lines-in-numbers, entries-of-numbers}
+use Rattle.laws.specs.Readable.{readable-put, readable-get, readable-unique}
+use Rattle.laws.specs.Flat.{posting, flat-get, flat-put, flat-measured}
+use Rattle.laws.specs.Lines.{flat-lines-of, lines-of-good, lines-unique}
+use Rattle.laws.specs.Sorted.{in-sorted-get, in-sorted-put, length-sorted, sorted-entries-ascend}
+
+-- PARTS OF AN INDEX
+
+pub n-of-index : (lex : Lexicon) (ts : List ℕ) → n-of (index-of lex ts) ≡ length ts
+unfolding index-of
+n-of-index lex ts = n-of-numbers (length ts) (lines-of (sorted (entries lex ts)))
+
+pub lines-in-index : (lex : Lexicon) (ts : List ℕ) → lines-in (index-of lex ts) ≡ lines-of (sorted (entries lex ts))
+unfolding index-of
+lines-in-index lex ts = lines-in-numbers (length ts) (lines-of (sorted (entries lex ts)))
+
+pub length-entries-at : (lex : Lexicon) (k : Key) (ps : List ℕ) → length (entries-at lex k ps) ≡ length ps
+unfolding entries-at
+length-entries-at lex k [] = refl
+length-entries-at lex k (p ∷ ps) = ap suc (length-entries-at lex k ps)
+
+pub length-flat : (lex : Lexicon) (ls : List Line) → length (flat lex ls) ≡ length (positions ls)
+unfolding flat positions
+length-flat lex [] = refl
+length-flat lex (l ∷ ls) =
+    simp length-append (omega (arith, length-entries-at lex (l .key-of) (l .places), length-flat lex ls))
+
+-- the entry of k at p is in a slice exactly if it is in its flat list
+pub under-get : (lex : Lexicon) (xs : List ℕ) (k : Key) (p : ℕ) → Under k p xs → In (posting lex k p) (flat lex (lines-in xs))
+unfolding Under
+under-get lex xs k p u = rw (u .2) at (flat-put lex (lines-in xs) (u .0) p (u .1) (u .3))
+
+pub under-put : (lex : Lexicon) (xs : List ℕ) (k : Key) (p : ℕ) → In (posting lex k p) (flat lex (lines-in xs)) → Under k p xs
+unfolding Under entry
+under-put lex xs k p m =
+    let r = flat-get lex (lines-in xs) (posting lex k p) m in (
+      r .0,
+      r .1,
+      sym (ap (λ (e : Entry). e .key-of) (r .3)),
+      r .2,
+    )
+
+module _ (lex : Lexicon) (ts : List ℕ) (sound : Sound lex (length ts) (entries lex ts)) where
+  sorted-sound : Sound lex (length ts) (sorted (entries lex ts))
+  sorted-sound e m = sound e (in-sorted-get e (entries lex ts) m)
+
+  pub index-lines-good : Good-lines lex (length ts) (lines-in (index-of lex ts))
+  index-lines-good =
+      rw lines-in-index (lines-of-good lex (length ts) (sorted (entries lex ts)) (sorted-entries-ascend lex ts) sorted-sound)
+
+  pub flat-index : flat lex (lines-in (index-of lex ts)) ≡ sorted (entries lex ts)
+  flat-index =
+      rw lines-in-index
+      (flat-lines-of lex (sorted (entries lex ts)) (sorted-entries-ascend lex ts) (λ e m. sorted-sound e m .long-is))
+
+  pub in-index-get : (e : Entry) → In e (flat lex (lines-in (index-of lex ts))) → In e (entries lex ts)
+  in-index-get e m = in-sorted-get e (entries lex ts) (rw flat-index at m)
+
+  pub in-index-put : (e : Entry) → In e (entries lex ts) → In e (flat lex (lines-in (index-of lex ts)))
+  in-index-put e m = rw flat-index (in-sorted-put e (entries lex ts) m)
+
+  -- M is the number of entries
+  pub entries-of-index : entries-of (index-of lex ts) ≡ length (entries lex ts)
+  unfolding index-of
+  entries-of-index =
+      entries-of-numbers (length ts) (lines-of (sorted (entries lex ts)))
+      ∙ sym (length-flat lex (lines-of (sorted (entries lex ts))))
+      ∙ ap length (rw lines-in-index at flat-index)
+      ∙ length-sorted (entries lex ts)
+
+  pub index-readable : (g : ℕ) → length ts ≤ g → readable g lex (index-of lex ts) ≡ true
+  unfolding index-of
+  index-readable g small =
+      readable-put g lex (length ts) (lines-of (sorted (entries lex ts))) (rw lines-in-index at index-lines-good) small
+
+  -- THE ONLY ONE
+
+  pub index-unique :
+      (g : ℕ) → length ts ≤ g → (xs : List ℕ) → readable g lex xs ≡ true → n-of xs ≡ length ts →
+      ((e : Entry) → In e (flat lex (lines-in xs)) → In e (entries lex ts)) →
+      ((e : Entry) → In e (entries lex ts) → In e (flat lex (lines-in xs))) → xs ≡ index-of lex ts
+  index-unique g small xs can n only all =
+      readable-unique g lex xs (index-of lex ts) can (index-readable g small) (n ∙ sym (n-of-index lex ts))
+      (lines-unique lex (length ts) (lines-in xs) (lines-in (index-of lex ts))
+      (rw n at (readable-get g lex xs can .lines)) index-lines-good
+      (λ e m. in-index-put e (only e m)) (λ e m. all e (in-index-get e m)))
+
+  -- an entry of the text is its key and place
+  whole : (e : Entry) → In e (entries lex ts) → posting lex (e .key-of) (e .at) ≡ e
+  unfolding entry
+  whole e m = entry-eq (posting lex (e .key-of) (e .at)) e refl refl (sym (sound e m .long-is))
+
+  member : (k : Key) (p : ℕ) → Among k p (entries lex ts) → In (posting lex k p) (entries lex ts)
+  unfolding Among
+  member k p a =
+      let is : posting lex k p ≡ a .0 = rw (← a .2, ← a .3) (whole (a .0) (a .1)) in
+      rw is (a .1)
+
+  pub index-tells : (g : ℕ) → length ts ≤ g → Tells g lex ts (index-of lex ts)
+  unfolding Among entry
+  index-tells g small =
+      record {
+        can-read = index-readable g small;
+        n-is = n-of-index lex ts;
+        only = λ k p u. (posting lex k p, in-index-get (posting lex k p) (under-get lex (index-of lex ts) k p u), refl, refl);
+        all = λ k p a. under-put lex (index-of lex ts) k p (in-index-put (posting lex k p) (member k p a));
+      }
+
+  pub tells-index : (g : ℕ) → length ts ≤ g → (xs : List ℕ) → Tells g lex ts xs → xs ≡ index-of lex ts
+  unfolding Among
+  tells-index g small xs tells =
+      index-unique g small xs (tells .can-read) (tells .n-is) only all
+    where
+      only : (e : Entry) → In e (flat lex (lines-in xs)) → In e (entries lex ts)
+      only e m =
+          let whole : e ≡ posting lex (e .key-of) (e .at) = flat-measured lex (lines-in xs) e m in
+          rw whole (member (e .key-of) (e .at)
+          (tells .only (e .key-of) (e .at) (under-put lex xs (e .key-of) (e .at) (rw whole at m))))
+
+      all : (e : Entry) → In e (entries lex ts) → In e (flat lex (lines-in xs))
+      all e m =
+          rw (whole e m) at (under-get lex xs (e .key-of) (e .at) (tells .all (e .key-of) (e .at) (e, m, refl, refl)))
+
+-- what the file on entries proves of every admitted dictionary and text is all that is needed
+pub only-readable :
+    (g : ℕ) → ((cs ls ts : List ℕ) → admitted cs ls ≡ true → is-text g ts ≡ true →
+    Sound (lexicon cs ls) (length ts) (entries (lexicon cs ls) ts)) → Only-readable g
+unfolding Only-readable is-text
+only-readable g sound cs ls ts adm text =
+    let good : Sound (lexicon cs ls) (length ts) (entries (lexicon cs ls) ts) = sound cs ls ts adm text in
+    let small : length ts ≤ g = leb-true (length ts) g (and-right (all-chars ts) (leb (length ts) g) text) in
+    (index-tells (lexicon cs ls) ts good g small, tells-index (lexicon cs ls) ts good g small)

@@ -1,0 +1,130 @@
+-- Every number of a text's index is a 16-bit number, if the text has at most 65,535 characters. Assumes nothing.
+use mathlib.Core.Path.{_≡_, refl}
+use mathlib.Core.Bool.{true}
+use mathlib.Core.Logic.{_⊎_, inl, inr, ⊎-elim}
+use mathlib.Core.List.{List, [], _∷_, _++_}
+use Prim.Native.Nat.{ℕ, _+_, _≤_, _<_}
+use native.Mathlib.Omega.{arith}
+use lib.Dec.{ltb}
+use lib.ListN.{length, getD, length-append}
+use borrow.Author.Tests.{lt-ltb}
+use Rattle.basics.specs.Bools.{clash}
+use Rattle.basics.specs.Member.{In, in-append-get, in-getD}
+use Rattle.basics.specs.Order.{Apart, less-equal-more}
+use Rattle.basics.specs.Pigeonhole.{by-number, few-in-range}
+use Rattle.spec.specs.Dictionary.{Lexicon}
+use Rattle.spec.specs.Words.{Entry, entries}
+use Rattle.spec.specs.Numbers.{entry-before, Line, sorted, lines-of, directory, positions, numbers, index-of}
+use Rattle.laws.specs.Facts.{Chars, Good-lexicon, Sound, Own-places, Good-line, Good-lines}
+use Rattle.laws.specs.KeyOrder.{entry-before-strict}
+use Rattle.laws.specs.KeyBounds.{Key-length, key-length, value-below}
+use Rattle.laws.specs.Sorted.{entries-apart}
+use Rattle.laws.specs.Slices.{entries-of-numbers}
+use Rattle.laws.specs.IndexOf.{lines-in-index, index-lines-good, entries-of-index}
+
+-- AT MOST n ENTRIES
+
+places-apart : (es : List Entry) → Apart entry-before es → Own-places es → Apart (by-number (λ (e : Entry). e .at)) es
+places-apart [] p own = tt
+places-apart (e ∷ es) p own =
+    (λ f m. go f m (p .0 f m) (less-equal-more (e .at) (f .at)), places-apart es (p .1) (λ f g m k. own f g (inr m) (inr k)))
+  where
+    go :
+        (f : Entry) → In f es → (entry-before e f ≡ true) ⊎ (entry-before f e ≡ true) →
+        (e .at < f .at) ⊎ ((e .at ≡ f .at) ⊎ (f .at < e .at)) →
+        (ltb (e .at) (f .at) ≡ true) ⊎ (ltb (f .at) (e .at) ≡ true)
+    go f m differ (inl h) = inl (lt-ltb (e .at) (f .at) h)
+    go f m differ (inr (inr h)) = inr (lt-ltb (f .at) (e .at) h)
+    go f m differ (inr (inl q)) =
+        let same : e ≡ f = own e f (inl refl) (inr m) q in
+        ⊎-elim (λ (t : entry-before e f ≡ true). clash (rw same at t) (entry-before-strict .irreflexive f))
+        (λ (t : entry-before f e ≡ true). clash (rw same at t) (entry-before-strict .irreflexive f)) differ
+
+pub entries-few :
+    (lex : Lexicon) (ts : List ℕ) → Good-lexicon lex → Sound lex (length ts) (entries lex ts) → Own-places (entries lex ts) →
+    length (entries lex ts) ≤ length ts
+entries-few lex ts good sound own =
+    few-in-range (λ (e : Entry). e .at) (entries lex ts) (length ts)
+    (places-apart (entries lex ts) (entries-apart lex ts) own) range
+  where
+    range : (e : Entry) → In e (entries lex ts) → (1 ≤ e .at) × (e .at ≤ length ts)
+    range e m =
+        let is : Key-length lex (e .key-of) = key-length lex (e .key-of) good (sound e m .is-key) in
+        (sound e m .from, omega (arith, sound e m .within, sound e m .long-is, is .some))
+
+-- NUMBERS BELOW A BOUND
+
+abbrev pub Below : (bound : ℕ) → List ℕ → Type 0
+Below b xs = (x : ℕ) → In x xs → x < b
+
+below-append : (b : ℕ) (xs ys : List ℕ) → Below b xs → Below b ys → Below b (xs ++ ys)
+below-append b xs ys p q x m = ⊎-elim (λ (l : In x xs). p x l) (λ (r : In x ys). q x r) (in-append-get x xs ys m)
+
+below-cons : (b x : ℕ) (xs : List ℕ) → x < b → Below b xs → Below b (x ∷ xs)
+below-cons b x xs h p y (inl e) = omega arith
+below-cons b x xs h p y (inr m) = p y m
+
+-- characters and n are below the bound
+module _ (lex : Lexicon) (good : Good-lexicon lex) (bound : ℕ) (wide : 65536 ≤ bound) (n : ℕ) (short : n < bound) where
+  place-below : (l : Line) → Good-line lex n l → Below bound (l .places)
+  place-below l h p m =
+      let is : Key-length lex (l .key-of) = key-length lex (l .key-of) good (h .is-key) in
+      omega (arith, h .fits p m, is .some)
+
+  directory-below :
+      (ls : List Line) → ((l : Line) → In l ls → Good-line lex n l) → length (positions ls) < bound → Below bound (directory ls)
+  unfolding directory positions
+  directory-below [] each few = λ x m. absurd m
+  directory-below (l ∷ ls) each few =
+      let both : length (l .places ++ positions ls) ≡ length (l .places) + length (positions ls) = length-append (l .places)
+      (positions ls) in
+      let h : Good-line lex n l = each l (inl refl) in
+      below-cons bound (l .key-of .kind) (l .key-of .value ∷ length (l .places) ∷ directory ls)
+      (omega (arith, h .is-key .kind-small))
+      (below-cons bound (l .key-of .value) (length (l .places) ∷ directory ls)
+      (omega (arith, value-below lex (l .key-of) good (h .is-key)))
+      (below-cons bound (length (l .places)) (directory ls) (omega arith)
+      (directory-below ls (λ m i. each m (inr i)) (omega arith))))
+
+  positions-below : (ls : List Line) → ((l : Line) → In l ls → Good-line lex n l) → Below bound (positions ls)
+  unfolding positions
+  positions-below [] each = λ x m. absurd m
+  positions-below (l ∷ ls) each =
+      below-append bound (l .places) (positions ls) (place-below l (each l (inl refl))) (positions-below ls (λ m i. each m (inr i)))
+
+  lines-few : (ls : List Line) → ((l : Line) → In l ls → Good-line lex n l) → length ls ≤ length (positions ls)
+  unfolding positions
+  lines-few [] each = omega arith
+  lines-few (l ∷ ls) each =
+      omega (arith, each l (inl refl) .some, lines-few ls (λ m i. each m (inr i)), length-append (l .places) (positions ls))
+
+  pub numbers-below : (ls : List Line) → Good-lines lex n ls → length (positions ls) < bound → Below bound (numbers n ls)
+  unfolding numbers
+  numbers-below ls lines few =
+      below-cons bound n (length ls ∷ (directory ls ++ positions ls)) short
+      (below-cons bound (length ls) (directory ls ++ positions ls) (omega (arith, lines-few ls (lines .each)))
+      (below-append bound (directory ls) (positions ls) (directory-below ls (lines .each) few) (positions-below ls (lines .each))))
+
+-- THE INDEX OF A TEXT whose entries start at different places
+
+pub index-below :
+    (lex : Lexicon) (ts : List ℕ) → Good-lexicon lex → Sound lex (length ts) (entries lex ts) → Own-places (entries lex ts) →
+    (bound : ℕ) → 65536 ≤ bound → length ts < bound → Below bound (index-of lex ts)
+unfolding index-of
+index-below lex ts good sound own bound wide short =
+    numbers-below lex good bound wide (length ts) short (lines-of (sorted (entries lex ts)))
+    (rw lines-in-index at (index-lines-good lex ts sound))
+    (omega (
+      arith,
+      entries-few lex ts good sound own,
+      entries-of-index lex ts sound,
+      entries-of-numbers (length ts) (lines-of (sorted (entries lex ts))),
+    ))
+
+-- of at most 65,535 characters: 16-bit numbers
+pub index-chars :
+    (lex : Lexicon) (ts : List ℕ) → Good-lexicon lex → length ts ≤ 65535 → Sound lex (length ts) (entries lex ts) →
+    Own-places (entries lex ts) → Chars (index-of lex ts)
+index-chars lex ts good short sound own i h =
+    index-below lex ts good sound own 65536 (omega arith) (omega arith) (getD (index-of lex ts) i 0)
+    (in-getD (index-of lex ts) i 0 h)

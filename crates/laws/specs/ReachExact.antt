@@ -1,0 +1,54 @@
+-- The reach of the search algorithm passes the string exactly if every place under it is covered. Assumes nothing.
+use mathlib.Core.Path.{_≡_, sym, _∙_}
+use mathlib.Core.List.{List}
+use Prim.Native.Nat.{ℕ, zero, suc, _+_, _-_, _≤_, _<_}
+use native.Mathlib.Omega.{arith}
+use lib.Dec.{leb}
+use lib.ListN.{length}
+use Rattle.basics.specs.Steps.{those-from, those-from-alike}
+use Rattle.spec.specs.Dictionary.{Lexicon}
+use Rattle.spec.specs.Numbers.{Line}
+use Rattle.spec.specs.Search.{all-covered, found-from}
+use Rattle.laws.specs.Cover.{Staged, staged-none, staged-then, staged-reached, Reached, reached-exact}
+use Rattle.laws.specs.Search.{found-at, found-from-those}
+use Rattle.laws.specs.Reach.{reach-first, reach-stage, reach-stages, reach, reach-stage-stop, reach-stages-stop}
+use Rattle.laws.specs.ReachRaises.{reach-first-raises, reach-stage-raises}
+
+module _ (lex : Lexicon) (ls : List Line) (s : List ℕ) (p : ℕ) where
+  pub reach-stages-staged : (n o r : ℕ) → Staged lex ls s p n o r (reach-stages n o lex ls s p r)
+  unfolding reach-stages
+  reach-stages-staged zero o r = staged-none lex ls s p o r
+  reach-stages-staged (suc n) o r =
+      staged-then lex ls s p n o r t (reach-stages n (suc o) lex ls s p t) (reach-stage-raises lex ls s p ls o r (λ e m. m))
+      (reach-stages-staged n (suc o) t) stop
+    where
+      t : ℕ
+      t = reach-stage o lex ls s p r
+
+      stop : r < o → reach-stages n (suc o) lex ls s p t ≡ r
+      stop h = rw (reach-stage-stop lex s p ls o r h) (reach-stages-stop lex s p ls n (suc o) r (omega arith))
+
+  pub reach-reached : Reached lex ls s p (reach lex ls s p)
+  unfolding reach
+  reach-reached =
+      let t = reach-first lex ls s p 0 in
+      staged-reached lex ls s p t (reach-stages (length s - 1) 1 lex ls s p t) (reach-first-raises lex ls s p ls 0 (λ e m. m))
+      (reach-stages-staged (length s - 1) 1 t)
+
+  -- The reach passes the string exactly if every place under it is covered by an entry that agrees.
+  pub reach-exact : leb (length s) (reach lex ls s p) ≡ all-covered (length s) p lex ls s p
+  reach-exact = reached-exact lex ls s p (reach lex ls s p) reach-reached
+
+-- what is found is the starts whose reach passes the string, however it is come by
+pub found-reached :
+    (lex : Lexicon) (ls : List Line) (s : List ℕ) (n q : ℕ) (f : ℕ → ℕ) →
+    ((p : ℕ) → q ≤ p → p < q + n → Reached lex ls s p (f p)) → found-from n q lex ls s ≡ those-from n q (λ p. leb (length s) (f p))
+found-reached lex ls s n q f reached =
+    found-from-those lex ls s n q
+    ∙ those-from-alike n q (found-at lex ls s) (λ p. leb (length s) (f p))
+    (λ p lo hi. sym (reached-exact lex ls s p (f p) (reached p lo hi)))
+
+pub found-reach :
+    (lex : Lexicon) (ls : List Line) (s : List ℕ) (n q : ℕ) →
+    found-from n q lex ls s ≡ those-from n q (λ p. leb (length s) (reach lex ls s p))
+found-reach lex ls s n q = found-reached lex ls s n q (reach lex ls s) (λ p lo hi. reach-reached lex ls s p)
