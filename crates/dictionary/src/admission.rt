@@ -11,7 +11,7 @@ ghost use lib.Dec.{eqb};
 ghost use lib.ListN.{length};
 ghost use Rattle.spec.specs.Dictionary.{lengths-good, total, words-from, word-before, ascend, dictionary-refusal};
 ghost use Rattle.spec.specs.Calls.{Admit-says};
-ghost use Rattle.laws.specs.WordOrder.{part, code, Neighbours};
+ghost use Rattle.laws.specs.WordCode.{part, code, Neighbours};
 ghost use Rattle.laws.specs.Admission.{Fitting};
 use spec::Answer;
 

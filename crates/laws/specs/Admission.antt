@@ -12,7 +12,7 @@ use lib.ListN.{length, getD, take, drop, length-take, length-drop, drop-of-lengt
 use lib.Seq.{drop-cons, drop-drop, getD-take, getD-drop, length-take-le}
 use borrow.Author.Tests.{le-leb, lt-leb, leb-true, lt-ltb, le-ltb, eq-eqb, ne-eqb, eqb-true}
 use Rattle.basics.specs.Bools.{clash, and-put, and-left, and-right, or-left, or-right, or-none, not-put, le-or-lt}
-use Rattle.laws.specs.WordOrder.{part}
+use Rattle.laws.specs.WordCode.{part}
 use Rattle.spec.specs.Dictionary.{words-from, total, too-large, length-good, lengths-good, lengths-wrong, word-before, ascend, disordered, dictionary-refusal}
 
 -- THE LENGTHS

@@ -25,6 +25,13 @@ pub record Good-lexicon (lex : Lexicon) : Type 0 where
   pub distinct :
       (i j : ℕ) → i < length (lex .words) → j < length (lex .words) → getD (lex .words) i [] ≡ getD (lex .words) j [] → i ≡ j
 
+-- keys and entries with equal parts are equal
+pub key-eq : (j k : Key) → j .kind ≡ k .kind → j .value ≡ k .value → j ≡ k
+key-eq j k p q = λ i. record { kind = p i; value = q i }
+
+pub entry-eq : (e f : Entry) → e .key-of ≡ f .key-of → e .at ≡ f .at → e .long ≡ f .long → e ≡ f
+entry-eq e f p q r = λ i. record { key-of = p i; at = q i; long = r i }
+
 -- a key of the lexicon: a word, or a lone character that is no word
 pub record Is-key (lex : Lexicon) (k : Key) : Type 0 where
   pub kind-small : k .kind ≤ 1

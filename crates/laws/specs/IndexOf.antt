@@ -14,8 +14,7 @@ use Rattle.spec.specs.Words.{Key, Entry, entry, entries}
 use Rattle.spec.specs.Numbers.{Line, sorted, lines-of, positions, index-of}
 use Rattle.spec.specs.Index.{n-of, entries-of, lines-in, readable}
 use Rattle.spec.specs.Beyond.{Among, Under, Tells, Only-readable}
-use Rattle.laws.specs.Facts.{Sound, entries-at, flat, Good-lines}
-use Rattle.laws.specs.KeyOrder.{entry-eq}
+use Rattle.laws.specs.Facts.{entry-eq, Sound, entries-at, flat, Good-lines}
 use Rattle.laws.specs.Slices.{n-of-numbers, lines-in-numbers, entries-of-numbers}
 use Rattle.laws.specs.Readable.{readable-put, readable-get, readable-unique}
 use Rattle.laws.specs.Flat.{posting, flat-get, flat-put, flat-measured}

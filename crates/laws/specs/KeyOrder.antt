@@ -10,11 +10,9 @@ use Rattle.basics.specs.Bools.{clash, not-put, not-get, false-put, and-put, and
 use Rattle.basics.specs.Order.{Strict, less-equal-more}
 use Rattle.spec.specs.Words.{Key, Entry}
 use Rattle.spec.specs.Numbers.{key-before, entry-before}
+use Rattle.laws.specs.Facts.{key-eq}
 
 -- KEYS
-
-pub key-eq : (a b : Key) → a .kind ≡ b .kind → a .value ≡ b .value → a ≡ b
-key-eq a b p q = λ i. record { kind = p i; value = q i }
 
 -- by kind, then by value
 abbrev pub Key-before : Key → Key → Type 0
@@ -81,9 +79,6 @@ key-before-not-back a b t =
     false-put (key-before b a) (λ u. clash (key-before-strict .transitive a b a t u) (key-before-strict .irreflexive a))
 
 -- ENTRIES
-
-pub entry-eq : (e f : Entry) → e .key-of ≡ f .key-of → e .at ≡ f .at → e .long ≡ f .long → e ≡ f
-entry-eq e f p q r = λ i. record { key-of = p i; at = q i; long = r i }
 
 -- by key, then by place
 abbrev pub Entry-before : Entry → Entry → Type 0

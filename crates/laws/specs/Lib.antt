@@ -1,9 +1,26 @@
 -- The theorems: every statement of `spec`, proved, and the bridges that proofs of code cite.
 pub mod Strings
 pub mod Facts
+pub mod Chars
 pub mod WordOrder
+pub mod WordCode
 pub mod Admission
 pub mod Answering
+pub mod Lexicon
+pub mod Keys
+pub mod Standing
+pub mod Complete
+pub mod Entries
+pub mod Maximal
+pub mod Covered
+pub mod Extension
+pub mod EntryPlaces
+pub mod Scan
+pub mod Longest
+pub mod Figure
+pub mod Growing
+pub mod Prefixes
+pub mod WordAt
 pub mod KeyOrder
 pub mod KeyBounds
 pub mod Flat

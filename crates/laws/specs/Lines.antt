@@ -12,8 +12,8 @@ use Rattle.basics.specs.Order.{Ascend, ascend-unique}
 use Rattle.spec.specs.Dictionary.{Lexicon}
 use Rattle.spec.specs.Words.{Key, spells, Entry, entry}
 use Rattle.spec.specs.Numbers.{key-before, entry-before, Line, line, with-entry, lines-of}
-use Rattle.laws.specs.Facts.{Sound-entry, Sound, entries-at, flat, Rise, Good-line, Keys-rise, Good-lines}
-use Rattle.laws.specs.KeyOrder.{key-before-strict, key-before-total, key-before-not-itself, entry-eq, Entry-before, entry-before-get, entry-before-strict}
+use Rattle.laws.specs.Facts.{entry-eq, Sound-entry, Sound, entries-at, flat, Rise, Good-line, Keys-rise, Good-lines}
+use Rattle.laws.specs.KeyOrder.{key-before-strict, key-before-total, key-before-not-itself, Entry-before, entry-before-get, entry-before-strict}
 use Rattle.laws.specs.Flat.{posting, flat-get, flat-put}
 use Rattle.laws.specs.FlatOrder.{rise-least, rise-more, flat-ascends}
 

@@ -1,227 +1,118 @@
--- One word before another: the loop over characters, and the packed start of a word that decides most comparisons. Assumes
--- nothing.
-use mathlib.Core.Path.{_≡_, refl, sym, ap, _∙_}
-use mathlib.Core.Bool.{Bool, true, false, _&&_, _||_, cond}
-use mathlib.Core.List.{List, [], _∷_}
+-- The order of words is strict and total, and ascending words are distinct. Assumes nothing.
+use mathlib.Core.Path.{_≡_, refl, sym, _∙_}
+use mathlib.Core.Bool.{true, false, _&&_}
 use mathlib.Core.Logic.{_⊎_, inl, inr, ⊎-elim}
-use Prim.Native.Nat.{ℕ, zero, suc, _+_, _*_, _-_, _≤_, _<_}
-use native.Mathlib.Numerals.{add-one}
+use mathlib.Core.List.{List, [], _∷_}
+use Prim.Native.Nat.{ℕ, zero, suc, _≤_, _<_}
 use native.Mathlib.Omega.{arith}
 use lib.Dec.{ltb, eqb}
-use lib.ListN.{length, getD, take, drop, length-drop, drop-of-length-le}
-use lib.Seq.{drop-cons, drop-drop, getD-take, getD-drop, length-take-le}
-use borrow.Author.Tests.{lt-ltb, le-ltb, eq-eqb, ne-eqb}
-use Rattle.basics.specs.Bools.{or-left, le-or-lt}
-use Rattle.spec.specs.Dictionary.{word-before}
+use lib.ListN.{length, getD}
+use borrow.Author.Tests.{lt-ltb, le-ltb, eq-eqb, ltb-true, eqb-true}
+use Rattle.basics.specs.Bools.{clash, false-put, and-put, and-left, and-right, or-left, or-right, or-get, or-none, le-or-lt}
+use Rattle.basics.specs.Member.{In, in-getD}
+use Rattle.spec.specs.Dictionary.{word-before, ascend}
 
--- THE LOOP OVER CHARACTERS: what is left of both words from i on
+pub word-before-self : (a : List ℕ) → word-before a a ≡ false
+unfolding word-before
+word-before-self [] = refl
+word-before-self (x ∷ xs) = or-none (le-ltb x x (omega arith)) (rw (eq-eqb x x refl) (word-before-self xs))
 
-module _ (w v : List ℕ) (i : ℕ) where
-  heads :
-      i < length w → i < length v →
-      word-before (drop i w) (drop i v)
-      ≡ (ltb (getD w i 0) (getD v i 0) || (eqb (getD w i 0) (getD v i 0) && word-before (drop (i + 1) w) (drop (i + 1) v)))
-  unfolding word-before
-  heads a b = rw (add-one i, drop-cons w i 0, drop-cons v i 0)
+-- one word before another: the first character decides, or it is the same and the rest decides
+pub word-before-get :
+    (x y : ℕ) (xs ys : List ℕ) → word-before (x ∷ xs) (y ∷ ys) ≡ true → (x < y) ⊎ ((x ≡ y) × (word-before xs ys ≡ true))
+unfolding word-before
+word-before-get x y xs ys t =
+    ⊎-elim (λ (p : ltb x y ≡ true). inl (ltb-true x y p))
+    (λ (q : (eqb x y && word-before xs ys) ≡ true).
+    inr (eqb-true x y (and-left (eqb x y) (word-before xs ys) q), and-right (eqb x y) (word-before xs ys) q))
+    (or-get (ltb x y) (eqb x y && word-before xs ys) t)
 
-  pub before-less : i < length w → i < length v → getD w i 0 < getD v i 0 → word-before (drop i w) (drop i v) ≡ true
-  before-less a b less = heads a b ∙ or-left _ (lt-ltb (getD w i 0) (getD v i 0) less)
+pub word-before-first : (x y : ℕ) (xs ys : List ℕ) → x < y → word-before (x ∷ xs) (y ∷ ys) ≡ true
+unfolding word-before
+word-before-first x y xs ys h = or-left (eqb x y && word-before xs ys) (lt-ltb x y h)
 
-  pub before-more : i < length w → i < length v → getD v i 0 < getD w i 0 → word-before (drop i w) (drop i v) ≡ false
-  before-more a b more =
-      heads a b
-      ∙ rw (le-ltb (getD w i 0) (getD v i 0) (omega arith), ne-eqb (getD w i 0) (getD v i 0) (λ (e : getD w i 0 ≡ getD v i 0). omega arith))
+pub word-before-rest : (x y : ℕ) (xs ys : List ℕ) → x ≡ y → word-before xs ys ≡ true → word-before (x ∷ xs) (y ∷ ys) ≡ true
+unfolding word-before
+word-before-rest x y xs ys e t = or-right (ltb x y) (and-put (eq-eqb x y e) t)
 
-  pub before-same :
-      i < length w → i < length v → getD w i 0 ≡ getD v i 0 →
-      word-before (drop i w) (drop i v) ≡ word-before (drop (i + 1) w) (drop (i + 1) v)
-  before-same a b e =
-      heads a b ∙ rw (le-ltb (getD w i 0) (getD v i 0) (omega arith), eq-eqb (getD w i 0) (getD v i 0) e)
-
-  pub before-end : length v ≤ i → word-before (drop i w) (drop i v) ≡ false
-  unfolding word-before
-  before-end b = rw (drop-of-length-le v b)
-
-  -- all of w is read, and v agrees with it so far
-  pub before-read : length w ≤ i → i ≤ length w → i ≤ length v → word-before (drop i w) (drop i v) ≡ ltb (length w) (length v)
-  unfolding word-before
-  before-read past within some =
-      ⊎-elim
-      (λ (e : length v ≤ i). before-end e ∙ sym (le-ltb (length w) (length v) (omega arith)))
-      (λ (l : i < length v).
-      rw (drop-of-length-le w past, drop-cons v i 0) (sym (lt-ltb (length w) (length v) (omega arith))))
-      (le-or-lt (length v) i)
-
--- THE PACKED START OF A WORD
-
--- one more than the first character, 0 where there is none
-unfoldable pub first-digit : List ℕ → ℕ
-first-digit [] = 0
-first-digit (x ∷ xs) = x + 1
-
-unfoldable pub code : List ℕ → ℕ
-code w = (first-digit w * 131072 + first-digit (drop 1 w)) * 131072 + first-digit (drop 2 w)
-
--- every number of the list has 16 bits
-abbrev pub Small : List ℕ → Type 0
-Small w = (i : ℕ) → getD w i 0 ≤ 65535
-
-digit-small : (w : List ℕ) → Small w → first-digit w ≤ 65536
-unfolding first-digit
-digit-small [] h = omega arith
-digit-small (x ∷ xs) h = omega (arith, h 0)
-
-small-drop : (i : ℕ) (w : List ℕ) → Small w → Small (drop i w)
-small-drop i w h j = rw (getD-drop i w j 0) (h (i + j))
-
-digit-less : (w v : List ℕ) → first-digit w < first-digit v → word-before w v ≡ true
-unfolding first-digit word-before
-digit-less w [] h = absurd (omega arith)
-digit-less [] (y ∷ ys) h = refl
-digit-less (x ∷ xs) (y ∷ ys) h = or-left _ (lt-ltb x y (omega arith))
-
-digit-more : (w v : List ℕ) → first-digit v < first-digit w → word-before w v ≡ false
-unfolding first-digit word-before
-digit-more w [] h = refl
-digit-more [] (y ∷ ys) h = absurd (omega arith)
-digit-more (x ∷ xs) (y ∷ ys) h = rw (le-ltb x y (omega arith), ne-eqb x y (λ (e : x ≡ y). omega arith))
-
-digit-same : (w v : List ℕ) → first-digit w ≡ first-digit v → word-before w v ≡ word-before (drop 1 w) (drop 1 v)
-unfolding first-digit word-before
-digit-same [] [] h = refl
-digit-same (x ∷ xs) [] h = absurd (omega arith)
-digit-same [] (y ∷ ys) h = absurd (omega arith)
-digit-same (x ∷ xs) (y ∷ ys) h = rw (le-ltb x y (omega arith), eq-eqb x y (omega arith))
-
--- where the first digits decide nothing, the second do, and then the third
-below-first :
-    (w v : List ℕ) → first-digit w ≡ first-digit v → first-digit (drop 1 w) ≡ first-digit (drop 1 v) →
-    word-before w v ≡ word-before (drop 2 w) (drop 2 v)
-below-first w v d e =
-    digit-same w v d
-    ∙ digit-same (drop 1 w) (drop 1 v) e
-    ∙ ap (λ (l : List ℕ). word-before l (drop 1 (drop 1 v))) (drop-drop 1 1 w)
-    ∙ ap (λ (l : List ℕ). word-before (drop 2 w) l) (drop-drop 1 1 v)
-
--- three digits in order, one number below another: the first that differs is below
-lower :
-    (a b c x y z : ℕ) → b ≤ 65536 → c ≤ 65536 → y ≤ 65536 → z ≤ 65536 →
-    (a * 131072 + b) * 131072 + c < (x * 131072 + y) * 131072 + z →
-    (a < x) ⊎ (((a ≡ x) × (b < y)) ⊎ ((a ≡ x) × (b ≡ y) × (c < z)))
-lower a b c x y z hb hc hy hz h =
-    ⊎-elim
-    (λ (p : x ≤ a).
-    let e : a ≡ x = omega arith in
-    ⊎-elim
-    (λ (q : y ≤ b). inr (inr (e, omega arith, omega arith)))
-    (λ (q : b < y). inr (inl (e, q)))
-    (le-or-lt y b))
-    (λ (p : a < x). inl p)
-    (le-or-lt x a)
-
-differ :
-    (w v : List ℕ) → Small w → Small v → code w < code v →
-    (first-digit w < first-digit v)
-    ⊎ (((first-digit w ≡ first-digit v) × (first-digit (drop 1 w) < first-digit (drop 1 v)))
-    ⊎ ((first-digit w ≡ first-digit v) × (first-digit (drop 1 w) ≡ first-digit (drop 1 v)) × (first-digit (drop 2 w) < first-digit (drop 2 v))))
-unfolding code
-differ w v hw hv h =
-    lower (first-digit w) (first-digit (drop 1 w)) (first-digit (drop 2 w)) (first-digit v) (first-digit (drop 1 v)) (first-digit (drop 2 v))
-    (later 1 w hw) (later 2 w hw) (later 1 v hv) (later 2 v hv) h
+pub word-before-trans : (a b c : List ℕ) → word-before a b ≡ true → word-before b c ≡ true → word-before a c ≡ true
+unfolding word-before
+word-before-trans a [] c t u = clash t refl
+word-before-trans a (y ∷ ys) [] t u = clash u refl
+word-before-trans [] (y ∷ ys) (z ∷ zs) t u = refl
+word-before-trans (x ∷ xs) (y ∷ ys) (z ∷ zs) t u =
+    step (word-before-trans xs ys zs) (word-before-get x y xs ys t) (word-before-get y z ys zs u)
   where
-    later : (i : ℕ) (u : List ℕ) → Small u → first-digit (drop i u) ≤ 65536
-    later i u hu = digit-small (drop i u) (small-drop i u hu)
+    step :
+        (word-before xs ys ≡ true → word-before ys zs ≡ true → word-before xs zs ≡ true) →
+        ((x < y) ⊎ ((x ≡ y) × (word-before xs ys ≡ true))) → ((y < z) ⊎ ((y ≡ z) × (word-before ys zs ≡ true))) →
+        word-before (x ∷ xs) (z ∷ zs) ≡ true
+    step more (inl p) (inl q) = word-before-first x z xs zs (omega arith)
+    step more (inl p) (inr q) = word-before-first x z xs zs (omega arith)
+    step more (inr p) (inl q) = word-before-first x z xs zs (omega arith)
+    step more (inr p) (inr q) = word-before-rest x z xs zs (p .0 ∙ q .0) (more (p .1) (q .1))
 
-module _ (w v : List ℕ) (hw : Small w) (hv : Small v) where
-  pub code-less : code w < code v → word-before w v ≡ true
-  unfolding code
-  code-less h =
-      ⊎-elim
-      (λ (p : first-digit w < first-digit v). digit-less w v p)
-      (⊎-elim
-      (λ (p : (first-digit w ≡ first-digit v) × (first-digit (drop 1 w) < first-digit (drop 1 v))).
-      digit-same w v (p .0) ∙ digit-less (drop 1 w) (drop 1 v) (p .1))
-      (λ (p : (first-digit w ≡ first-digit v) × (first-digit (drop 1 w) ≡ first-digit (drop 1 v)) × (first-digit (drop 2 w) < first-digit (drop 2 v))).
-      below-first w v (p .0) (p .1) ∙ digit-less (drop 2 w) (drop 2 v) (p .2)))
-      (differ w v hw hv h)
+pub word-before-asym : (a b : List ℕ) → word-before a b ≡ true → word-before b a ≡ false
+word-before-asym a b t =
+    false-put (word-before b a) (λ (u : word-before b a ≡ true). clash (word-before-trans a b a t u) (word-before-self a))
 
-  pub code-more : code v < code w → word-before w v ≡ false
-  unfolding code
-  code-more h =
-      ⊎-elim
-      (λ (p : first-digit v < first-digit w). digit-more w v p)
-      (⊎-elim
-      (λ (p : (first-digit v ≡ first-digit w) × (first-digit (drop 1 v) < first-digit (drop 1 w))).
-      digit-same w v (sym (p .0)) ∙ digit-more (drop 1 w) (drop 1 v) (p .1))
-      (λ (p : (first-digit v ≡ first-digit w) × (first-digit (drop 1 v) ≡ first-digit (drop 1 w)) × (first-digit (drop 2 v) < first-digit (drop 2 w))).
-      below-first w v (sym (p .0)) (sym (p .1)) ∙ digit-more (drop 2 w) (drop 2 v) (p .2)))
-      (differ v w hv hw h)
+-- of two words one is before the other, or they are the same
+pub word-before-total : (a b : List ℕ) → (word-before a b ≡ true) ⊎ (a ≡ b) ⊎ (word-before b a ≡ true)
+unfolding word-before
+word-before-total [] [] = inr (inl refl)
+word-before-total [] (y ∷ ys) = inl refl
+word-before-total (x ∷ xs) [] = inr (inr refl)
+word-before-total (x ∷ xs) (y ∷ ys) = firsts (word-before-total xs ys) (le-or-lt x y) (le-or-lt y x)
+  where
+    rests :
+        x ≡ y → (word-before xs ys ≡ true) ⊎ (xs ≡ ys) ⊎ (word-before ys xs ≡ true) →
+        (word-before (x ∷ xs) (y ∷ ys) ≡ true) ⊎ (x ∷ xs ≡ y ∷ ys) ⊎ (word-before (y ∷ ys) (x ∷ xs) ≡ true)
+    rests e (inl t) = inl (word-before-rest x y xs ys e t)
+    rests e (inr (inl p)) = inr (inl (rw (e, p)))
+    rests e (inr (inr t)) = inr (inr (word-before-rest y x ys xs (sym e) t))
 
--- A WORD IN A RUN OF CHARACTERS, from `at` to before `end`
+    firsts :
+        (word-before xs ys ≡ true) ⊎ (xs ≡ ys) ⊎ (word-before ys xs ≡ true) → (x ≤ y) ⊎ (y < x) → (y ≤ x) ⊎ (x < y) →
+        (word-before (x ∷ xs) (y ∷ ys) ≡ true) ⊎ (x ∷ xs ≡ y ∷ ys) ⊎ (word-before (y ∷ ys) (x ∷ xs) ≡ true)
+    firsts more (inl p) (inl q) = rests (omega arith) more
+    firsts more (inl p) (inr q) = inl (word-before-first x y xs ys q)
+    firsts more (inr p) (inl q) = inr (inr (word-before-first y x ys xs p))
+    firsts more (inr p) (inr q) = inr (inr (word-before-first y x ys xs p))
 
-abbrev pub part : List ℕ → (at end : ℕ) → List ℕ
-part cs at end = take (end - at) (drop at cs)
+pub ascend-tail : (w : List ℕ) (ws : List (List ℕ)) → ascend (w ∷ ws) ≡ true → ascend ws ≡ true
+unfolding ascend
+ascend-tail w [] t = refl
+ascend-tail w (v ∷ ws) t = and-right (word-before w v) (ascend (v ∷ ws)) t
 
-pub length-part : (cs : List ℕ) (at end : ℕ) → at ≤ end → end ≤ length cs → length (part cs at end) ≡ end - at
-length-part cs at end order room = length-take-le (end - at) (drop at cs) (simp length-drop (omega arith))
+-- the first of ascending words is before each other
+pub ascend-first : (w v : List ℕ) (ws : List (List ℕ)) → ascend (w ∷ ws) ≡ true → In v ws → word-before w v ≡ true
+unfolding ascend
+ascend-first w v [] t m = absurd m
+ascend-first w v (x ∷ xs) t (inl e) = rw e (and-left (word-before w x) (ascend (x ∷ xs)) t)
+ascend-first w v (x ∷ xs) t (inr m) =
+    word-before-trans w x v (and-left (word-before w x) (ascend (x ∷ xs)) t)
+    (ascend-first x v xs (and-right (word-before w x) (ascend (x ∷ xs)) t) m)
 
--- its digits, read where they stand
-digit-read :
-    (cs : List ℕ) (at end i s : ℕ) → at ≤ end → end ≤ length cs → (i < end - at → s ≡ at + i) →
-    cond (ltb i (end - at)) (getD cs s 0 + 1) 0 ≡ first-digit (drop i (part cs at end))
-unfolding first-digit
-digit-read cs at end i s order room here =
+pub ascend-get :
+    (ws : List (List ℕ)) → ascend ws ≡ true → (i j : ℕ) → i < j → j < length ws → word-before (getD ws i []) (getD ws j []) ≡ true
+ascend-get [] t i j h b = absurd (omega arith)
+ascend-get (w ∷ ws) t i zero h b = absurd (omega arith)
+ascend-get (w ∷ ws) t zero (suc j) h b = ascend-first w (getD ws j []) ws t (in-getD ws j [] (omega arith))
+ascend-get (w ∷ ws) t (suc i) (suc j) h b = ascend-get ws (ascend-tail w ws t) i j (omega arith) (omega arith)
+
+pub ascend-put :
+    (ws : List (List ℕ)) → ((i : ℕ) → suc i < length ws → word-before (getD ws i []) (getD ws (suc i) []) ≡ true) →
+    ascend ws ≡ true
+unfolding ascend
+ascend-put [] h = refl
+ascend-put (w ∷ []) h = refl
+ascend-put (w ∷ v ∷ ws) h = and-put (h 0 (omega arith)) (ascend-put (v ∷ ws) (λ i b. h (suc i) (omega arith)))
+
+pub ascend-distinct :
+    (ws : List (List ℕ)) → ascend ws ≡ true → (i j : ℕ) → i < length ws → j < length ws → getD ws i [] ≡ getD ws j [] → i ≡ j
+ascend-distinct ws t i j bi bj e =
     ⊎-elim
-    (λ (past : end - at ≤ i).
-    let none : length (part cs at end) ≤ i = rw (length-part cs at end order room) past in
-    rw (le-ltb i (end - at) past, drop-of-length-le (part cs at end) none))
-    (λ (inside : i < end - at).
-    let some : i < length (part cs at end) = rw (length-part cs at end order room) inside in
-    let read : getD (part cs at end) i 0 ≡ getD cs s 0 =
-    getD-take (end - at) (drop at cs) i 0 inside ∙ getD-drop at cs i 0 ∙ ap (λ (j : ℕ). getD cs j 0) (sym (here inside)) in
-    rw (lt-ltb i (end - at) inside, drop-cons (part cs at end) i 0 some, read))
-    (le-or-lt (end - at) i)
-
--- three digits so read make the code of the word
-pub code-read :
-    (cs : List ℕ) (at end s t a b c : ℕ) → at < end → end ≤ length cs → (1 < end - at → s ≡ at + 1) → (2 < end - at → t ≡ at + 2) →
-    a ≡ getD cs at 0 + 1 → b ≡ cond (ltb 1 (end - at)) (getD cs s 0 + 1) 0 → c ≡ cond (ltb 2 (end - at)) (getD cs t 0 + 1) 0 →
-    (a * 131072 + b) * 131072 + c ≡ code (part cs at end)
-unfolding code
-code-read cs at end s t a b c some room second third ea eb ec =
-    let order : at ≤ end = omega arith in
-    let one : a ≡ first-digit (part cs at end) =
-    ea
-    ∙ ap (λ (q : Bool). cond q (getD cs at 0 + 1) 0) (sym (lt-ltb 0 (end - at) (omega arith)))
-    ∙ digit-read cs at end 0 at order room (λ (h : 0 < end - at). omega arith) in
-    let two : b ≡ first-digit (drop 1 (part cs at end)) = eb ∙ digit-read cs at end 1 s order room second in
-    let three : c ≡ first-digit (drop 2 (part cs at end)) = ec ∙ digit-read cs at end 2 t order room third in
-    rw (one, two, three)
-
--- two words in a row, and their codes
-pub record Neighbours (cs : List ℕ) (at next end a b : ℕ) : Type 0 where
-  pub first : at ≤ next
-  pub second : next ≤ end
-  pub room : end ≤ length cs
-  pub first-code : a ≡ code (part cs at next)
-  pub second-code : b ≡ code (part cs next end)
-
-small-take : (n : ℕ) (w : List ℕ) → Small w → Small (take n w)
-small-take zero w h i = omega arith
-small-take (suc n) [] h i = omega arith
-small-take (suc n) (x ∷ xs) h zero = h 0
-small-take (suc n) (x ∷ xs) h (suc i) = small-take n xs (λ (j : ℕ). h (suc j)) i
-
-small-part : (cs : List ℕ) (at end : ℕ) → Small cs → Small (part cs at end)
-small-part cs at end h = small-take (end - at) (drop at cs) (small-drop at cs h)
-
-module _ (cs : List ℕ) (at next end a b : ℕ) (small : Small cs) (h : Neighbours cs at next end a b) where
-  pub neighbours-less : a < b → word-before (part cs at next) (part cs next end) ≡ true
-  neighbours-less less =
-      code-less (part cs at next) (part cs next end) (small-part cs at next small) (small-part cs next end small)
-      (omega (arith, h .first-code, h .second-code))
-
-  pub neighbours-more : b < a → word-before (part cs at next) (part cs next end) ≡ false
-  neighbours-more more =
-      code-more (part cs at next) (part cs next end) (small-part cs at next small) (small-part cs next end small)
-      (omega (arith, h .first-code, h .second-code))
+    (λ (p : i ≤ j).
+    ⊎-elim (λ (q : j ≤ i). let same : i ≡ j = omega arith in same)
+    (λ (q : i < j). clash (ascend-get ws t i j q bj) (rw e (word-before-self (getD ws j [])))) (le-or-lt j i))
+    (λ (p : j < i). clash (ascend-get ws t j i p bi) (rw e (word-before-self (getD ws j [])))) (le-or-lt i j)

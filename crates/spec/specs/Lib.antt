@@ -10,4 +10,5 @@ pub mod Tally
 pub mod Calls
 pub mod Promise
 pub mod Beyond
+pub mod Published
 pub mod Examples

@@ -6,7 +6,7 @@ use native.Mathlib.Omega.{arith}
 use borrow.Author.Needs.{needs}
 use lib.ListN.{length, drop}
 use Rattle.spec.specs.Dictionary.{word-before}
-use Rattle.laws.specs.WordOrder.{before-less, before-more, before-same, before-end, before-read}
+use Rattle.laws.specs.WordCode.{before-less, before-more, before-same, before-end, before-read}
 use Rattle.dictionary.proofs.admission.comes_before.Statement.{statement}
 use Rattle.dictionary.proofs.admission.comes_before.Tie as tie
 

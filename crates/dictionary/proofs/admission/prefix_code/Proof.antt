@@ -3,7 +3,7 @@ use mathlib.Core.Path.{_≡_}
 use Prim.Native.Nat.{_<_, _+_, _-_}
 use native.Mathlib.Omega.{arith}
 use borrow.Author.Needs.{needs}
-use Rattle.laws.specs.WordOrder.{code-read}
+use Rattle.laws.specs.WordCode.{code-read}
 use Rattle.dictionary.proofs.admission.prefix_code.Statement.{statement}
 use Rattle.dictionary.proofs.admission.prefix_code.Tie as tie
 
