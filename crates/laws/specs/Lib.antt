@@ -17,6 +17,7 @@ pub mod Extension
 pub mod EntryPlaces
 pub mod Scan
 pub mod Longest
+pub mod Marks
 pub mod Figure
 pub mod Growing
 pub mod Prefixes
