@@ -44,9 +44,11 @@ no-text lex xs = not (received longest-text lex xs)
 
 -- THE ORDER: "The lowest applicable number is returned; an operation tests only what it is handed."
 
+-- the first number, or the second where the first is 0
 unfoldable pub or-else : (a b : ℕ) → ℕ
 or-else a b = cond (eqb a 0) b a
 
+-- 1 to 3, 4, 7, 8
 unfoldable pub build-refusal : (chars lengths text : List ℕ) → (output work : ℕ) → ℕ
 build-refusal cs ls ts o w =
     or-else (dictionary-refusal cs ls)
@@ -58,6 +60,7 @@ build-refusal cs ls ts o w =
 unfoldable pub index-refusal : (chars lengths index : List ℕ) → ℕ
 index-refusal cs ls xs = or-else (dictionary-refusal cs ls) (cond (unreadable (lexicon cs ls) xs) 5 0)
 
+-- 1 to 3, 5, 7, 9
 unfoldable pub reception-refusal : (chars lengths index : List ℕ) → (work : ℕ) → ℕ
 reception-refusal cs ls xs w =
     or-else (index-refusal cs ls xs) (cond (work-short (n-of xs) w) 7 (cond (no-text (lexicon cs ls) xs) 9 0))

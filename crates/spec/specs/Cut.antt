@@ -9,6 +9,7 @@ use Rattle.spec.specs.Words.{spells, same}
 use Rattle.spec.specs.Numbers.{Line, numbers}
 use Rattle.spec.specs.Index.{n-of, lines-in}
 
+-- small stands in big at index i or after it
 unfoldable pub lies-from : (left i : ℕ) → (small big : List ℕ) → Bool
 lies-from zero i a b = false
 lies-from (suc n) i a b = same (take (length a) (drop i b)) a || lies-from n (suc i) a b
@@ -17,6 +18,7 @@ lies-from (suc n) i a b = same (take (length a) (drop i b)) a || lies-from n (su
 unfoldable pub lies-in : (small big : List ℕ) → Bool
 lies-in a b = lies-from (suc (length b) - length a) 0 a b
 
+-- an end of a of i characters or more is a start of b
 unfoldable pub joins-from : (left i : ℕ) → (a b : List ℕ) → Bool
 joins-from zero i a b = false
 joins-from (suc n) i a b =
@@ -31,6 +33,7 @@ joins a b = joins-from (length a) 1 a b
 unfoldable pub bears : (key string : List ℕ) → Bool
 bears k s = (lies-in s k || lies-in k s) || (joins k s || joins s k)
 
+-- the lines whose keys bear on the string
 unfoldable pub bearing : Lexicon → (string : List ℕ) → List Line → List Line
 bearing lex s [] = []
 bearing lex s (l ∷ ls) = cond (bears (spells lex (l .key-of)) s) (l ∷ bearing lex s ls) (bearing lex s ls)

@@ -9,6 +9,7 @@ use lib.ListN.{length, take, drop}
 unfoldable pub is-char : ℕ → Bool
 is-char c = ltb c 65536
 
+-- every number of a list is a character
 unfoldable pub all-chars : List ℕ → Bool
 all-chars [] = true
 all-chars (c ∷ cs) = is-char c && all-chars cs
@@ -34,6 +35,7 @@ pub record Lexicon : Type 0 where
 unfoldable pub lexicon : (chars lengths : List ℕ) → Lexicon
 lexicon cs ls = record { words = words-from ls cs }
 
+-- the sum of a list
 unfoldable pub total : List ℕ → ℕ
 total [] = 0
 total (x ∷ xs) = x + total xs
@@ -46,6 +48,7 @@ too-large cs ls = ltb 4096 (length ls) || ltb 65535 (length cs)
 unfoldable pub length-good : ℕ → Bool
 length-good l = leb 1 l && leb l 32
 
+-- every length is that of a word
 unfoldable pub lengths-good : List ℕ → Bool
 lengths-good [] = true
 lengths-good (l ∷ ls) = length-good l && lengths-good ls
@@ -60,6 +63,7 @@ word-before xs [] = false
 word-before [] (y ∷ ys) = true
 word-before (x ∷ xs) (y ∷ ys) = ltb x y || (eqb x y && word-before xs ys)
 
+-- each word before the next
 unfoldable pub ascend : List (List ℕ) → Bool
 ascend [] = true
 ascend (w ∷ []) = true

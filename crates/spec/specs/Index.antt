@@ -18,9 +18,11 @@ header = 2
 abbrev pub n-of : List ℕ → ℕ
 n-of xs = getD xs 0 0
 
+-- "K, the number of keys"
 abbrev pub keys-of : List ℕ → ℕ
 keys-of xs = getD xs 1 0
 
+-- "kind, value, count" of directory line i, from 0
 abbrev pub kind-at : List ℕ → (i : ℕ) → ℕ
 kind-at xs i = getD xs (header + 3 * i) 0
 
@@ -33,6 +35,7 @@ count-at xs i = getD xs (header + 3 * i + 2) 0
 abbrev pub key-at : List ℕ → (i : ℕ) → Key
 key-at xs i = key (kind-at xs i) (value-at xs i)
 
+-- the sum of the counts of line i and those after it
 unfoldable pub counts-from : (left i : ℕ) → List ℕ → ℕ
 counts-from zero i xs = 0
 counts-from (suc k) i xs = count-at xs i + counts-from k (suc i) xs
@@ -41,10 +44,12 @@ counts-from (suc k) i xs = count-at xs i + counts-from k (suc i) xs
 unfoldable pub entries-of : List ℕ → ℕ
 entries-of xs = counts-from (keys-of xs) 0 xs
 
+-- line i and those after it, with their positions off the front of those left
 unfoldable pub lines-from : (left i : ℕ) → (numbers places : List ℕ) → List Line
 lines-from zero i xs ps = []
 lines-from (suc k) i xs ps = line (key-at xs i) (take (count-at xs i) ps) ∷ lines-from k (suc i) xs (drop (count-at xs i) ps)
 
+-- the directory lines with their positions
 unfoldable pub lines-in : List ℕ → List Line
 lines-in xs = lines-from (keys-of xs) 0 xs (drop (header + 3 * keys-of xs) xs)
 
@@ -71,6 +76,7 @@ unfoldable pub rise-from : (least : ℕ) → List ℕ → Bool
 rise-from a [] = true
 rise-from a (p ∷ ps) = leb a p && rise-from (suc p) ps
 
+-- the last of the positions
 unfoldable pub last-of : List ℕ → ℕ
 last-of [] = 0
 last-of (p ∷ []) = p
@@ -83,6 +89,7 @@ line-good lex n l =
     (key-good lex (l .key-of) && leb 1 (length (l .places)))
     && (rise-from 1 (l .places) && leb (last-of (l .places) + length (spells lex (l .key-of))) (suc n))
 
+-- so with every line
 unfoldable pub lines-good : Lexicon → (n : ℕ) → List Line → Bool
 lines-good lex n [] = true
 lines-good lex n (l ∷ ls) = line-good lex n l && lines-good lex n ls

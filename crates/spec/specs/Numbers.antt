@@ -17,10 +17,12 @@ unfoldable pub entry-before : Entry → Entry → Bool
 entry-before e f =
     key-before (e .key-of) (f .key-of) || (not (key-before (f .key-of) (e .key-of)) && ltb (e .at) (f .at))
 
+-- an entry put into its place
 unfoldable pub into : Entry → List Entry → List Entry
 into e [] = e ∷ []
 into e (f ∷ fs) = cond (entry-before e f) (e ∷ f ∷ fs) (f ∷ into e fs)
 
+-- entries in order
 unfoldable pub sorted : List Entry → List Entry
 sorted [] = []
 sorted (e ∷ es) = into e (sorted es)
@@ -33,6 +35,7 @@ pub record Line : Type 0 where
 unfoldable pub line : Key → List ℕ → Line
 line k ps = record { key-of = k; places = ps }
 
+-- an entry put before lines whose entries all come after it
 unfoldable pub with-entry : Entry → List Line → List Line
 with-entry e [] = line (e .key-of) (e .at ∷ []) ∷ []
 with-entry e (l ∷ ls) =

@@ -14,6 +14,7 @@ use Rattle.spec.specs.Search.{find}
 use Rattle.spec.specs.Cut.{cut-down}
 use Rattle.spec.specs.Tally.{tally}
 
+-- those at p and after it
 unfoldable pub places-from : (left p : ℕ) → (string text : List ℕ) → List ℕ
 places-from zero p s ts = []
 places-from (suc n) p s ts = cond (stands s ts p) (p ∷ places-from n (suc p) s ts) (places-from n (suc p) s ts)
@@ -67,6 +68,7 @@ Recovers g =
     (readable g (lexicon cs ls) (index-of (lexicon cs ls) ts) ≡ true)
     × (recovered (lexicon cs ls) (index-of (lexicon cs ls) ts) ≡ ts)
 
+-- p lies on an entry of the list
 unfoldable pub covers-place : (p : ℕ) → List Entry → Bool
 covers-place p [] = false
 covers-place p (e ∷ es) = lies-on (e .at) (e .long) p || covers-place p es

@@ -16,10 +16,12 @@ lies-on a l p = leb a p && ltb p (a + l)
 
 -- RECOVERY, document 01's term: the text, from the characters that the entries show
 
+-- the character that a string at one of these places shows at p
 unfoldable pub shown-by : (string places : List ℕ) → (p : ℕ) → Option ℕ
 shown-by s [] p = none
 shown-by s (a ∷ more) p = cond (lies-on a (length s) p) (some (getD s (p - a) 0)) (shown-by s more p)
 
+-- the first of two that shows one
 unfoldable pub or-shown : Option ℕ → Option ℕ → Option ℕ
 or-shown (some c) o = some c
 or-shown none o = o
@@ -29,14 +31,17 @@ unfoldable pub shown : Lexicon → List Line → (p : ℕ) → Option ℕ
 shown lex [] p = none
 shown lex (l ∷ ls) p = or-shown (shown-by (spells lex (l .key-of)) (l .places) p) (shown lex ls p)
 
+-- 0 where nothing is shown
 unfoldable pub char-or : Option ℕ → ℕ
 char-or none = 0
 char-or (some c) = c
 
+-- the characters at p and the positions after it
 unfoldable pub recovered-from : (left p : ℕ) → Lexicon → List Line → List ℕ
 recovered-from zero p lex ls = []
 recovered-from (suc n) p lex ls = char-or (shown lex ls p) ∷ recovered-from n (suc p) lex ls
 
+-- the text of the stated length
 unfoldable pub recovered : Lexicon → (numbers : List ℕ) → List ℕ
 recovered lex xs = recovered-from (n-of xs) 1 lex (lines-in xs)
 

@@ -48,11 +48,13 @@ unfoldable pub key-start : ℤ → ℕ
 key-start (pos o) = o
 key-start (negsuc o) = 0
 
+-- agreement at an offset
 unfoldable pub agrees-at : (key string : List ℕ) → ℤ → Bool
 agrees-at k s o = agrees s (string-start o) k (key-start o)
 
 -- SEARCH
 
+-- an entry of this string, at one of the places, agrees and covers p
 unfoldable pub covers : (string : List ℕ) → (a p : ℕ) → (entry places : List ℕ) → Bool
 covers s a p e [] = false
 covers s a p e (b ∷ bs) = (lies-on b (length e) p && agrees s a e b) || covers s a p e bs
@@ -62,6 +64,7 @@ unfoldable pub covered : Lexicon → List Line → (string : List ℕ) → (a p 
 covered lex [] s a p = false
 covered lex (l ∷ ls) s a p = covers s a p (spells lex (l .key-of)) (l .places) || covered lex ls s a p
 
+-- p and the positions after it are covered
 unfoldable pub all-covered : (left p : ℕ) → Lexicon → List Line → (string : List ℕ) → (a : ℕ) → Bool
 all-covered zero p lex ls s a = true
 all-covered (suc n) p lex ls s a = covered lex ls s a p && all-covered n (suc p) lex ls s a

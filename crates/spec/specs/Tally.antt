@@ -14,6 +14,7 @@ unfoldable pub of-length : Lexicon → (l : ℕ) → List Line → ℕ
 of-length lex l [] = 0
 of-length lex l (k ∷ ks) = cond (eqb (length (spells lex (k .key-of))) l) (length (k .places)) 0 + of-length lex l ks
 
+-- the counts for length l and those after it
 unfoldable pub tally-from : (left l : ℕ) → Lexicon → List Line → List ℕ
 tally-from zero l lex ks = []
 tally-from (suc n) l lex ks = of-length lex l ks ∷ tally-from n (suc l) lex ks

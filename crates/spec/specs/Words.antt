@@ -24,10 +24,12 @@ same [] (y ∷ ys) = false
 same (x ∷ xs) [] = false
 same (x ∷ xs) (y ∷ ys) = eqb x y && same xs ys
 
+-- a string is one of the words
 unfoldable pub listed : (string : List ℕ) → (words : List (List ℕ)) → Bool
 listed w [] = false
 listed w (v ∷ vs) = same w v || listed w vs
 
+-- a string is "itself a word"
 unfoldable pub is-word : Lexicon → (string : List ℕ) → Bool
 is-word lex w = listed w (lex .words)
 
@@ -56,6 +58,7 @@ entry k p l = record { key-of = k; at = p; long = l }
 unfoldable pub contains : Entry → Entry → Bool
 contains e f = leb (e .at) (f .at) && leb (f .at + f .long) (e .at + e .long)
 
+-- equal kind and value
 unfoldable pub same-key : Key → Key → Bool
 same-key a b = eqb (a .kind) (b .kind) && eqb (a .value) (b .value)
 
@@ -70,6 +73,7 @@ unfoldable pub key-entries : (left p : ℕ) → Key → (string text : List ℕ)
 key-entries zero p k s ts = []
 key-entries (suc n) p k s ts = cond (stands s ts p) (entry k p (length s) ∷ key-entries n (suc p) k s ts) (key-entries n (suc p) k s ts)
 
+-- the entries of the words from a number on
 unfoldable pub word-entries : (number : ℕ) → List (List ℕ) → (text : List ℕ) → List Entry
 word-entries i [] ts = []
 word-entries i (w ∷ ws) ts = key-entries (length ts) 1 (key 0 i) w ts ++ word-entries (suc i) ws ts
@@ -80,18 +84,22 @@ lone-entries p lex [] = []
 lone-entries p lex (c ∷ cs) =
     cond (is-word lex (c ∷ [])) (lone-entries (suc p) lex cs) (entry (key 1 c) p 1 ∷ lone-entries (suc p) lex cs)
 
+-- all entries: those of the words, then those of lone characters
 unfoldable pub complete : Lexicon → (text : List ℕ) → List Entry
 complete lex ts = word-entries 0 (lex .words) ts ++ lone-entries 1 lex ts
 
 -- THE COMPLETE MAXIMAL WORD INDEX: "the set of those contained in no other entry"
 
+-- contained in an entry of the list that is another one
 unfoldable pub in-another : Entry → List Entry → Bool
 in-another e [] = false
 in-another e (f ∷ fs) = (not (same-entry e f) && contains f e) || in-another e fs
 
+-- of the rest, those that no entry of all contains
 unfoldable pub maximal : (all rest : List Entry) → List Entry
 maximal es [] = []
 maximal es (f ∷ fs) = cond (in-another f es) (maximal es fs) (f ∷ maximal es fs)
 
+-- the complete maximal word index, as a set of entries
 unfoldable pub entries : Lexicon → (text : List ℕ) → List Entry
 entries lex ts = maximal (complete lex ts) (complete lex ts)
