@@ -45,3 +45,4 @@ pub mod Cover
 pub mod Reach
 pub mod ReachRaises
 pub mod ReachExact
+pub mod Sound
