@@ -1,19 +1,16 @@
 -- A text's index is readable, has the text's n and its maximal entries, and is the only such slice. Assumes nothing.
-use mathlib.Core.Path.{_≡_, refl, sym, ap, _∙_, subst}
+use mathlib.Core.Path.{_≡_, refl, sym, ap, _∙_}
 use mathlib.Core.Bool.{true}
 use mathlib.Core.List.{List, [], _∷_}
 use Prim.Native.Nat.{ℕ, suc, _≤_}
 use native.Mathlib.Omega.{arith}
-use lib.Dec.{leb}
 use lib.ListN.{length, length-append}
-use borrow.Author.Tests.{leb-true}
-use Rattle.basics.specs.Bools.{and-right}
 use Rattle.basics.specs.Member.{In}
-use Rattle.spec.specs.Dictionary.{Lexicon, all-chars, is-text, lexicon, admitted}
+use Rattle.spec.specs.Dictionary.{Lexicon}
 use Rattle.spec.specs.Words.{Key, Entry, entry, entries}
 use Rattle.spec.specs.Numbers.{Line, sorted, lines-of, positions, index-of}
 use Rattle.spec.specs.Index.{n-of, entries-of, lines-in, readable}
-use Rattle.spec.specs.Beyond.{Among, Under, Tells, Only-readable}
+use Rattle.spec.specs.Beyond.{Among, Under, Tells}
 use Rattle.laws.specs.Facts.{entry-eq, Sound, entries-at, flat, Good-lines}
 use Rattle.laws.specs.Slices.{n-of-numbers, lines-in-numbers, entries-of-numbers}
 use Rattle.laws.specs.Readable.{readable-put, readable-get, readable-unique}
@@ -137,13 +134,3 @@ module _ (lex : Lexicon) (ts : List ℕ) (sound : Sound lex (length ts) (entries
       all : (e : Entry) → In e (entries lex ts) → In e (flat lex (lines-in xs))
       all e m =
           rw (whole e m) at (under-get lex xs (e .key-of) (e .at) (tells .all (e .key-of) (e .at) (e, m, refl, refl)))
-
--- what the file on entries proves of every admitted dictionary and text is all that is needed
-pub only-readable :
-    (g : ℕ) → ((cs ls ts : List ℕ) → admitted cs ls ≡ true → is-text g ts ≡ true →
-    Sound (lexicon cs ls) (length ts) (entries (lexicon cs ls) ts)) → Only-readable g
-unfolding Only-readable is-text
-only-readable g sound cs ls ts adm text =
-    let good : Sound (lexicon cs ls) (length ts) (entries (lexicon cs ls) ts) = sound cs ls ts adm text in
-    let small : length ts ≤ g = leb-true (length ts) g (and-right (all-chars ts) (leb (length ts) g) text) in
-    (index-tells (lexicon cs ls) ts good g small, tells-index (lexicon cs ls) ts good g small)

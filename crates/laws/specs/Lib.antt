@@ -46,3 +46,5 @@ pub mod Reach
 pub mod ReachRaises
 pub mod ReachExact
 pub mod Sound
+pub mod Received
+pub mod Promises
