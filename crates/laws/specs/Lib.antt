@@ -22,7 +22,6 @@ pub mod Growing
 pub mod Prefixes
 pub mod WordAt
 pub mod KeyOrder
-pub mod KeyBounds
 pub mod Flat
 pub mod FlatOrder
 pub mod Slices
@@ -46,5 +45,6 @@ pub mod Reach
 pub mod ReachRaises
 pub mod ReachExact
 pub mod Sound
+pub mod Grouped
 pub mod Received
 pub mod Promises
