@@ -47,4 +47,10 @@ pub mod ReachExact
 pub mod Sound
 pub mod Grouped
 pub mod Received
+pub mod LineNumbers
+pub mod Criterion
+pub mod Noted
+pub mod Painting
+pub mod Noting
+pub mod Reception
 pub mod Promises
