@@ -68,5 +68,5 @@ module _ (lex : Lexicon) (good : Good-lexicon lex) (ts : List ℕ) (chars : Char
   scan-index = rw sorted-scan
 
   -- the scan registers as many entries as there are
-  pub length-scan : length (make-index lex ts) ≡ length (entries lex ts)
-  length-scan = sym (length-sorted (make-index lex ts)) ∙ ap length sorted-scan ∙ length-sorted (entries lex ts)
+  pub scan-count : length (make-index lex ts) ≡ length (entries lex ts)
+  scan-count = sym (length-sorted (make-index lex ts)) ∙ ap length sorted-scan ∙ length-sorted (entries lex ts)

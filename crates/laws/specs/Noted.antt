@@ -22,7 +22,7 @@ use Rattle.laws.specs.Flat.{posting, flat-get, flat-put}
 use Rattle.laws.specs.Sound.{entries-sound}
 use Rattle.laws.specs.Longest.{longest-at, longest-at-unique, make-index, make-index-get, make-index-put}
 use Rattle.laws.specs.Scan.{scan, scan-registers, scan-passes, Longest-at}
-use Rattle.laws.specs.Grouped.{length-scan}
+use Rattle.laws.specs.Grouped.{scan-count}
 use Rattle.laws.specs.LineNumbers.{line-of, line-of-key, line-of-in, line-number}
 use Rattle.laws.specs.Received.{readable-chars}
 use Rattle.laws.specs.Criterion.{counted-index, index-taken, received-all, received-count, received-own-places}
@@ -106,7 +106,7 @@ module _ (lex : Lexicon) (good : Good-lexicon lex) (g : ℕ) (xs : List ℕ) (ca
   unfolding accepts
   accepts-index us chars long t =
       counted-index lex good g xs can us chars long each
-      (sym (length-scan lex good us chars)
+      (sym (scan-count lex good us chars)
       ∙ eqb-true (length (make-index lex us)) (entries-of xs)
       (and-right (all-noted note xs (make-index lex us)) (eqb (length (make-index lex us)) (entries-of xs)) t))
     where
@@ -128,7 +128,7 @@ module _ (lex : Lexicon) (good : Good-lexicon lex) (g : ℕ) (xs : List ℕ) (ca
   received-accepts r =
       and-put (all-noted-put note xs (make-index lex (recovered lex xs)) each)
       (eq-eqb (length (make-index lex (recovered lex xs))) (entries-of xs)
-      (length-scan lex good (recovered lex xs) chars ∙ received-count lex good g xs r))
+      (scan-count lex good (recovered lex xs) chars ∙ received-count lex good g xs r))
     where
       chars : Chars (recovered lex xs)
       chars = readable-chars lex good g xs can

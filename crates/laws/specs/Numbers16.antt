@@ -1,56 +1,28 @@
 -- Every number of a text's index is a 16-bit number, if the text has at most 65,535 characters. Assumes nothing.
 use mathlib.Core.Path.{_≡_, refl}
-use mathlib.Core.Bool.{true}
-use mathlib.Core.Logic.{_⊎_, inl, inr, ⊎-elim}
+use mathlib.Core.Logic.{inl, inr, ⊎-elim}
 use mathlib.Core.List.{List, [], _∷_, _++_}
 use Prim.Native.Nat.{ℕ, _+_, _≤_, _<_}
 use native.Mathlib.Omega.{arith}
-use lib.Dec.{ltb}
 use lib.ListN.{length, getD, length-append}
-use borrow.Author.Tests.{lt-ltb}
-use Rattle.basics.specs.Bools.{clash}
 use Rattle.basics.specs.Member.{In, in-append-get, in-getD}
-use Rattle.basics.specs.Order.{Apart, less-equal-more}
-use Rattle.basics.specs.Pigeonhole.{by-number, few-in-range}
 use Rattle.spec.specs.Dictionary.{Lexicon}
-use Rattle.spec.specs.Words.{Entry, entries}
-use Rattle.spec.specs.Numbers.{entry-before, Line, sorted, lines-of, directory, positions, numbers, index-of}
-use Rattle.laws.specs.Facts.{Chars, Good-lexicon, Own-places, Good-line, Good-lines}
+use Rattle.spec.specs.Words.{entries}
+use Rattle.spec.specs.Numbers.{Line, sorted, lines-of, directory, positions, numbers, index-of}
+use Rattle.laws.specs.Facts.{Chars, Good-lexicon, Good-line, Good-lines}
 use Rattle.laws.specs.Keys.{spells-some, value-below}
-use Rattle.laws.specs.KeyOrder.{entry-before-strict}
-use Rattle.laws.specs.Sorted.{entries-apart}
 use Rattle.laws.specs.Slices.{entries-of-numbers}
 use Rattle.laws.specs.IndexOf.{lines-in-index, index-lines-good, entries-of-index}
-use Rattle.laws.specs.Sound.{entries-sound, entries-own-places}
+use Rattle.laws.specs.Scan.{length-scan}
+use Rattle.laws.specs.Longest.{longest-at, make-index}
+use Rattle.laws.specs.Grouped.{scan-count}
+use Rattle.laws.specs.Sound.{entries-sound}
 
 -- AT MOST n ENTRIES
 
-places-apart : (es : List Entry) → Apart entry-before es → Own-places es → Apart (by-number (λ (e : Entry). e .at)) es
-places-apart [] p own = tt
-places-apart (e ∷ es) p own =
-    (λ f m. go f m (p .0 f m) (less-equal-more (e .at) (f .at)), places-apart es (p .1) (λ f g m k. own f g (inr m) (inr k)))
-  where
-    go :
-        (f : Entry) → In f es → (entry-before e f ≡ true) ⊎ (entry-before f e ≡ true) →
-        (e .at < f .at) ⊎ ((e .at ≡ f .at) ⊎ (f .at < e .at)) →
-        (ltb (e .at) (f .at) ≡ true) ⊎ (ltb (f .at) (e .at) ≡ true)
-    go f m differ (inl h) = inl (lt-ltb (e .at) (f .at) h)
-    go f m differ (inr (inr h)) = inr (lt-ltb (f .at) (e .at) h)
-    go f m differ (inr (inl q)) =
-        let same : e ≡ f = own e f (inl refl) (inr m) q in
-        ⊎-elim (λ (t : entry-before e f ≡ true). clash (rw same at t) (entry-before-strict .irreflexive f))
-        (λ (t : entry-before f e ≡ true). clash (rw same at t) (entry-before-strict .irreflexive f)) differ
-
-pub entries-few :
-    (lex : Lexicon) (ts : List ℕ) → Good-lexicon lex → Chars ts → length (entries lex ts) ≤ length ts
-entries-few lex ts good chars =
-    few-in-range (λ (e : Entry). e .at) (entries lex ts) (length ts)
-    (places-apart (entries lex ts) (entries-apart lex ts) (entries-own-places lex good ts chars)) range
-  where
-    range : (e : Entry) → In e (entries lex ts) → (1 ≤ e .at) × (e .at ≤ length ts)
-    range e m =
-        let h = entries-sound lex good ts chars e m in
-        (h .from, omega (arith, h .within, h .long-is, spells-some lex good (e .key-of) (h .is-key)))
+pub entries-few : (lex : Lexicon) (ts : List ℕ) → Good-lexicon lex → Chars ts → length (entries lex ts) ≤ length ts
+unfolding make-index
+entries-few lex ts good chars = omega (arith, scan-count lex good ts chars, length-scan (longest-at lex ts) (length ts) 1 1)
 
 -- NUMBERS BELOW A BOUND
 
