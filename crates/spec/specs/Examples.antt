@@ -104,6 +104,11 @@ pub record Tried : Type 0 where
   pub recovery-output-short : recovery-refusal A-chars A-lengths (index-of A abcdab) 5 48 ≡ 8
   pub recovery-no-text : recovery-refusal A-chars A-lengths two-lone 0 16 ≡ 9
   pub cut-for-dd : cut-down A (index-of A abcdab) (d ∷ d ∷ []) ≡ 6 ∷ 1 ∷ 0 ∷ 2 ∷ 1 ∷ 2 ∷ []
+  pub unreceived-search : find A two-lone (a ∷ b ∷ []) ≡ 1 ∷ []
+  pub unreceived-cut : cut-down A two-lone (b ∷ []) ≡ 2 ∷ 1 ∷ 1 ∷ b ∷ 1 ∷ 2 ∷ []
+  pub fewer-find-none : find A one-lone (a ∷ b ∷ []) ≡ []
+  pub tally-of-aaaa : tally B (index-of B (replicate 4 a)) ≡ 0 ∷ 0 ∷ 2 ∷ replicate 29 0
+  pub tally-of-axa : tally A (index-of A (a ∷ x ∷ a ∷ [])) ≡ 3 ∷ replicate 31 0
   pub tally-of-abcdab : tally A (index-of A abcdab) ≡ 0 ∷ 1 ∷ 2 ∷ replicate 29 0
   pub entries-of-abcdab : entries-of (index-of A abcdab) ≡ 3
   pub shorter-second : shorter 3 2 a b ≡ b
@@ -161,6 +166,11 @@ examples =
             recovery-output-short = refl;
             recovery-no-text = refl;
             cut-for-dd = refl;
+            unreceived-search = refl;
+            unreceived-cut = refl;
+            fewer-find-none = refl;
+            tally-of-aaaa = refl;
+            tally-of-axa = refl;
             tally-of-abcdab = refl;
             entries-of-abcdab = refl;
             shorter-second = refl;
