@@ -19,7 +19,7 @@ use Rattle.laws.specs.Readable.{readable-get, entries-of-positions}
 use Rattle.laws.specs.Lines.{good-flat-ascends}
 use Rattle.laws.specs.Sorted.{in-sorted-get, length-sorted, sorted-entries-ascend}
 use Rattle.laws.specs.IndexOf.{length-flat, index-unique, in-index-get, in-index-put, entries-of-index}
-use Rattle.laws.specs.Sound.{entries-sound, entries-own-places}
+use Rattle.laws.specs.Sound.{entries-own-places}
 use Rattle.laws.specs.Received.{received-get, readable-chars, is-index-received, is-index-recovered}
 
 -- ENTRIES AND THEIR NUMBER
@@ -34,7 +34,7 @@ module _ (lex : Lexicon) (good : Good-lexicon lex) (g : ℕ) (xs : List ℕ) (ca
       length (entries lex us) ≡ entries-of xs → index-of lex us ≡ xs
   counted-index us chars long each count =
       sym
-      (index-unique lex us (entries-sound lex good us chars) g (omega (arith, readable-get g lex xs can .length-allowed)) xs can
+      (index-unique lex good us chars g (omega (arith, readable-get g lex xs can .length-allowed)) xs can
       (sym long) (λ e m. in-sorted-get e (entries lex us) (rw equal m)) each)
     where
       equal : sorted (entries lex us) ≡ flat lex (lines-in xs)
@@ -64,16 +64,16 @@ module _ (lex : Lexicon) (good : Good-lexicon lex) (g : ℕ) (xs : List ℕ) (ta
   pub received-all : (e : Entry) → In e (entries lex (recovered lex xs)) → In e (flat lex (lines-in xs))
   received-all e m =
       subst (λ (ys : List ℕ). In e (flat lex (lines-in ys))) index-is
-      (in-index-put lex (recovered lex xs) (entries-sound lex good (recovered lex xs) text-chars) e m)
+      (in-index-put lex good (recovered lex xs) text-chars e m)
 
   pub received-only : (e : Entry) → In e (flat lex (lines-in xs)) → In e (entries lex (recovered lex xs))
   received-only e m =
-      in-index-get lex (recovered lex xs) (entries-sound lex good (recovered lex xs) text-chars) e
+      in-index-get lex good (recovered lex xs) text-chars e
       (subst (λ (ys : List ℕ). In e (flat lex (lines-in ys))) (sym index-is) m)
 
   pub received-count : length (entries lex (recovered lex xs)) ≡ entries-of xs
   received-count =
-      sym (entries-of-index lex (recovered lex xs) (entries-sound lex good (recovered lex xs) text-chars))
+      sym (entries-of-index lex good (recovered lex xs) text-chars)
       ∙ ap entries-of index-is
 
   -- no two entries of received numbers start at one place

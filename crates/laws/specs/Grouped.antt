@@ -10,14 +10,13 @@ use Rattle.basics.specs.Order.{Apart, ascend-unique}
 use Rattle.spec.specs.Dictionary.{Lexicon}
 use Rattle.spec.specs.Words.{Entry, entries}
 use Rattle.spec.specs.Numbers.{entry-before, sorted, Line, numbers, lines-of, index-of}
-use Rattle.laws.specs.Facts.{Chars, Good-lexicon, Sound, flat, Good-lines}
+use Rattle.laws.specs.Facts.{Chars, Good-lexicon, flat, Good-lines}
 use Rattle.laws.specs.KeyOrder.{entry-before-strict}
 use Rattle.laws.specs.EntryPlaces.{Places-rise, places-rise-in}
 use Rattle.laws.specs.Longest.{make-index, make-index-exact, make-index-get, make-index-put}
 use Rattle.laws.specs.Lines.{lines-unique}
 use Rattle.laws.specs.Sorted.{differ-apart, in-sorted-get, in-sorted-put, length-sorted, sorted-ascends, sorted-entries-ascend}
 use Rattle.laws.specs.IndexOf.{lines-in-index, index-lines-good, in-index-get, in-index-put}
-use Rattle.laws.specs.Sound.{entries-sound}
 
 -- entries at different places are in order, one way or the other
 pub places-rise-apart : (a : ℕ) (es : List Entry) → Places-rise a es → Apart entry-before es
@@ -36,12 +35,9 @@ module _ (lex : Lexicon) (good : Good-lexicon lex) (ts : List ℕ) (chars : Char
   grouped-index ls lines only all =
       ap (numbers (length ts))
       (lines-unique lex (length ts) ls (lines-of (sorted (entries lex ts))) lines
-      (rw lines-in-index at (index-lines-good lex ts sound))
-      (λ e m. rw lines-in-index at (in-index-put lex ts sound e (only e m)))
-      (λ e m. all e (in-index-get lex ts sound e (rw lines-in-index m))))
-    where
-      sound : Sound lex (length ts) (entries lex ts)
-      sound = entries-sound lex good ts chars
+      (rw lines-in-index at (index-lines-good lex good ts chars))
+      (λ e m. rw lines-in-index at (in-index-put lex good ts chars e (only e m)))
+      (λ e m. all e (in-index-get lex good ts chars e (rw lines-in-index m))))
 
   -- so are those that have what the scan registers
   pub grouped-scan :

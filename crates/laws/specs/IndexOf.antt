@@ -1,8 +1,8 @@
--- A text's index is readable, has the text's n and its maximal entries, and is the only such slice. Assumes nothing.
+-- A text's index is readable, has the text's n and its maximal entries, is the only such slice, and shows the text. Assumes nothing.
 use mathlib.Core.Path.{_≡_, refl, sym, ap, _∙_}
 use mathlib.Core.Bool.{true}
 use mathlib.Core.List.{List, [], _∷_}
-use Prim.Native.Nat.{ℕ, suc, _≤_}
+use Prim.Native.Nat.{ℕ, suc, _+_, _≤_, _<_}
 use native.Mathlib.Omega.{arith}
 use lib.ListN.{length, length-append}
 use Rattle.basics.specs.Member.{In}
@@ -11,7 +11,10 @@ use Rattle.spec.specs.Words.{Key, Entry, entry, entries}
 use Rattle.spec.specs.Numbers.{Line, sorted, lines-of, positions, index-of}
 use Rattle.spec.specs.Index.{n-of, entries-of, lines-in, readable}
 use Rattle.spec.specs.Beyond.{Among, Under, Tells}
-use Rattle.laws.specs.Facts.{entry-eq, Sound, entries-at, flat, Good-lines}
+use Rattle.laws.specs.Facts.{Chars, Good-lexicon, entry-eq, Sound, entries-at, flat, Good-lines, Shows}
+use Rattle.laws.specs.Entries.{entries-get, entries-put}
+use Rattle.laws.specs.Maximal.{maximal-covers}
+use Rattle.laws.specs.Sound.{entries-sound}
 use Rattle.laws.specs.Slices.{n-of-numbers, lines-in-numbers, entries-of-numbers}
 use Rattle.laws.specs.Readable.{readable-put, readable-get, readable-unique}
 use Rattle.laws.specs.Flat.{posting, flat-get, flat-put, flat-measured}
@@ -54,9 +57,9 @@ under-put lex xs k p m =
       r .2,
     )
 
-module _ (lex : Lexicon) (ts : List ℕ) (sound : Sound lex (length ts) (entries lex ts)) where
+module _ (lex : Lexicon) (good : Good-lexicon lex) (ts : List ℕ) (chars : Chars ts) where
   sorted-sound : Sound lex (length ts) (sorted (entries lex ts))
-  sorted-sound e m = sound e (in-sorted-get e (entries lex ts) m)
+  sorted-sound e m = entries-sound lex good ts chars e (in-sorted-get e (entries lex ts) m)
 
   pub index-lines-good : Good-lines lex (length ts) (lines-in (index-of lex ts))
   index-lines-good =
@@ -102,7 +105,7 @@ module _ (lex : Lexicon) (ts : List ℕ) (sound : Sound lex (length ts) (entries
   -- an entry of the text is its key and place
   whole : (e : Entry) → In e (entries lex ts) → posting lex (e .key-of) (e .at) ≡ e
   unfolding entry
-  whole e m = entry-eq (posting lex (e .key-of) (e .at)) e refl refl (sym (sound e m .long-is))
+  whole e m = entry-eq (posting lex (e .key-of) (e .at)) e refl refl (sym (entries-sound lex good ts chars e m .long-is))
 
   member : (k : Key) (p : ℕ) → Among k p (entries lex ts) → In (posting lex k p) (entries lex ts)
   unfolding Among
@@ -134,3 +137,18 @@ module _ (lex : Lexicon) (ts : List ℕ) (sound : Sound lex (length ts) (entries
       all : (e : Entry) → In e (entries lex ts) → In e (flat lex (lines-in xs))
       all e m =
           rw (whole e m) at (under-get lex xs (e .key-of) (e .at) (tells .all (e .key-of) (e .at) (e, m, refl, refl)))
+
+  -- the index shows the text
+  pub index-shows : Shows lex (lines-in (index-of lex ts)) ts
+  index-shows =
+      record {
+        stand = λ e m. entries-get lex good ts chars e (in-index-get e m) .is-entry .stand;
+        cover = cover;
+      }
+    where
+      cover :
+          (p : ℕ) → 1 ≤ p → p ≤ length ts →
+          (e : Entry) × In e (flat lex (lines-in (index-of lex ts))) × (e .at ≤ p) × (p < e .at + e .long)
+      cover p lo hi =
+          let (e, h, from, to) = maximal-covers lex good ts chars p lo hi in
+          (e, in-index-put e (entries-put lex good ts chars e h), from, to)

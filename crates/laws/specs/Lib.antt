@@ -28,7 +28,9 @@ pub mod Slices
 pub mod Readable
 pub mod Lines
 pub mod Sorted
+pub mod Sound
 pub mod IndexOf
+pub mod Grouped
 pub mod TallySum
 pub mod Numbers16
 pub mod Recover
@@ -44,8 +46,6 @@ pub mod Cover
 pub mod Reach
 pub mod ReachRaises
 pub mod ReachExact
-pub mod Sound
-pub mod Grouped
 pub mod Received
 pub mod LineNumbers
 pub mod Criterion

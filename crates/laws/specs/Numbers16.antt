@@ -16,7 +16,6 @@ use Rattle.laws.specs.IndexOf.{lines-in-index, index-lines-good, entries
 use Rattle.laws.specs.Scan.{length-scan}
 use Rattle.laws.specs.Longest.{longest-at, make-index}
 use Rattle.laws.specs.Grouped.{scan-count}
-use Rattle.laws.specs.Sound.{entries-sound}
 
 -- AT MOST n ENTRIES
 
@@ -83,13 +82,12 @@ pub index-below :
     Below bound (index-of lex ts)
 unfolding index-of
 index-below lex ts good chars bound wide short =
-    let sound = entries-sound lex good ts chars in
     numbers-below lex good bound wide (length ts) short (lines-of (sorted (entries lex ts)))
-    (rw lines-in-index at (index-lines-good lex ts sound))
+    (rw lines-in-index at (index-lines-good lex good ts chars))
     (omega (
       arith,
       entries-few lex ts good chars,
-      entries-of-index lex ts sound,
+      entries-of-index lex good ts chars,
       entries-of-numbers (length ts) (lines-of (sorted (entries lex ts))),
     ))
 

@@ -18,7 +18,7 @@ use Rattle.laws.specs.Strings.{Stand}
 use Rattle.laws.specs.Facts.{Good-lexicon, flat, Shows}
 use Rattle.laws.specs.Flat.{flat-long}
 use Rattle.laws.specs.Recover.{length-recovered}
-use Rattle.laws.specs.Sound.{index-shows}
+use Rattle.laws.specs.IndexOf.{index-shows}
 use Rattle.laws.specs.Received.{received-get, readable-chars}
 
 -- PAINTING

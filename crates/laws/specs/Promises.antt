@@ -21,7 +21,6 @@ use Rattle.laws.specs.Chars.{is-text-get, is-text-put}
 use Rattle.laws.specs.Lexicon.{admitted-lexicon}
 use Rattle.laws.specs.Flat.{Fewer, flat-measured}
 use Rattle.laws.specs.IndexOf.{under-get, under-put, index-tells, tells-index}
-use Rattle.laws.specs.Sound.{entries-sound}
 use Rattle.laws.specs.TallySum.{tally-sums}
 use Rattle.laws.specs.Recover.{length-recovered}
 use Rattle.laws.specs.Agree.{agrees-get, agrees-put}
@@ -45,8 +44,8 @@ pub only-readable : (g : ℕ) → Only-readable g
 unfolding Only-readable
 only-readable g cs ls ts a t =
     let text = is-text-get g ts t in
-    let sound = entries-sound (lexicon cs ls) (admitted-lexicon cs ls a) ts (text .0) in
-    (index-tells (lexicon cs ls) ts sound g (text .1), tells-index (lexicon cs ls) ts sound g (text .1))
+    let good = admitted-lexicon cs ls a in
+    (index-tells (lexicon cs ls) good ts (text .0) g (text .1), tells-index (lexicon cs ls) good ts (text .0) g (text .1))
 
 -- THE THIRD DEMAND
 

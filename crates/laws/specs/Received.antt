@@ -20,8 +20,7 @@ use Rattle.laws.specs.Keys.{spells-chars}
 use Rattle.laws.specs.Readable.{readable-get}
 use Rattle.laws.specs.Recover.{length-recovered, recovered-is-chars, recovered-text}
 use Rattle.laws.specs.Search.{find-places}
-use Rattle.laws.specs.IndexOf.{n-of-index, index-readable}
-use Rattle.laws.specs.Sound.{entries-sound, index-shows}
+use Rattle.laws.specs.IndexOf.{n-of-index, index-readable, index-shows}
 
 pub record Received (g : ℕ) (lex : Lexicon) (xs : List ℕ) : Type 0 where
   pub can-read : readable g lex xs ≡ true
@@ -57,7 +56,7 @@ module _ (lex : Lexicon) (good : Good-lexicon lex) where
     index-recovered = recovered-text lex (index-of lex ts) ts (index-shows lex good ts chars) (n-of-index lex ts)
 
     pub index-can-read : (g : ℕ) → length ts ≤ g → readable g lex (index-of lex ts) ≡ true
-    index-can-read g small = index-readable lex ts (entries-sound lex good ts chars) g small
+    index-can-read g small = index-readable lex good ts chars g small
 
     pub index-received : (g : ℕ) → length ts ≤ g → received g lex (index-of lex ts) ≡ true
     index-received g small =
