@@ -103,14 +103,14 @@ module _ (lex : Lexicon) (good : Good-lexicon lex) (ts : List ℕ) (chars : Char
       (λ e m. in-index-put e (only e m)) (λ e m. all e (in-index-get e m)))
 
   -- an entry of the text is its key and place
-  whole : (e : Entry) → In e (entries lex ts) → posting lex (e .key-of) (e .at) ≡ e
+  pub entry-whole : (e : Entry) → In e (entries lex ts) → posting lex (e .key-of) (e .at) ≡ e
   unfolding entry
-  whole e m = entry-eq (posting lex (e .key-of) (e .at)) e refl refl (sym (entries-sound lex good ts chars e m .long-is))
+  entry-whole e m = entry-eq (posting lex (e .key-of) (e .at)) e refl refl (sym (entries-sound lex good ts chars e m .long-is))
 
-  member : (k : Key) (p : ℕ) → Among k p (entries lex ts) → In (posting lex k p) (entries lex ts)
+  pub among-get : (k : Key) (p : ℕ) → Among k p (entries lex ts) → In (posting lex k p) (entries lex ts)
   unfolding Among
-  member k p a =
-      let is : posting lex k p ≡ a .0 = rw (← a .2, ← a .3) (whole (a .0) (a .1)) in
+  among-get k p a =
+      let is : posting lex k p ≡ a .0 = rw (← a .2, ← a .3) (entry-whole (a .0) (a .1)) in
       rw is (a .1)
 
   pub index-tells : (g : ℕ) → length ts ≤ g → Tells g lex ts (index-of lex ts)
@@ -120,7 +120,7 @@ module _ (lex : Lexicon) (good : Good-lexicon lex) (ts : List ℕ) (chars : Char
         can-read = index-readable g small;
         n-is = n-of-index lex ts;
         only = λ k p u. (posting lex k p, in-index-get (posting lex k p) (under-get lex (index-of lex ts) k p u), refl, refl);
-        all = λ k p a. under-put lex (index-of lex ts) k p (in-index-put (posting lex k p) (member k p a));
+        all = λ k p a. under-put lex (index-of lex ts) k p (in-index-put (posting lex k p) (among-get k p a));
       }
 
   pub tells-index : (g : ℕ) → length ts ≤ g → (xs : List ℕ) → Tells g lex ts xs → xs ≡ index-of lex ts
@@ -131,12 +131,12 @@ module _ (lex : Lexicon) (good : Good-lexicon lex) (ts : List ℕ) (chars : Char
       only : (e : Entry) → In e (flat lex (lines-in xs)) → In e (entries lex ts)
       only e m =
           let whole : e ≡ posting lex (e .key-of) (e .at) = flat-measured lex (lines-in xs) e m in
-          rw whole (member (e .key-of) (e .at)
+          rw whole (among-get (e .key-of) (e .at)
           (tells .only (e .key-of) (e .at) (under-put lex xs (e .key-of) (e .at) (rw whole at m))))
 
       all : (e : Entry) → In e (entries lex ts) → In e (flat lex (lines-in xs))
       all e m =
-          rw (whole e m) at (under-get lex xs (e .key-of) (e .at) (tells .all (e .key-of) (e .at) (e, m, refl, refl)))
+          rw (entry-whole e m) at (under-get lex xs (e .key-of) (e .at) (tells .all (e .key-of) (e .at) (e, m, refl, refl)))
 
   -- the index shows the text
   pub index-shows : Shows lex (lines-in (index-of lex ts)) ts

@@ -1,5 +1,5 @@
 -- The statements of Promise and of Beyond, proved for every greatest length of a text. Assumes nothing.
-use mathlib.Core.Path.{_≡_, sym, ap, _∙_}
+use mathlib.Core.Path.{_≡_, refl, sym, ap, _∙_}
 use mathlib.Core.Bool.{true}
 use mathlib.Core.List.{List}
 use Prim.Native.Nat.{ℕ, _≤_}
@@ -7,20 +7,20 @@ use native.Mathlib.Omega.{arith}
 use lib.Dec.{ltb}
 use lib.ListN.{length}
 use Rattle.basics.specs.Order.{Ascend, ascend-once, ltb-strict}
-use Rattle.spec.specs.Dictionary.{Lexicon, lexicon}
+use Rattle.spec.specs.Dictionary.{Lexicon, all-chars, lexicon}
 use Rattle.spec.specs.Numbers.{index-of}
 use Rattle.spec.specs.Index.{lines-in, readable}
 use Rattle.spec.specs.Reception.{recovered, received}
 use Rattle.spec.specs.Search.{string-start, key-start, agrees-at, offset, find}
 use Rattle.spec.specs.Cut.{cut-down}
 use Rattle.spec.specs.Promise.{places, Query, Received-exactly, One-text, Search-exact, Cut-same, Recovers, Tally-sums}
-use Rattle.spec.specs.Beyond.{Only-readable, Text-of, Exactly-places, Serves, Demand-three, Cut-any, Fewer-find-less, Bears-by-offset}
+use Rattle.spec.specs.Beyond.{Among, Accounts, Received-by-count, Only-readable, Text-of, Exactly-places, Serves, Demand-three, Cut-any, Fewer-find-less, Bears-by-offset}
 use Rattle.laws.specs.Strings.{stands-get, stands-put}
 use Rattle.laws.specs.Facts.{Good-lexicon}
-use Rattle.laws.specs.Chars.{is-text-get, is-text-put}
+use Rattle.laws.specs.Chars.{all-chars-get, is-text-get, is-text-put}
 use Rattle.laws.specs.Lexicon.{admitted-lexicon}
-use Rattle.laws.specs.Flat.{Fewer, flat-measured}
-use Rattle.laws.specs.IndexOf.{under-get, under-put, index-tells, tells-index}
+use Rattle.laws.specs.Flat.{posting, Fewer, flat-measured}
+use Rattle.laws.specs.IndexOf.{entry-whole, among-get, under-get, under-put, index-tells, tells-index}
 use Rattle.laws.specs.TallySum.{tally-sums}
 use Rattle.laws.specs.Recover.{length-recovered}
 use Rattle.laws.specs.Agree.{agrees-get, agrees-put}
@@ -29,6 +29,7 @@ use Rattle.laws.specs.Places.{places-ascend, places-get, places-put, fin
 use Rattle.laws.specs.Bears.{bears-get, bears-put}
 use Rattle.laws.specs.CutSame.{covered-fewer, find-bearing}
 use Rattle.laws.specs.CutReadable.{n-of-cut, lines-in-cut, cut-readable}
+use Rattle.laws.specs.Criterion.{counted-index, index-taken, received-all, received-count}
 use Rattle.laws.specs.Received.{Received, received-get, readable-chars, readable-small, index-recovered, index-can-read, is-index-received, is-index-recovered, index-find, index-injective}
 
 -- THE SECOND DEMAND
@@ -152,6 +153,40 @@ demand-three g cs ls xs a = (serves, λ ts h. let text = is-text-get g ts (h .is
         found s q =
             ap (λ (ys : List ℕ). find lex ys s) (sym (text .index-is))
             ∙ index-find lex good (recovered lex xs) (is-text-get g (recovered lex xs) (text .is-a-text) .0) s (q .nonempty)
+
+-- RECEPTION BY COUNTING
+
+pub received-by-count : (g : ℕ) → Received-by-count g
+unfolding Received-by-count Among
+received-by-count g cs ls xs a can = (taken, accounts)
+  where
+    lex : Lexicon
+    lex = lexicon cs ls
+
+    good : Good-lexicon lex
+    good = admitted-lexicon cs ls a
+
+    taken : (us : List ℕ) → all-chars us ≡ true → Accounts lex xs us → (received g lex xs ≡ true) × (recovered lex xs ≡ us)
+    taken us c h =
+        let chars = all-chars-get us c in
+        index-taken lex good g xs can us chars (h .length-is)
+        (counted-index lex good g xs can us chars (h .length-is)
+        (λ e m.
+        rw (entry-whole lex good us chars e m) at
+        (under-get lex xs (e .key-of) (e .at) (h .each (e .key-of) (e .at) (e, m, refl, refl))))
+        (h .count))
+
+    accounts : received g lex xs ≡ true → Accounts lex xs (recovered lex xs)
+    accounts r =
+        let chars = readable-chars lex good g xs can in
+        record {
+          length-is = length-recovered lex xs;
+          each =
+              λ k p h.
+              under-put lex xs k p
+              (received-all lex good g xs r (posting lex k p) (among-get lex good (recovered lex xs) chars k p h));
+          count = received-count lex good g xs r;
+        }
 
 -- KEYS AND STRINGS
 

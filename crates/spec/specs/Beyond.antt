@@ -9,10 +9,10 @@ use lib.IntN.{ℤ}
 use lib.ListN.{length, getD}
 use Rattle.basics.specs.Member.{In}
 use Rattle.basics.specs.Order.{Ascend}
-use Rattle.spec.specs.Dictionary.{Lexicon, is-text, lexicon, admitted}
+use Rattle.spec.specs.Dictionary.{Lexicon, all-chars, is-text, lexicon, admitted}
 use Rattle.spec.specs.Words.{Key, stands, Entry, entries}
 use Rattle.spec.specs.Numbers.{Line, index-of}
-use Rattle.spec.specs.Index.{n-of, lines-in, readable}
+use Rattle.spec.specs.Index.{n-of, entries-of, lines-in, readable}
 use Rattle.spec.specs.Reception.{recovered, received}
 use Rattle.spec.specs.Search.{in-offsets, agrees-at, find}
 use Rattle.spec.specs.Cut.{bears, cut-down}
@@ -74,6 +74,23 @@ Demand-three g =
     (cs ls xs : List ℕ) → admitted cs ls ≡ true →
     (received g (lexicon cs ls) xs ≡ true → Serves g (lexicon cs ls) xs (recovered (lexicon cs ls) xs))
     × ((ts : List ℕ) → Text-of g (lexicon cs ls) xs ts → received g (lexicon cs ls) xs ≡ true)
+
+-- RECEPTION BY COUNTING
+
+-- us has the stated length, each of its entries is in the slice, and there are as many as the slice has.
+pub record Accounts (lex : Lexicon) (xs us : List ℕ) : Type 0 where
+  pub length-is : length us ≡ n-of xs
+  pub each : (k : Key) (p : ℕ) → Among k p (entries lex us) → Under k p xs
+  pub count : length (entries lex us) ≡ entries-of xs
+
+-- Readable numbers are received if any characters account for them, and these are the recovered text; where numbers are received,
+-- the recovered text accounts for them.
+unfoldable pub Received-by-count : (g : ℕ) → Type 0
+Received-by-count g =
+    (cs ls xs : List ℕ) → admitted cs ls ≡ true → readable g (lexicon cs ls) xs ≡ true →
+    ((us : List ℕ) → all-chars us ≡ true → Accounts (lexicon cs ls) xs us →
+    (received g (lexicon cs ls) xs ≡ true) × (recovered (lexicon cs ls) xs ≡ us))
+    × (received g (lexicon cs ls) xs ≡ true → Accounts (lexicon cs ls) xs (recovered (lexicon cs ls) xs))
 
 -- ANY READABLE INDEX, received or not
 
