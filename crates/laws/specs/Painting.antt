@@ -36,7 +36,9 @@ length-paint lex (e ∷ es) us =
 
 module _ (lex : Lexicon) (ts : List ℕ) where
   -- the character that an entry which stands in ts has at position i + 1
-  stood : (e : Entry) → Stand (spells lex (e .key-of)) ts (e .at) → (i : ℕ) → e .at - 1 ≤ i → i < e .at - 1 + length (spells lex (e .key-of)) →
+  stood :
+      (e : Entry) → Stand (spells lex (e .key-of)) ts (e .at) → (i : ℕ) → e .at - 1 ≤ i →
+      i < e .at - 1 + length (spells lex (e .key-of)) →
       getD (spells lex (e .key-of)) (i - (e .at - 1)) 0 ≡ getD ts i 0
   stood e h i lo hi =
       let w : suc i - e .at ≡ i - (e .at - 1) = omega (arith, h .from) in

@@ -51,11 +51,13 @@ only-readable g cs ls ts a t =
 -- THE THIRD DEMAND
 
 -- what is received is the index of the recovered text
-received-text : (g : ℕ) (lex : Lexicon) → Good-lexicon lex → (xs : List ℕ) → received g lex xs ≡ true → Text-of g lex xs (recovered lex xs)
+received-text :
+    (g : ℕ) (lex : Lexicon) → Good-lexicon lex → (xs : List ℕ) → received g lex xs ≡ true → Text-of g lex xs (recovered lex xs)
 received-text g lex good xs r =
     let h : Received g lex xs = received-get g lex xs r in
     record {
-      is-a-text = is-text-put g (recovered lex xs) (readable-chars lex good g xs (h .can-read)) (readable-small lex good g xs (h .can-read));
+      is-a-text =
+          is-text-put g (recovered lex xs) (readable-chars lex good g xs (h .can-read)) (readable-small lex good g xs (h .can-read));
       length-is = length-recovered lex xs;
       index-is = h .index-is;
     }
@@ -64,7 +66,9 @@ pub received-exactly : (g : ℕ) → Received-exactly g
 unfolding Received-exactly
 received-exactly g cs ls xs a =
     let good = admitted-lexicon cs ls a in (
-      λ r. let h = received-text g (lexicon cs ls) good xs r in (recovered (lexicon cs ls) xs, h .is-a-text, h .length-is, h .index-is),
+      λ r.
+          let h = received-text g (lexicon cs ls) good xs r in
+          (recovered (lexicon cs ls) xs, h .is-a-text, h .length-is, h .index-is),
       λ ts t long e.
           let text = is-text-get g ts t in is-index-received (lexicon cs ls) good ts (text .0) g xs (text .1) e,
     )
@@ -123,13 +127,18 @@ exactly-places s ts ps some e =
 
 pub demand-three : (g : ℕ) → Demand-three g
 unfolding Demand-three Cut-any
-demand-three g cs ls xs a = (serves, λ ts h. let text = is-text-get g ts (h .is-a-text) in is-index-received lex good ts (text .0) g xs (text .1) (h .index-is))
+demand-three g cs ls xs a = (serves, has-text)
   where
     lex : Lexicon
     lex = lexicon cs ls
 
     good : Good-lexicon lex
     good = admitted-lexicon cs ls a
+
+    has-text : (ts : List ℕ) → Text-of g lex xs ts → received g lex xs ≡ true
+    has-text ts h =
+        let text = is-text-get g ts (h .is-a-text) in
+        is-index-received lex good ts (text .0) g xs (text .1) (h .index-is)
 
     serves : received g lex xs ≡ true → Serves g lex xs (recovered lex xs)
     serves r =
