@@ -2,5 +2,5 @@
 pub mod Bools
 pub mod Member
 pub mod Order
-pub mod Pigeonhole
 pub mod Steps
+pub mod Stores

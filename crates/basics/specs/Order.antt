@@ -3,13 +3,13 @@ use mathlib.Core.Path.{_≡_, refl, sym, ap, _∙_}
 use mathlib.Core.Bool.{Bool, true, false, cond}
 use mathlib.Core.Logic.{_⊎_, inl, inr, ⊎-elim}
 use mathlib.Core.List.{List, [], _∷_, _++_}
-use Prim.Native.Nat.{ℕ, suc, _<_}
+use Prim.Native.Nat.{ℕ, zero, suc, _≤_, _<_}
 use native.Mathlib.Omega.{arith}
 use lib.Dec.{ltb}
-use lib.ListN.{length}
+use lib.ListN.{length, getD}
 use borrow.Author.Tests.{lt-ltb, le-ltb, ltb-true, ltb-false}
 use Rattle.basics.specs.Bools.{clash}
-use Rattle.basics.specs.Member.{In, in-append-get}
+use Rattle.basics.specs.Member.{In, in-append-get, in-getD}
 
 -- each element before all that follow it
 abbrev pub Ascend : {A : Type 0} → (A → A → Bool) → List A → Type 0
@@ -140,6 +140,52 @@ module _ {A : Type 0} (before : A → A → Bool) (strict : Strict before) where
       (λ a m. other a y x xs (q .0 a m) (sym heads) (g a (inr m))) in
       rw (heads, tails)
 
+  -- one list's least element is not the other's: the first list lies in the rest of the other
+  in-rest :
+      (x y : A) (xs ys : List A) → ((a : A) → In a xs → before x a ≡ true) → ((a : A) → In a ys → before y a ≡ true) → In x ys →
+      (a : A) → In a (x ∷ xs) → In a (y ∷ ys) → In a ys
+  in-rest x y xs ys p q k a m (inr l) = l
+  in-rest x y xs ys p q k a (inl d) (inl e) = rw d k
+  in-rest x y xs ys p q k a (inr m) (inl e) = not-itself x x (strict .transitive x a x (p a m) (rw e (q x k))) refl
+
+  -- a strictly ascending list whose members are all in another is no longer than it
+  pub ascend-fits : (ys xs : List A) → Ascend before xs → Ascend before ys → ((a : A) → In a xs → In a ys) → length xs ≤ length ys
+  ascend-fits ys [] p q f = omega arith
+  ascend-fits [] (x ∷ xs) p q f = absurd (f x (inl refl))
+  ascend-fits (y ∷ ys) (x ∷ xs) p q f =
+      ⊎-elim
+      (λ (e : x ≡ y). omega (arith, ascend-fits ys xs (p .1) (q .1) (λ a m. other a x y ys (p .0 a m) e (f a (inr m)))))
+      (λ (k : In x ys).
+      omega (arith, ascend-fits ys (x ∷ xs) p (q .1) (λ a m. in-rest x y xs ys (p .0) (q .0) k a m (f a m))))
+      (f x (inl refl))
+
+  -- and if it is no shorter, it is that list
+  pub ascend-counted :
+      (xs ys : List A) → Ascend before xs → Ascend before ys → ((a : A) → In a xs → In a ys) → length ys ≤ length xs → xs ≡ ys
+  ascend-counted [] [] p q f n = refl
+  ascend-counted [] (y ∷ ys) p q f n = absurd (omega arith)
+  ascend-counted (x ∷ xs) [] p q f n = absurd (f x (inl refl))
+  ascend-counted (x ∷ xs) (y ∷ ys) p q f n =
+      ⊎-elim
+      (λ (e : x ≡ y).
+      let tails : xs ≡ ys =
+      ascend-counted xs ys (p .1) (q .1) (λ a m. other a x y ys (p .0 a m) e (f a (inr m))) (omega arith) in
+      rw (e, tails))
+      (λ (k : In x ys).
+      absurd (omega (arith, ascend-fits ys (x ∷ xs) p (q .1) (λ a m. in-rest x y xs ys (p .0) (q .0) k a m (f a m)))))
+      (f x (inl refl))
+
+  -- no element stands at two places
+  pub ascend-once :
+      (xs : List A) (z : A) → Ascend before xs → (i j : ℕ) → i < length xs → j < length xs → getD xs i z ≡ getD xs j z → i ≡ j
+  ascend-once [] z p i j hi hj e = absurd (omega arith)
+  ascend-once (x ∷ xs) z p zero zero hi hj e = refl
+  ascend-once (x ∷ xs) z p zero (suc j) hi hj e =
+      not-itself x (getD xs j z) (p .0 (getD xs j z) (in-getD xs j z (omega arith))) e
+  ascend-once (x ∷ xs) z p (suc i) zero hi hj e =
+      not-itself x (getD xs i z) (p .0 (getD xs i z) (in-getD xs i z (omega arith))) (sym e)
+  ascend-once (x ∷ xs) z p (suc i) (suc j) hi hj e = ap suc (ascend-once xs z (p .1) i j (omega arith) (omega arith) e)
+
   -- an element comparable with every other one goes in
   pub insert-ascends :
       (a : A) (xs : List A) → Ascend before xs → ((x : A) → In x xs → (before a x ≡ true) ⊎ (before x a ≡ true)) →
@@ -185,4 +231,15 @@ ltb-strict =
     record {
       irreflexive = λ a. le-ltb a a (omega arith);
       transitive = λ a b c p q. lt-ltb a c (omega (arith, ltb-true a b p, ltb-true b c q));
+    }
+
+-- in the order of their numbers
+abbrev pub by-number : {A : Type 0} → (A → ℕ) → A → A → Bool
+by-number f a b = ltb (f a) (f b)
+
+pub by-number-strict : {A : Type 0} → (f : A → ℕ) → Strict (by-number f)
+by-number-strict f =
+    record {
+      irreflexive = λ a. ltb-strict .irreflexive (f a);
+      transitive = λ a b c p q. ltb-strict .transitive (f a) (f b) (f c) p q;
     }

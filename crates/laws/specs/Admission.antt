@@ -1,17 +1,16 @@
 -- The model of admission: the passes over lengths and over neighbours, and the refusal. Assumes nothing.
 use mathlib.Core.Path.{_≡_, refl, sym, ap, _∙_}
-use mathlib.Core.Bool.{Bool, true, false, _&&_, _||_, not, cond, and-true}
+use mathlib.Core.Bool.{Bool, true, false, _&&_, and-true}
 use mathlib.Core.List.{List, [], _∷_}
-use mathlib.Core.Logic.{_⊎_, inl, inr, ⊎-elim}
-use Prim.Native.Nat.{ℕ, zero, suc, _+_, _*_, _-_, _≤_, _<_}
+use Prim.Native.Nat.{ℕ, _+_, _*_, _-_, _≤_, _<_}
 use native.Mathlib.Nat.{zero-add, sub-zero}
 use native.Mathlib.Numerals.{add-one}
 use native.Mathlib.Omega.{arith}
-use lib.Dec.{ltb, leb, eqb}
-use lib.ListN.{length, getD, take, drop, length-take, length-drop, drop-of-length-le}
-use lib.Seq.{drop-cons, drop-drop, getD-take, getD-drop, length-take-le}
-use borrow.Author.Tests.{le-leb, lt-leb, leb-true, lt-ltb, le-ltb, eq-eqb, ne-eqb, eqb-true}
-use Rattle.basics.specs.Bools.{clash, and-put, and-left, and-right, or-left, or-right, or-none, not-put, le-or-lt}
+use lib.Dec.{leb, eqb}
+use lib.ListN.{length, getD, drop, drop-of-length-le}
+use lib.Seq.{drop-cons, drop-drop}
+use borrow.Author.Tests.{leb-true, lt-ltb, le-ltb, eqb-true}
+use Rattle.basics.specs.Bools.{and-left, and-right}
 use Rattle.laws.specs.WordCode.{part}
 use Rattle.spec.specs.Dictionary.{words-from, total, too-large, length-good, lengths-good, lengths-wrong, word-before, ascend, disordered, dictionary-refusal}
 

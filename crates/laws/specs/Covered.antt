@@ -4,9 +4,7 @@ use mathlib.Core.Bool.{true}
 use mathlib.Core.Logic.{inl, inr, ⊎-elim}
 use mathlib.Core.List.{List, [], _∷_}
 use Prim.Native.Nat.{ℕ, _+_, _≤_, _<_}
-use lib.Dec.{ltb, leb}
-use borrow.Author.Tests.{lt-ltb, le-leb, ltb-true, leb-true}
-use Rattle.basics.specs.Bools.{clash, and-put, and-left, and-right, or-left, or-right, or-get}
+use Rattle.basics.specs.Bools.{clash, or-left, or-right, or-get}
 use Rattle.basics.specs.Member.{In}
 use Rattle.spec.specs.Dictionary.{lexicon}
 use Rattle.spec.specs.Words.{Entry, entries}

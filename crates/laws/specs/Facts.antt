@@ -1,7 +1,7 @@
 -- What the Boolean definitions come to, as facts: lexicons, keys, entries, lines, and lines that show a text. The theorems are
 -- stated over these records; each file of laws that has a `-get` and a `-put` ties one of them to its test. Assumes nothing.
 use mathlib.Core.Path.{_≡_}
-use mathlib.Core.Bool.{Bool, true}
+use mathlib.Core.Bool.{true}
 use mathlib.Core.List.{List, [], _∷_, _++_}
 use Prim.Native.Nat.{ℕ, suc, _+_, _≤_, _<_}
 use lib.ListN.{length, getD}

@@ -5,6 +5,8 @@ use mathlib.Core.Logic.{inl, inr}
 use mathlib.Core.List.{List, [], _∷_}
 use Prim.Native.Nat.{ℕ, suc, _≤_}
 use native.Mathlib.Omega.{arith}
+use lib.Dec.{ltb}
+use borrow.Author.Tests.{lt-ltb}
 use Rattle.basics.specs.Member.{In}
 use Rattle.basics.specs.Order.{Ascend, ascend-append}
 use Rattle.spec.specs.Dictionary.{Lexicon}
@@ -22,6 +24,11 @@ rise-least a (q ∷ ps) p r (inr m) = omega (arith, r .0, rise-least (suc q) ps 
 pub rise-more : (a b : ℕ) (ps : List ℕ) → Rise a ps → ((p : ℕ) → In p ps → b ≤ p) → Rise b ps
 rise-more a b [] r h = tt
 rise-more a b (p ∷ ps) r h = (h p (inl refl), r .1)
+
+-- each place before all that follow it
+pub rise-ascends : (a : ℕ) (ps : List ℕ) → Rise a ps → Ascend ltb ps
+rise-ascends a [] r = tt
+rise-ascends a (p ∷ ps) r = (λ q m. lt-ltb p q (rise-least (suc p) ps q (r .1) m), rise-ascends (suc p) ps (r .1))
 
 entries-at-ascend : (lex : Lexicon) (k : Key) (a : ℕ) (ps : List ℕ) → Rise a ps → Ascend entry-before (entries-at lex k ps)
 unfolding entries-at entry

@@ -1,20 +1,20 @@
--- A text's index is readable, has the text's n and its maximal entries, and is the only such slice. Assumes nothing.
-use mathlib.Core.Path.{_≡_, refl, sym, ap, _∙_, subst}
+-- A text's index is readable, has the text's n and its maximal entries, is the only such slice, and shows the text. Assumes nothing.
+use mathlib.Core.Path.{_≡_, refl, sym, ap, _∙_}
 use mathlib.Core.Bool.{true}
 use mathlib.Core.List.{List, [], _∷_}
-use Prim.Native.Nat.{ℕ, suc, _≤_}
+use Prim.Native.Nat.{ℕ, suc, _+_, _≤_, _<_}
 use native.Mathlib.Omega.{arith}
-use lib.Dec.{leb}
 use lib.ListN.{length, length-append}
-use borrow.Author.Tests.{leb-true}
-use Rattle.basics.specs.Bools.{and-right}
 use Rattle.basics.specs.Member.{In}
-use Rattle.spec.specs.Dictionary.{Lexicon, all-chars, is-text, lexicon, admitted}
+use Rattle.spec.specs.Dictionary.{Lexicon}
 use Rattle.spec.specs.Words.{Key, Entry, entry, entries}
 use Rattle.spec.specs.Numbers.{Line, sorted, lines-of, positions, index-of}
 use Rattle.spec.specs.Index.{n-of, entries-of, lines-in, readable}
-use Rattle.spec.specs.Beyond.{Among, Under, Tells, Only-readable}
-use Rattle.laws.specs.Facts.{entry-eq, Sound, entries-at, flat, Good-lines}
+use Rattle.spec.specs.Beyond.{Among, Under, Tells}
+use Rattle.laws.specs.Facts.{Chars, Good-lexicon, entry-eq, Sound, entries-at, flat, Good-lines, Shows}
+use Rattle.laws.specs.Entries.{entries-get, entries-put}
+use Rattle.laws.specs.Maximal.{maximal-covers}
+use Rattle.laws.specs.Sound.{entries-sound}
 use Rattle.laws.specs.Slices.{n-of-numbers, lines-in-numbers, entries-of-numbers}
 use Rattle.laws.specs.Readable.{readable-put, readable-get, readable-unique}
 use Rattle.laws.specs.Flat.{posting, flat-get, flat-put, flat-measured}
@@ -57,9 +57,9 @@ under-put lex xs k p m =
       r .2,
     )
 
-module _ (lex : Lexicon) (ts : List ℕ) (sound : Sound lex (length ts) (entries lex ts)) where
+module _ (lex : Lexicon) (good : Good-lexicon lex) (ts : List ℕ) (chars : Chars ts) where
   sorted-sound : Sound lex (length ts) (sorted (entries lex ts))
-  sorted-sound e m = sound e (in-sorted-get e (entries lex ts) m)
+  sorted-sound e m = entries-sound lex good ts chars e (in-sorted-get e (entries lex ts) m)
 
   pub index-lines-good : Good-lines lex (length ts) (lines-in (index-of lex ts))
   index-lines-good =
@@ -103,14 +103,14 @@ module _ (lex : Lexicon) (ts : List ℕ) (sound : Sound lex (length ts) (entries
       (λ e m. in-index-put e (only e m)) (λ e m. all e (in-index-get e m)))
 
   -- an entry of the text is its key and place
-  whole : (e : Entry) → In e (entries lex ts) → posting lex (e .key-of) (e .at) ≡ e
+  pub entry-whole : (e : Entry) → In e (entries lex ts) → posting lex (e .key-of) (e .at) ≡ e
   unfolding entry
-  whole e m = entry-eq (posting lex (e .key-of) (e .at)) e refl refl (sym (sound e m .long-is))
+  entry-whole e m = entry-eq (posting lex (e .key-of) (e .at)) e refl refl (sym (entries-sound lex good ts chars e m .long-is))
 
-  member : (k : Key) (p : ℕ) → Among k p (entries lex ts) → In (posting lex k p) (entries lex ts)
+  pub among-get : (k : Key) (p : ℕ) → Among k p (entries lex ts) → In (posting lex k p) (entries lex ts)
   unfolding Among
-  member k p a =
-      let is : posting lex k p ≡ a .0 = rw (← a .2, ← a .3) (whole (a .0) (a .1)) in
+  among-get k p a =
+      let is : posting lex k p ≡ a .0 = rw (← a .2, ← a .3) (entry-whole (a .0) (a .1)) in
       rw is (a .1)
 
   pub index-tells : (g : ℕ) → length ts ≤ g → Tells g lex ts (index-of lex ts)
@@ -120,7 +120,7 @@ module _ (lex : Lexicon) (ts : List ℕ) (sound : Sound lex (length ts) (entries
         can-read = index-readable g small;
         n-is = n-of-index lex ts;
         only = λ k p u. (posting lex k p, in-index-get (posting lex k p) (under-get lex (index-of lex ts) k p u), refl, refl);
-        all = λ k p a. under-put lex (index-of lex ts) k p (in-index-put (posting lex k p) (member k p a));
+        all = λ k p a. under-put lex (index-of lex ts) k p (in-index-put (posting lex k p) (among-get k p a));
       }
 
   pub tells-index : (g : ℕ) → length ts ≤ g → (xs : List ℕ) → Tells g lex ts xs → xs ≡ index-of lex ts
@@ -131,19 +131,24 @@ module _ (lex : Lexicon) (ts : List ℕ) (sound : Sound lex (length ts) (entries
       only : (e : Entry) → In e (flat lex (lines-in xs)) → In e (entries lex ts)
       only e m =
           let whole : e ≡ posting lex (e .key-of) (e .at) = flat-measured lex (lines-in xs) e m in
-          rw whole (member (e .key-of) (e .at)
+          rw whole (among-get (e .key-of) (e .at)
           (tells .only (e .key-of) (e .at) (under-put lex xs (e .key-of) (e .at) (rw whole at m))))
 
       all : (e : Entry) → In e (entries lex ts) → In e (flat lex (lines-in xs))
       all e m =
-          rw (whole e m) at (under-get lex xs (e .key-of) (e .at) (tells .all (e .key-of) (e .at) (e, m, refl, refl)))
+          rw (entry-whole e m) at (under-get lex xs (e .key-of) (e .at) (tells .all (e .key-of) (e .at) (e, m, refl, refl)))
 
--- what the file on entries proves of every admitted dictionary and text is all that is needed
-pub only-readable :
-    (g : ℕ) → ((cs ls ts : List ℕ) → admitted cs ls ≡ true → is-text g ts ≡ true →
-    Sound (lexicon cs ls) (length ts) (entries (lexicon cs ls) ts)) → Only-readable g
-unfolding Only-readable is-text
-only-readable g sound cs ls ts adm text =
-    let good : Sound (lexicon cs ls) (length ts) (entries (lexicon cs ls) ts) = sound cs ls ts adm text in
-    let small : length ts ≤ g = leb-true (length ts) g (and-right (all-chars ts) (leb (length ts) g) text) in
-    (index-tells (lexicon cs ls) ts good g small, tells-index (lexicon cs ls) ts good g small)
+  -- the index shows the text
+  pub index-shows : Shows lex (lines-in (index-of lex ts)) ts
+  index-shows =
+      record {
+        stand = λ e m. entries-get lex good ts chars e (in-index-get e m) .is-entry .stand;
+        cover = cover;
+      }
+    where
+      cover :
+          (p : ℕ) → 1 ≤ p → p ≤ length ts →
+          (e : Entry) × In e (flat lex (lines-in (index-of lex ts))) × (e .at ≤ p) × (p < e .at + e .long)
+      cover p lo hi =
+          let (e, h, from, to) = maximal-covers lex good ts chars p lo hi in
+          (e, in-index-put e (entries-put lex good ts chars e h), from, to)

@@ -113,6 +113,10 @@ module _ (lex : Lexicon) (good : Good-lexicon lex) where
       ⊎-elim (λ (w : Is-word-key lex k). good .short (spells lex k) (spells-in lex k w))
       (λ (c : Is-lone-key lex k). rw (spells-lone lex k (c .kind-is)) (omega arith)) (key-kinds lex k h)
 
+  pub value-below : (k : Key) → Is-key lex k → k .value < 65536
+  value-below k h =
+      ⊎-elim (λ (w : Is-word-key lex k). omega (arith, w .below, good .few)) (λ (c : Is-lone-key lex k). c .char) (key-kinds lex k h)
+
   pub spells-chars : (k : Key) → Is-key lex k → Chars (spells lex k)
   spells-chars k h =
       ⊎-elim (λ (w : Is-word-key lex k). good .chars (spells lex k) (spells-in lex k w))

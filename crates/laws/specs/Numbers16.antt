@@ -1,56 +1,27 @@
 -- Every number of a text's index is a 16-bit number, if the text has at most 65,535 characters. Assumes nothing.
 use mathlib.Core.Path.{_≡_, refl}
-use mathlib.Core.Bool.{true}
-use mathlib.Core.Logic.{_⊎_, inl, inr, ⊎-elim}
+use mathlib.Core.Logic.{inl, inr, ⊎-elim}
 use mathlib.Core.List.{List, [], _∷_, _++_}
 use Prim.Native.Nat.{ℕ, _+_, _≤_, _<_}
 use native.Mathlib.Omega.{arith}
-use lib.Dec.{ltb}
 use lib.ListN.{length, getD, length-append}
-use borrow.Author.Tests.{lt-ltb}
-use Rattle.basics.specs.Bools.{clash}
 use Rattle.basics.specs.Member.{In, in-append-get, in-getD}
-use Rattle.basics.specs.Order.{Apart, less-equal-more}
-use Rattle.basics.specs.Pigeonhole.{by-number, few-in-range}
 use Rattle.spec.specs.Dictionary.{Lexicon}
-use Rattle.spec.specs.Words.{Entry, entries}
-use Rattle.spec.specs.Numbers.{entry-before, Line, sorted, lines-of, directory, positions, numbers, index-of}
-use Rattle.laws.specs.Facts.{Chars, Good-lexicon, Sound, Own-places, Good-line, Good-lines}
-use Rattle.laws.specs.KeyOrder.{entry-before-strict}
-use Rattle.laws.specs.KeyBounds.{Key-length, key-length, value-below}
-use Rattle.laws.specs.Sorted.{entries-apart}
+use Rattle.spec.specs.Words.{entries}
+use Rattle.spec.specs.Numbers.{Line, sorted, lines-of, directory, positions, numbers, index-of}
+use Rattle.laws.specs.Facts.{Chars, Good-lexicon, Good-line, Good-lines}
+use Rattle.laws.specs.Keys.{spells-some, value-below}
 use Rattle.laws.specs.Slices.{entries-of-numbers}
 use Rattle.laws.specs.IndexOf.{lines-in-index, index-lines-good, entries-of-index}
+use Rattle.laws.specs.Scan.{length-scan}
+use Rattle.laws.specs.Longest.{longest-at, make-index}
+use Rattle.laws.specs.Grouped.{scan-count}
 
 -- AT MOST n ENTRIES
 
-places-apart : (es : List Entry) → Apart entry-before es → Own-places es → Apart (by-number (λ (e : Entry). e .at)) es
-places-apart [] p own = tt
-places-apart (e ∷ es) p own =
-    (λ f m. go f m (p .0 f m) (less-equal-more (e .at) (f .at)), places-apart es (p .1) (λ f g m k. own f g (inr m) (inr k)))
-  where
-    go :
-        (f : Entry) → In f es → (entry-before e f ≡ true) ⊎ (entry-before f e ≡ true) →
-        (e .at < f .at) ⊎ ((e .at ≡ f .at) ⊎ (f .at < e .at)) →
-        (ltb (e .at) (f .at) ≡ true) ⊎ (ltb (f .at) (e .at) ≡ true)
-    go f m differ (inl h) = inl (lt-ltb (e .at) (f .at) h)
-    go f m differ (inr (inr h)) = inr (lt-ltb (f .at) (e .at) h)
-    go f m differ (inr (inl q)) =
-        let same : e ≡ f = own e f (inl refl) (inr m) q in
-        ⊎-elim (λ (t : entry-before e f ≡ true). clash (rw same at t) (entry-before-strict .irreflexive f))
-        (λ (t : entry-before f e ≡ true). clash (rw same at t) (entry-before-strict .irreflexive f)) differ
-
-pub entries-few :
-    (lex : Lexicon) (ts : List ℕ) → Good-lexicon lex → Sound lex (length ts) (entries lex ts) → Own-places (entries lex ts) →
-    length (entries lex ts) ≤ length ts
-entries-few lex ts good sound own =
-    few-in-range (λ (e : Entry). e .at) (entries lex ts) (length ts)
-    (places-apart (entries lex ts) (entries-apart lex ts) own) range
-  where
-    range : (e : Entry) → In e (entries lex ts) → (1 ≤ e .at) × (e .at ≤ length ts)
-    range e m =
-        let is : Key-length lex (e .key-of) = key-length lex (e .key-of) good (sound e m .is-key) in
-        (sound e m .from, omega (arith, sound e m .within, sound e m .long-is, is .some))
+pub entries-few : (lex : Lexicon) (ts : List ℕ) → Good-lexicon lex → Chars ts → length (entries lex ts) ≤ length ts
+unfolding make-index
+entries-few lex ts good chars = omega (arith, scan-count lex good ts chars, length-scan (longest-at lex ts) (length ts) 1 1)
 
 -- NUMBERS BELOW A BOUND
 
@@ -68,8 +39,7 @@ below-cons b x xs h p y (inr m) = p y m
 module _ (lex : Lexicon) (good : Good-lexicon lex) (bound : ℕ) (wide : 65536 ≤ bound) (n : ℕ) (short : n < bound) where
   place-below : (l : Line) → Good-line lex n l → Below bound (l .places)
   place-below l h p m =
-      let is : Key-length lex (l .key-of) = key-length lex (l .key-of) good (h .is-key) in
-      omega (arith, h .fits p m, is .some)
+      omega (arith, h .fits p m, spells-some lex good (l .key-of) (h .is-key))
 
   directory-below :
       (ls : List Line) → ((l : Line) → In l ls → Good-line lex n l) → length (positions ls) < bound → Below bound (directory ls)
@@ -82,7 +52,7 @@ module _ (lex : Lexicon) (good : Good-lexicon lex) (bound : ℕ) (wide : 65536 �
       below-cons bound (l .key-of .kind) (l .key-of .value ∷ length (l .places) ∷ directory ls)
       (omega (arith, h .is-key .kind-small))
       (below-cons bound (l .key-of .value) (length (l .places) ∷ directory ls)
-      (omega (arith, value-below lex (l .key-of) good (h .is-key)))
+      (omega (arith, value-below lex good (l .key-of) (h .is-key)))
       (below-cons bound (length (l .places)) (directory ls) (omega arith)
       (directory-below ls (λ m i. each m (inr i)) (omega arith))))
 
@@ -105,26 +75,23 @@ module _ (lex : Lexicon) (good : Good-lexicon lex) (bound : ℕ) (wide : 65536 �
       (below-cons bound (length ls) (directory ls ++ positions ls) (omega (arith, lines-few ls (lines .each)))
       (below-append bound (directory ls) (positions ls) (directory-below ls (lines .each) few) (positions-below ls (lines .each))))
 
--- THE INDEX OF A TEXT whose entries start at different places
+-- THE INDEX OF A TEXT
 
 pub index-below :
-    (lex : Lexicon) (ts : List ℕ) → Good-lexicon lex → Sound lex (length ts) (entries lex ts) → Own-places (entries lex ts) →
-    (bound : ℕ) → 65536 ≤ bound → length ts < bound → Below bound (index-of lex ts)
+    (lex : Lexicon) (ts : List ℕ) → Good-lexicon lex → Chars ts → (bound : ℕ) → 65536 ≤ bound → length ts < bound →
+    Below bound (index-of lex ts)
 unfolding index-of
-index-below lex ts good sound own bound wide short =
+index-below lex ts good chars bound wide short =
     numbers-below lex good bound wide (length ts) short (lines-of (sorted (entries lex ts)))
-    (rw lines-in-index at (index-lines-good lex ts sound))
+    (rw lines-in-index at (index-lines-good lex good ts chars))
     (omega (
       arith,
-      entries-few lex ts good sound own,
-      entries-of-index lex ts sound,
+      entries-few lex ts good chars,
+      entries-of-index lex good ts chars,
       entries-of-numbers (length ts) (lines-of (sorted (entries lex ts))),
     ))
 
 -- of at most 65,535 characters: 16-bit numbers
-pub index-chars :
-    (lex : Lexicon) (ts : List ℕ) → Good-lexicon lex → length ts ≤ 65535 → Sound lex (length ts) (entries lex ts) →
-    Own-places (entries lex ts) → Chars (index-of lex ts)
-index-chars lex ts good short sound own i h =
-    index-below lex ts good sound own 65536 (omega arith) (omega arith) (getD (index-of lex ts) i 0)
-    (in-getD (index-of lex ts) i 0 h)
+pub index-chars : (lex : Lexicon) (ts : List ℕ) → Good-lexicon lex → Chars ts → length ts ≤ 65535 → Chars (index-of lex ts)
+index-chars lex ts good chars short i h =
+    index-below lex ts good chars 65536 (omega arith) (omega arith) (getD (index-of lex ts) i 0) (in-getD (index-of lex ts) i 0 h)

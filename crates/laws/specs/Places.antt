@@ -1,12 +1,13 @@
 -- The places of a string and the positions found: ascending, each once, and which they are. Assumes nothing.
 use mathlib.Core.Path.{_≡_}
 use mathlib.Core.Bool.{Bool, true, false, cond}
-use mathlib.Core.Logic.{inl, inr}
-use mathlib.Core.List.{List, [], _∷_}
+use mathlib.Core.List.{List, _∷_}
 use Prim.Native.Nat.{ℕ, zero, suc, _+_, _-_, _≤_, _<_}
 use native.Mathlib.Omega.{arith}
+use lib.Dec.{ltb}
 use lib.ListN.{length}
 use Rattle.basics.specs.Member.{In}
+use Rattle.basics.specs.Order.{Ascend}
 use Rattle.basics.specs.Steps.{those-from, those-from-get, those-from-put}
 use Rattle.spec.specs.Dictionary.{Lexicon}
 use Rattle.spec.specs.Words.{stands}
@@ -16,7 +17,7 @@ use Rattle.spec.specs.Search.{covered, all-covered, found-from, find}
 use Rattle.spec.specs.Promise.{places}
 use Rattle.laws.specs.Strings.{Stand, stands-get, stands-put}
 use Rattle.laws.specs.Facts.{Rise}
-use Rattle.laws.specs.FlatOrder.{rise-least, rise-more}
+use Rattle.laws.specs.FlatOrder.{rise-least, rise-more, rise-ascends}
 use Rattle.laws.specs.Search.{all-covered-get, all-covered-put, found-at, found-from-those, places-from-those}
 
 -- ASCENDING
@@ -41,6 +42,9 @@ module _ (s ts : List ℕ) where
 
   pub places-rise : Rise 1 (places s ts)
   places-rise = rw places-those (those-from-rise (length ts) 1 (stands s ts))
+
+  pub places-ascend : Ascend ltb (places s ts)
+  places-ascend = rise-ascends 1 (places s ts) places-rise
 
   pub places-get : (p : ℕ) → In p (places s ts) → Stand s ts p
   places-get p m = stands-get s ts p (those-from-get (length ts) 1 (stands s ts) p (rw places-those at m) .2)

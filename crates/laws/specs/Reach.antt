@@ -62,11 +62,11 @@ reach-key-apart i o s k p bs r f = rw f
 
 raise-stop : (i o l p b r : ℕ) → r < o → raise i o l p b r ≡ r
 unfolding raise
-raise-stop i o l p b r h = by-test (eqb (b + i) (p + o))
+raise-stop i o l p b r h = by-test (eqb (b + i) (p + o)) _ (lt-leb o _ (omega arith))
   where
-    by-test : (t : Bool) → cond t (cond (leb o r) (max r ((o + l) - i)) r) r ≡ r
-    by-test true = rw (lt-leb o r h)
-    by-test false = refl
+    by-test : (t u : Bool) → u ≡ false → cond t (cond u (max r ((o + l) - i)) r) r ≡ r
+    by-test true u f = rw f
+    by-test false u f = refl
 
 pub reach-places-stop : (i o l p : ℕ) (bs : List ℕ) (r : ℕ) → r < o → reach-places i o l p bs r ≡ r
 unfolding reach-places

@@ -1,7 +1,7 @@
 -- The one-pass scan of source 000's figure 1, the model of the builder: it registers exactly the maximal entries, in the order of
 -- their places. Assumes nothing.
-use mathlib.Core.Path.{_≡_}
-use mathlib.Core.Bool.{cond}
+use mathlib.Core.Path.{_≡_, ap}
+use mathlib.Core.Bool.{Bool, true, false, cond}
 use mathlib.Core.Logic.{_⊎_, inl, inr, ⊎-elim}
 use mathlib.Core.List.{List, [], _∷_}
 use Prim.Native.Nat.{ℕ, zero, suc, _+_, _≤_, _<_}
@@ -28,12 +28,33 @@ pub scan-registers :
     (longest : ℕ → Entry) (n p last : ℕ) → last < p + longest p .long →
     scan longest (suc n) p last ≡ longest p ∷ scan longest n (suc p) (p + longest p .long)
 unfolding scan
-scan-registers longest n p last h = rw (lt-ltb last (p + longest p .long) h)
+scan-registers longest n p last h =
+    ap
+    (λ (b : Bool).
+    cond b (longest p ∷ scan longest n (suc p) (p + longest p .long)) (scan longest n (suc p) last))
+    (lt-ltb last _ (omega arith))
 
 pub scan-passes :
     (longest : ℕ → Entry) (n p last : ℕ) → p + longest p .long ≤ last → scan longest (suc n) p last ≡ scan longest n (suc p) last
 unfolding scan
-scan-passes longest n p last h = rw (le-ltb last (p + longest p .long) h)
+scan-passes longest n p last h =
+    ap
+    (λ (b : Bool).
+    cond b (longest p ∷ scan longest n (suc p) (p + longest p .long)) (scan longest n (suc p) last))
+    (le-ltb last _ (omega arith))
+
+-- at most one entry a place
+pub length-scan : (longest : ℕ → Entry) (n p last : ℕ) → length (scan longest n p last) ≤ n
+unfolding scan
+length-scan longest zero p last = omega arith
+length-scan longest (suc n) p last =
+    go (ltb last (p + longest p .long)) (length-scan longest n (suc p) (p + longest p .long)) (length-scan longest n (suc p) last)
+  where
+    go :
+        (b : Bool) → length (scan longest n (suc p) (p + longest p .long)) ≤ n → length (scan longest n (suc p) last) ≤ n →
+        length (cond b (longest p ∷ scan longest n (suc p) (p + longest p .long)) (scan longest n (suc p) last)) ≤ suc n
+    go true h k = omega arith
+    go false h k = omega arith
 
 -- WHAT HOLDS BETWEEN TWO PLACES
 

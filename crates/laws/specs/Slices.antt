@@ -146,7 +146,7 @@ kinds-good-lines-from (suc k) i xs ps t l (inl e) =
 kinds-good-lines-from (suc k) i xs ps t l (inr m) =
     kinds-good-lines-from k (suc i) xs (drop (count-at xs i) ps) (and-right (leb (kind-at xs i) 1) (kinds-good k (suc i) xs) t) l m
 
-length-lines-from : (k i : ℕ) (xs ps : List ℕ) → length (lines-from k i xs ps) ≡ k
+pub length-lines-from : (k i : ℕ) (xs ps : List ℕ) → length (lines-from k i xs ps) ≡ k
 unfolding lines-from
 length-lines-from zero i xs ps = refl
 length-lines-from (suc k) i xs ps = ap suc (length-lines-from k (suc i) xs (drop (count-at xs i) ps))

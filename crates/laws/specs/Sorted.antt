@@ -11,6 +11,7 @@ use Rattle.basics.specs.Order.{Ascend, Apart, insert, sort, apart-append, in-so
 use Rattle.spec.specs.Dictionary.{Lexicon}
 use Rattle.spec.specs.Words.{Key, key, stands, is-word, Entry, entry, key-entries, word-entries, lone-entries, complete, in-another, maximal, entries}
 use Rattle.spec.specs.Numbers.{entry-before, into, sorted}
+use Rattle.laws.specs.Entries.{maximal-get}
 use Rattle.laws.specs.KeyOrder.{entry-before-total, entry-before-strict}
 
 -- SORTED
@@ -40,8 +41,8 @@ sorted-ascends es p = rw sorted-is (sort-ascends entry-before entry-before-stric
 -- A TEXT'S ENTRIES ARE EACH LISTED ONCE
 
 -- entries that differ in key or place
-apart : (e f : Entry) → (e .key-of ≡ f .key-of → e .at ≡ f .at → ⊥) → (entry-before e f ≡ true) ⊎ (entry-before f e ≡ true)
-apart e f differ = go (entry-before-total e f)
+pub differ-apart : (e f : Entry) → (e .key-of ≡ f .key-of → e .at ≡ f .at → ⊥) → (entry-before e f ≡ true) ⊎ (entry-before f e ≡ true)
+differ-apart e f differ = go (entry-before-total e f)
   where
     go :
         (entry-before e f ≡ true) ⊎ ((entry-before f e ≡ true) ⊎ ((e .key-of ≡ f .key-of) × (e .at ≡ f .at))) →
@@ -73,7 +74,7 @@ unfolding key-entries entry
 key-entries-apart zero p k s ts = tt
 key-entries-apart (suc n) p k s ts =
     apart-cond (entry k p (length s)) (key-entries n (suc p) k s ts) (stands s ts p) (
-      λ f m. apart (entry k p (length s)) f (λ a b. omega (arith, b, key-entries-get n (suc p) k s ts f m .1)),
+      λ f m. differ-apart (entry k p (length s)) f (λ a b. omega (arith, b, key-entries-get n (suc p) k s ts f m .1)),
       key-entries-apart n (suc p) k s ts,
     )
 
@@ -99,7 +100,7 @@ word-entries-apart i [] ts = tt
 word-entries-apart i (w ∷ ws) ts =
     apart-append entry-before (key-entries (length ts) 1 (key 0 i) w ts) (word-entries (suc i) ws ts)
     (key-entries-apart (length ts) 1 (key 0 i) w ts) (word-entries-apart (suc i) ws ts)
-    (λ e f l r. apart e f (λ a b. omega (
+    (λ e f l r. differ-apart e f (λ a b. omega (
       arith,
       ap (λ (k : Key). k .value) a,
       ap (λ (k : Key). k .value) (key-entries-get (length ts) 1 (key 0 i) w ts e l .0),
@@ -129,25 +130,15 @@ lone-entries-apart p lex (c ∷ cs) = go (is-word lex (c ∷ [])) (lone-entries-
         (b : Bool) → Apart entry-before (lone-entries (suc p) lex cs) →
         Apart entry-before (cond b (lone-entries (suc p) lex cs) (entry (key 1 c) p 1 ∷ lone-entries (suc p) lex cs))
     go true ih = ih
-    go false ih = (λ f m. apart (entry (key 1 c) p 1) f (λ a b. omega (arith, b, lone-entries-get (suc p) lex cs f m .1)), ih)
+    go false ih = (λ f m. differ-apart (entry (key 1 c) p 1) f (λ a b. omega (arith, b, lone-entries-get (suc p) lex cs f m .1)), ih)
 
 pub complete-apart : (lex : Lexicon) (ts : List ℕ) → Apart entry-before (complete lex ts)
 unfolding complete
 complete-apart lex ts =
     apart-append entry-before (word-entries 0 (lex .words) ts) (lone-entries 1 lex ts) (word-entries-apart 0 (lex .words) ts)
     (lone-entries-apart 1 lex ts)
-    (λ e f l r. apart e f (λ a b. omega
+    (λ e f l r. differ-apart e f (λ a b. omega
     (arith, ap (λ (k : Key). k .kind) a, word-entries-get 0 (lex .words) ts e l .0, lone-entries-get 1 lex ts f r .0)))
-
-pub in-maximal-get : (es fs : List Entry) (e : Entry) → In e (maximal es fs) → In e fs
-unfolding maximal
-in-maximal-get es [] e m = absurd m
-in-maximal-get es (f ∷ fs) e m = go (in-another f es) (in-maximal-get es fs e) m
-  where
-    go : (b : Bool) → (In e (maximal es fs) → In e fs) → In e (cond b (maximal es fs) (f ∷ maximal es fs)) → In e (f ∷ fs)
-    go true ih k = inr (ih k)
-    go false ih (inl q) = inl q
-    go false ih (inr k) = inr (ih k)
 
 pub maximal-apart : (es fs : List Entry) → Apart entry-before fs → Apart entry-before (maximal es fs)
 unfolding maximal
@@ -156,7 +147,7 @@ maximal-apart es (f ∷ fs) p = go (in-another f es) (maximal-apart es fs (p .1)
   where
     go : (b : Bool) → Apart entry-before (maximal es fs) → Apart entry-before (cond b (maximal es fs) (f ∷ maximal es fs))
     go true ih = ih
-    go false ih = (λ e m. p .0 e (in-maximal-get es fs e m), ih)
+    go false ih = (λ e m. p .0 e (maximal-get e es fs m .0), ih)
 
 pub entries-apart : (lex : Lexicon) (ts : List ℕ) → Apart entry-before (entries lex ts)
 unfolding entries

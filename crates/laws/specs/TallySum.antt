@@ -15,9 +15,9 @@ use Rattle.spec.specs.Words.{spells}
 use Rattle.spec.specs.Numbers.{Line, positions}
 use Rattle.spec.specs.Index.{entries-of, lines-in, readable}
 use Rattle.spec.specs.Tally.{of-length, tally-from, tally}
-use Rattle.laws.specs.Facts.{Good-lexicon}
+use Rattle.laws.specs.Facts.{Good-lexicon, Is-key}
+use Rattle.laws.specs.Keys.{spells-some, spells-short}
 use Rattle.laws.specs.Readable.{readable-get, entries-of-positions}
-use Rattle.laws.specs.KeyBounds.{Key-length, key-length}
 
 -- a line adds its count at its own length, and nothing at any other
 tally-below :
@@ -79,5 +79,5 @@ tally-sums g lex xs good t =
   where
     lengths : (l : Line) → In l (lines-in xs) → (1 ≤ length (spells lex (l .key-of))) × (length (spells lex (l .key-of)) ≤ 32)
     lengths l m =
-        let is : Key-length lex (l .key-of) = key-length lex (l .key-of) good (readable-get g lex xs t .lines .each l m .is-key) in
-        (is .some, is .short)
+        let is : Is-key lex (l .key-of) = readable-get g lex xs t .lines .each l m .is-key in
+        (spells-some lex good (l .key-of) is, spells-short lex good (l .key-of) is)

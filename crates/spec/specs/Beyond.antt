@@ -1,15 +1,24 @@
--- Statements beyond the six of Promise: sentences of document 01 that those do not put as a type. Each is a type; its proof stands
--- in the crate `laws`. Assumes nothing.
+-- Statements beyond those of Promise: the third demand as one statement over delivered numbers, and sentences of document 01 that
+-- Promise does not put as a type. Each is a type; its proof stands in the crate `laws`. Assumes nothing.
 use mathlib.Core.Path.{_≡_}
 use mathlib.Core.Bool.{true}
 use mathlib.Core.List.{List}
-use Prim.Native.Nat.{ℕ}
-use lib.ListN.{length}
+use Prim.Native.Nat.{ℕ, _≤_, _<_}
+use lib.Dec.{ltb}
+use lib.IntN.{ℤ}
+use lib.ListN.{length, getD}
 use Rattle.basics.specs.Member.{In}
-use Rattle.spec.specs.Dictionary.{Lexicon, is-text, lexicon, admitted}
-use Rattle.spec.specs.Words.{Key, Entry, entries}
+use Rattle.basics.specs.Order.{Ascend}
+use Rattle.spec.specs.Dictionary.{Lexicon, all-chars, is-text, lexicon, admitted}
+use Rattle.spec.specs.Words.{Key, stands, Entry, entries}
 use Rattle.spec.specs.Numbers.{Line, index-of}
-use Rattle.spec.specs.Index.{n-of, lines-in, readable}
+use Rattle.spec.specs.Index.{n-of, entries-of, lines-in, readable}
+use Rattle.spec.specs.Reception.{recovered, received}
+use Rattle.spec.specs.Search.{in-offsets, agrees-at, find}
+use Rattle.spec.specs.Cut.{bears, cut-down}
+use Rattle.spec.specs.Promise.{places, Query}
+
+-- THE INDEX
 
 -- the entry of key k at place p is in a list of entries
 unfoldable pub Among : Key → (p : ℕ) → List Entry → Type 0
@@ -33,3 +42,75 @@ Only-readable g =
     (cs ls ts : List ℕ) → admitted cs ls ≡ true → is-text g ts ≡ true →
     Tells g (lexicon cs ls) ts (index-of (lexicon cs ls) ts)
     × ((xs : List ℕ) → Tells g (lexicon cs ls) ts xs → xs ≡ index-of (lexicon cs ls) ts)
+
+-- THE THIRD DEMAND, AS ONE STATEMENT OVER DELIVERED NUMBERS
+
+-- ts is a text of the stated length that has these numbers as its index.
+pub record Text-of (g : ℕ) (lex : Lexicon) (xs ts : List ℕ) : Type 0 where
+  pub is-a-text : is-text g ts ≡ true
+  pub length-is : length ts ≡ n-of xs
+  pub index-is : index-of lex ts ≡ xs
+
+-- The positions ps are exactly those at which s stands in ts, ascending strictly, each once.
+pub record Exactly-places (s ts ps : List ℕ) : Type 0 where
+  pub are-places : ps ≡ places s ts
+  pub only : (p : ℕ) → In p ps → stands s ts p ≡ true
+  pub all : (p : ℕ) → stands s ts p ≡ true → In p ps
+  pub ascending : Ascend ltb ps
+  pub once : (i j : ℕ) → i < length ps → j < length ps → getD ps i 0 ≡ getD ps j 0 → i ≡ j
+
+-- What is had of numbers xs that text ts has as its index.
+pub record Serves (g : ℕ) (lex : Lexicon) (xs ts : List ℕ) : Type 0 where
+  pub text : Text-of g lex xs ts
+  pub only-text : (us : List ℕ) → Text-of g lex xs us → us ≡ ts
+  pub search-exact : (s : List ℕ) → Query s → Exactly-places s ts (find lex xs s)
+  pub cut-readable : (s : List ℕ) → Query s → readable g lex (cut-down lex xs s) ≡ true
+  pub cut-exact : (s : List ℕ) → Query s → Exactly-places s ts (find lex (cut-down lex xs s) s)
+
+-- Whatever numbers are delivered, they are received exactly if some text of their stated length has them as its index. Then the
+-- recovered text is that text, and everything of the demand is had of it.
+unfoldable pub Demand-three : (g : ℕ) → Type 0
+Demand-three g =
+    (cs ls xs : List ℕ) → admitted cs ls ≡ true →
+    (received g (lexicon cs ls) xs ≡ true → Serves g (lexicon cs ls) xs (recovered (lexicon cs ls) xs))
+    × ((ts : List ℕ) → Text-of g (lexicon cs ls) xs ts → received g (lexicon cs ls) xs ≡ true)
+
+-- RECEPTION BY COUNTING
+
+-- us has the stated length, each of its entries is in the slice, and there are as many as the slice has.
+pub record Accounts (lex : Lexicon) (xs us : List ℕ) : Type 0 where
+  pub length-is : length us ≡ n-of xs
+  pub each : (k : Key) (p : ℕ) → Among k p (entries lex us) → Under k p xs
+  pub count : length (entries lex us) ≡ entries-of xs
+
+-- Readable numbers are received if any characters account for them, and these are the recovered text; where numbers are received,
+-- the recovered text accounts for them.
+unfoldable pub Received-by-count : (g : ℕ) → Type 0
+Received-by-count g =
+    (cs ls xs : List ℕ) → admitted cs ls ≡ true → readable g (lexicon cs ls) xs ≡ true →
+    ((us : List ℕ) → all-chars us ≡ true → Accounts (lexicon cs ls) xs us →
+    (received g (lexicon cs ls) xs ≡ true) × (recovered (lexicon cs ls) xs ≡ us))
+    × (received g (lexicon cs ls) xs ≡ true → Accounts (lexicon cs ls) xs (recovered (lexicon cs ls) xs))
+
+-- ANY READABLE INDEX, received or not
+
+-- The cut-down index of any readable index is readable, and its search gives what the index's own does.
+unfoldable pub Cut-any : (g : ℕ) → Type 0
+Cut-any g =
+    (lex : Lexicon) (xs s : List ℕ) → readable g lex xs ≡ true →
+    (readable g lex (cut-down lex xs s) ≡ true) × (find lex (cut-down lex xs s) s ≡ find lex xs s)
+
+-- Fewer entries find no more positions.
+unfoldable pub Fewer-find-less : Type 0
+Fewer-find-less =
+    (lex : Lexicon) (xs ys : List ℕ) → n-of xs ≤ n-of ys → ((k : Key) (p : ℕ) → Under k p xs → Under k p ys) → (s : List ℕ) (p : ℕ) →
+    In p (find lex xs s) → In p (find lex ys s)
+
+-- KEYS AND STRINGS
+
+-- A key bears on a string exactly if it agrees with it at some offset from minus its length, plus 1, up to m − 1.
+unfoldable pub Bears-by-offset : Type 0
+Bears-by-offset =
+    (k s : List ℕ) → 1 ≤ length k → 1 ≤ length s →
+    (bears k s ≡ true → (o : ℤ) × (in-offsets k s o ≡ true) × (agrees-at k s o ≡ true))
+    × ((o : ℤ) → in-offsets k s o ≡ true → agrees-at k s o ≡ true → bears k s ≡ true)

@@ -1,10 +1,10 @@
 -- Document 01's starred examples as one table, and a second table of further tries, each row proved by computation. Assumes nothing.
 use mathlib.Core.Path.{_≡_, refl}
-use mathlib.Core.Bool.{Bool, true, false}
+use mathlib.Core.Bool.{true, false}
 use mathlib.Core.List.{List, [], _∷_}
 use Prim.Native.Nat.{ℕ, suc, _-_}
 use native.Mathlib.Omega.{arith}
-use lib.IntN.{ℤ, pos, negsuc}
+use lib.IntN.{pos, negsuc}
 use lib.ListN.{length, replicate}
 use Rattle.spec.specs.Dictionary.{longest-text, Lexicon, lexicon, dictionary-refusal, is-char, words-from, total, too-large, length-good, lengths-good, lengths-wrong, word-before, ascend, disordered}
 use Rattle.spec.specs.Words.{key, same, listed, is-word, spells, stands, entry, contains, same-key, same-entry, key-entries, word-entries, lone-entries, complete, in-another, maximal, entries}
@@ -14,6 +14,7 @@ use Rattle.spec.specs.Reception.{recovered, lies-on, shown-by, or-shown,
 use Rattle.spec.specs.Search.{find, offset, in-offsets, agrees-at, overlaps, equal-from, agrees, string-start, key-start, covers, covered, all-covered, found-from}
 use Rattle.spec.specs.Cut.{bears, cut-down, lies-from, lies-in, joins-from, joins, bearing}
 use Rattle.spec.specs.Tally.{tally, shorter, of-length, tally-from}
+use Rattle.spec.specs.Promise.{places, places-from}
 use Rattle.spec.specs.Calls.{index-refusal, reception-refusal, recovery-refusal, unreadable, work-short, output-short, no-text, or-else}
 
 -- the characters a, b, c, d, x
@@ -91,12 +92,23 @@ pub record Tried : Type 0 where
   pub equal-words : dictionary-refusal (a ∷ a ∷ []) (1 ∷ 1 ∷ []) ≡ 3
   pub two-before-three : dictionary-refusal (b ∷ a ∷ c ∷ []) (1 ∷ 1 ∷ []) ≡ 2
   pub prefix-after : dictionary-refusal (a ∷ b ∷ a ∷ []) (2 ∷ 1 ∷ []) ≡ 3
+  pub word-of-one : index-of B (a ∷ []) ≡ 1 ∷ 1 ∷ 0 ∷ 0 ∷ 1 ∷ 1 ∷ []
+  pub overlapping-join : find A (index-of A abcdab) (a ∷ b ∷ c ∷ d ∷ []) ≡ 1 ∷ []
+  pub touching-join : find A (index-of A abcdab) (c ∷ d ∷ a ∷ []) ≡ 3 ∷ []
+  pub places-of-ab : places (a ∷ b ∷ []) abcdab ≡ 1 ∷ 5 ∷ []
+  pub received-abcdab : received longest-text A (index-of A abcdab) ≡ true
+  pub not-received : received longest-text A two-lone ≡ false
   pub text-recovered : recovered A (index-of A abcdab) ≡ abcdab
   pub accepted-at-48 : reception-refusal A-chars A-lengths (index-of A abcdab) 48 ≡ 0
   pub work-short-at-47 : reception-refusal A-chars A-lengths (index-of A abcdab) 47 ≡ 7
   pub recovery-output-short : recovery-refusal A-chars A-lengths (index-of A abcdab) 5 48 ≡ 8
   pub recovery-no-text : recovery-refusal A-chars A-lengths two-lone 0 16 ≡ 9
   pub cut-for-dd : cut-down A (index-of A abcdab) (d ∷ d ∷ []) ≡ 6 ∷ 1 ∷ 0 ∷ 2 ∷ 1 ∷ 2 ∷ []
+  pub unreceived-search : find A two-lone (a ∷ b ∷ []) ≡ 1 ∷ []
+  pub unreceived-cut : cut-down A two-lone (b ∷ []) ≡ 2 ∷ 1 ∷ 1 ∷ b ∷ 1 ∷ 2 ∷ []
+  pub fewer-find-none : find A one-lone (a ∷ b ∷ []) ≡ []
+  pub tally-of-aaaa : tally B (index-of B (replicate 4 a)) ≡ 0 ∷ 0 ∷ 2 ∷ replicate 29 0
+  pub tally-of-axa : tally A (index-of A (a ∷ x ∷ a ∷ [])) ≡ 3 ∷ replicate 31 0
   pub tally-of-abcdab : tally A (index-of A abcdab) ≡ 0 ∷ 1 ∷ 2 ∷ replicate 29 0
   pub entries-of-abcdab : entries-of (index-of A abcdab) ≡ 3
   pub shorter-second : shorter 3 2 a b ≡ b
@@ -116,7 +128,7 @@ no-place : (m : ℕ) → 1 - suc m ≡ 0
 no-place m = omega arith
 
 pub examples : Examples
-unfolding is-char words-from lexicon total too-large length-good lengths-good lengths-wrong word-before ascend disordered dictionary-refusal key same listed is-word spells stands entry contains same-key same-entry key-entries word-entries lone-entries complete in-another maximal entries key-before entry-before into sorted line with-entry lines-of directory positions numbers index-of counts-from entries-of lines-from lines-in kinds-good key-good keys-ascend rise-from last-of line-good lines-good lengths-fit readable lies-on shown-by or-shown shown char-or recovered-from recovered received overlaps equal-from agrees offset in-offsets string-start key-start agrees-at covers covered all-covered found-from find lies-from lies-in joins-from joins bears bearing cut-down of-length tally-from tally shorter unreadable work-short output-short no-text or-else index-refusal reception-refusal recovery-refusal
+unfolding is-char words-from lexicon total too-large length-good lengths-good lengths-wrong word-before ascend disordered dictionary-refusal key same listed is-word spells stands entry contains same-key same-entry key-entries word-entries lone-entries complete in-another maximal entries key-before entry-before into sorted line with-entry lines-of directory positions numbers index-of counts-from entries-of lines-from lines-in kinds-good key-good keys-ascend rise-from last-of line-good lines-good lengths-fit readable lies-on shown-by or-shown shown char-or recovered-from recovered received places-from places overlaps equal-from agrees offset in-offsets string-start key-start agrees-at covers covered all-covered found-from find lies-from lies-in joins-from joins bears bearing cut-down of-length tally-from tally shorter unreadable work-short output-short no-text or-else index-refusal reception-refusal recovery-refusal
 examples =
     record {
       starred =
@@ -142,12 +154,23 @@ examples =
             equal-words = refl;
             two-before-three = refl;
             prefix-after = refl;
+            word-of-one = refl;
+            overlapping-join = refl;
+            touching-join = refl;
+            places-of-ab = refl;
+            received-abcdab = refl;
+            not-received = refl;
             text-recovered = refl;
             accepted-at-48 = refl;
             work-short-at-47 = refl;
             recovery-output-short = refl;
             recovery-no-text = refl;
             cut-for-dd = refl;
+            unreceived-search = refl;
+            unreceived-cut = refl;
+            fewer-find-none = refl;
+            tally-of-aaaa = refl;
+            tally-of-axa = refl;
             tally-of-abcdab = refl;
             entries-of-abcdab = refl;
             shorter-second = refl;

@@ -1,0 +1,83 @@
+-- The model of reception. A list of characters is the text of a readable slice exactly if each entry registered in it is one of the
+-- slice, and there are as many. Assumes nothing.
+use mathlib.Core.Path.{_≡_, sym, ap, _∙_, subst}
+use mathlib.Core.Bool.{true}
+use mathlib.Core.List.{List}
+use Prim.Native.Nat.{ℕ}
+use native.Mathlib.Omega.{arith}
+use lib.ListN.{length}
+use Rattle.basics.specs.Member.{In}
+use Rattle.basics.specs.Order.{ascend-counted}
+use Rattle.spec.specs.Dictionary.{Lexicon}
+use Rattle.spec.specs.Words.{Entry, entries}
+use Rattle.spec.specs.Numbers.{entry-before, sorted, index-of}
+use Rattle.spec.specs.Index.{n-of, entries-of, lines-in, readable}
+use Rattle.spec.specs.Reception.{recovered, received}
+use Rattle.laws.specs.Facts.{Chars, Good-lexicon, flat}
+use Rattle.laws.specs.KeyOrder.{entry-before-strict}
+use Rattle.laws.specs.Readable.{readable-get, entries-of-positions}
+use Rattle.laws.specs.Lines.{good-flat-ascends}
+use Rattle.laws.specs.Sorted.{in-sorted-get, length-sorted, sorted-entries-ascend}
+use Rattle.laws.specs.IndexOf.{length-flat, index-unique, in-index-get, in-index-put, entries-of-index}
+use Rattle.laws.specs.Sound.{entries-own-places}
+use Rattle.laws.specs.Received.{received-get, readable-chars, is-index-received, is-index-recovered}
+
+-- ENTRIES AND THEIR NUMBER
+
+module _ (lex : Lexicon) (good : Good-lexicon lex) (g : ℕ) (xs : List ℕ) (can : readable g lex xs ≡ true) where
+  flat-count : length (flat lex (lines-in xs)) ≡ entries-of xs
+  flat-count = length-flat lex (lines-in xs) ∙ sym (entries-of-positions g lex xs can)
+
+  -- Each registered entry has its own delivered one, and there are as many.
+  pub counted-index :
+      (us : List ℕ) → Chars us → length us ≡ n-of xs → ((e : Entry) → In e (entries lex us) → In e (flat lex (lines-in xs))) →
+      length (entries lex us) ≡ entries-of xs → index-of lex us ≡ xs
+  counted-index us chars long each count =
+      sym
+      (index-unique lex good us chars g (omega (arith, readable-get g lex xs can .length-allowed)) xs can
+      (sym long) (λ e m. in-sorted-get e (entries lex us) (rw equal m)) each)
+    where
+      equal : sorted (entries lex us) ≡ flat lex (lines-in xs)
+      equal =
+          ascend-counted entry-before entry-before-strict (sorted (entries lex us)) (flat lex (lines-in xs))
+          (sorted-entries-ascend lex us)
+          (good-flat-ascends lex (n-of xs) (lines-in xs) (readable-get g lex xs can .lines))
+          (λ e m. each e (in-sorted-get e (entries lex us) m))
+          (omega (arith, flat-count, length-sorted (entries lex us)))
+
+  -- Numbers that are the index of such a list are received, and the list is recovered.
+  pub index-taken :
+      (us : List ℕ) → Chars us → length us ≡ n-of xs → index-of lex us ≡ xs → (received g lex xs ≡ true) × (recovered lex xs ≡ us)
+  index-taken us chars long is = (
+    is-index-received lex good us chars g xs (omega (arith, readable-get g lex xs can .length-allowed)) is,
+    is-index-recovered lex good us chars xs is,
+  )
+
+-- and so it is where numbers are received
+module _ (lex : Lexicon) (good : Good-lexicon lex) (g : ℕ) (xs : List ℕ) (taken : received g lex xs ≡ true) where
+  text-chars : Chars (recovered lex xs)
+  text-chars = readable-chars lex good g xs (received-get g lex xs taken .can-read)
+
+  index-is : index-of lex (recovered lex xs) ≡ xs
+  index-is = received-get g lex xs taken .index-is
+
+  pub received-all : (e : Entry) → In e (entries lex (recovered lex xs)) → In e (flat lex (lines-in xs))
+  received-all e m =
+      subst (λ (ys : List ℕ). In e (flat lex (lines-in ys))) index-is
+      (in-index-put lex good (recovered lex xs) text-chars e m)
+
+  pub received-only : (e : Entry) → In e (flat lex (lines-in xs)) → In e (entries lex (recovered lex xs))
+  received-only e m =
+      in-index-get lex good (recovered lex xs) text-chars e
+      (subst (λ (ys : List ℕ). In e (flat lex (lines-in ys))) (sym index-is) m)
+
+  pub received-count : length (entries lex (recovered lex xs)) ≡ entries-of xs
+  received-count =
+      sym (entries-of-index lex good (recovered lex xs) text-chars)
+      ∙ ap entries-of index-is
+
+  -- no two entries of received numbers start at one place
+  pub received-own-places :
+      (e f : Entry) → In e (flat lex (lines-in xs)) → In f (flat lex (lines-in xs)) → e .at ≡ f .at → e ≡ f
+  received-own-places e f m n a =
+      entries-own-places lex good (recovered lex xs) text-chars e f (received-only e m) (received-only f n) a

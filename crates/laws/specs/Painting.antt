@@ -1,0 +1,110 @@
+-- Painting a text from entries, in any order. Where the entries show a text, the
+-- painting is that text, whatever was there before. Assumes nothing.
+use mathlib.Core.Path.{_≡_, refl, sym, _∙_, subst}
+use mathlib.Core.Bool.{true}
+use mathlib.Core.Logic.{inl, inr}
+use mathlib.Core.List.{List, [], _∷_}
+use Prim.Native.Nat.{ℕ, suc, _+_, _-_, _≤_, _<_}
+use native.Mathlib.Omega.{arith}
+use lib.ListN.{length, getD}
+use lib.Seq.{sets, length-sets, ext-getD}
+use Rattle.basics.specs.Member.{In}
+use Rattle.basics.specs.Stores.{sets-keeps, sets-writes}
+use Rattle.spec.specs.Dictionary.{Lexicon}
+use Rattle.spec.specs.Words.{spells, Entry}
+use Rattle.spec.specs.Index.{n-of, lines-in}
+use Rattle.spec.specs.Reception.{recovered, received}
+use Rattle.laws.specs.Strings.{Stand}
+use Rattle.laws.specs.Facts.{Good-lexicon, flat, Shows}
+use Rattle.laws.specs.Flat.{flat-long}
+use Rattle.laws.specs.Recover.{length-recovered}
+use Rattle.laws.specs.IndexOf.{index-shows}
+use Rattle.laws.specs.Received.{received-get, readable-chars}
+
+-- PAINTING
+
+-- each entry's characters at its place
+unfoldable pub paint : Lexicon → List Entry → (text : List ℕ) → List ℕ
+paint lex [] us = us
+paint lex (e ∷ es) us = paint lex es (sets us (e .at - 1) (spells lex (e .key-of)))
+
+pub length-paint : (lex : Lexicon) (es : List Entry) (us : List ℕ) → length (paint lex es us) ≡ length us
+unfolding paint
+length-paint lex [] us = refl
+length-paint lex (e ∷ es) us =
+    length-paint lex es (sets us (e .at - 1) (spells lex (e .key-of))) ∙ length-sets us (e .at - 1) (spells lex (e .key-of))
+
+module _ (lex : Lexicon) (ts : List ℕ) where
+  -- the character that an entry which stands in ts has at position i + 1
+  stood :
+      (e : Entry) → Stand (spells lex (e .key-of)) ts (e .at) → (i : ℕ) → e .at - 1 ≤ i →
+      i < e .at - 1 + length (spells lex (e .key-of)) →
+      getD (spells lex (e .key-of)) (i - (e .at - 1)) 0 ≡ getD ts i 0
+  stood e h i lo hi =
+      let w : suc i - e .at ≡ i - (e .at - 1) = omega (arith, h .from) in
+      let y : suc i - 1 ≡ i = omega arith in
+      rw (w, y) at (h .equal (suc i) (omega (arith, h .from)) (omega (arith, h .from)))
+
+  paint-keeps :
+      (es : List Entry) (us : List ℕ) (i : ℕ) → ((e : Entry) → In e es → Stand (spells lex (e .key-of)) ts (e .at)) →
+      getD us i 0 ≡ getD ts i 0 → getD (paint lex es us) i 0 ≡ getD ts i 0
+  unfolding paint
+  paint-keeps [] us i stand h = h
+  paint-keeps (e ∷ es) us i stand h =
+      paint-keeps es (sets us (e .at - 1) (spells lex (e .key-of))) i (λ f m. stand f (inr m))
+      (sets-keeps 0 us (e .at - 1) (spells lex (e .key-of)) i (getD ts i 0) h (stood e (stand e (inl refl)) i))
+
+  paint-writes :
+      (es : List Entry) (us : List ℕ) (i : ℕ) → i < length us → ((e : Entry) → In e es → Stand (spells lex (e .key-of)) ts (e .at)) →
+      (e : Entry) → In e es → e .at ≤ suc i → suc i < e .at + length (spells lex (e .key-of)) →
+      getD (paint lex es us) i 0 ≡ getD ts i 0
+  unfolding paint
+  paint-writes [] us i b stand e m lo hi = absurd m
+  paint-writes (f ∷ es) us i b stand e (inl q) lo hi =
+      let h : Stand (spells lex (f .key-of)) ts (f .at) = stand f (inl refl) in
+      let from : f .at ≤ suc i = rw q at lo in
+      let to : suc i < f .at + length (spells lex (f .key-of)) = rw q at hi in
+      paint-keeps es (sets us (f .at - 1) (spells lex (f .key-of))) i (λ g m. stand g (inr m))
+      (sets-writes 0 us (f .at - 1) (spells lex (f .key-of)) i (getD ts i 0) b (omega arith) (omega (arith, h .from))
+      (stood f h i (omega arith) (omega (arith, h .from))))
+  paint-writes (f ∷ es) us i b stand e (inr m) lo hi =
+      paint-writes es (sets us (f .at - 1) (spells lex (f .key-of))) i
+      (omega (arith, length-sets us (f .at - 1) (spells lex (f .key-of)))) (λ g n. stand g (inr n)) e m lo hi
+
+  -- Entries that stand in a text and cover it paint it, in any order.
+  pub paint-covers :
+      (es : List Entry) (us : List ℕ) → length us ≡ length ts →
+      ((e : Entry) → In e es → Stand (spells lex (e .key-of)) ts (e .at)) →
+      ((p : ℕ) → 1 ≤ p → p ≤ length ts → (e : Entry) × In e es × (e .at ≤ p) × (p < e .at + length (spells lex (e .key-of)))) →
+      paint lex es us ≡ ts
+  paint-covers es us long stand cover =
+      ext-getD 0 (paint lex es us) ts (length-paint lex es us ∙ long) each
+    where
+      each : (i : ℕ) → i < length (paint lex es us) → getD (paint lex es us) i 0 ≡ getD ts i 0
+      each i b =
+          let within : i < length us = omega (arith, length-paint lex es us) in
+          let (e, m, lo, hi) = cover (suc i) (omega arith) (omega arith) in
+          paint-writes es us i within stand e m lo hi
+
+-- WHERE NUMBERS ARE RECEIVED
+
+module _ (lex : Lexicon) (good : Good-lexicon lex) (g : ℕ) (xs : List ℕ) (taken : received g lex xs ≡ true) where
+  -- Their entries, painted in any order, give the recovered text.
+  pub paint-recovered :
+      (es : List Entry) (us : List ℕ) → length us ≡ n-of xs → ((e : Entry) → In e es → In e (flat lex (lines-in xs))) →
+      ((e : Entry) → In e (flat lex (lines-in xs)) → In e es) → paint lex es us ≡ recovered lex xs
+  paint-recovered es us long only all =
+      paint-covers lex (recovered lex xs) es us (long ∙ sym (length-recovered lex xs)) (λ e m. shows .stand e (only e m)) cover
+    where
+      shows : Shows lex (lines-in xs) (recovered lex xs)
+      shows =
+          let h = received-get g lex xs taken in
+          subst (λ (ys : List ℕ). Shows lex (lines-in ys) (recovered lex xs)) (h .index-is)
+          (index-shows lex good (recovered lex xs) (readable-chars lex good g xs (h .can-read)))
+
+      cover :
+          (p : ℕ) → 1 ≤ p → p ≤ length (recovered lex xs) →
+          (e : Entry) × In e es × (e .at ≤ p) × (p < e .at + length (spells lex (e .key-of)))
+      cover p lo hi =
+          let (e, m, from, to) = shows .cover p lo hi in
+          (e, all e m, from, omega (arith, flat-long lex (lines-in xs) e m))

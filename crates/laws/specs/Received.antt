@@ -1,0 +1,77 @@
+-- Delivered numbers are received exactly if they are a text's index, and that text is the recovered one. Over any lexicon with the
+-- facts of an admitted one. Assumes nothing.
+use mathlib.Core.Path.{_≡_, sym, ap, _∙_, subst}
+use mathlib.Core.Bool.{true}
+use mathlib.Core.List.{List}
+use Prim.Native.Nat.{ℕ, _≤_}
+use native.Mathlib.Omega.{arith}
+use lib.ListN.{length}
+use Rattle.basics.specs.Bools.{and-put, and-left, and-right}
+use Rattle.spec.specs.Dictionary.{Lexicon}
+use Rattle.spec.specs.Words.{same}
+use Rattle.spec.specs.Numbers.{index-of}
+use Rattle.spec.specs.Index.{readable}
+use Rattle.spec.specs.Reception.{recovered, received}
+use Rattle.spec.specs.Search.{find}
+use Rattle.spec.specs.Promise.{places}
+use Rattle.laws.specs.Strings.{same-get, same-put}
+use Rattle.laws.specs.Facts.{Chars, Good-lexicon}
+use Rattle.laws.specs.Keys.{spells-chars}
+use Rattle.laws.specs.Readable.{readable-get}
+use Rattle.laws.specs.Recover.{length-recovered, recovered-is-chars, recovered-text}
+use Rattle.laws.specs.Search.{find-places}
+use Rattle.laws.specs.IndexOf.{n-of-index, index-readable, index-shows}
+
+pub record Received (g : ℕ) (lex : Lexicon) (xs : List ℕ) : Type 0 where
+  pub can-read : readable g lex xs ≡ true
+  pub index-is : index-of lex (recovered lex xs) ≡ xs
+
+pub received-get : (g : ℕ) (lex : Lexicon) (xs : List ℕ) → received g lex xs ≡ true → Received g lex xs
+unfolding received
+received-get g lex xs t =
+    record {
+      can-read = and-left (readable g lex xs) (same (index-of lex (recovered lex xs)) xs) t;
+      index-is =
+          same-get (index-of lex (recovered lex xs)) xs
+          (and-right (readable g lex xs) (same (index-of lex (recovered lex xs)) xs) t);
+    }
+
+pub received-put : (g : ℕ) (lex : Lexicon) (xs : List ℕ) → Received g lex xs → received g lex xs ≡ true
+unfolding received
+received-put g lex xs h = and-put (h .can-read) (same-put (index-of lex (recovered lex xs)) xs (h .index-is))
+
+module _ (lex : Lexicon) (good : Good-lexicon lex) where
+  -- whatever readable numbers show is made of characters
+  pub readable-chars : (g : ℕ) (xs : List ℕ) → readable g lex xs ≡ true → Chars (recovered lex xs)
+  readable-chars g xs t =
+      recovered-is-chars lex xs (λ l m. spells-chars lex good (l .key-of) (readable-get g lex xs t .lines .each l m .is-key))
+
+  pub readable-small : (g : ℕ) (xs : List ℕ) → readable g lex xs ≡ true → length (recovered lex xs) ≤ g
+  readable-small g xs t = omega (arith, length-recovered lex xs, readable-get g lex xs t .length-allowed)
+
+  -- A TEXT'S INDEX
+
+  module _ (ts : List ℕ) (chars : Chars ts) where
+    pub index-recovered : recovered lex (index-of lex ts) ≡ ts
+    index-recovered = recovered-text lex (index-of lex ts) ts (index-shows lex good ts chars) (n-of-index lex ts)
+
+    pub index-can-read : (g : ℕ) → length ts ≤ g → readable g lex (index-of lex ts) ≡ true
+    index-can-read g small = index-readable lex good ts chars g small
+
+    pub index-received : (g : ℕ) → length ts ≤ g → received g lex (index-of lex ts) ≡ true
+    index-received g small =
+        received-put g lex (index-of lex ts) (record { can-read = index-can-read g small; index-is = ap (index-of lex) index-recovered })
+
+    -- if numbers are the text's index, they are received and the text is recovered
+    pub is-index-received : (g : ℕ) (xs : List ℕ) → length ts ≤ g → index-of lex ts ≡ xs → received g lex xs ≡ true
+    is-index-received g xs small e = subst (λ (ys : List ℕ). received g lex ys ≡ true) e (index-received g small)
+
+    pub is-index-recovered : (xs : List ℕ) → index-of lex ts ≡ xs → recovered lex xs ≡ ts
+    is-index-recovered xs e = ap (recovered lex) (sym e) ∙ index-recovered
+
+    pub index-find : (s : List ℕ) → 1 ≤ length s → find lex (index-of lex ts) s ≡ places s ts
+    index-find s some = find-places lex (index-of lex ts) ts s (index-shows lex good ts chars) (n-of-index lex ts) some
+
+  -- no two texts have one index
+  pub index-injective : (ts us : List ℕ) → Chars ts → Chars us → index-of lex ts ≡ index-of lex us → ts ≡ us
+  index-injective ts us c d e = sym (index-recovered ts c) ∙ ap (recovered lex) e ∙ index-recovered us d
