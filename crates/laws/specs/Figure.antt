@@ -16,7 +16,8 @@ use Rattle.laws.specs.Facts.{Chars, Good-lexicon, Is-entry}
 use Rattle.laws.specs.Chars.{is-text-get}
 use Rattle.laws.specs.Lexicon.{admitted-lexicon}
 use Rattle.laws.specs.Extension.{entry-item, item-entry, maximal-item, item-maximal}
-use Rattle.laws.specs.Scan.{scan, Longest-at}
+use Rattle.spec.specs.Models.{scan}
+use Rattle.laws.specs.Scan.{Longest-at}
 use Rattle.laws.specs.Longest.{longest-at, longest-at-is, make-index, make-index-exact}
 
 module _ (lex : Lexicon) (ts : List ℕ) where

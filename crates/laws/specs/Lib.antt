@@ -47,6 +47,7 @@ pub mod Cover
 pub mod Reach
 pub mod ReachRaises
 pub mod ReachExact
+pub mod ModelsHold
 pub mod Received
 pub mod LineNumbers
 pub mod Criterion

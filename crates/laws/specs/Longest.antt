@@ -16,7 +16,8 @@ use Rattle.laws.specs.Facts.{Chars, Good-lexicon, Is-maximal}
 use Rattle.laws.specs.Complete.{complete-get, complete-put}
 use Rattle.laws.specs.Entries.{entries-get, entries-put}
 use Rattle.laws.specs.Maximal.{longest-unique, char-entry}
-use Rattle.laws.specs.Scan.{scan, Longest-at, Maximal-from, scan-exact}
+use Rattle.spec.specs.Models.{scan}
+use Rattle.laws.specs.Scan.{Longest-at, Maximal-from, scan-exact}
 
 -- the longest of `best` and the entries of a list that start at p
 unfoldable pub longest-of : (p : ℕ) (best : Entry) → List Entry → Entry

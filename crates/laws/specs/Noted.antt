@@ -21,7 +21,8 @@ use Rattle.laws.specs.Entries.{same-key-get, same-key-put}
 use Rattle.laws.specs.Flat.{posting, flat-get, flat-put}
 use Rattle.laws.specs.Sound.{entries-sound}
 use Rattle.laws.specs.Longest.{longest-at, longest-at-unique, make-index, make-index-get, make-index-put}
-use Rattle.laws.specs.Scan.{scan, scan-registers, scan-passes, Longest-at}
+use Rattle.spec.specs.Models.{scan}
+use Rattle.laws.specs.Scan.{scan-registers, scan-passes, Longest-at}
 use Rattle.laws.specs.Grouped.{scan-count}
 use Rattle.laws.specs.LineNumbers.{line-of, line-of-key, line-of-in, line-number}
 use Rattle.laws.specs.Received.{readable-chars}

@@ -12,44 +12,7 @@ use Rattle.spec.specs.Dictionary.{Lexicon}
 use Rattle.spec.specs.Words.{spells}
 use Rattle.spec.specs.Numbers.{Line}
 use Rattle.spec.specs.Search.{agrees}
-
--- THE MODEL. An offset is two starts, of the string (i) and of the key (o), one of them 0.
-
--- an entry at b of a key of this length: if that is its offset and the reach comes to the key's start, the reach is raised to
--- the key's end
-unfoldable pub raise : (i o long p b reach : ℕ) → ℕ
-raise i o l p b r = cond (eqb (b + i) (p + o)) (cond (leb o r) (max r ((o + l) - i)) r) r
-
-unfoldable pub reach-places : (i o long p : ℕ) → (places : List ℕ) → (reach : ℕ) → ℕ
-reach-places i o l p [] r = r
-reach-places i o l p (b ∷ bs) r = reach-places i o l p bs (raise i o l p b r)
-
--- one key at one offset
-unfoldable pub reach-key : (i o : ℕ) → (string key : List ℕ) → (p : ℕ) → (places : List ℕ) → (reach : ℕ) → ℕ
-reach-key i o s k p bs r = cond (agrees s i k o) (reach-places i o (length k) p bs r) r
-
--- one key at the offsets −i, −i − 1, ..
-unfoldable pub reach-back : (left i : ℕ) → (string key : List ℕ) → (p : ℕ) → (places : List ℕ) → (reach : ℕ) → ℕ
-reach-back zero i s k p bs r = r
-reach-back (suc n) i s k p bs r = reach-back n (suc i) s k p bs (reach-key i 0 s k p bs r)
-
--- the first stage: every key at every offset from 0 down
-unfoldable pub reach-first : Lexicon → List Line → (string : List ℕ) → (p reach : ℕ) → ℕ
-reach-first lex [] s p r = r
-reach-first lex (l ∷ ls) s p r =
-    reach-first lex ls s p (reach-back (length (spells lex (l .key-of))) 0 s (spells lex (l .key-of)) p (l .places) r)
-
--- a later stage: every key at the offset o
-unfoldable pub reach-stage : (o : ℕ) → Lexicon → List Line → (string : List ℕ) → (p reach : ℕ) → ℕ
-reach-stage o lex [] s p r = r
-reach-stage o lex (l ∷ ls) s p r = reach-stage o lex ls s p (reach-key 0 o s (spells lex (l .key-of)) p (l .places) r)
-
-unfoldable pub reach-stages : (left o : ℕ) → Lexicon → List Line → (string : List ℕ) → (p reach : ℕ) → ℕ
-reach-stages zero o lex ls s p r = r
-reach-stages (suc n) o lex ls s p r = reach-stages n (suc o) lex ls s p (reach-stage o lex ls s p r)
-
-unfoldable pub reach : Lexicon → List Line → (string : List ℕ) → (p : ℕ) → ℕ
-reach lex ls s p = reach-stages (length s - 1) 1 lex ls s p (reach-first lex ls s p 0)
+use Rattle.spec.specs.Models.{raise, reach-places, reach-key, reach-back, reach-first, reach-stage, reach-stages, reach}
 
 -- WHERE NOTHING IS RAISED
 

@@ -11,7 +11,8 @@ use Rattle.spec.specs.Numbers.{Line}
 use Rattle.spec.specs.Search.{all-covered, found-from}
 use Rattle.laws.specs.Cover.{Staged, staged-none, staged-then, staged-reached, Reached, reached-exact}
 use Rattle.laws.specs.Search.{found-at, found-from-those}
-use Rattle.laws.specs.Reach.{reach-first, reach-stage, reach-stages, reach, reach-stage-stop, reach-stages-stop}
+use Rattle.spec.specs.Models.{reach-first, reach-stage, reach-stages, reach}
+use Rattle.laws.specs.Reach.{reach-stage-stop, reach-stages-stop}
 use Rattle.laws.specs.ReachRaises.{reach-first-raises, reach-stage-raises}
 
 module _ (lex : Lexicon) (ls : List Line) (s : List ℕ) (p : ℕ) where

@@ -18,7 +18,7 @@ use Rattle.laws.specs.Facts.{entries-at, flat}
 use Rattle.laws.specs.Flat.{posting, entries-at-get, Fewer}
 use Rattle.laws.specs.Agree.{Agree, agrees-get, agrees-put, agree-move}
 use Rattle.laws.specs.Cover.{Raises, raises-none, raises-then, raises-by, raises-fewer, raises-later}
-use Rattle.laws.specs.Reach.{raise, reach-places, reach-key, reach-back, reach-first, reach-stage}
+use Rattle.spec.specs.Models.{raise, reach-places, reach-key, reach-back, reach-first, reach-stage}
 
 -- the entries of a key's places at one offset
 abbrev pub At-offset : Lexicon → (p i o : ℕ) → Key → (places : List ℕ) → Entry → Type 0

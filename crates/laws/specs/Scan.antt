@@ -17,12 +17,7 @@ use Rattle.laws.specs.Facts.{Good-lexicon, Is-entry, Is-maximal}
 use Rattle.laws.specs.Entries.{in-text}
 use Rattle.laws.specs.Maximal.{Is-longest, maximal-leading, leading-maximal, maximal-unique}
 use Rattle.laws.specs.EntryPlaces.{Places-rise, places-rise-from, places-rise-in, places-rise-unique}
-
--- one place: the end of the entry there decides whether it is registered, and then it is the last end
-unfoldable pub scan : (longest : ℕ → Entry) (left p last : ℕ) → List Entry
-scan longest zero p last = []
-scan longest (suc n) p last =
-    cond (ltb last (p + longest p .long)) (longest p ∷ scan longest n (suc p) (p + longest p .long)) (scan longest n (suc p) last)
+use Rattle.spec.specs.Models.{scan}
 
 pub scan-registers :
     (longest : ℕ → Entry) (n p last : ℕ) → last < p + longest p .long →

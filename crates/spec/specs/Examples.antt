@@ -1,13 +1,14 @@
 -- Document 01's starred examples as one table, and a second table of further tries, each row proved by computation. Assumes nothing.
 use mathlib.Core.Path.{_≡_, refl}
-use mathlib.Core.Bool.{true, false}
+use mathlib.Core.Bool.{true, false, cond}
 use mathlib.Core.List.{List, [], _∷_}
 use Prim.Native.Nat.{ℕ, suc, _-_}
 use native.Mathlib.Omega.{arith}
+use lib.Dec.{eqb}
 use lib.IntN.{pos, negsuc}
 use lib.ListN.{length, replicate}
 use Rattle.spec.specs.Dictionary.{longest-text, Lexicon, lexicon, dictionary-refusal, is-char, words-from, total, too-large, length-good, lengths-good, lengths-wrong, word-before, ascend, disordered}
-use Rattle.spec.specs.Words.{key, same, listed, is-word, spells, stands, entry, contains, same-key, same-entry, key-entries, word-entries, lone-entries, complete, in-another, maximal, entries}
+use Rattle.spec.specs.Words.{Entry, key, same, listed, is-word, spells, stands, entry, contains, same-key, same-entry, key-entries, word-entries, lone-entries, complete, in-another, maximal, entries}
 use Rattle.spec.specs.Numbers.{index-of, key-before, entry-before, into, sorted, line, with-entry, lines-of, directory, positions, numbers}
 use Rattle.spec.specs.Index.{entries-of, readable, counts-from, lines-from, lines-in, kinds-good, key-good, keys-ascend, rise-from, last-of, line-good, lines-good, lengths-fit}
 use Rattle.spec.specs.Reception.{recovered, lies-on, shown-by, or-shown, shown, char-or, recovered-from, received}
@@ -15,6 +16,7 @@ use Rattle.spec.specs.Search.{find, offset, in-offsets, agrees-at, overl
 use Rattle.spec.specs.Cut.{bears, cut-down, lies-from, lies-in, joins-from, joins, bearing}
 use Rattle.spec.specs.Tally.{tally, shorter, of-length, tally-from}
 use Rattle.spec.specs.Promise.{places, places-from}
+use Rattle.spec.specs.Models.{scan, raise, reach-places, reach-key, reach-back, reach-first, reach-stage, reach-stages, reach}
 use Rattle.spec.specs.Calls.{index-refusal, reception-refusal, recovery-refusal, unreadable, work-short, output-short, no-text, or-else}
 
 -- the characters a, b, c, d, x
@@ -63,6 +65,15 @@ two-lone = 2 ∷ 2 ∷ 1 ∷ a ∷ 1 ∷ 1 ∷ b ∷ 1 ∷ 1 ∷ 2 ∷ []
 abbrev pub one-lone : List ℕ
 one-lone = 2 ∷ 1 ∷ 1 ∷ a ∷ 1 ∷ 1 ∷ []
 
+-- lone a at 1 and lone c at 3 of three characters
+abbrev pub lone-a-c : List ℕ
+lone-a-c = 3 ∷ 2 ∷ 1 ∷ a ∷ 1 ∷ 1 ∷ c ∷ 1 ∷ 1 ∷ 3 ∷ []
+
+-- the longest entry at each place of abcd over A: abc, bcd, c, d
+abbrev pub longest-in-abcd : ℕ → Entry
+longest-in-abcd p =
+    cond (eqb p 1) (entry (key 0 1) 1 3) (cond (eqb p 2) (entry (key 0 2) 2 3) (cond (eqb p 3) (entry (key 1 c) 3 1) (entry (key 1 d) 4 1)))
+
 -- The starred examples, in document 01's order.
 pub record Starred : Type 0 where
   pub overlapping-words : index-of A abcdab ≡ 6 ∷ 3 ∷ 0 ∷ 0 ∷ 1 ∷ 0 ∷ 1 ∷ 1 ∷ 0 ∷ 2 ∷ 1 ∷ 5 ∷ 1 ∷ 2 ∷ []
@@ -106,6 +117,8 @@ pub record Tried : Type 0 where
   pub cut-for-dd : cut-down A (index-of A abcdab) (d ∷ d ∷ []) ≡ 6 ∷ 1 ∷ 0 ∷ 2 ∷ 1 ∷ 2 ∷ []
   pub unreceived-search : find A two-lone (a ∷ b ∷ []) ≡ 1 ∷ []
   pub unreceived-cut : cut-down A two-lone (b ∷ []) ≡ 2 ∷ 1 ∷ 1 ∷ b ∷ 1 ∷ 2 ∷ []
+  pub scan-is-strict : scan longest-in-abcd 4 1 1 ≡ entry (key 0 1) 1 3 ∷ entry (key 0 2) 2 3 ∷ []
+  pub reach-stops : reach A (lines-in lone-a-c) (a ∷ b ∷ c ∷ []) 1 ≡ 1
   pub fewer-find-none : find A one-lone (a ∷ b ∷ []) ≡ []
   pub tally-of-aaaa : tally B (index-of B (replicate 4 a)) ≡ 0 ∷ 0 ∷ 2 ∷ replicate 29 0
   pub tally-of-axa : tally A (index-of A (a ∷ x ∷ a ∷ [])) ≡ 3 ∷ replicate 31 0
@@ -128,7 +141,7 @@ no-place : (m : ℕ) → 1 - suc m ≡ 0
 no-place m = omega arith
 
 pub examples : Examples
-unfolding is-char words-from lexicon total too-large length-good lengths-good lengths-wrong word-before ascend disordered dictionary-refusal key same listed is-word spells stands entry contains same-key same-entry key-entries word-entries lone-entries complete in-another maximal entries key-before entry-before into sorted line with-entry lines-of directory positions numbers index-of counts-from entries-of lines-from lines-in kinds-good key-good keys-ascend rise-from last-of line-good lines-good lengths-fit readable lies-on shown-by or-shown shown char-or recovered-from recovered received places-from places overlaps equal-from agrees offset in-offsets string-start key-start agrees-at covers covered all-covered found-from find lies-from lies-in joins-from joins bears bearing cut-down of-length tally-from tally shorter unreadable work-short output-short no-text or-else index-refusal reception-refusal recovery-refusal
+unfolding scan raise reach-places reach-key reach-back reach-first reach-stage reach-stages reach is-char words-from lexicon total too-large length-good lengths-good lengths-wrong word-before ascend disordered dictionary-refusal key same listed is-word spells stands entry contains same-key same-entry key-entries word-entries lone-entries complete in-another maximal entries key-before entry-before into sorted line with-entry lines-of directory positions numbers index-of counts-from entries-of lines-from lines-in kinds-good key-good keys-ascend rise-from last-of line-good lines-good lengths-fit readable lies-on shown-by or-shown shown char-or recovered-from recovered received places-from places overlaps equal-from agrees offset in-offsets string-start key-start agrees-at covers covered all-covered found-from find lies-from lies-in joins-from joins bears bearing cut-down of-length tally-from tally shorter unreadable work-short output-short no-text or-else index-refusal reception-refusal recovery-refusal
 examples =
     record {
       starred =
@@ -168,6 +181,8 @@ examples =
             cut-for-dd = refl;
             unreceived-search = refl;
             unreceived-cut = refl;
+            scan-is-strict = refl;
+            reach-stops = refl;
             fewer-find-none = refl;
             tally-of-aaaa = refl;
             tally-of-axa = refl;

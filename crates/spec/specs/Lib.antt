@@ -11,4 +11,5 @@ pub mod Calls
 pub mod Promise
 pub mod Beyond
 pub mod Published
+pub mod Models
 pub mod Examples

@@ -1,0 +1,82 @@
+-- The algorithms of the builder and of the search as functions, and what is claimed of them. Each statement is a type; its proof
+-- stands in the crate `laws`. Assumes nothing.
+use mathlib.Core.Path.{_≡_}
+use mathlib.Core.Bool.{true, cond}
+use mathlib.Core.List.{List, [], _∷_}
+use Prim.Native.Nat.{ℕ, zero, suc, _+_, _-_, _≤_, max}
+use lib.Dec.{ltb, leb, eqb}
+use lib.ListN.{length}
+use Rattle.basics.specs.Member.{In}
+use Rattle.spec.specs.Dictionary.{Lexicon, is-text, lexicon, admitted}
+use Rattle.spec.specs.Words.{spells, Entry, complete, entries}
+use Rattle.spec.specs.Numbers.{sorted, Line, lines-of, numbers, index-of}
+use Rattle.spec.specs.Search.{agrees, all-covered}
+
+-- THE BUILDER: the one-pass scan of source 000's figure 1, given the longest entry at each place
+
+-- one place: the end of the entry there decides whether it is registered, and then it is the last end
+unfoldable pub scan : (longest : ℕ → Entry) (left p last : ℕ) → List Entry
+scan longest zero p last = []
+scan longest (suc n) p last =
+    cond (ltb last (p + longest p .long)) (longest p ∷ scan longest n (suc p) (p + longest p .long)) (scan longest n (suc p) last)
+
+-- the longest entry at p of the complete index
+pub record Longest-entry (lex : Lexicon) (ts : List ℕ) (p : ℕ) (e : Entry) : Type 0 where
+  pub member : In e (complete lex ts)
+  pub here : e .at ≡ p
+  pub longest : (f : Entry) → In f (complete lex ts) → f .at ≡ p → f .long ≤ e .long
+
+-- The scan registers exactly the entries of the complete maximal word index, and the index is their numbers, put together under
+-- their keys.
+unfoldable pub Scan-builds : (g : ℕ) → Type 0
+Scan-builds g =
+    (cs ls ts : List ℕ) → admitted cs ls ≡ true → is-text g ts ≡ true → (longest : ℕ → Entry) →
+    ((p : ℕ) → 1 ≤ p → p ≤ length ts → Longest-entry (lexicon cs ls) ts p (longest p)) →
+    ((e : Entry) → In e (scan longest (length ts) 1 1) → In e (entries (lexicon cs ls) ts))
+    × ((e : Entry) → In e (entries (lexicon cs ls) ts) → In e (scan longest (length ts) 1 1))
+    × (numbers (length ts) (lines-of (sorted (scan longest (length ts) 1 1))) ≡ index-of (lexicon cs ls) ts)
+
+-- THE SEARCH: for a string laid at p, how many of its characters are covered from its front. An offset is two starts, of the string
+-- (i) and of the key (o), one of them 0.
+
+-- an entry at b of a key of this length: if that is its offset and the reach comes to the key's start, the reach is raised to
+-- the key's end
+unfoldable pub raise : (i o long p b reach : ℕ) → ℕ
+raise i o l p b r = cond (eqb (b + i) (p + o)) (cond (leb o r) (max r ((o + l) - i)) r) r
+
+unfoldable pub reach-places : (i o long p : ℕ) → (places : List ℕ) → (reach : ℕ) → ℕ
+reach-places i o l p [] r = r
+reach-places i o l p (b ∷ bs) r = reach-places i o l p bs (raise i o l p b r)
+
+-- one key at one offset
+unfoldable pub reach-key : (i o : ℕ) → (string key : List ℕ) → (p : ℕ) → (places : List ℕ) → (reach : ℕ) → ℕ
+reach-key i o s k p bs r = cond (agrees s i k o) (reach-places i o (length k) p bs r) r
+
+-- one key at the offsets −i, −i − 1, ..
+unfoldable pub reach-back : (left i : ℕ) → (string key : List ℕ) → (p : ℕ) → (places : List ℕ) → (reach : ℕ) → ℕ
+reach-back zero i s k p bs r = r
+reach-back (suc n) i s k p bs r = reach-back n (suc i) s k p bs (reach-key i 0 s k p bs r)
+
+-- the first stage: every key at every offset from 0 down
+unfoldable pub reach-first : Lexicon → List Line → (string : List ℕ) → (p reach : ℕ) → ℕ
+reach-first lex [] s p r = r
+reach-first lex (l ∷ ls) s p r =
+    reach-first lex ls s p (reach-back (length (spells lex (l .key-of))) 0 s (spells lex (l .key-of)) p (l .places) r)
+
+-- a later stage: every key at the offset o
+unfoldable pub reach-stage : (o : ℕ) → Lexicon → List Line → (string : List ℕ) → (p reach : ℕ) → ℕ
+reach-stage o lex [] s p r = r
+reach-stage o lex (l ∷ ls) s p r = reach-stage o lex ls s p (reach-key 0 o s (spells lex (l .key-of)) p (l .places) r)
+
+unfoldable pub reach-stages : (left o : ℕ) → Lexicon → List Line → (string : List ℕ) → (p reach : ℕ) → ℕ
+reach-stages zero o lex ls s p r = r
+reach-stages (suc n) o lex ls s p r = reach-stages n (suc o) lex ls s p (reach-stage o lex ls s p r)
+
+unfoldable pub reach : Lexicon → List Line → (string : List ℕ) → (p : ℕ) → ℕ
+reach lex ls s p = reach-stages (length s - 1) 1 lex ls s p (reach-first lex ls s p 0)
+
+-- For any lines, the reach comes to the string's end exactly if every place under it is covered by an entry that agrees.
+unfoldable pub Greedy-cover : Type 0
+Greedy-cover =
+    (lex : Lexicon) (ls : List Line) (s : List ℕ) (p : ℕ) →
+    leb (length s) (reach lex ls s p) ≡ all-covered (length s) p lex ls s p
