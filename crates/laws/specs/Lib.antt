@@ -22,6 +22,8 @@ pub mod Figure
 pub mod Growing
 pub mod Prefixes
 pub mod WordAt
+pub mod Chains
+pub mod WordTable
 pub mod KeyOrder
 pub mod KeyBounds
 pub mod Flat
