@@ -24,6 +24,10 @@ pub mod Prefixes
 pub mod WordAt
 pub mod Chains
 pub mod WordTable
+pub mod WordRuns
+pub mod Columns
+pub mod WordChains
+pub mod Found
 pub mod KeyOrder
 pub mod KeyBounds
 pub mod Flat

@@ -198,13 +198,17 @@ pub record Hung (cs ls heads links starts : List ℕ) (at n : ℕ) : Type 0 wher
   pub started : (i : ℕ) → i < n → getD starts i 0 ≡ start-of ls i
   pub chains : (b : ℕ) → b < 10240 → Chain links (getD heads b 0) (hung (bucket-of cs ls) b n)
 
--- the match table of an admitted dictionary
-pub record Tables (cs ls heads links starts : List ℕ) : Type 0 where
+-- where the words of an admitted dictionary start, and where the last ends
+pub record Started (cs ls starts : List ℕ) : Type 0 where
   pub dictionary : admitted cs ls ≡ true
-  pub heads-long : length heads ≡ 10240
-  pub links-long : length ls ≤ length links
   pub starts-long : length ls < length starts
   pub started : (i : ℕ) → i ≤ length ls → getD starts i 0 ≡ start-of ls i
+
+-- the match table of an admitted dictionary
+pub record Tables (cs ls heads links starts : List ℕ) : Type 0 where
+  pub words : Started cs ls starts
+  pub heads-long : length heads ≡ 10240
+  pub links-long : length ls ≤ length links
   pub chains : (b : ℕ) → b < 10240 → Chain links (getD heads b 0) (hung (bucket-of cs ls) b (length ls))
 
 module _ (cs ls heads links starts : List ℕ) where
@@ -271,10 +275,13 @@ module _ (cs ls heads links starts : List ℕ) where
     hung-end a past =
         let all : n ≡ length ls = omega (arith, h .within) in
         record {
-          dictionary = a;
+          words =
+              record {
+                dictionary = a;
+                starts-long = rw (length-set starts n at) (h .starts-long);
+                started = λ i b. started-more i (omega arith);
+              };
           heads-long = h .heads-long;
           links-long = h .links-long;
-          starts-long = rw (length-set starts n at) (h .starts-long);
-          started = λ i b. started-more i (omega arith);
           chains = λ b l. rw all at (h .chains b l);
         }
