@@ -28,6 +28,7 @@ pub mod WordRuns
 pub mod Columns
 pub mod WordChains
 pub mod Found
+pub mod ScanMarks
 pub mod KeyOrder
 pub mod KeyBounds
 pub mod Flat
