@@ -22,6 +22,13 @@ pub mod Figure
 pub mod Growing
 pub mod Prefixes
 pub mod WordAt
+pub mod Chains
+pub mod WordTable
+pub mod WordRuns
+pub mod Columns
+pub mod WordChains
+pub mod Found
+pub mod ScanMarks
 pub mod KeyOrder
 pub mod Flat
 pub mod FlatOrder

@@ -1,0 +1,2 @@
+// The builder of an index.
+pub mod scan;

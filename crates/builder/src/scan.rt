@@ -1,0 +1,74 @@
+// The one-pass scan of a text: at each place the longest word or lone character is registered if it ends after the last registered
+// one.
+//
+// What is registered is left as one number a place: 0 nothing, a word's number plus 1, or 4,097 for the lone character. The cost is
+// that of the longest word at each place.
+ghost use mathlib.Core.Path.{_≡_};
+ghost use Prim.Native.Nat.{_+_, _≤_, _<_};
+ghost use lib.ListN.{length, take, drop};
+ghost use Rattle.spec.specs.Dictionary.{lexicon};
+ghost use Rattle.laws.specs.WordTable.{Tables};
+ghost use Rattle.laws.specs.Marks.{Marks};
+ghost use Rattle.laws.specs.ScanMarks.{Stepped as Stepped-at};
+use dictionary::matching::find_longest;
+
+// A place's mark, and where the last registered entry ends after it.
+pub struct Stepped {
+    pub mark: u16,
+    pub end: usize,
+}
+
+// The mark at index `at` where the last registered entry ends at `end`, and the new end.
+pub fn step(
+    chars: &[u16],
+    lengths: &[u16],
+    heads: &[u16],
+    links: &[u16],
+    starts: &[u16],
+    text: &[u16],
+    at: usize,
+    end: usize,
+) -> Stepped
+    requires { ⌜ Tables (now chars) (now lengths) (now heads) (now links) (now starts) × (at < length (now text)) × (end ≤ length (now text)) ⌝ }
+    ensures { λ r. ⌜ Stepped-at (lexicon (now (chars .entry)) (now (lengths .entry))) (now (text .entry)) (at + 1) (end + 1) (r .mark) (r .end + 1) ⌝ }
+{
+    let found = find_longest(chars, lengths, heads, links, starts, text, at, end);
+    let number = found.number;
+    if number != 0 {
+        return Stepped {
+            mark: number as u16,
+            end: at + found.long,
+        };
+    }
+    if at < end {
+        return Stepped { mark: 0, end };
+    }
+    Stepped {
+        mark: 4097,
+        end: at + 1,
+    }
+}
+
+// Writes the marks of the text to the front of the work slice.
+pub fn scan(
+    chars: &[u16],
+    lengths: &[u16],
+    heads: &[u16],
+    links: &[u16],
+    starts: &[u16],
+    text: &[u16],
+    work: &mut [u16],
+)
+    requires { ⌜ Tables (now chars) (now lengths) (now heads) (now links) (now starts) × (length (now text) ≤ length (now work)) ⌝ }
+    ensures marks { λ r. ⌜ Marks (lexicon (now (chars .entry)) (now (lengths .entry))) (now (text .entry)) (take (length (now (text .entry))) (now (work .exit))) ⌝ }
+    ensures rest { λ r. ⌜ drop (length (now (text .entry))) (now (work .exit)) ≡ drop (length (now (text .entry))) (now (work .entry)) ⌝ }
+{
+    let mut end = 0;
+    let mut at = 0;
+    while at < text.len() {
+        let next = step(chars, lengths, heads, links, starts, text, at, end);
+        work[at] = next.mark;
+        end = next.end;
+        at += 1;
+    }
+}

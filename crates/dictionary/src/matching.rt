@@ -1,0 +1,175 @@
+// The longest word at a place of a text, by the match table.
+//
+// Words that begin with the two characters at the place hang on one chain, by falling numbers. All words that stand at one place
+// are prefixes of each other, so the first one met is the longest. Ordinary chains have a word or two; a chain of many words is
+// left after a few of them, and the words before are narrowed down by binary search. A word that would end no later than the last
+// registered one is not compared at all. A word of one character is looked up only where the place is not covered.
+ghost use mathlib.Core.Path.{_≡_};
+ghost use Prim.Native.Nat.{_+_, _≤_, _<_};
+ghost use lib.ListN.{length, getD};
+ghost use Rattle.spec.specs.Dictionary.{lexicon};
+ghost use Rattle.laws.specs.WordTable.{Started, Tables, word};
+ghost use Rattle.laws.specs.WordChains.{Same-run, Stands-after, Pair-found, Single-found};
+ghost use Rattle.laws.specs.Found.{Found as Found-at, Pair-longest};
+use crate::narrowing::narrow;
+use crate::table::bucket_of_char;
+use crate::table::bucket_of_pair;
+
+// A word by its number plus 1, and its length; or number 0: none.
+pub struct Found {
+    pub number: usize,
+    pub long: usize,
+}
+
+// How many words of a chain are compared before the rest is narrowed down.
+const BUDGET: usize = 4;
+
+// Whether `count` characters from `at` equal those of the text from `from`.
+fn same_run(chars: &[u16], at: usize, text: &[u16], from: usize, count: usize) -> bool
+    requires { ⌜ (at + count ≤ length (now chars)) × (from + count ≤ length (now text)) ⌝ }
+    ensures { λ r. ⌜ Same-run (now (chars .entry)) at (now (text .entry)) from count r ⌝ }
+{
+    let mut i = 0;
+    while i < count {
+        if chars[at + i] != text[from + i] {
+            return false;
+        }
+        i += 1;
+    }
+    true
+}
+
+// Whether the word stands in the text at index `at` and ends after `end`.
+fn stands_after(
+    chars: &[u16],
+    lengths: &[u16],
+    starts: &[u16],
+    text: &[u16],
+    at: usize,
+    end: usize,
+    number: usize,
+) -> bool
+    requires { ⌜ Started (now chars) (now lengths) (now starts) × (at < length (now text)) × (number < length (now lengths)) ⌝ }
+    ensures { λ r. ⌜ Stands-after (word (now (chars .entry)) (now (lengths .entry)) number) (now (text .entry)) (at + 1) (end + 1) r ⌝ }
+{
+    let long = lengths[number] as usize;
+    if at + long <= end {
+        return false;
+    }
+    if text.len() < at + long {
+        return false;
+    }
+    same_run(chars, starts[number] as usize, text, at, long)
+}
+
+// One more than the number of a standing word, after which comes no standing word of two characters or more that ends after `end`;
+// or 0, where there is none of these.
+fn walk_pair(
+    chars: &[u16],
+    lengths: &[u16],
+    heads: &[u16],
+    links: &[u16],
+    starts: &[u16],
+    text: &[u16],
+    at: usize,
+    end: usize,
+) -> usize
+    requires { ⌜ Tables (now chars) (now lengths) (now heads) (now links) (now starts) × (at + 1 < length (now text)) ⌝ }
+    ensures { λ r. ⌜ Pair-found (lexicon (now (chars .entry)) (now (lengths .entry)) .words) (now (text .entry)) (at + 1) (end + 1) r ⌝ }
+{
+    let bucket = bucket_of_pair(text[at], text[at + 1]);
+    let mut next = heads[bucket] as usize;
+    let mut left = BUDGET;
+    while next != 0 {
+        if left == 0 {
+            return narrow(chars, lengths, starts, text, at, next);
+        }
+        left -= 1;
+        let number = next - 1;
+        if stands_after(chars, lengths, starts, text, at, end, number) {
+            return next;
+        }
+        next = links[number] as usize;
+    }
+    0
+}
+
+// The longest word that stands in the text at index `at`, if it has two characters or more and ends after `end`.
+fn find_pair(
+    chars: &[u16],
+    lengths: &[u16],
+    heads: &[u16],
+    links: &[u16],
+    starts: &[u16],
+    text: &[u16],
+    at: usize,
+    end: usize,
+) -> Found
+    requires { ⌜ Tables (now chars) (now lengths) (now heads) (now links) (now starts) × (at < length (now text)) ⌝ }
+    ensures { λ r. ⌜ Pair-longest (lexicon (now (chars .entry)) (now (lengths .entry))) (now (text .entry)) (at + 1) (end + 1) (r .number) (r .long) ⌝ }
+{
+    if text.len() <= at + 1 {
+        return Found { number: 0, long: 0 };
+    }
+    let number = walk_pair(chars, lengths, heads, links, starts, text, at, end);
+    if number == 0 {
+        return Found { number: 0, long: 0 };
+    }
+    let long = lengths[number - 1] as usize;
+    if at + long <= end {
+        return Found { number: 0, long: 0 };
+    }
+    Found { number, long }
+}
+
+// One more than the number of the word that is the character at index `at`, or 0.
+fn find_single(
+    chars: &[u16],
+    lengths: &[u16],
+    heads: &[u16],
+    links: &[u16],
+    starts: &[u16],
+    text: &[u16],
+    at: usize,
+) -> usize
+    requires { ⌜ Tables (now chars) (now lengths) (now heads) (now links) (now starts) × (at < length (now text)) ⌝ }
+    ensures { λ r. ⌜ Single-found (lexicon (now (chars .entry)) (now (lengths .entry)) .words) (now (text .entry)) (at + 1) r ⌝ }
+{
+    let c = text[at];
+    let bucket = bucket_of_char(c);
+    let mut next = heads[bucket] as usize;
+    while next != 0 {
+        let number = next - 1;
+        let start = starts[number] as usize;
+        if chars[start] == c {
+            return next;
+        }
+        next = links[number] as usize;
+    }
+    0
+}
+
+// The longest word that stands in the text at index `at` and ends after `end`, where the last registered one ends.
+pub fn find_longest(
+    chars: &[u16],
+    lengths: &[u16],
+    heads: &[u16],
+    links: &[u16],
+    starts: &[u16],
+    text: &[u16],
+    at: usize,
+    end: usize,
+) -> Found
+    requires { ⌜ Tables (now chars) (now lengths) (now heads) (now links) (now starts) × (at < length (now text)) ⌝ }
+    ensures { λ r. ⌜ Found-at (lexicon (now (chars .entry)) (now (lengths .entry))) (now (text .entry)) (at + 1) (end + 1) (r .number) (r .long) ⌝ }
+{
+    let pair = find_pair(chars, lengths, heads, links, starts, text, at, end);
+    if pair.number != 0 {
+        return pair;
+    }
+    if at < end {
+        return Found { number: 0, long: 0 };
+    }
+    let number = find_single(chars, lengths, heads, links, starts, text, at);
+    Found { number, long: 1 }
+}

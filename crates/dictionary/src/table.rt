@@ -1,0 +1,60 @@
+// The match table: where each word's characters start, and one chain of words for each bucket.
+//
+// A word of two characters and more goes by its first two, a word of one by that one, so that a lookup which reads two characters
+// meets nearly only words that begin with them. Words are hung up in ascending order: a chain runs through falling numbers, and
+// of the words standing at one place the first on it is the longest. A head or a link is 0 at the end of a chain, else one more
+// than a word's number. The cost is a few steps a word.
+ghost use mathlib.Core.Path.{_≡_};
+ghost use Prim.Native.Nat.{_+_, _≤_, _<_};
+ghost use lib.ListN.{length};
+ghost use Rattle.laws.specs.WordTable.{pair-bucket, char-bucket, Bucket-read, Room, Tables};
+
+// The bucket of words that begin with these two characters.
+pub fn bucket_of_pair(x: u16, y: u16) -> usize
+    ensures { λ r. ⌜ r ≡ pair-bucket x y ⌝ }
+{
+    (37 * x as usize + y as usize) % 8192
+}
+
+// The bucket of the words of one character.
+pub fn bucket_of_char(x: u16) -> usize
+    ensures { λ r. ⌜ r ≡ char-bucket x ⌝ }
+{
+    8192 + x as usize % 2048
+}
+
+// The bucket of the word of `long` characters at `at`.
+fn bucket_of_word(chars: &[u16], at: usize, long: usize) -> usize
+    requires { ⌜ (1 ≤ long) × (at + long ≤ length (now chars)) ⌝ }
+    ensures { λ r. ⌜ Bucket-read (now (chars .entry)) at long r ⌝ }
+{
+    if long == 1 {
+        return bucket_of_char(chars[at]);
+    }
+    bucket_of_pair(chars[at], chars[at + 1])
+}
+
+// Makes the match table of an admitted dictionary.
+pub fn hang_words(
+    chars: &[u16],
+    lengths: &[u16],
+    heads: &mut [u16],
+    links: &mut [u16],
+    starts: &mut [u16],
+)
+    requires { ⌜ Room (now chars) (now lengths) (now heads) (now links) (now starts) ⌝ }
+    ensures { λ r. ⌜ Tables (now (chars .entry)) (now (lengths .entry)) (now (heads .exit)) (now (links .exit)) (now (starts .exit)) ⌝ }
+{
+    let mut at: usize = 0;
+    let mut i = 0;
+    while i < lengths.len() {
+        let long = lengths[i] as usize;
+        let b = bucket_of_word(chars, at, long);
+        starts[i] = at as u16;
+        links[i] = heads[b];
+        heads[b] = (i + 1) as u16;
+        at += long;
+        i += 1;
+    }
+    starts[i] = at as u16;
+}
