@@ -4,3 +4,5 @@ pub mod Member
 pub mod Order
 pub mod Pigeonhole
 pub mod Steps
+pub mod Writing
+pub mod Chain

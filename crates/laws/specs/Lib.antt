@@ -46,3 +46,7 @@ pub mod Cover
 pub mod Reach
 pub mod ReachRaises
 pub mod ReachExact
+pub mod KeyCode
+pub mod Groups
+pub mod Linking
+pub mod Grouped
