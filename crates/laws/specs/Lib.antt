@@ -50,3 +50,4 @@ pub mod KeyCode
 pub mod Groups
 pub mod Linking
 pub mod Grouped
+pub mod CodeWalk

@@ -7,7 +7,7 @@ use mathlib.Core.List.{List, [], _∷_, _++_}
 use Prim.Native.Nat.{ℕ, zero, suc, _+_, _*_, _-_, _/_, _≤_, _<_}
 use native.Mathlib.Omega.{arith}
 use lib.Dec.{eqb}
-use lib.ListN.{length, getD, set, replicate, length-set, length-replicate, getD-replicate}
+use lib.ListN.{length, getD, set, length-set}
 use lib.Seq.{getD-set-same, getD-set-other}
 use borrow.Author.Tests.{eq-eqb, ne-eqb}
 use Rattle.basics.specs.Bools.{le-or-lt}
@@ -84,15 +84,17 @@ pub record Linked (ms ts heads links : List ℕ) (p : ℕ) : Type 0 where
   pub marks-left : (q : ℕ) → q < p → getD links q 0 ≡ getD ms q 0
   pub chains : (k : ℕ) → k < length heads → Chained links (getD heads k 0) (held ms ts p k)
 
-pub linked-start : (ms ts heads : List ℕ) (n : ℕ) → heads ≡ replicate n 0 → Linked ms ts heads ms (length ms)
-linked-start ms ts heads n e =
+-- no code has a head
+abbrev pub No-heads : (heads : List ℕ) → Type 0
+No-heads heads = (k : ℕ) → k < length heads → getD heads k 0 ≡ 0
+
+pub linked-start : (ms ts heads : List ℕ) → No-heads heads → Linked ms ts heads ms (length ms)
+linked-start ms ts heads none =
     record {
       within = omega arith;
       long = refl;
       marks-left = λ q h. refl;
-      chains =
-          λ k h. rw (held-end ms ts (length ms) k (omega arith))
-          (rw e (getD-replicate n k 0 0 (omega (arith, ap length e, length-replicate {A = ℕ} n 0))));
+      chains = λ k h. rw (held-end ms ts (length ms) k (omega arith)) (none k h);
     }
 
 module _ (ms ts heads links : List ℕ) (q p : ℕ) (s : q ≡ suc p) (l : Linked ms ts heads links q) where
@@ -242,12 +244,8 @@ pub record Paged (heads pages : List ℕ) : Type 0 where
   pub whole : length heads ≡ 64 * length pages
   pub unused : (k : ℕ) → k < length heads → getD pages (k / 64) 0 ≡ 0 → getD heads k 0 ≡ 0
 
-pub paged-start : (heads pages : List ℕ) (n m : ℕ) → heads ≡ replicate n 0 → pages ≡ replicate m 0 → n ≡ 64 * m → Paged heads pages
-paged-start heads pages n m e f h =
-    record {
-      whole = ap length e ∙ length-replicate {A = ℕ} n 0 ∙ h ∙ ap (λ (x : ℕ). 64 * x) (sym (ap length f ∙ length-replicate {A = ℕ} m 0));
-      unused = λ k b z. rw e (getD-replicate n k 0 0 (omega (arith, ap length e, length-replicate {A = ℕ} n 0)));
-    }
+pub paged-start : (heads pages : List ℕ) → No-heads heads → length heads ≡ 64 * length pages → Paged heads pages
+paged-start heads pages none h = record { whole = h; unused = λ k b z. none k b }
 
 pub paged-hung :
     (heads pages : List ℕ) (code v : ℕ) → Paged heads pages → code < length heads →
@@ -304,3 +302,89 @@ module _ (ms ts heads links : List ℕ) (l : Linked ms ts heads links 0) where
       rw z
       (lines-alike codes 0 (λ (j : ℕ). chain links (getD heads j 0)) (held ms ts 0)
       (λ x lo hi. chain-is (length links) links (getD heads x 0) (held ms ts 0 x) (l .chains x (omega arith)) (held-short x)))
+
+-- THE WHOLE STATE
+
+-- marks of a text of at most 65,535 characters, as the linking pass takes them
+pub record Linkable (ts ms : List ℕ) : Type 0 where
+  pub long : length ms ≡ length ts
+  pub short : length ts ≤ 65535
+  pub small : (q : ℕ) → q < length ms → getD ms q 0 ≤ 4097
+
+-- heads and pages for every code, none in use
+pub record Fresh (heads pages : List ℕ) : Type 0 where
+  pub codes : length heads ≡ 69632
+  pub page-count : length pages ≡ 1088
+  pub none : No-heads heads
+
+-- after the positions above p
+pub record Links (ts ms links heads pages : List ℕ) (keys entries p : ℕ) : Type 0 where
+  pub codes : length heads ≡ 69632
+  pub linked : Linked ms ts heads links p
+  pub paged : Paged heads pages
+  pub counted : Counted 69632 ms ts p keys entries
+
+pub links-start : (ts ms heads pages : List ℕ) → Fresh heads pages → Links ts ms ms heads pages 0 0 (length ms)
+links-start ts ms heads pages f =
+    record {
+      codes = f .codes;
+      linked = linked-start ms ts heads (f .none);
+      paged = paged-start heads pages (f .none) (omega (arith, f .codes, f .page-count));
+      counted = counted-start 69632 ms ts;
+    }
+
+module _ (ts ms links heads pages : List ℕ) (keys entries q p : ℕ) (s : q ≡ suc p)
+    (l : Links ts ms links heads pages keys entries q) where
+  pub links-below : p < length links
+  links-below = omega (arith, l .linked .within, l .linked .long)
+
+  pub links-mark : getD links p 0 ≡ getD ms p 0
+  links-mark = mark-here ms ts heads links q p s (l .linked)
+
+  coded-here : (v : ℕ) → coded (getD links p 0) (getD ts p 0) ≡ v → coded (getD ms p 0) (getD ts p 0) ≡ v
+  coded-here v e = ap (λ (m : ℕ). coded m (getD ts p 0)) (sym links-mark) ∙ e
+
+  pub links-passed : coded (getD links p 0) (getD ts p 0) ≡ 0 → Links ts ms links heads pages keys entries p
+  links-passed none =
+      record {
+        codes = l .codes;
+        linked = linked-passed ms ts heads links q p s (l .linked) (coded-here 0 none);
+        paged = l .paged;
+        counted =
+            counted-passed 69632 ms ts q p s (omega (arith, links-below, l .linked .long)) keys entries (l .counted)
+            (coded-here 0 none);
+      }
+
+  module _ (code : ℕ) (here : coded (getD links p 0) (getD ts p 0) ≡ suc code) (small : code < 69632) where
+    fits : code < length heads
+    fits = omega (arith, l .codes)
+
+    hung :
+        (more : ℕ) → Counted 69632 ms ts p more (entries + 1) →
+        Links ts ms (set links p (getD heads code 0)) (set heads code (p + 1)) (set pages (code / 64) 1) more (entries + 1) p
+    hung more c =
+        record {
+          codes = length-set heads code (p + 1) ∙ l .codes;
+          linked = linked-hung ms ts heads links q p s (l .linked) code (coded-here (suc code) here) fits;
+          paged = paged-hung heads pages code (p + 1) (l .paged) fits;
+          counted = c;
+        }
+
+    -- the first position of its key that is met, and a further one
+    pub links-new :
+        getD heads code 0 ≡ 0 →
+        Links ts ms (set links p (getD heads code 0)) (set heads code (p + 1)) (set pages (code / 64) 1) (keys + 1) (entries + 1) p
+    links-new none =
+        hung (keys + 1)
+        (counted-new 69632 ms ts q p s (omega (arith, links-below, l .linked .long)) keys entries (l .counted) code
+        (coded-here (suc code) here) small
+        (chained-empty links (getD heads code 0) (held ms ts q code) (l .linked .chains code fits) none))
+
+    pub links-more :
+        (getD heads code 0 ≡ 0 → ⊥) →
+        Links ts ms (set links p (getD heads code 0)) (set heads code (p + 1)) (set pages (code / 64) 1) keys (entries + 1) p
+    links-more some =
+        hung keys
+        (counted-more 69632 ms ts q p s (omega (arith, links-below, l .linked .long)) keys entries (l .counted) code
+        (coded-here (suc code) here) small
+        (chained-some links (getD heads code 0) (held ms ts q code) (l .linked .chains code fits) some))

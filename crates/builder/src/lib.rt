@@ -1,0 +1,2 @@
+// Building an index: positions are put together under their keys, and written.
+pub mod group;
