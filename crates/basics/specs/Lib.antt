@@ -6,3 +6,4 @@ pub mod Pigeonhole
 pub mod Steps
 pub mod Writing
 pub mod Chain
+pub mod Copying

@@ -2,11 +2,11 @@
 -- for several, and for the end. Assumes nothing.
 use mathlib.Core.Path.{_≡_, refl, sym, ap, _∙_}
 use mathlib.Core.List.{List, [], _∷_, _++_, append-assoc, append-nil}
-use Prim.Native.Nat.{ℕ, _+_, _≤_, _<_}
+use Prim.Native.Nat.{ℕ, _+_, _-_, _≤_, _<_}
 use native.Mathlib.Numerals.{add-one}
 use native.Mathlib.Omega.{arith}
-use lib.ListN.{length, take, drop, set, take-append-drop, length-append, length-drop, length-set}
-use lib.Seq.{length-take-le, take-suc-set, append-snoc, drop-set-lt, drop-drop, take-at, drop-at}
+use lib.ListN.{length, take, drop, set, take-append-drop, length-append, length-drop, length-set, drop-of-length-le}
+use lib.Seq.{length-take-le, take-all, take-suc-set, append-snoc, drop-set-lt, drop-drop, take-at, drop-at}
 
 -- `new` over the front of `old`, whose rest stays
 abbrev pub over : (new old : List ℕ) → List ℕ
@@ -79,7 +79,7 @@ module _ (all old now : List ℕ) (at : ℕ) (w : Writing all old now [] at) whe
       ∙ ap (λ (n : ℕ). all ++ drop n old) (sym written-length)
 
 -- the part from `at` on lent to a writer, which has put the rest over its front
-pub lent-on :
+lent-on :
     (all old now todo part : List ℕ) (at : ℕ) → Writing all old now todo at → part ≡ over todo (drop at now) →
     take at now ++ part ≡ over all old
 lent-on all old now todo part at w e =
@@ -91,3 +91,39 @@ lent-on all old now todo part at w e =
     long =
         let here : length (take at now) ≡ at = length-take-le at now (omega (arith, w .room, w .long)) in
         omega (arith, ap length (w .so-far), length-append (take at now) todo)
+
+-- `&mut now[at..]` is lent: what the callee is lent, and what stands after it has left `part` there
+abbrev pub lent-tail : (at : ℕ) → (now : List ℕ) → List ℕ
+lent-tail at now = take (length now - at) (drop at now)
+
+abbrev pub tail-back : (at : ℕ) → (now part : List ℕ) → List ℕ
+tail-back at now part = take at now ++ (part ++ drop (length now - at) (drop at now))
+
+pub lent-tail-is : (at : ℕ) (now : List ℕ) → lent-tail at now ≡ drop at now
+lent-tail-is at now = take-all (length now - at) (drop at now) (omega (arith, length-drop at now))
+
+pub tail-written :
+    (all old now todo part : List ℕ) (at : ℕ) → Writing all old now todo at → part ≡ over todo (lent-tail at now) →
+    tail-back at now part ≡ over all old
+tail-written all old now todo part at w e =
+    let past : length (drop at now) ≤ length now - at = omega (arith, length-drop at now) in
+    let nothing : drop (length now - at) (drop at now) ≡ [] = drop-of-length-le (drop at now) past in
+    rw (nothing, append-nil part)
+    (lent-on all old now todo part at w (e ∙ ap (λ (l : List ℕ). over todo l) (lent-tail-is at now)))
+
+-- three numbers, one after the other
+pub three-written :
+    (old : List ℕ) (at x y z : ℕ) → at + 3 ≤ length old →
+    set (set (set old at x) (at + 1) y) (at + 2) z ≡ over (take at old ++ (x ∷ y ∷ z ∷ [])) old
+three-written old at x y z room =
+    rw (next)
+    (written all old (set (set (set old at x) (at + 1) y) (at + 1 + 1) z) (at + 1 + 1 + 1)
+    (writes all old (set (set old at x) (at + 1) y) z [] (at + 1 + 1)
+    (writes all old (set old at x) y (z ∷ []) (at + 1)
+    (writes all old old x (y ∷ z ∷ []) at (starts old (x ∷ y ∷ z ∷ []) at room)))))
+  where
+    all : List ℕ
+    all = take at old ++ (x ∷ y ∷ z ∷ [])
+
+    next : at + 2 ≡ at + 1 + 1
+    next = omega arith

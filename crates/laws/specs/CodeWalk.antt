@@ -176,3 +176,24 @@ line-places l = l .places
 pub positions-by-line : Line-by-line positions line-places
 unfolding positions
 positions-by-line = record { none = refl; more = λ l ls. refl }
+
+-- what both walks ask
+pub record Listable (heads pages links : List ℕ) : Type 0 where
+  pub codes : length heads ≡ 69632
+  pub paged : Paged heads pages
+  pub threads : Threads heads links
+  pub short : length links ≤ 65535
+
+pub line-numbers-three : (l : Line) → length (line-numbers l) ≡ 3
+unfolding line-numbers
+line-numbers-three l = refl
+
+pub line-numbers-are :
+    (code count : ℕ) (ps : List ℕ) → count ≡ length ps →
+    (code-key code .kind ∷ code-key code .value ∷ count ∷ []) ≡ line-numbers (line (code-key code) ps)
+unfolding line-numbers line
+line-numbers-are code count ps e = rw e
+
+pub line-places-are : (code : ℕ) (ps : List ℕ) → ps ≡ line-places (line (code-key code) ps)
+unfolding line
+line-places-are code ps = refl

@@ -51,3 +51,5 @@ pub mod Groups
 pub mod Linking
 pub mod Grouped
 pub mod CodeWalk
+pub mod IndexWriting
+pub mod Building
