@@ -8,10 +8,10 @@ use Prim.Native.Nat.{ℕ, zero, suc, _+_, _-_, _≤_, _<_}
 use native.Mathlib.Numerals.{add-one}
 use native.Mathlib.Omega.{arith}
 use lib.Dec.{eqb}
-use lib.ListN.{length, getD, set, drop, drop-of-length-le, length-drop}
-use lib.Seq.{getD-set-same, getD-set-other, drop-cons, getD-drop}
+use lib.ListN.{length, getD, set, drop, length-drop}
+use lib.Seq.{getD-set-same, getD-set-other, drop-cons}
 use borrow.Author.Tests.{eq-eqb, ne-eqb}
-use Rattle.basics.specs.Member.{In, in-getD}
+use Rattle.basics.specs.Member.{In}
 
 -- the chain from `head` runs through exactly these members
 abbrev pub Chained : (links : List ℕ) → (head : ℕ) → (members : List ℕ) → Type 0
@@ -39,6 +39,15 @@ pub chained-more :
 chained-more links i h ps b away c =
     let at : i + 1 - 1 ≡ i = omega arith in
     (refl, omega arith, rw (at, getD-set-same links i h 0 b) (chained-elsewhere links i h h ps away c))
+
+-- whether there is a member shows at the head
+pub chained-empty : (links : List ℕ) (h : ℕ) (ps : List ℕ) → Chained links h ps → h ≡ 0 → ps ≡ []
+chained-empty links h [] c e = refl
+chained-empty links h (p ∷ ps) c e = absurd (omega (arith, c .0, c .1))
+
+pub chained-some : (links : List ℕ) (h : ℕ) (ps : List ℕ) → Chained links h ps → (h ≡ 0 → ⊥) → 1 ≤ length ps
+chained-some links h [] c some = absurd (some c)
+chained-some links h (p ∷ ps) c some = omega arith
 
 -- THE MEMBERS, COMPUTED
 

@@ -1,13 +1,12 @@
 -- Writing the members of a chain into a slice, one after the other. Assumes nothing.
-use mathlib.Core.Path.{_≡_, refl, sym, ap, _∙_}
+use mathlib.Core.Path.{_≡_}
 use mathlib.Core.List.{List, [], _∷_, _++_}
 use Prim.Native.Nat.{ℕ, _+_, _-_, _≤_, _<_}
-use native.Mathlib.Nat.{sub-self}
 use native.Mathlib.Omega.{arith}
 use lib.ListN.{length, getD, set, take, drop, drop-of-length-le}
 use Rattle.basics.specs.Member.{in-getD}
 use Rattle.basics.specs.Chain.{chain, Threaded, Walking, walk-starts, Member-in-hand, walk-member, walk-ends}
-use Rattle.basics.specs.Writing.{over, Writing, starts, has-room, writes, written, written-length}
+use Rattle.basics.specs.Writing.{over, Writing, starts, has-room, writes, written}
 
 -- the chain of `head` is written from `start` on; the members before `here` are, and `member` is the next one, or 0
 pub record Copying (links : List ℕ) (head : ℕ) (old now : List ℕ) (start here member : ℕ) : Type 0 where

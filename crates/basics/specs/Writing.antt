@@ -6,7 +6,7 @@ use Prim.Native.Nat.{ℕ, _+_, _-_, _≤_, _<_}
 use native.Mathlib.Numerals.{add-one}
 use native.Mathlib.Omega.{arith}
 use lib.ListN.{length, take, drop, set, take-append-drop, length-append, length-drop, length-set, drop-of-length-le}
-use lib.Seq.{length-take-le, take-all, take-suc-set, append-snoc, drop-set-lt, drop-drop, take-at, drop-at}
+use lib.Seq.{length-take-le, take-all, take-suc-set, drop-set-lt, drop-drop, take-at, drop-at}
 
 -- `new` over the front of `old`, whose rest stays
 abbrev pub over : (new old : List ℕ) → List ℕ

@@ -7,10 +7,28 @@ ghost use Prim.Native.Nat.{_≤_};
 ghost use lib.ListN.{length, take};
 ghost use Rattle.spec.specs.Calls.{Puts, zeros};
 ghost use Rattle.laws.specs.Linking.{Linkable, Fresh};
-ghost use Rattle.laws.specs.Building.{output-refusal, marked-numbers};
+ghost use Rattle.laws.specs.Building.{early-refusal, output-refusal, marked-numbers};
 use crate::group::link;
 use crate::write::write_index;
+use dictionary::admission::refusal_of;
 use spec::Answer;
+
+// The first refusal that needs no result, or 0: the dictionary's, a text too long, a work slice too short.
+fn early_refusal(chars: &[u16], lengths: &[u16], text: &[u16], work: usize) -> u32
+    ensures { λ r. ⌜ r ≡ early-refusal (now (chars .entry)) (now (lengths .entry)) (now (text .entry)) work ⌝ }
+{
+    let refusal = refusal_of(chars, lengths);
+    if refusal != 0 {
+        return refusal;
+    }
+    if 65535 < text.len() {
+        return 4;
+    }
+    if work < 8 * text.len() {
+        return 7;
+    }
+    0
+}
 
 // Zeros over the whole slice.
 pub fn clear(work: &mut [u16])

@@ -6,11 +6,12 @@
 // the walks over all codes pass over the pages that no key of this text falls into. The counts of keys and entries are known
 // before anything is written.
 ghost use mathlib.Core.Path.{_≡_};
-ghost use Prim.Native.Nat.{ℕ, suc, _+_, _≤_, _<_};
-ghost use lib.ListN.{length, getD, replicate};
+ghost use Prim.Native.Nat.{suc, _+_, _≤_, _<_};
+ghost use lib.ListN.{length};
 ghost use Rattle.basics.specs.Chain.{chain, Threaded};
 ghost use Rattle.laws.specs.KeyCode.{coded};
-ghost use Rattle.laws.specs.Linking.{Paged, Linkable, Fresh, Links};
+ghost use Rattle.laws.specs.Pages.{Paged};
+ghost use Rattle.laws.specs.Linking.{Linkable, Fresh, Links};
 ghost use Rattle.laws.specs.CodeWalk.{Next};
 
 // How many keys and entries there are.

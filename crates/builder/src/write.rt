@@ -3,8 +3,8 @@
 // Two walks over the codes, in the order of the keys: the first writes a directory line for each chain, the second the members of
 // each. The positions go through the part of the output that begins after the directory.
 ghost use mathlib.Core.Path.{_≡_};
-ghost use mathlib.Core.List.{List, [], _∷_, _++_};
-ghost use Prim.Native.Nat.{ℕ, _+_, _≤_, _<_};
+ghost use mathlib.Core.List.{[], _∷_, _++_};
+ghost use Prim.Native.Nat.{_+_, _≤_, _<_};
 ghost use lib.ListN.{length, take};
 ghost use Rattle.basics.specs.Chain.{chain, Threaded};
 ghost use Rattle.basics.specs.Writing.{over};

@@ -1,19 +1,19 @@
 -- The builder's walks over the key codes: unused codes and pages are passed over, and each code with a chain is a line. Assumes nothing.
-use mathlib.Core.Path.{_≡_, refl, sym, ap, _∙_}
-use mathlib.Core.Logic.{_⊎_, inl, inr, ⊎-elim}
+use mathlib.Core.Path.{_≡_, refl, ap, _∙_}
+use mathlib.Core.Logic.{_⊎_, ⊎-elim}
 use mathlib.Core.List.{List, [], _∷_, _++_}
-use Prim.Native.Nat.{ℕ, zero, suc, _+_, _*_, _-_, _/_, _%_, _≤_, _<_}
+use Prim.Native.Nat.{ℕ, suc, _+_, _-_, _/_, _%_, _≤_, _<_}
 use native.Mathlib.Numerals.{add-one}
 use native.Mathlib.Omega.{arith}
 use lib.ListN.{length, getD, take, length-append}
 use Rattle.basics.specs.Bools.{le-or-lt}
-use Rattle.basics.specs.Member.{In}
-use Rattle.basics.specs.Chain.{chain, chain-none, chain-short, Threaded, Chained}
+use Rattle.basics.specs.Chain.{chain, chain-none, chained-some}
 use Rattle.basics.specs.Writing.{over, Writing, starts, appends, written, written-length}
-use Rattle.spec.specs.Numbers.{Line, line, directory, positions, numbers}
+use Rattle.spec.specs.Numbers.{Line, line, directory, positions}
 use Rattle.laws.specs.KeyCode.{code-key}
 use Rattle.laws.specs.Groups.{lines-from, lines-some, lines-skip}
-use Rattle.laws.specs.Linking.{Paged, Threads, lines-at, chained-some}
+use Rattle.laws.specs.Pages.{Paged}
+use Rattle.laws.specs.Linking.{Threads, lines-at}
 
 -- THE NEXT CODE IN USE
 

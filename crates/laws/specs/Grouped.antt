@@ -2,20 +2,18 @@
 use mathlib.Core.Path.{_≡_, refl, sym, ap, _∙_, subst}
 use mathlib.Core.Bool.{Bool, true, false, cond}
 use mathlib.Core.Logic.{_⊎_, inl, inr, ⊎-elim}
-use mathlib.Core.List.{List, [], _∷_, _++_}
+use mathlib.Core.List.{List, [], _∷_}
 use Prim.Native.Nat.{ℕ, zero, suc, _+_, _-_, _≤_, _<_}
 use native.Mathlib.Omega.{arith}
-use lib.Dec.{eqb}
 use lib.ListN.{length, getD}
 use borrow.Author.Tests.{eq-eqb, ne-eqb, eqb-true}
-use Rattle.basics.specs.Bools.{le-or-lt}
 use Rattle.basics.specs.Member.{In, in-append-left, in-append-right, in-append-get, in-getD}
 use Rattle.basics.specs.Steps.{those-from, those-from-get, those-from-put}
 use Rattle.spec.specs.Dictionary.{Lexicon}
 use Rattle.spec.specs.Words.{Key, key, spells, Entry, entry, entries}
-use Rattle.spec.specs.Numbers.{Line, line, sorted, lines-of, positions, numbers, index-of}
+use Rattle.spec.specs.Numbers.{Line, line, numbers, index-of}
 use Rattle.spec.specs.Index.{lines-in}
-use Rattle.laws.specs.Facts.{entry-eq, Chars, Good-lexicon, Is-entry, Is-maximal, Sound-entry, Sound, flat, Rise, Good-line, Good-lines}
+use Rattle.laws.specs.Facts.{Chars, Good-lexicon, Is-entry, Sound-entry, Sound, flat, Rise, Good-line, Good-lines}
 use Rattle.laws.specs.Keys.{spells-word, spells-lone}
 use Rattle.laws.specs.Entries.{entries-get, In-text, in-text}
 use Rattle.laws.specs.Longest.{make-index, make-index-get, make-index-put}
@@ -25,8 +23,8 @@ use Rattle.laws.specs.FlatOrder.{rise-least, rise-more}
 use Rattle.laws.specs.Lines.{lines-unique}
 use Rattle.laws.specs.IndexOf.{lines-in-index, index-lines-good, in-index-get, in-index-put}
 use Rattle.laws.specs.KeyCode.{coded, coded-none, coded-lone, coded-word, code-key, code-key-word, code-key-lone}
-use Rattle.laws.specs.Groups.{lines-from, Line-of, lines-get, lines-put, lines-order}
-use Rattle.laws.specs.Linking.{holds, held, held-range, grouped}
+use Rattle.laws.specs.Groups.{Line-of, lines-get, lines-put, lines-order}
+use Rattle.laws.specs.Held.{holds, held, grouped}
 
 -- the text's own entries, as a readable index has them
 entries-sound : (lex : Lexicon) → Good-lexicon lex → (ts : List ℕ) → Chars ts → Sound lex (length ts) (entries lex ts)

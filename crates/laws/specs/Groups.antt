@@ -2,14 +2,12 @@
 use mathlib.Core.Path.{_≡_, refl, sym, ap, _∙_}
 use mathlib.Core.Bool.{true}
 use mathlib.Core.Logic.{_⊎_, inl, inr, ⊎-elim}
-use mathlib.Core.List.{List, [], _∷_, _++_}
+use mathlib.Core.List.{List, [], _∷_}
 use Prim.Native.Nat.{ℕ, zero, suc, _+_, _-_, _≤_, _<_}
-use native.Mathlib.Nat.{add-zero}
 use native.Mathlib.Omega.{arith}
 use lib.ListN.{length, length-append}
 use Rattle.basics.specs.Bools.{le-or-lt}
 use Rattle.basics.specs.Member.{In}
-use Rattle.basics.specs.Order.{less-equal-more}
 use Rattle.spec.specs.Numbers.{key-before, Line, line, positions}
 use Rattle.laws.specs.Facts.{Keys-rise}
 use Rattle.laws.specs.KeyCode.{code-key, code-key-before}

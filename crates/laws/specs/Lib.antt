@@ -48,6 +48,8 @@ pub mod ReachRaises
 pub mod ReachExact
 pub mod KeyCode
 pub mod Groups
+pub mod Held
+pub mod Pages
 pub mod Linking
 pub mod Grouped
 pub mod CodeWalk

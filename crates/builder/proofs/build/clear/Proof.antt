@@ -1,9 +1,9 @@
 -- `clear` meets its contract. The invariant: i zeros, and the rest as it was. The measure is what is left. Assumes nothing.
-use mathlib.Core.Path.{_≡_, sym, ap, _∙_}
+use mathlib.Core.Path.{_≡_, ap, _∙_}
 use mathlib.Core.List.{List, _++_, append-nil}
 use Prim.Native.Nat.{ℕ, _+_, _-_, _≤_, _<_}
 use native.Mathlib.Omega.{arith}
-use lib.ListN.{length, drop, replicate, length-append, length-replicate, length-drop, drop-of-length-le, length-set}
+use lib.ListN.{length, drop, replicate, drop-of-length-le, length-set}
 use borrow.Author.Fill.{fill-none, fill-more}
 use Rattle.spec.specs.Calls.{zeros}
 use Rattle.builder.proofs.build.clear.Statement.{statement}

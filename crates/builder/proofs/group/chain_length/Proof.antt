@@ -1,8 +1,7 @@
 -- `chain_length` meets its contract. The invariant: `count` members are passed, and `at` is the next one, or 0. The measure is how
 -- many are left. Assumes nothing.
-use Prim.Native.Nat.{_-_, _<_, _≤_}
+use Prim.Native.Nat.{_-_, _<_}
 use native.Mathlib.Omega.{arith}
-use borrow.Author.Needs.{needs}
 use lib.ListN.{length, getD}
 use Rattle.basics.specs.Member.{in-getD}
 use Rattle.basics.specs.Chain.{chain, chain-short, Walking, walk-starts, Member-in-hand, walk-member, walk-ends}

@@ -1,10 +1,9 @@
 -- `link` meets its contract. The invariant: the positions above p hang in the chains of their codes, and are counted. The measure is
 -- p. Assumes nothing.
-use mathlib.Core.Path.{_≡_, sym, ap, _∙_}
-use Prim.Native.Nat.{ℕ, suc, _-_, _<_, _≤_}
+use mathlib.Core.Path.{_≡_, sym, _∙_}
+use Prim.Native.Nat.{_-_, _<_}
 use native.Mathlib.Omega.{arith}
-use borrow.Author.Needs.{needs}
-use lib.ListN.{length, getD, length-set}
+use lib.ListN.{length, getD}
 use Rattle.laws.specs.KeyCode.{coded-none}
 use Rattle.laws.specs.Linking.{Links, links-start, links-below, links-mark, links-passed, links-new, links-more}
 use Rattle.builder.proofs.group.link.Statement.{statement}

@@ -1,5 +1,5 @@
 -- `next_code` meets its contract. The invariant: no code passed has a chain. The measure is how many codes are left. Assumes nothing.
-use Prim.Native.Nat.{_+_, _-_, _<_, _≤_}
+use Prim.Native.Nat.{_+_, _-_}
 use native.Mathlib.Omega.{arith}
 use borrow.Author.Needs.{needs}
 use lib.ListN.{length}

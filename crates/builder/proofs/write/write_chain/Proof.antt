@@ -1,10 +1,9 @@
 -- `write_chain` meets its contract. The invariant: the members before `here` are written, and `member` is the next one, or 0. The
 -- measure is how many are left. Assumes nothing.
 use mathlib.Core.Path.{_≡_}
-use Prim.Native.Nat.{_-_, _<_, _≤_}
+use Prim.Native.Nat.{_-_}
 use native.Mathlib.Omega.{arith}
-use borrow.Author.Needs.{needs}
-use lib.ListN.{length, getD}
+use lib.ListN.{length}
 use Rattle.basics.specs.Chain.{chain}
 use Rattle.basics.specs.Copying.{Copying, copy-start, Copy-in-hand, copy-member, copy-end-at, copy-end}
 use Rattle.builder.proofs.write.write_chain.Statement.{statement}

@@ -1,13 +1,11 @@
 -- `write_directory` meets its contract. The invariant: the lines of the codes before `code` are written. The measure is how many
 -- codes are left. Assumes nothing.
-use mathlib.Core.Path.{_≡_, refl, sym, ap, _∙_}
-use mathlib.Core.List.{List, [], _∷_, _++_}
-use Prim.Native.Nat.{ℕ, _-_, _+_, _<_, _≤_}
+use mathlib.Core.List.{[], _∷_, _++_}
+use Prim.Native.Nat.{_-_, _+_, _≤_}
 use native.Mathlib.Omega.{arith}
-use borrow.Author.Needs.{needs}
 use lib.ListN.{length, getD, take}
 use Rattle.basics.specs.Chain.{chain, chain-short}
-use Rattle.spec.specs.Numbers.{Line, line, directory}
+use Rattle.spec.specs.Numbers.{line, directory}
 use Rattle.laws.specs.KeyCode.{code-key}
 use Rattle.laws.specs.Linking.{lines-at}
 use Rattle.laws.specs.CodeWalk.{Listing, line-numbers, line-numbers-three, line-numbers-are, directory-by-line, listing-start, listing-room, listing-step, listing-end}

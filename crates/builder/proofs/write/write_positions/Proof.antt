@@ -1,14 +1,11 @@
 -- `write_positions` meets its contract. The invariant: the positions of the codes before `code` are written. The measure is how many
 -- codes are left. Assumes nothing.
-use mathlib.Core.Path.{_≡_, refl, sym, ap, _∙_}
-use mathlib.Core.List.{List, [], _∷_, _++_}
-use Prim.Native.Nat.{ℕ, _-_, _+_, _<_, _≤_}
+use mathlib.Core.Path.{ap}
+use Prim.Native.Nat.{_-_, _+_, _≤_}
 use native.Mathlib.Omega.{arith}
-use borrow.Author.Needs.{needs}
-use lib.ListN.{length, getD, take}
+use lib.ListN.{length, getD}
 use Rattle.basics.specs.Chain.{chain}
-use Rattle.spec.specs.Numbers.{Line, line, positions}
-use Rattle.laws.specs.KeyCode.{code-key}
+use Rattle.spec.specs.Numbers.{positions}
 use Rattle.laws.specs.Linking.{lines-at}
 use Rattle.laws.specs.CodeWalk.{Listing, line-places, line-places-are, positions-by-line, listing-start, listing-room, listing-step, listing-end}
 use Rattle.builder.proofs.write.write_positions.Statement.{statement}
