@@ -4,3 +4,6 @@ pub mod Member
 pub mod Order
 pub mod Steps
 pub mod Stores
+pub mod Writing
+pub mod Chain
+pub mod Copying

@@ -1,2 +1,5 @@
-// The builder of an index.
+// Building an index: the text is scanned, positions are put together under their keys, and written.
+pub mod build;
+pub mod group;
 pub mod scan;
+pub mod write;

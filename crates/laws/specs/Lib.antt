@@ -63,3 +63,12 @@ pub mod Painting
 pub mod Noting
 pub mod Reception
 pub mod Promises
+pub mod KeyCode
+pub mod Groups
+pub mod Held
+pub mod Pages
+pub mod Linking
+pub mod MarkedLines
+pub mod CodeWalk
+pub mod IndexWriting
+pub mod Building

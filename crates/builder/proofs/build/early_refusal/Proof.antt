@@ -1,0 +1,42 @@
+-- `early_refusal` meets its contract: one law a return. Assumes nothing.
+use mathlib.Core.Path.{_≡_, sym, _∙_}
+use Rattle.spec.specs.Dictionary.{dictionary-refusal}
+use Rattle.laws.specs.Building.{early-dictionary, early-text, early-work, early-none}
+use borrow.Author.Needs.{needs}
+use Rattle.builder.proofs.build.early_refusal.Statement.{statement}
+use Rattle.builder.proofs.build.early_refusal.Tie as tie
+
+refusal-of-requires : tie.Need-refusal-of-requires
+refusal-of-requires c κs = search needs
+
+returns : tie.Need-returns
+returns c =
+    let start = c .before .before .before .before .before in
+    c .before .refusal-of .ensures
+    ∙ sym
+    (early-dictionary (start .args .chars .now) (start .args .lengths .now) (start .args .text .now) (start .args .work)
+    (λ (none : dictionary-refusal (start .args .chars .now) (start .args .lengths .now) ≡ 0). c .if1 .taken (c .before .refusal-of .ensures ∙ none)))
+
+returns-2 : tie.Need-returns-2
+returns-2 c =
+    let start = c .before .before .before .before .before .before in
+    sym (early-text (start .args .chars .now) (start .args .lengths .now) (start .args .text .now) (start .args .work) (sym (c .before .before .refusal-of .ensures) ∙ c .before .if1 .left) (c .if2 .taken))
+
+mul-if3 : tie.Need-mul-if3
+mul-if3 c = search needs
+
+returns-3 : tie.Need-returns-3
+returns-3 c =
+    let start = c .before .before .before .before .before .before .before in
+    sym
+    (early-work (start .args .chars .now) (start .args .lengths .now) (start .args .text .now) (start .args .work) (sym (c .before .before .before .refusal-of .ensures) ∙ c .before .before .if1 .left) (c .before .if2 .left) (c .if3 .taken))
+
+returns-4 : tie.Need-returns-4
+returns-4 c =
+    let start = c .before .before .before .before .before .before .before in
+    sym
+    (early-none (start .args .chars .now) (start .args .lengths .now) (start .args .text .now) (start .args .work) (sym (c .before .before .before .refusal-of .ensures) ∙ c .before .before .if1 .left) (c .before .if2 .left) (c .if3 .left))
+
+pub early-refusal-spec : {M : Type 1} → statement M
+early-refusal-spec =
+    tie.close (tie.spec refusal-of-requires returns returns-2 mul-if3 returns-3 returns-4)

@@ -1,0 +1,89 @@
+-- `index_by` meets its contract: the size is known from the counts, and the numbers are those of the marks. Assumes nothing.
+use Rattle.laws.specs.Building.{linked-listable, linked-keys, few-keys, linked-room, marked-refused, marked-put}
+use borrow.Author.Needs.{needs}
+use Rattle.builder.proofs.build.index_by.Statement.{statement}
+use Rattle.builder.proofs.build.index_by.Tie as tie
+
+link-requires : tie.Need-link-requires
+link-requires c κs = search needs
+
+mul-size : tie.Need-mul-size
+mul-size c = search needs
+
+add-size : tie.Need-add-size
+add-size c = search needs
+
+add-size-2 : tie.Need-add-size-2
+add-size-2 c = search needs
+
+same-length : tie.Need-same-length
+same-length c = search needs
+
+same-length-2 : tie.Need-same-length-2
+same-length-2 c = search needs
+
+same-length-3 : tie.Need-same-length-3
+same-length-3 c = search needs
+
+returns : tie.Need-returns
+returns c =
+    let start = c .before .before .before .before .before .before .before .before .before .before .before .before .before .before .before .before .before in
+    let k = c .before .before .before .before .before .before .before .before .link in
+    marked-refused (start .args .text .now) (start .args .marks .now) (k .last .1 .0) (k .last .1 .1 .0) (k .last .1 .1 .1 .0) (k .result .keys)
+    (k .result .entries) (start .pre .0) (k .ensures) (start .args .output .now) (c .if1 .taken)
+
+write-index-requires : tie.Need-write-index-requires
+write-index-requires c κs =
+    let start = c .before .before .before .before .before .before .before .before .before .before .before .before .before .before .before .before .before .before .before .before .before in
+    let k = c .before .before .before .before .before .before .before .before .before .before .before .before .link in (
+      linked-listable (start .args .text .now) (start .args .marks .now) (k .last .1 .0) (k .last .1 .1 .0) (k .last .1 .1 .1 .0) (k .result .keys)
+          (k .result .entries) (start .pre .0) (k .ensures),
+      (
+        (
+          linked-keys (start .args .text .now) (start .args .marks .now) (k .last .1 .0) (k .last .1 .1 .0) (k .last .1 .1 .1 .0) (k .result .keys)
+              (k .result .entries) (start .pre .0) (k .ensures),
+          few-keys (start .args .text .now) (start .args .marks .now) (k .last .1 .0) (k .last .1 .1 .0) (k .last .1 .1 .1 .0) (k .result .keys)
+              (k .result .entries) (start .pre .0) (k .ensures),
+        ),
+        linked-room (start .args .text .now) (start .args .marks .now) (k .last .1 .0) (k .last .1 .1 .0) (k .last .1 .1 .1 .0) (k .result .keys)
+            (k .result .entries) (start .pre .0) (k .ensures) (start .args .output .now) (c .before .before .before .before .if1 .left),
+      ),
+    )
+
+same-length-4 : tie.Need-same-length-4
+same-length-4 c = search needs
+
+same-length-5 : tie.Need-same-length-5
+same-length-5 c = search needs
+
+same-length-6 : tie.Need-same-length-6
+same-length-6 c = search needs
+
+same-length-7 : tie.Need-same-length-7
+same-length-7 c = search needs
+
+returns-2 : tie.Need-returns-2
+returns-2 c =
+    let start = c .before .before .before .before .before .before .before .before .before .before .before .before .before .before .before .before .before .before .before .before .before .before .before .before in
+    let k = c .before .before .before .before .before .before .before .before .before .before .before .before .before .before .before .link in
+    marked-put (start .args .text .now) (start .args .marks .now) (k .last .1 .0) (k .last .1 .1 .0) (k .last .1 .1 .1 .0) (k .result .keys)
+    (k .result .entries) (start .pre .0) (k .ensures) (start .args .output .now) (c .before .before .write-index .last .1 .1 .1 .1 .0) (c .before .before .before .before .before .before .before .if1 .left) (c .before .before .write-index .ensures)
+
+pub index-by-spec : {M : Type 1} → statement M
+index-by-spec =
+    tie.close
+    (tie.spec
+    link-requires
+    mul-size
+    add-size
+    add-size-2
+    same-length
+    same-length-2
+    same-length-3
+    returns
+    write-index-requires
+    same-length-4
+    same-length-5
+    same-length-6
+    same-length-7
+    returns-2)

@@ -1,0 +1,90 @@
+// Building a text's index from its marks.
+//
+// The heads of the chains and the flags of their pages are local; of the work slice only as many numbers as the text has
+// characters are used. The result is sized before the output is touched.
+ghost use mathlib.Core.Path.{_≡_};
+ghost use Prim.Native.Nat.{_≤_};
+ghost use lib.ListN.{length, take};
+ghost use Rattle.spec.specs.Calls.{Puts, zeros};
+ghost use Rattle.laws.specs.Linking.{Linkable, Fresh};
+ghost use Rattle.laws.specs.Building.{early-refusal, output-refusal, marked-numbers};
+use crate::group::link;
+use crate::write::write_index;
+use dictionary::admission::refusal_of;
+use spec::Answer;
+
+// The first refusal that needs no result, or 0: the dictionary's, a text too long, a work slice too short.
+fn early_refusal(chars: &[u16], lengths: &[u16], text: &[u16], work: usize) -> u32
+    ensures { λ r. ⌜ r ≡ early-refusal (now (chars .entry)) (now (lengths .entry)) (now (text .entry)) work ⌝ }
+{
+    let refusal = refusal_of(chars, lengths);
+    if refusal != 0 {
+        return refusal;
+    }
+    if 65535 < text.len() {
+        return 4;
+    }
+    if work < 8 * text.len() {
+        return 7;
+    }
+    0
+}
+
+// Zeros over the whole slice.
+pub fn clear(work: &mut [u16])
+    ensures { λ _. ⌜ now (work .exit) ≡ zeros (now (work .entry)) ⌝ }
+{
+    let mut i = 0;
+    while i < work.len() {
+        work[i] = 0;
+        i += 1;
+    }
+}
+
+// Writes the index that marks stand for, or answers 8. The marks give way to links.
+fn index_by(
+    text: &[u16],
+    output: &mut [u16],
+    marks: &mut [u16],
+    heads: &mut [u16],
+    pages: &mut [u8],
+) -> Answer
+    requires { ⌜ Linkable (now text) (now marks) ⌝ }
+    requires { ⌜ Fresh (now heads) (now pages) ⌝ }
+    ensures { λ r. ⌜ Puts (output-refusal (length (marked-numbers (now (marks .entry)) (now (text .entry)))) (length (now (output .entry)))) (marked-numbers (now (marks .entry)) (now (text .entry))) r (now (output .entry)) (now (output .exit)) ⌝ }
+{
+    let groups = link(text, marks, heads, pages);
+    let keys = groups.keys;
+    let size = 2 + 3 * keys + groups.entries;
+    if output.len() < size {
+        return Answer {
+            refusal: 8,
+            count: 0,
+        };
+    }
+    write_index(heads, pages, marks, keys, output);
+    Answer {
+        refusal: 0,
+        count: size,
+    }
+}
+
+// The same with heads and pages of its own.
+fn index_marks(text: &[u16], output: &mut [u16], marks: &mut [u16]) -> Answer
+    requires { ⌜ Linkable (now text) (now marks) ⌝ }
+    ensures { λ r. ⌜ Puts (output-refusal (length (marked-numbers (now (marks .entry)) (now (text .entry)))) (length (now (output .entry)))) (marked-numbers (now (marks .entry)) (now (text .entry))) r (now (output .entry)) (now (output .exit)) ⌝ }
+{
+    let mut heads = [0u16; 69632];
+    let mut pages = [0u8; 1088];
+    index_by(text, output, marks, &mut heads, &mut pages)
+}
+
+// The same for marks at the front of a longer slice.
+pub fn finish(text: &[u16], output: &mut [u16], work: &mut [u16]) -> Answer
+    requires { ⌜ length (now text) ≤ length (now work) ⌝ }
+    requires { ⌜ Linkable (now text) (take (length (now text)) (now work)) ⌝ }
+    ensures { λ r. ⌜ Puts (output-refusal (length (marked-numbers (take (length (now (text .entry))) (now (work .entry))) (now (text .entry)))) (length (now (output .entry)))) (marked-numbers (take (length (now (text .entry))) (now (work .entry))) (now (text .entry))) r (now (output .entry)) (now (output .exit)) ⌝ }
+{
+    let n = text.len();
+    index_marks(text, output, &mut work[..n])
+}
