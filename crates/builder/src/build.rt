@@ -5,9 +5,9 @@
 ghost use mathlib.Core.Path.{_≡_};
 ghost use Prim.Native.Nat.{_≤_};
 ghost use lib.ListN.{length, take};
-ghost use Rattle.spec.specs.Calls.{Puts, zeros};
+ghost use Rattle.spec.specs.Calls.{zeros};
 ghost use Rattle.laws.specs.Linking.{Linkable, Fresh};
-ghost use Rattle.laws.specs.Building.{early-refusal, output-refusal, marked-numbers};
+ghost use Rattle.laws.specs.Building.{early-refusal, Marked-says};
 use crate::group::link;
 use crate::write::write_index;
 use dictionary::admission::refusal_of;
@@ -51,7 +51,7 @@ fn index_by(
 ) -> Answer
     requires { ⌜ Linkable (now text) (now marks) ⌝ }
     requires { ⌜ Fresh (now heads) (now pages) ⌝ }
-    ensures { λ r. ⌜ Puts (output-refusal (length (marked-numbers (now (marks .entry)) (now (text .entry)))) (length (now (output .entry)))) (marked-numbers (now (marks .entry)) (now (text .entry))) r (now (output .entry)) (now (output .exit)) ⌝ }
+    ensures { λ r. ⌜ Marked-says (now (marks .entry)) (now (text .entry)) r (now (output .entry)) (now (output .exit)) ⌝ }
 {
     let groups = link(text, marks, heads, pages);
     let keys = groups.keys;
@@ -72,7 +72,7 @@ fn index_by(
 // The same with heads and pages of its own.
 fn index_marks(text: &[u16], output: &mut [u16], marks: &mut [u16]) -> Answer
     requires { ⌜ Linkable (now text) (now marks) ⌝ }
-    ensures { λ r. ⌜ Puts (output-refusal (length (marked-numbers (now (marks .entry)) (now (text .entry)))) (length (now (output .entry)))) (marked-numbers (now (marks .entry)) (now (text .entry))) r (now (output .entry)) (now (output .exit)) ⌝ }
+    ensures { λ r. ⌜ Marked-says (now (marks .entry)) (now (text .entry)) r (now (output .entry)) (now (output .exit)) ⌝ }
 {
     let mut heads = [0u16; 69632];
     let mut pages = [0u8; 1088];
@@ -83,7 +83,7 @@ fn index_marks(text: &[u16], output: &mut [u16], marks: &mut [u16]) -> Answer
 pub fn finish(text: &[u16], output: &mut [u16], work: &mut [u16]) -> Answer
     requires { ⌜ length (now text) ≤ length (now work) ⌝ }
     requires { ⌜ Linkable (now text) (take (length (now text)) (now work)) ⌝ }
-    ensures { λ r. ⌜ Puts (output-refusal (length (marked-numbers (take (length (now (text .entry))) (now (work .entry))) (now (text .entry)))) (length (now (output .entry)))) (marked-numbers (take (length (now (text .entry))) (now (work .entry))) (now (text .entry))) r (now (output .entry)) (now (output .exit)) ⌝ }
+    ensures { λ r. ⌜ Marked-says (take (length (now (text .entry))) (now (work .entry))) (now (text .entry)) r (now (output .entry)) (now (output .exit)) ⌝ }
 {
     let n = text.len();
     index_marks(text, output, &mut work[..n])

@@ -132,6 +132,10 @@ module _ (cs ls ts : List ℕ) (w : ℕ) where
 unfoldable pub marked-numbers : (marks text : List ℕ) → List ℕ
 marked-numbers ms ts = numbers (length ts) (grouped ms ts)
 
+-- what is answered and written for marks: these numbers, or 8
+abbrev pub Marked-says : (marks text : List ℕ) → Answer → (out out-now : List ℕ) → Type 0
+Marked-says ms ts r o z = Puts (output-refusal (length (marked-numbers ms ts)) (length o)) (marked-numbers ms ts) r o z
+
 pub marked-numbers-index :
     (lex : Lexicon) → Good-lexicon lex → (ts : List ℕ) → Chars ts → (ms : List ℕ) → Marks lex ts ms →
     marked-numbers ms ts ≡ index-of lex ts
@@ -183,8 +187,7 @@ module _ (ts ms links heads pages : List ℕ) (keys entries : ℕ) (can : Linkab
     linked-room h = rw (linked-numbers, ← linked-size) h
 
     pub marked-refused :
-        length o < 2 + 3 * keys + entries →
-        Puts (output-refusal (length (marked-numbers ms ts)) (length o)) (marked-numbers ms ts) (record { refusal = 8; count = 0 }) o o
+        length o < 2 + 3 * keys + entries → Marked-says ms ts (record { refusal = 8; count = 0 }) o o
     marked-refused h =
         let eight : output-refusal (length (marked-numbers ms ts)) (length o) ≡ 8 =
         output-refused (length (marked-numbers ms ts)) (length o) (rw (← linked-size) h) in
@@ -194,8 +197,7 @@ module _ (ts ms links heads pages : List ℕ) (keys entries : ℕ) (can : Linkab
 
     pub marked-put :
         (z : List ℕ) → 2 + 3 * keys + entries ≤ length o → z ≡ over (numbers (length links) (lines-at heads links 0)) o →
-        Puts (output-refusal (length (marked-numbers ms ts)) (length o)) (marked-numbers ms ts)
-        (record { refusal = 0; count = 2 + 3 * keys + entries }) o z
+        Marked-says ms ts (record { refusal = 0; count = 2 + 3 * keys + entries }) o z
     marked-put z h e =
         let none : output-refusal (length (marked-numbers ms ts)) (length o) ≡ 0 =
         output-fits (length (marked-numbers ms ts)) (length o) (rw (← linked-size) h) in
@@ -235,7 +237,7 @@ module _ (cs ls ts : List ℕ) (w : ℕ) (o : List ℕ) where
   -- what follows the scan answers for the call
   pub build-marked :
       Chars cs → Chars ts → early-refusal cs ls ts w ≡ 0 → (ms : List ℕ) → Marks (lexicon cs ls) ts ms → (r : Answer) (z : List ℕ) →
-      Puts (output-refusal (length (marked-numbers ms ts)) (length o)) (marked-numbers ms ts) r o z →
+      Marked-says ms ts r o z →
       Puts (build-refusal cs ls ts (length o) w) (index-of (lexicon cs ls) ts) r o z
   build-marked chars text none ms marks r z puts =
       let good : Good-lexicon (lexicon cs ls) = reached-lexicon cs ls chars (reached cs ls ts w none .admits) in
