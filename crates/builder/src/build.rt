@@ -1,16 +1,20 @@
-// Building a text's index from its marks.
+// Building a text's index.
 //
 // The heads of the chains and the flags of their pages are local; of the work slice only as many numbers as the text has
 // characters are used. The result is sized before the output is touched.
 ghost use mathlib.Core.Path.{_≡_};
 ghost use Prim.Native.Nat.{_≤_};
 ghost use lib.ListN.{length, take};
-ghost use Rattle.spec.specs.Calls.{Puts, zeros};
+ghost use Rattle.spec.specs.Dictionary.{lexicon};
+ghost use Rattle.spec.specs.Numbers.{index-of};
+ghost use Rattle.spec.specs.Calls.{zeros, Puts, build-refusal, Build-says};
 ghost use Rattle.laws.specs.Linking.{Linkable, Fresh};
-ghost use Rattle.laws.specs.Building.{early-refusal, output-refusal, marked-numbers};
+ghost use Rattle.laws.specs.Building.{early-refusal, Marked-says, Blank};
 use crate::group::link;
+use crate::scan::scan;
 use crate::write::write_index;
 use dictionary::admission::refusal_of;
+use dictionary::table::hang_words;
 use spec::Answer;
 
 // The first refusal that needs no result, or 0: the dictionary's, a text too long, a work slice too short.
@@ -51,7 +55,7 @@ fn index_by(
 ) -> Answer
     requires { ⌜ Linkable (now text) (now marks) ⌝ }
     requires { ⌜ Fresh (now heads) (now pages) ⌝ }
-    ensures { λ r. ⌜ Puts (output-refusal (length (marked-numbers (now (marks .entry)) (now (text .entry)))) (length (now (output .entry)))) (marked-numbers (now (marks .entry)) (now (text .entry))) r (now (output .entry)) (now (output .exit)) ⌝ }
+    ensures { λ r. ⌜ Marked-says (now (marks .entry)) (now (text .entry)) r (now (output .entry)) (now (output .exit)) ⌝ }
 {
     let groups = link(text, marks, heads, pages);
     let keys = groups.keys;
@@ -72,7 +76,7 @@ fn index_by(
 // The same with heads and pages of its own.
 fn index_marks(text: &[u16], output: &mut [u16], marks: &mut [u16]) -> Answer
     requires { ⌜ Linkable (now text) (now marks) ⌝ }
-    ensures { λ r. ⌜ Puts (output-refusal (length (marked-numbers (now (marks .entry)) (now (text .entry)))) (length (now (output .entry)))) (marked-numbers (now (marks .entry)) (now (text .entry))) r (now (output .entry)) (now (output .exit)) ⌝ }
+    ensures { λ r. ⌜ Marked-says (now (marks .entry)) (now (text .entry)) r (now (output .entry)) (now (output .exit)) ⌝ }
 {
     let mut heads = [0u16; 69632];
     let mut pages = [0u8; 1088];
@@ -83,8 +87,75 @@ fn index_marks(text: &[u16], output: &mut [u16], marks: &mut [u16]) -> Answer
 pub fn finish(text: &[u16], output: &mut [u16], work: &mut [u16]) -> Answer
     requires { ⌜ length (now text) ≤ length (now work) ⌝ }
     requires { ⌜ Linkable (now text) (take (length (now text)) (now work)) ⌝ }
-    ensures { λ r. ⌜ Puts (output-refusal (length (marked-numbers (take (length (now (text .entry))) (now (work .entry))) (now (text .entry)))) (length (now (output .entry)))) (marked-numbers (take (length (now (text .entry))) (now (work .entry))) (now (text .entry))) r (now (output .entry)) (now (output .exit)) ⌝ }
+    ensures { λ r. ⌜ Marked-says (take (length (now (text .entry))) (now (work .entry))) (now (text .entry)) r (now (output .entry)) (now (output .exit)) ⌝ }
 {
     let n = text.len();
     index_marks(text, output, &mut work[..n])
+}
+
+// What follows where no early refusal is met: the match table, the scan, and what its marks stand for.
+fn index_with(
+    chars: &[u16],
+    lengths: &[u16],
+    text: &[u16],
+    output: &mut [u16],
+    work: &mut [u16],
+    heads: &mut [u16],
+    links: &mut [u16],
+    starts: &mut [u16],
+) -> Answer
+    requires { ⌜ early-refusal (now chars) (now lengths) (now text) (length (now work)) ≡ 0 ⌝ }
+    requires { ⌜ Blank (now heads) (now links) (now starts) ⌝ }
+    ensures { λ r. ⌜ Puts (build-refusal (now (chars .entry)) (now (lengths .entry)) (now (text .entry)) (length (now (output .entry))) (length (now (work .entry)))) (index-of (lexicon (now (chars .entry)) (now (lengths .entry))) (now (text .entry))) r (now (output .entry)) (now (output .exit)) ⌝ }
+{
+    hang_words(chars, lengths, heads, links, starts);
+    scan(chars, lengths, heads, links, starts, text, work);
+    finish(text, output, work)
+}
+
+// The same with a match table of its own.
+fn index_text(
+    chars: &[u16],
+    lengths: &[u16],
+    text: &[u16],
+    output: &mut [u16],
+    work: &mut [u16],
+) -> Answer
+    requires { ⌜ early-refusal (now chars) (now lengths) (now text) (length (now work)) ≡ 0 ⌝ }
+    ensures { λ r. ⌜ Puts (build-refusal (now (chars .entry)) (now (lengths .entry)) (now (text .entry)) (length (now (output .entry))) (length (now (work .entry)))) (index-of (lexicon (now (chars .entry)) (now (lengths .entry))) (now (text .entry))) r (now (output .entry)) (now (output .exit)) ⌝ }
+{
+    let mut heads = [0u16; 10240];
+    let mut links = [0u16; 4096];
+    let mut starts = [0u16; 4097];
+    index_with(
+        chars,
+        lengths,
+        text,
+        output,
+        work,
+        &mut heads,
+        &mut links,
+        &mut starts,
+    )
+}
+
+// Builds the index of a text: refusals 1, 2, 3, 4, 7, 8; accepted it answers the count of numbers written. The work slice is cleared
+// on every path.
+pub fn build(
+    chars: &[u16],
+    lengths: &[u16],
+    text: &[u16],
+    output: &mut [u16],
+    work: &mut [u16],
+) -> Answer
+    ensures { λ r. ⌜ Build-says (now (chars .entry)) (now (lengths .entry)) (now (text .entry)) r (now (output .entry)) (now (output .exit)) (now (work .entry)) (now (work .exit)) ⌝ }
+{
+    let refusal = early_refusal(chars, lengths, text, work.len());
+    if refusal != 0 {
+        clear(work);
+        return Answer { refusal, count: 0 };
+    }
+    let answer = index_text(chars, lengths, text, output, work);
+    clear(work);
+    answer
 }

@@ -6,7 +6,7 @@ use mathlib.Core.List.{List}
 use Prim.Native.Nat.{ℕ, zero, suc, _+_, _*_, _≤_, _<_}
 use native.Mathlib.Omega.{arith}
 use lib.Dec.{ltb, eqb}
-use lib.ListN.{length, getD, replicate, length-replicate, getD-replicate}
+use lib.ListN.{length, getD, take, replicate, length-replicate, getD-replicate}
 use borrow.Author.Tests.{lt-ltb, le-ltb, eq-eqb, ne-eqb, eqb-true, eqb-false}
 use Rattle.basics.specs.Bools.{and-put, true-or-false, le-or-lt}
 use Rattle.basics.specs.Writing.{over}
@@ -16,7 +16,8 @@ use Rattle.spec.specs.Numbers.{numbers, index-of}
 use Rattle.spec.specs.Calls.{text-too-long, work-short, output-short, or-else, build-refusal, in-front, Puts}
 use Rattle.laws.specs.Facts.{Chars, Good-lexicon}
 use Rattle.laws.specs.Chars.{all-chars-put}
-use Rattle.laws.specs.Lexicon.{admitted-lexicon}
+use Rattle.laws.specs.Lexicon.{admitted-lexicon, admitted-get}
+use Rattle.laws.specs.WordTable.{Room}
 use Rattle.laws.specs.Answering.{accepted-yes, accepted-no, answers-accepted, answers-refused}
 use Rattle.laws.specs.Slices.{length-numbers}
 use Rattle.laws.specs.Marks.{Marks}
@@ -132,6 +133,10 @@ module _ (cs ls ts : List ℕ) (w : ℕ) where
 unfoldable pub marked-numbers : (marks text : List ℕ) → List ℕ
 marked-numbers ms ts = numbers (length ts) (grouped ms ts)
 
+-- what is answered and written for marks: these numbers, or 8
+abbrev pub Marked-says : (marks text : List ℕ) → Answer → (out out-now : List ℕ) → Type 0
+Marked-says ms ts r o z = Puts (output-refusal (length (marked-numbers ms ts)) (length o)) (marked-numbers ms ts) r o z
+
 pub marked-numbers-index :
     (lex : Lexicon) → Good-lexicon lex → (ts : List ℕ) → Chars ts → (ms : List ℕ) → Marks lex ts ms →
     marked-numbers ms ts ≡ index-of lex ts
@@ -183,8 +188,7 @@ module _ (ts ms links heads pages : List ℕ) (keys entries : ℕ) (can : Linkab
     linked-room h = rw (linked-numbers, ← linked-size) h
 
     pub marked-refused :
-        length o < 2 + 3 * keys + entries →
-        Puts (output-refusal (length (marked-numbers ms ts)) (length o)) (marked-numbers ms ts) (record { refusal = 8; count = 0 }) o o
+        length o < 2 + 3 * keys + entries → Marked-says ms ts (record { refusal = 8; count = 0 }) o o
     marked-refused h =
         let eight : output-refusal (length (marked-numbers ms ts)) (length o) ≡ 8 =
         output-refused (length (marked-numbers ms ts)) (length o) (rw (← linked-size) h) in
@@ -194,8 +198,7 @@ module _ (ts ms links heads pages : List ℕ) (keys entries : ℕ) (can : Linkab
 
     pub marked-put :
         (z : List ℕ) → 2 + 3 * keys + entries ≤ length o → z ≡ over (numbers (length links) (lines-at heads links 0)) o →
-        Puts (output-refusal (length (marked-numbers ms ts)) (length o)) (marked-numbers ms ts)
-        (record { refusal = 0; count = 2 + 3 * keys + entries }) o z
+        Marked-says ms ts (record { refusal = 0; count = 2 + 3 * keys + entries }) o z
     marked-put z h e =
         let none : output-refusal (length (marked-numbers ms ts)) (length o) ≡ 0 =
         output-fits (length (marked-numbers ms ts)) (length o) (rw (← linked-size) h) in
@@ -205,11 +208,13 @@ module _ (ts ms links heads pages : List ℕ) (keys entries : ℕ) (can : Linkab
 
 -- THE WHOLE CALL
 
--- an admitted dictionary of characters is a good lexicon
-pub reached-lexicon : (cs ls : List ℕ) → Chars cs → dictionary-refusal cs ls ≡ 0 → Good-lexicon (lexicon cs ls)
+-- a dictionary of characters that meets no line is admitted, and a good lexicon
+pub reached-admitted : (cs ls : List ℕ) → Chars cs → dictionary-refusal cs ls ≡ 0 → admitted cs ls ≡ true
 unfolding admitted
-reached-lexicon cs ls chars none =
-    admitted-lexicon cs ls (and-put (all-chars-put cs chars) (eq-eqb (dictionary-refusal cs ls) 0 none))
+reached-admitted cs ls chars none = and-put (all-chars-put cs chars) (eq-eqb (dictionary-refusal cs ls) 0 none)
+
+pub reached-lexicon : (cs ls : List ℕ) → Chars cs → dictionary-refusal cs ls ≡ 0 → Good-lexicon (lexicon cs ls)
+reached-lexicon cs ls chars none = admitted-lexicon cs ls (reached-admitted cs ls chars none)
 
 pub marks-linkable :
     (lex : Lexicon) → Good-lexicon lex → (ts ms : List ℕ) → Marks lex ts ms → length ts ≤ 65535 → Linkable ts ms
@@ -235,8 +240,43 @@ module _ (cs ls ts : List ℕ) (w : ℕ) (o : List ℕ) where
   -- what follows the scan answers for the call
   pub build-marked :
       Chars cs → Chars ts → early-refusal cs ls ts w ≡ 0 → (ms : List ℕ) → Marks (lexicon cs ls) ts ms → (r : Answer) (z : List ℕ) →
-      Puts (output-refusal (length (marked-numbers ms ts)) (length o)) (marked-numbers ms ts) r o z →
+      Marked-says ms ts r o z →
       Puts (build-refusal cs ls ts (length o) w) (index-of (lexicon cs ls) ts) r o z
   build-marked chars text none ms marks r z puts =
       let good : Good-lexicon (lexicon cs ls) = reached-lexicon cs ls chars (reached cs ls ts w none .admits) in
       rw (build-late cs ls ts w (length o) none, ← marked-numbers-index (lexicon cs ls) good ts text ms marks) puts
+
+-- a match table's slices before the words are hung up
+pub record Blank (heads links starts : List ℕ) : Type 0 where
+  pub heads-clear : heads ≡ replicate 10240 0
+  pub links-long : 4096 ≤ length links
+  pub starts-long : 4096 < length starts
+
+pub blank : (n m k : ℕ) → n ≡ 10240 → m ≡ 4096 → k ≡ 4097 → Blank (replicate n 0) (replicate m 0) (replicate k 0)
+blank n m k e f h =
+    record {
+      heads-clear = rw e;
+      links-long = omega (arith, length-replicate {A = ℕ} m 0);
+      starts-long = omega (arith, length-replicate {A = ℕ} k 0);
+    }
+
+pub blank-room :
+    (cs ls ts : List ℕ) (w : ℕ) (heads links starts : List ℕ) → Chars cs → early-refusal cs ls ts w ≡ 0 → Blank heads links starts →
+    Room cs ls heads links starts
+blank-room cs ls ts w heads links starts chars none b =
+    let adm : admitted cs ls ≡ true = reached-admitted cs ls chars (reached cs ls ts w none .admits) in
+    let few : length ls ≤ 4096 = admitted-get cs ls adm .few in
+    record {
+      dictionary = adm;
+      heads-clear = b .heads-clear;
+      links-long = omega (arith, b .links-long);
+      starts-long = omega (arith, b .starts-long);
+    }
+
+-- the marks at the front of the work slice can be linked
+pub front-linkable :
+    (cs ls ts : List ℕ) (w : ℕ) (work : List ℕ) → Chars cs → early-refusal cs ls ts w ≡ 0 →
+    Marks (lexicon cs ls) ts (take (length ts) work) → Linkable ts (take (length ts) work)
+front-linkable cs ls ts w work chars none marks =
+    marks-linkable (lexicon cs ls) (reached-lexicon cs ls chars (reached cs ls ts w none .admits)) ts (take (length ts) work) marks
+    (reached cs ls ts w none .short)

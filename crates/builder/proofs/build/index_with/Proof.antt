@@ -1,0 +1,81 @@
+-- `index_with` meets its contract: the words are hung up, the scan leaves the marks, and what is written for them is the index.
+-- Assumes nothing.
+use native.Mathlib.Omega.{arith}
+use lib.ListN.{length, take}
+use borrow.Author.Needs.{needs}
+use Rattle.laws.specs.Building.{reached, blank-room, front-linkable, build-marked}
+use Rattle.builder.proofs.build.index_with.Statement.{statement}
+use Rattle.builder.proofs.build.index_with.Tie as tie
+
+hang-words-requires : tie.Need-hang-words-requires
+hang-words-requires c κs =
+    let start = c .before .before .before .before .before .before .before .before .before .before .before in
+    let cs = start .args .chars .now in
+    let ls = start .args .lengths .now in
+    let ts = start .args .text .now in
+    let w = length (start .args .work .now) in
+    blank-room cs ls ts w (start .args .heads .now) (start .args .links .now) (start .args .starts .now)
+    (λ i h. omega (arith, c .before .before .before .before .before .before .before .before .before .before .shared-slice-known .given i)) (start .pre .0) (start .pre .1)
+
+scan-requires : tie.Need-scan-requires
+scan-requires c κs =
+    let start = c .before .before .before .before .before .before .before .before .before .before .before .before .before .before .before .before .before .before .before .before .before .before in
+    let cs = start .args .chars .now in
+    let ls = start .args .lengths .now in
+    let ts = start .args .text .now in
+    let w = length (start .args .work .now) in
+    (c .before .before .before .before .before .before .before .before .before .before .hang-words .ensures, omega (arith, reached cs ls ts w (start .pre .0) .room))
+
+finish-requires : tie.Need-finish-requires
+finish-requires c κs =
+    let start = c .before .before .before .before .before .before .before .before .before .before .before .before .before .before .before .before .before .before .before .before .before .before .before .before .before .before .before in
+    let cs = start .args .chars .now in
+    let ls = start .args .lengths .now in
+    let ts = start .args .text .now in
+    let w = length (start .args .work .now) in (
+      omega (arith, reached cs ls ts w (start .pre .0) .room, c .before .before .before .before .scan .kept .1 .1 .1 .1 .1 .1 .0),
+      front-linkable cs ls ts w (c .before .before .before .before .scan .last .1 .1 .1 .1 .1 .1 .0)
+          (λ i h. omega (arith, c .before .before .before .before .before .before .before .before .before .before .before .before .before .before .before .before .before .before .before .before .before .before .before .before .before .before .shared-slice-known .given i)) (start .pre .0) (c .before .before .before .before .scan .ensures .0),
+    )
+
+same-length : tie.Need-same-length
+same-length c = search needs
+
+same-length-2 : tie.Need-same-length-2
+same-length-2 c = search needs
+
+same-length-3 : tie.Need-same-length-3
+same-length-3 c = search needs
+
+same-length-4 : tie.Need-same-length-4
+same-length-4 c = search needs
+
+same-length-5 : tie.Need-same-length-5
+same-length-5 c = search needs
+
+returns : tie.Need-returns
+returns c =
+    let start = c .before .before .before .before .before .before .before .before .before .before .before .before .before .before .before .before .before .before .before .before .before .before .before .before .before .before .before .before .before .before .before .before in
+    let cs = start .args .chars .now in
+    let ls = start .args .lengths .now in
+    let ts = start .args .text .now in
+    let w = length (start .args .work .now) in
+    let work = c .before .before .before .before .before .before .before .before .before .scan .last .1 .1 .1 .1 .1 .1 .0 in
+    build-marked cs ls ts w (start .args .output .now)
+    (λ i h. omega (arith, c .before .before .before .before .before .before .before .before .before .before .before .before .before .before .before .before .before .before .before .before .before .before .before .before .before .before .before .before .before .before .before .shared-slice-known .given i)) (λ i h. omega (arith, c .before .before .before .before .before .before .before .before .before .before .before .before .before .before .before .before .before .before .before .before .before .before .before .before .before .before .before .before .before .shared-slice-known3 .given i))
+    (start .pre .0) (take (length ts) work) (c .before .before .before .before .before .before .before .before .before .scan .ensures .0) (c .before .before .before .before .finish .result) (c .before .before .before .before .finish .last .1 .0)
+    (c .before .before .before .before .finish .ensures)
+
+pub index-with-spec : {M : Type 1} → statement M
+index-with-spec =
+    tie.close
+    (tie.spec
+    hang-words-requires
+    scan-requires
+    finish-requires
+    same-length
+    same-length-2
+    same-length-3
+    same-length-4
+    same-length-5
+    returns)
