@@ -21,7 +21,7 @@ add-if1 c = omega (arith, c .shared-slice-known5 .given (c .before .before .befo
 returns : tie.Need-returns
 returns c =
     let start = c .before .before .before .before .before .before in
-    ends-early (start .args .chars .now) (start .args .lengths .now) (start .args .starts .now) (start .pre .0) (start .args .text .now) (start .args .at) (start .args .end) (start .args .number) (start .pre .2) (c .if1 .taken)
+    ends-early (start .args .chars .now) (start .args .lengths .now) (start .args .starts .now) (start .pre .0) (start .args .text .now) (start .args .at) (start .args .end) (start .args .number) (start .pre .2) (omega arith)
 
 add-if2 : tie.Need-add-if2
 add-if2 c = omega (arith, c .before .shared-slice-known5 .given (c .before .before .before .before .before .before .args .number))
