@@ -52,14 +52,14 @@ fn stands_after(
     requires { ⌜ Started (now chars) (now lengths) (now starts) × (at < length (now text)) × (number < length (now lengths)) ⌝ }
     ensures { λ r. ⌜ Stands-after (word (now (chars .entry)) (now (lengths .entry)) number) (now (text .entry)) (at + 1) (end + 1) r ⌝ }
 {
-    let long = lengths[number] as usize;
-    if at + long <= end {
+    let count = lengths[number] as usize;
+    if at + count <= end {
         return false;
     }
-    if text.len() < at + long {
+    if text.len() < at + count {
         return false;
     }
-    same_run(chars, starts[number] as usize, text, at, long)
+    same_run(chars, starts[number] as usize, text, at, count)
 }
 
 // One more than the number of a standing word, after which comes no standing word of two characters or more that ends after `end`;
@@ -77,7 +77,9 @@ fn walk_pair(
     requires { ⌜ Tables (now chars) (now lengths) (now heads) (now links) (now starts) × (at + 1 < length (now text)) ⌝ }
     ensures { λ r. ⌜ Pair-found (lexicon (now (chars .entry)) (now (lengths .entry)) .words) (now (text .entry)) (at + 1) (end + 1) r ⌝ }
 {
-    let bucket = bucket_of_pair(text[at], text[at + 1]);
+    let x = text[at];
+    let y = text[at + 1];
+    let bucket = bucket_of_pair(x, y);
     let mut next = heads[bucket] as usize;
     let mut left = BUDGET;
     while next != 0 {

@@ -11,14 +11,16 @@ ghost use Rattle.laws.specs.WordTable.{pair-bucket, char-bucket, Bucket-read, R
 
 // The bucket of words that begin with these two characters.
 pub fn bucket_of_pair(x: u16, y: u16) -> usize
-    ensures { λ r. ⌜ r ≡ pair-bucket x y ⌝ }
+    ensures value { λ r. ⌜ r ≡ pair-bucket x y ⌝ }
+    ensures small { λ r. ⌜ r < 8192 ⌝ }
 {
     (37 * x as usize + y as usize) % 8192
 }
 
 // The bucket of the words of one character.
 pub fn bucket_of_char(x: u16) -> usize
-    ensures { λ r. ⌜ r ≡ char-bucket x ⌝ }
+    ensures value { λ r. ⌜ r ≡ char-bucket x ⌝ }
+    ensures small { λ r. ⌜ r < 10240 ⌝ }
 {
     8192 + x as usize % 2048
 }

@@ -47,7 +47,7 @@ add-if3 c = omega (arith, c .before .before .before .before .before .before .bef
 returns-3 : tie.Need-returns-3
 returns-3 c =
     let start = c .before .before .before .before .before .before .before .before .before .before .before in
-    pair-early (start .args .chars .now) (start .args .lengths .now) (start .pre .0 .words .dictionary) (start .args .text .now) (start .args .at) (start .args .end) (c .before .before .before .walk-pair .result) (c .before .before .before .walk-pair .ensures) (c .before .before .if2 .left) 0 (c .if3 .taken)
+    pair-early (start .args .chars .now) (start .args .lengths .now) (start .pre .0 .words .dictionary) (start .args .text .now) (start .args .at) (start .args .end) (c .before .before .before .walk-pair .result) (c .before .before .before .walk-pair .ensures) (c .before .before .if2 .left) 0 (omega arith)
 
 returns-4 : tie.Need-returns-4
 returns-4 c =

@@ -4,7 +4,7 @@ use Prim.Native.Nat.{_-_, _<_}
 use native.Mathlib.Omega.{arith}
 use lib.ListN.{length, getD}
 use borrow.Author.Needs.{needs}
-use Rattle.laws.specs.WordTable.{word-some, word-room, char-small}
+use Rattle.laws.specs.WordTable.{word-some, word-room}
 use Rattle.laws.specs.WordChains.{Single-walk, single-start, single-none, single-stop, single-known, single-hit, single-miss}
 use Rattle.dictionary.proofs.matching.find_single.Statement.{statement}
 use Rattle.dictionary.proofs.matching.find_single.Tie as tie
@@ -32,10 +32,10 @@ bucket-of-char-requires : tie.Need-bucket-of-char-requires Inv-loop μ-loop
 bucket-of-char-requires c κs = search needs
 
 mul-next : tie.Need-mul-next Inv-loop μ-loop
-mul-next c = omega (arith, c .bucket-of-char .ensures, char-small (getD (c .before .before .before .before .before .before .before .before .args .text .now) (c .before .before .before .before .before .before .before .before .args .at) 0))
+mul-next c = omega (arith, c .bucket-of-char .ensures .1)
 
 shared-slice-read-next : tie.Need-shared-slice-read-next Inv-loop μ-loop
-shared-slice-read-next c = omega (arith, c .before .bucket-of-char .ensures, c .before .before .before .before .before .before .before .before .before .pre .0 .heads-long, char-small (getD (c .before .before .before .before .before .before .before .before .before .args .text .now) (c .before .before .before .before .before .before .before .before .before .args .at) 0))
+shared-slice-read-next c = omega (arith, c .before .bucket-of-char .ensures .1, c .before .before .before .before .before .before .before .before .before .pre .0 .heads-long)
 
 cast-next : tie.Need-cast-next Inv-loop μ-loop
 cast-next c = omega (arith, c .shared-slice-known8 .given (c .before .bucket-of-char .result))
@@ -43,7 +43,7 @@ cast-next c = omega (arith, c .shared-slice-known8 .given (c .before .bucket-of-
 loop-holds : tie.Need-loop-holds Inv-loop μ-loop
 loop-holds c =
     let start = c .before .before .before .before .before .before .before .before .before in
-    rw (c .before .bucket-of-char .ensures)
+    rw (c .before .bucket-of-char .ensures .0)
     (single-start (start .args .chars .now) (start .args .lengths .now) (start .args .heads .now) (start .args .links .now) (start .args .starts .now) (start .pre .0) (start .args .text .now) (start .args .at))
 
 sub-number : tie.Need-sub-number Inv-loop μ-loop

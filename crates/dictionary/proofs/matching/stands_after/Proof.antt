@@ -6,14 +6,14 @@ use Rattle.laws.specs.WordChains.{ends-early, runs-out, compared}
 use Rattle.dictionary.proofs.matching.stands_after.Statement.{statement}
 use Rattle.dictionary.proofs.matching.stands_after.Tie as tie
 
-mul-long : tie.Need-mul-long
-mul-long c = search needs
+mul-count : tie.Need-mul-count
+mul-count c = search needs
 
-shared-slice-read-long : tie.Need-shared-slice-read-long
-shared-slice-read-long c = search needs
+shared-slice-read-count : tie.Need-shared-slice-read-count
+shared-slice-read-count c = search needs
 
-cast-long : tie.Need-cast-long
-cast-long c = omega (arith, c .shared-slice-known5 .given (c .before .before .before .before .before .args .number))
+cast-count : tie.Need-cast-count
+cast-count c = omega (arith, c .shared-slice-known5 .given (c .before .before .before .before .before .args .number))
 
 add-if1 : tie.Need-add-if1
 add-if1 c = omega (arith, c .shared-slice-known5 .given (c .before .before .before .before .before .args .number))
@@ -21,7 +21,7 @@ add-if1 c = omega (arith, c .shared-slice-known5 .given (c .before .before .befo
 returns : tie.Need-returns
 returns c =
     let start = c .before .before .before .before .before .before in
-    ends-early (start .args .chars .now) (start .args .lengths .now) (start .args .starts .now) (start .pre .0) (start .args .text .now) (start .args .at) (start .args .end) (start .args .number) (start .pre .2) (c .if1 .taken)
+    ends-early (start .args .chars .now) (start .args .lengths .now) (start .args .starts .now) (start .pre .0) (start .args .text .now) (start .args .at) (start .args .end) (start .args .number) (start .pre .2) (omega arith)
 
 add-if2 : tie.Need-add-if2
 add-if2 c = omega (arith, c .before .shared-slice-known5 .given (c .before .before .before .before .before .before .args .number))
@@ -54,9 +54,9 @@ pub stands-after-spec : {M : Type 1} → statement M
 stands-after-spec =
     tie.close
     (tie.spec
-    mul-long
-    shared-slice-read-long
-    cast-long
+    mul-count
+    shared-slice-read-count
+    cast-count
     add-if1
     returns
     add-if2

@@ -4,16 +4,16 @@ use Prim.Native.Nat.{_+_, _-_, _<_}
 use native.Mathlib.Omega.{arith}
 use lib.ListN.{length, getD}
 use Rattle.laws.specs.Chains.{Stop}
-use Rattle.laws.specs.WordTable.{pair-small, pair-bucket, bucket-of}
+use Rattle.laws.specs.WordTable.{pair-bucket, bucket-of}
 use Rattle.laws.specs.WordChains.{Passed, Pair-walk, pair-start, pair-none, pair-stop, pair-known, pair-hit, pair-miss, pair-narrowed}
 use Rattle.dictionary.proofs.matching.walk_pair.Statement.{statement}
 use Rattle.dictionary.proofs.matching.walk_pair.Tie as tie
 
 abbrev Inv-loop : tie.InvT-loop
-Inv-loop chars lengths heads links starts text at end bucket next₀ left₀ next left = Pair-walk chars lengths links text at end next
+Inv-loop chars lengths heads links starts text at end x y bucket next₀ left₀ next left = Pair-walk chars lengths links text at end next
 
 abbrev μ-loop : tie.MeasureT-loop
-μ-loop chars lengths heads links starts text at end bucket next₀ left₀ next left = next
+μ-loop chars lengths heads links starts text at end x y bucket next₀ left₀ next left = next
 
 -- the word that the walk has come to is one
 known : (c : tie.In-loop Inv-loop μ-loop) → c .before .loop .next - 1 < length (c .before .before .before .before .before .before .before .before .before .before .before .before .args .lengths .now)
@@ -33,29 +33,29 @@ stop c =
     let start = c .before .before .before .before .before .before .before .before .before .before .before .before in
     pair-stop (start .args .chars .now) (start .args .lengths .now) (start .args .heads .now) (start .args .links .now) (start .args .starts .now) (start .pre .0) (start .args .text .now) (start .args .at) (start .args .end) (c .before .loop .next) (c .before .loop .inv) (c .loop-test .taken)
 
-mul-bucket-of-pair : tie.Need-mul-bucket-of-pair Inv-loop μ-loop
-mul-bucket-of-pair c = omega (arith, c .before .before .before .before .before .before .pre .1)
+mul-x : tie.Need-mul-x Inv-loop μ-loop
+mul-x c = omega (arith, c .before .before .before .before .before .before .pre .1)
 
-shared-slice-read-bucket-of-pair : tie.Need-shared-slice-read-bucket-of-pair Inv-loop μ-loop
-shared-slice-read-bucket-of-pair c = omega (arith, c .before .before .before .before .before .before .before .pre .1)
+shared-slice-read-x : tie.Need-shared-slice-read-x Inv-loop μ-loop
+shared-slice-read-x c = omega (arith, c .before .before .before .before .before .before .before .pre .1)
 
-add-bucket-of-pair : tie.Need-add-bucket-of-pair Inv-loop μ-loop
-add-bucket-of-pair c = omega (arith, c .before .before .before .before .before .before .before .pre .1)
+add-y : tie.Need-add-y Inv-loop μ-loop
+add-y c = omega (arith, c .before .before .before .before .before .before .before .pre .1)
 
-mul-bucket-of-pair-2 : tie.Need-mul-bucket-of-pair-2 Inv-loop μ-loop
-mul-bucket-of-pair-2 c = omega (arith, c .before .before .before .before .before .before .before .pre .1)
+mul-y : tie.Need-mul-y Inv-loop μ-loop
+mul-y c = omega (arith, c .before .before .before .before .before .before .before .pre .1)
 
-shared-slice-read-bucket-of-pair-2 : tie.Need-shared-slice-read-bucket-of-pair-2 Inv-loop μ-loop
-shared-slice-read-bucket-of-pair-2 c = c .before .before .before .before .before .before .before .before .pre .1
+shared-slice-read-y : tie.Need-shared-slice-read-y Inv-loop μ-loop
+shared-slice-read-y c = c .before .before .before .before .before .before .before .before .pre .1
 
 bucket-of-pair-requires : tie.Need-bucket-of-pair-requires Inv-loop μ-loop
 bucket-of-pair-requires c κs = tt
 
 mul-next : tie.Need-mul-next Inv-loop μ-loop
-mul-next c = omega (arith, c .bucket-of-pair .ensures, pair-small (getD (c .before .before .before .before .before .before .before .before .before .args .text .now) (c .before .before .before .before .before .before .before .before .before .args .at) 0) (getD (c .before .before .before .before .before .before .before .before .before .args .text .now) (c .before .before .before .before .before .before .before .before .before .args .at + 1) 0))
+mul-next c = omega (arith, c .bucket-of-pair .ensures .1)
 
 shared-slice-read-next : tie.Need-shared-slice-read-next Inv-loop μ-loop
-shared-slice-read-next c = omega (arith, c .before .bucket-of-pair .ensures, pair-small (getD (c .before .before .before .before .before .before .before .before .before .before .args .text .now) (c .before .before .before .before .before .before .before .before .before .before .args .at) 0) (getD (c .before .before .before .before .before .before .before .before .before .before .args .text .now) (c .before .before .before .before .before .before .before .before .before .before .args .at + 1) 0), c .before .before .before .before .before .before .before .before .before .before .pre .0 .heads-long)
+shared-slice-read-next c = omega (arith, c .before .bucket-of-pair .ensures .1, c .before .before .before .before .before .before .before .before .before .before .pre .0 .heads-long)
 
 cast-next : tie.Need-cast-next Inv-loop μ-loop
 cast-next c = omega (arith, c .shared-slice-known9 .given (c .before .bucket-of-pair .result))
@@ -63,7 +63,7 @@ cast-next c = omega (arith, c .shared-slice-known9 .given (c .before .bucket-of-
 loop-holds : tie.Need-loop-holds Inv-loop μ-loop
 loop-holds c =
     let start = c .before .before .before .before .before .before .before .before .before .before in
-    rw (c .before .bucket-of-pair .ensures) (pair-start (start .args .chars .now) (start .args .lengths .now) (start .args .heads .now) (start .args .links .now) (start .args .starts .now) (start .pre .0) (start .args .text .now) (start .args .at) (start .args .end))
+    rw (c .before .bucket-of-pair .ensures .0) (pair-start (start .args .chars .now) (start .args .lengths .now) (start .args .heads .now) (start .args .links .now) (start .args .starts .now) (start .pre .0) (start .args .text .now) (start .args .at) (start .args .end))
 
 narrow-requires : tie.Need-narrow-requires Inv-loop μ-loop
 narrow-requires c κs = (c .before .before .before .before .before .before .before .before .before .before .before .before .before .pre .0 .words, omega (arith, c .before .before .before .before .before .before .before .before .before .before .before .before .before .pre .1), stop (c .before) .below)
@@ -115,11 +115,11 @@ walk-pair-spec =
     (tie.spec
     Inv-loop
     μ-loop
-    mul-bucket-of-pair
-    shared-slice-read-bucket-of-pair
-    add-bucket-of-pair
-    mul-bucket-of-pair-2
-    shared-slice-read-bucket-of-pair-2
+    mul-x
+    shared-slice-read-x
+    add-y
+    mul-y
+    shared-slice-read-y
     bucket-of-pair-requires
     mul-next
     shared-slice-read-next

@@ -1,7 +1,7 @@
--- `bucket_of_char` meets its contract, which is its code. Assumes nothing.
+-- `bucket_of_char` meets its contract, which is its code, and a remainder is small. Assumes nothing.
 use mathlib.Core.Path.{refl}
 use borrow.Author.Needs.{needs}
-use Rattle.laws.specs.WordTable.{char-bucket}
+use Rattle.laws.specs.WordTable.{char-bucket, char-small}
 use Rattle.dictionary.proofs.table.bucket_of_char.Statement.{statement}
 use Rattle.dictionary.proofs.table.bucket_of_char.Tie as tie
 
@@ -10,7 +10,7 @@ add-result c = search needs
 
 returns : tie.Need-returns
 unfolding char-bucket
-returns c = refl
+returns c = (refl, char-small (c .args .x))
 
 pub bucket-of-char-spec : {M : Type 1} → statement M
 bucket-of-char-spec = tie.close (tie.spec add-result returns)

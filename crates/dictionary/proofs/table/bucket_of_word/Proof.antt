@@ -1,9 +1,6 @@
 -- `bucket_of_word` meets its contract: the bucket of the one character, or of the first two. Assumes nothing.
-use Prim.Native.Nat.{_+_}
 use native.Mathlib.Omega.{arith}
-use lib.ListN.{getD}
 use borrow.Author.Needs.{needs}
-use Rattle.laws.specs.WordTable.{char-small, pair-small}
 use Rattle.dictionary.proofs.table.bucket_of_word.Statement.{statement}
 use Rattle.dictionary.proofs.table.bucket_of_word.Tie as tie
 
@@ -18,10 +15,9 @@ bucket-of-char-requires c κs = search needs
 
 returns : tie.Need-returns
 returns c =
-    let start = c .before .before .before .before in
     record {
-      small = omega (arith, c .bucket-of-char .ensures, char-small (getD (start .args .chars .now) (start .args .at) 0));
-      one = λ e. c .bucket-of-char .ensures;
+      small = c .bucket-of-char .ensures .1;
+      one = λ e. c .bucket-of-char .ensures .0;
       more = λ l. absurd (omega arith);
     }
 
@@ -45,11 +41,10 @@ bucket-of-pair-requires c κs = search needs
 
 returns-2 : tie.Need-returns-2
 returns-2 c =
-    let start = c .before .before .before .before .before in
     record {
-      small = omega (arith, c .bucket-of-pair .ensures, pair-small (getD (start .args .chars .now) (start .args .at) 0) (getD (start .args .chars .now) (start .args .at + 1) 0));
+      small = omega (arith, c .bucket-of-pair .ensures .1);
       one = λ e. absurd (omega arith);
-      more = λ l. c .bucket-of-pair .ensures;
+      more = λ l. c .bucket-of-pair .ensures .0;
     }
 
 pub bucket-of-word-spec : {M : Type 1} → statement M
