@@ -45,3 +45,12 @@ pub mod Cover
 pub mod Reach
 pub mod ReachRaises
 pub mod ReachExact
+pub mod AgreeWalk
+pub mod Shorter
+pub mod Offset32
+pub mod LineWalk
+pub mod LineSteps
+pub mod KeyTests
+pub mod LoneWords
+pub mod IndexRefusal
+pub mod LineKinds
