@@ -9,6 +9,11 @@ use borrow.Author.Tests.{ne-eqb, eqb-true, eqb-false}
 use Rattle.spec.specs.Dictionary.{longest-text, lexicon, dictionary-refusal}
 use Rattle.spec.specs.Index.{readable}
 use Rattle.spec.specs.Calls.{unreadable, or-else, index-refusal}
+use Rattle.laws.specs.WordCode.{Small}
+use Rattle.laws.specs.Lexicon.{Is-admitted}
+use Rattle.laws.specs.Slices.{Fits}
+use Rattle.laws.specs.LineWalk.{readable-fits}
+use Rattle.laws.specs.KeyTests.{dictionary-read}
 
 module _ (cs ls xs : List ℕ) where
   pub refuses-dictionary : (dictionary-refusal cs ls ≡ 0 → ⊥) → dictionary-refusal cs ls ≡ index-refusal cs ls xs
@@ -39,3 +44,18 @@ module _ (cs ls xs : List ℕ) where
       by-tests true p true q e = record { no-refusal = eqb-true (dictionary-refusal cs ls) 0 p; is-readable = q }
       by-tests true p false q e = absurd (omega arith)
       by-tests false p b q e = absurd (eqb-false (dictionary-refusal cs ls) 0 p e)
+
+-- what an operation on an index builds on, once no line is met
+pub record Index-read (cs ls xs : List ℕ) : Type 0 where
+  pub is-admitted : Is-admitted cs ls
+  pub is-readable : readable longest-text (lexicon cs ls) xs ≡ true
+  pub fits : Fits xs
+
+pub index-read : (cs ls xs : List ℕ) → Small cs → index-refusal cs ls xs ≡ 0 → Index-read cs ls xs
+index-read cs ls xs small none =
+    let a = index-accepted cs ls xs none in
+    record {
+      is-admitted = dictionary-read cs ls small (a .no-refusal);
+      is-readable = a .is-readable;
+      fits = readable-fits longest-text (lexicon cs ls) xs (a .is-readable);
+    }

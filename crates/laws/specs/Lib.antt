@@ -54,3 +54,6 @@ pub mod KeyTests
 pub mod LoneWords
 pub mod IndexRefusal
 pub mod LineKinds
+pub mod TallyWalk
+pub mod TallyAnswers
+pub mod KeyLengths

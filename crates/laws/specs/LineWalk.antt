@@ -277,7 +277,7 @@ module _ (g : ℕ) (lex : Lexicon) (xs : List ℕ) where
   abbrev good : Bool
   good = lines-good lex (n-of xs) (lines-in xs)
 
-  readable-fits : readable g lex xs ≡ true → Fits xs
+  pub readable-fits : readable g lex xs ≡ true → Fits xs
   unfolding readable
   readable-fits t = lengths-fit-get xs (and-left fit small (and-left (fit && small) (kinds && (order && good)) t))
 

@@ -1,4 +1,5 @@
-// Reading an index: whether its numbers are readable, its lines and lists of positions, and how a key lies against a string.
+// Reading an index: whether its numbers are readable, its tally, its lists of positions, and how a key lies against a string.
 pub mod agreement;
 pub mod lines;
 pub mod readability;
+pub mod tallying;
