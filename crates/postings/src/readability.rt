@@ -167,7 +167,7 @@ fn lines_good(chars: &[u16], lengths: &[u16], index: &[u16]) -> bool
         if !word_line_good(chars, lengths, index, at, n, least, value, count) {
             return false;
         }
-        at += count;
+        at = at + count;
         least = value + 1;
         i += 1;
     }
