@@ -57,3 +57,5 @@ pub mod LineKinds
 pub mod TallyWalk
 pub mod TallyAnswers
 pub mod KeyLengths
+pub mod LinePlaces
+pub mod Opening
