@@ -28,8 +28,7 @@ pub fn number_at(numbers: &[u16], place: usize) -> u16
 
 // The key of a line.
 pub fn key_of_line(numbers: &[u16], line: usize) -> LineKey
-    ensures kind { λ r. ⌜ r .kind ≡ kind-at (now (numbers .entry)) line ⌝ }
-    ensures value { λ r. ⌜ r .value ≡ value-at (now (numbers .entry)) line ⌝ }
+    ensures { λ r. ⌜ (r .kind ≡ kind-at (now (numbers .entry)) line) × (r .value ≡ value-at (now (numbers .entry)) line) ⌝ }
 {
     if numbers.len() <= line {
         return LineKey { kind: 0, value: 0 };

@@ -1,6 +1,9 @@
 // An opened index: one record that refers to the lent numbers, with the refusal and the bounds of the directory. It is made once, by
 // the function that tests, and its readers are thin: each takes it apart and calls a function on plain slices and numbers.
+ghost use mathlib.Core.Path.{_≡_};
+ghost use Rattle.spec.specs.Index.{kind-at, value-at};
 ghost use Rattle.laws.specs.Opening.{Bounded};
+use crate::lines::LineKey;
 
 pub struct Opened<'a> {
     pub numbers: &'a [u16],
@@ -34,4 +37,18 @@ pub fn bounds_of<'a>(chars: &'a [u16], lengths: &'a [u16], index: &'a [u16]) -> 
         keys,
         first: 2 + 3 * keys,
     }
+}
+
+// How many lines an opened index has.
+pub fn lines_of<'a>(opened: Opened<'a>) -> usize
+    ensures { λ n. ⌜ n ≡ opened .entry .keys ⌝ }
+{
+    opened.keys
+}
+
+// The key of a line of an opened index.
+pub fn key_of<'a>(opened: Opened<'a>, line: usize) -> LineKey
+    ensures { λ k. ⌜ (k .kind ≡ kind-at (now (opened .entry .numbers)) line) × (k .value ≡ value-at (now (opened .entry .numbers)) line) ⌝ }
+{
+    crate::lines::key_of_line(opened.numbers, line)
 }
