@@ -2,6 +2,7 @@
 // the function that tests, and its readers are thin: each takes it apart and calls a function on plain slices and numbers.
 ghost use mathlib.Core.Path.{_≡_};
 ghost use Rattle.spec.specs.Index.{kind-at, value-at};
+ghost use Rattle.laws.specs.LinePlaces.{places-at};
 ghost use Rattle.laws.specs.Opening.{Bounded};
 use crate::lines::LineKey;
 
@@ -51,4 +52,11 @@ pub fn key_of<'a>(opened: Opened<'a>, line: usize) -> LineKey
     ensures { λ k. ⌜ (k .kind ≡ kind-at (now (opened .entry .numbers)) line) × (k .value ≡ value-at (now (opened .entry .numbers)) line) ⌝ }
 {
     crate::lines::key_of_line(opened.numbers, line)
+}
+
+// The positions of a line of an opened index; none for a line past the directory.
+pub fn positions_of<'a>(opened: Opened<'a>, line: usize) -> &'a [u16]
+    ensures { λ ps. ⌜ now ps ≡ places-at (now (opened .entry .numbers)) (opened .entry .keys) (opened .entry .first) line ⌝ }
+{
+    crate::lines::positions_of_line(opened.numbers, opened.keys, opened.first, line)
 }
