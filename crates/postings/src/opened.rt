@@ -6,6 +6,8 @@ ghost use Rattle.laws.specs.LinePlaces.{places-at};
 ghost use Rattle.laws.specs.Opening.{Bounded};
 use crate::lines::LineKey;
 
+// The numbers of an index, its refusal, how many lines its directory has, and where the positions start. Beside a refusal the two
+// bounds are 0, so that no line is handed out.
 pub struct Opened<'a> {
     pub numbers: &'a [u16],
     pub refusal: u32,
@@ -13,7 +15,7 @@ pub struct Opened<'a> {
     pub first: usize,
 }
 
-// How many lines the directory has, and where the positions start.
+// What opening finds out of an index.
 pub struct Bounds {
     pub refusal: u32,
     pub keys: usize,
@@ -38,6 +40,25 @@ pub fn bounds_of<'a>(chars: &'a [u16], lengths: &'a [u16], index: &'a [u16]) -> 
         keys,
         first: 2 + 3 * keys,
     }
+}
+
+// The record of an index and its bounds.
+fn with_bounds<'a>(index: &'a [u16], bounds: Bounds) -> Opened<'a>
+    ensures { λ r. ⌜ (r .numbers ≡ index .entry) × (r .refusal ≡ bounds .refusal) × (r .keys ≡ bounds .keys) × (r .first ≡ bounds .first) ⌝ }
+{
+    Opened {
+        numbers: index,
+        refusal: bounds.refusal,
+        keys: bounds.keys,
+        first: bounds.first,
+    }
+}
+
+// Opens an index: tests it, and answers the record that refers to its numbers. Refusals 1, 2, 3, 5.
+pub fn open_index<'a>(chars: &'a [u16], lengths: &'a [u16], index: &'a [u16]) -> Opened<'a>
+    ensures { λ r. ⌜ (r .numbers ≡ index .entry) × Bounded (now (chars .entry)) (now (lengths .entry)) (now (index .entry)) (r .refusal) (r .keys) (r .first) ⌝ }
+{
+    with_bounds(index, bounds_of(chars, lengths, index))
 }
 
 // How many lines an opened index has.
