@@ -14,7 +14,7 @@ use crate::group::link;
 use crate::scan::scan;
 use crate::write::write_index;
 use dictionary::admission::refusal_of;
-use dictionary::table::hang_words;
+use matching::table::hang_words;
 use spec::Answer;
 
 // The first refusal that needs no result, or 0: the dictionary's, a text too long, a work slice too short.

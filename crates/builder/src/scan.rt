@@ -10,7 +10,7 @@ ghost use Rattle.spec.specs.Dictionary.{lexicon};
 ghost use Rattle.laws.specs.WordTable.{Tables};
 ghost use Rattle.laws.specs.Marks.{Marks};
 ghost use Rattle.laws.specs.ScanMarks.{Stepped as Stepped-at};
-use dictionary::matching::find_longest;
+use matching::longest::find_longest;
 
 // A place's mark, and where the last registered entry ends after it.
 pub struct Stepped {

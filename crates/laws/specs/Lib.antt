@@ -72,3 +72,17 @@ pub mod MarkedLines
 pub mod CodeWalk
 pub mod IndexWriting
 pub mod Building
+pub mod AgreeWalk
+pub mod Shorter
+pub mod Offset32
+pub mod LineWalk
+pub mod LineSteps
+pub mod KeyTests
+pub mod LoneWords
+pub mod IndexRefusal
+pub mod LineKinds
+pub mod TallyWalk
+pub mod TallyAnswers
+pub mod KeyLengths
+pub mod LinePlaces
+pub mod Opening

@@ -1,8 +1,9 @@
 // The face of the library: every public operation once, for C and Rust to link. No operation has a `requires`, and each contract
 // fixes the answer and the final content of every slice lent to be written, for refused input too. A slice lent to be read
 // stays as it was by its type.
-ghost use Rattle.spec.specs.Calls.{Admit-says};
+ghost use Rattle.spec.specs.Calls.{Admit-says, Build-says, Tally-says};
 use spec::Answer;
+use spec::TallyAnswer;
 
 // Admits a dictionary, lent as all characters run together and a list of lengths. Refusals 1, 2, 3; accepted it answers the number
 // of words.
@@ -11,4 +12,28 @@ pub extern "C" fn mopekihua_admit(chars: &[u16], lengths: &[u16]) -> Answer
     ensures { λ r. ⌜ Admit-says (now (chars .entry)) (now (lengths .entry)) r ⌝ }
 {
     dictionary::admission::admit(chars, lengths)
+}
+
+// Builds the index of a text. Refusals 1, 2, 3, 4, 7, 8, which leave the output as it was; accepted it answers the count of numbers
+// written to the front of the output. The work slice is all zeros after every call.
+#[no_mangle]
+pub extern "C" fn mopekihua_build(
+    chars: &[u16],
+    lengths: &[u16],
+    text: &[u16],
+    output: &mut [u16],
+    work: &mut [u16],
+) -> Answer
+    ensures { λ r. ⌜ Build-says (now (chars .entry)) (now (lengths .entry)) (now (text .entry)) r (now (output .entry)) (now (output .exit)) (now (work .entry)) (now (work .exit)) ⌝ }
+{
+    builder::build::build(chars, lengths, text, output, work)
+}
+
+// Tallies an index by word length. Refusals 1, 2, 3, 5, with 32 zeros; accepted it answers the number of entries, and under l - 1
+// how many of them have length l.
+#[no_mangle]
+pub extern "C" fn mopekihua_tally(chars: &[u16], lengths: &[u16], index: &[u16]) -> TallyAnswer
+    ensures { λ r. ⌜ Tally-says (now (chars .entry)) (now (lengths .entry)) (now (index .entry)) r ⌝ }
+{
+    postings::tallying::tally(chars, lengths, index)
 }

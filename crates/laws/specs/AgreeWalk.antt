@@ -1,0 +1,82 @@
+-- The model of the agreement test: one string begins at 0, the other at a place in or after it, and the shared places are
+-- compared in order. Assumes nothing.
+use mathlib.Core.Path.{_≡_, refl, sym, _∙_}
+use mathlib.Core.Bool.{true, false}
+use mathlib.Core.List.{List}
+use Prim.Native.Nat.{ℕ, _+_, _-_, _≤_, _<_, min}
+use native.Mathlib.Numerals.{add-one}
+use native.Mathlib.Omega.{arith}
+use lib.ListN.{length, getD}
+use lib.IntN.{pos, negsuc}
+use Rattle.basics.specs.Bools.{false-put, iff-eq}
+use Rattle.spec.specs.Search.{agrees, string-start, key-start, agrees-at}
+use Rattle.laws.specs.Agree.{agrees-get, agrees-put, agree-sym, agrees-move}
+
+-- WHICH OF THE TWO BEGINS FIRST
+
+pub agrees-swap : (s : List ℕ) (a : ℕ) (e : List ℕ) (b : ℕ) → agrees s a e b ≡ agrees e b s a
+agrees-swap s a e b =
+    iff-eq (agrees s a e b) (agrees e b s a)
+    (λ t. agrees-put e b s a (agree-sym s a e b (agrees-get s a e b t)))
+    (λ t. agrees-put s a e b (agree-sym e b s a (agrees-get e b s a t)))
+
+module _ (s : List ℕ) (a : ℕ) (e : List ℕ) (b : ℕ) where
+  pub agrees-string-first : a ≤ b → agrees s 0 e (b - a) ≡ agrees s a e b
+  agrees-string-first h = agrees-move s 0 e (b - a) a b (omega arith)
+
+  pub agrees-key-first : b ≤ a → agrees e 0 s (a - b) ≡ agrees s a e b
+  agrees-key-first h = agrees-swap e 0 s (a - b) ∙ agrees-move s (a - b) e 0 a b (omega arith)
+
+-- THE SHARED PLACES, the second string at `at` of the first
+
+module _ (s e : List ℕ) (at : ℕ) where
+  pub apart-short : length s ≤ at → false ≡ agrees s 0 e at
+  apart-short h = sym (false-put (agrees s 0 e at) (λ t. let m = agrees-get s 0 e at t in omega arith))
+
+  pub apart-empty : length e ≡ 0 → false ≡ agrees s 0 e at
+  apart-empty h = sym (false-put (agrees s 0 e at) (λ t. let m = agrees-get s 0 e at t in omega arith))
+
+  -- a shared place at which they differ
+  pub apart-at :
+      (j : ℕ) → at + j < length s → j < length e → (getD s (at + j) 0 ≡ getD e j 0 → ⊥) → false ≡ agrees s 0 e at
+  apart-at j left right differ = sym (false-put (agrees s 0 e at) wrong)
+    where
+      wrong : agrees s 0 e at ≡ true → ⊥
+      wrong t =
+          let m = agrees-get s 0 e at t in
+          let first : at + j - 0 ≡ at + j = omega arith in
+          let second : at + j - at ≡ j = omega arith in
+          differ (rw (first, second) at (m .equal (at + j) (omega arith) (omega arith) (omega arith) (omega arith)))
+
+  -- all shared places are equal
+  pub together :
+      (i : ℕ) → at < length s → (length e ≡ 0 → ⊥) → min (length s - at) (length e) ≤ i →
+      ((k : ℕ) → k < i → getD s (at + k) 0 ≡ getD e k 0) → true ≡ agrees s 0 e at
+  together i some other whole equal =
+      sym
+      (agrees-put s 0 e at
+      (record {
+        shared = at;
+        string-from = omega arith;
+        string-to = omega arith;
+        entry-from = omega arith;
+        entry-to = omega arith;
+        equal = λ x p q r u. each x p q r u;
+      }))
+    where
+      each : (x : ℕ) → 0 ≤ x → x < 0 + length s → at ≤ x → x < at + length e → getD s (x - 0) 0 ≡ getD e (x - at) 0
+      each x p q r u =
+          let first : x - 0 ≡ at + (x - at) = omega arith in
+          rw first (equal (x - at) (omega arith))
+
+-- THE OFFSET
+
+-- what an offset of 32 bits says of the two starts
+module _ (k s : List ℕ) (o : ℕ) where
+  pub agrees-at-ahead : agrees s 0 k o ≡ agrees-at k s (pos o)
+  unfolding agrees-at string-start key-start
+  agrees-at-ahead = refl
+
+  pub agrees-at-back : agrees s (o + 1) k 0 ≡ agrees-at k s (negsuc o)
+  unfolding agrees-at string-start key-start
+  agrees-at-back = rw (add-one o)

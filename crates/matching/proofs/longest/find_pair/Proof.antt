@@ -1,0 +1,71 @@
+-- `find_pair` meets its contract: the text ends, or the walk finds none, or one that ends too early, or the longest. Assumes nothing.
+use Prim.Native.Nat.{_-_, _<_}
+use native.Mathlib.Omega.{arith}
+use lib.ListN.{length}
+use borrow.Author.Needs.{needs}
+use Rattle.laws.specs.Found.{pair-past, pair-missing, pair-in, pair-early, pair-longest}
+use Rattle.matching.proofs.longest.find_pair.Statement.{statement}
+use Rattle.matching.proofs.longest.find_pair.Tie as tie
+
+-- the word that the walk found is one
+known : (c : tie.Else2) → c .before .walk-pair .result - 1 < length (c .before .before .before .before .before .before .before .before .before .args .lengths .now)
+known c =
+    let start = c .before .before .before .before .before .before .before .before .before in
+    pair-in (start .args .chars .now) (start .args .lengths .now) (start .pre .0 .words .dictionary) (start .args .text .now) (start .args .at) (start .args .end) (c .before .walk-pair .result) (c .before .walk-pair .ensures) (c .if2 .left)
+
+add-if1 : tie.Need-add-if1
+add-if1 c = search needs
+
+returns : tie.Need-returns
+returns c =
+    let start = c .before .before .before .before .before .before .before in
+    pair-past (start .args .chars .now) (start .args .lengths .now) (start .pre .0 .words .dictionary) (start .args .text .now) (start .args .at) (start .args .end) 0 (c .if1 .taken)
+
+walk-pair-requires : tie.Need-walk-pair-requires
+walk-pair-requires c κs = search needs
+
+returns-2 : tie.Need-returns-2
+returns-2 c =
+    let start = c .before .before .before .before .before .before .before .before .before in
+    pair-missing (start .args .chars .now) (start .args .lengths .now) (start .pre .0 .words .dictionary) (start .args .text .now) (start .args .at) (start .args .end) (c .before .walk-pair .result) (c .before .walk-pair .ensures) 0 (c .if2 .taken)
+
+sub-long : tie.Need-sub-long
+sub-long c = search needs
+
+mul-long : tie.Need-mul-long
+mul-long c = omega (arith, known c)
+
+shared-slice-read-long : tie.Need-shared-slice-read-long
+shared-slice-read-long c = known (c .before)
+
+cast-long : tie.Need-cast-long
+cast-long c = omega (arith, c .shared-slice-known7 .given (c .before .before .walk-pair .result - 1))
+
+add-if3 : tie.Need-add-if3
+add-if3 c = omega (arith, c .before .before .before .before .before .before .before .before .before .before .pre .1, c .shared-slice-known7 .given (c .before .before .walk-pair .result - 1))
+
+returns-3 : tie.Need-returns-3
+returns-3 c =
+    let start = c .before .before .before .before .before .before .before .before .before .before .before in
+    pair-early (start .args .chars .now) (start .args .lengths .now) (start .pre .0 .words .dictionary) (start .args .text .now) (start .args .at) (start .args .end) (c .before .before .before .walk-pair .result) (c .before .before .before .walk-pair .ensures) (c .before .before .if2 .left) 0 (omega arith)
+
+returns-4 : tie.Need-returns-4
+returns-4 c =
+    let start = c .before .before .before .before .before .before .before .before .before .before .before in
+    pair-longest (start .args .chars .now) (start .args .lengths .now) (start .pre .0 .words .dictionary) (start .args .text .now) (start .args .at) (start .args .end) (c .before .before .before .walk-pair .result) (c .before .before .before .walk-pair .ensures) (c .before .before .if2 .left) (c .if3 .left)
+
+pub find-pair-spec : {M : Type 1} → statement M
+find-pair-spec =
+    tie.close
+    (tie.spec
+    add-if1
+    returns
+    walk-pair-requires
+    returns-2
+    sub-long
+    mul-long
+    shared-slice-read-long
+    cast-long
+    add-if3
+    returns-3
+    returns-4)

@@ -1,0 +1,127 @@
+-- `find_single` meets its contract. The invariant: a walk along the character's chain, on which no word passed was that character. The
+-- measure is the next word's number. Assumes nothing.
+use Prim.Native.Nat.{_-_, _<_}
+use native.Mathlib.Omega.{arith}
+use lib.ListN.{length, getD}
+use borrow.Author.Needs.{needs}
+use Rattle.laws.specs.WordTable.{word-some, word-room}
+use Rattle.laws.specs.WordChains.{Single-walk, single-start, single-none, single-stop, single-known, single-hit, single-miss}
+use Rattle.matching.proofs.longest.find_single.Statement.{statement}
+use Rattle.matching.proofs.longest.find_single.Tie as tie
+
+abbrev Inv-loop : tie.InvT-loop
+Inv-loop chars lengths heads links starts text at c bucket next₀ next = Single-walk chars lengths links (getD text at 0) next
+
+abbrev μ-loop : tie.MeasureT-loop
+μ-loop chars lengths heads links starts text at c bucket next₀ next = next
+
+-- the word that the walk has come to is one
+known : (c : tie.In-loop Inv-loop μ-loop) → c .before .loop .next - 1 < length (c .before .before .before .before .before .before .before .before .before .before .before .args .lengths .now)
+known c =
+    let start = c .before .before .before .before .before .before .before .before .before .before .before in
+    single-known (start .args .chars .now) (start .args .lengths .now) (start .args .heads .now) (start .args .links .now) (start .args .starts .now) (start .pre .0) (start .args .text .now) (start .args .at)
+    (c .before .loop .next) (c .before .loop .inv) (c .loop-test .taken)
+
+mul-c : tie.Need-mul-c Inv-loop μ-loop
+mul-c c = search needs
+
+shared-slice-read-c : tie.Need-shared-slice-read-c Inv-loop μ-loop
+shared-slice-read-c c = search needs
+
+bucket-of-char-requires : tie.Need-bucket-of-char-requires Inv-loop μ-loop
+bucket-of-char-requires c κs = search needs
+
+mul-next : tie.Need-mul-next Inv-loop μ-loop
+mul-next c = omega (arith, c .bucket-of-char .ensures .1)
+
+shared-slice-read-next : tie.Need-shared-slice-read-next Inv-loop μ-loop
+shared-slice-read-next c = omega (arith, c .before .bucket-of-char .ensures .1, c .before .before .before .before .before .before .before .before .before .pre .0 .heads-long)
+
+cast-next : tie.Need-cast-next Inv-loop μ-loop
+cast-next c = omega (arith, c .shared-slice-known8 .given (c .before .bucket-of-char .result))
+
+loop-holds : tie.Need-loop-holds Inv-loop μ-loop
+loop-holds c =
+    let start = c .before .before .before .before .before .before .before .before .before in
+    rw (c .before .bucket-of-char .ensures .0)
+    (single-start (start .args .chars .now) (start .args .lengths .now) (start .args .heads .now) (start .args .links .now) (start .args .starts .now) (start .pre .0) (start .args .text .now) (start .args .at))
+
+sub-number : tie.Need-sub-number Inv-loop μ-loop
+sub-number c = omega (arith, c .loop-test .taken)
+
+mul-start : tie.Need-mul-start Inv-loop μ-loop
+mul-start c = omega (arith, known c)
+
+shared-slice-read-start : tie.Need-shared-slice-read-start Inv-loop μ-loop
+shared-slice-read-start c = omega (arith, known (c .before), c .before .before .before .before .before .before .before .before .before .before .before .before .pre .0 .words .starts-long)
+
+cast-start : tie.Need-cast-start Inv-loop μ-loop
+cast-start c = omega (arith, c .shared-slice-known9 .given (c .before .before .loop .next - 1))
+
+mul-if1 : tie.Need-mul-if1 Inv-loop μ-loop
+mul-if1 c = omega (arith, c .shared-slice-known9 .given (c .before .before .loop .next - 1))
+
+shared-slice-read-if1 : tie.Need-shared-slice-read-if1 Inv-loop μ-loop
+shared-slice-read-if1 c =
+    let start = c .before .before .before .before .before .before .before .before .before .before .before .before .before in
+    omega (arith, start .pre .0 .words .started (c .before .before .before .loop .next - 1) (omega (arith, known (c .before .before))), word-some (start .args .chars .now) (start .args .lengths .now) (start .pre .0 .words .dictionary) (c .before .before .before .loop .next - 1) (known (c .before .before)), word-room (start .args .chars .now) (start .args .lengths .now) (start .pre .0 .words .dictionary) (c .before .before .before .loop .next - 1) (known (c .before .before)))
+
+returns : tie.Need-returns Inv-loop μ-loop
+returns c =
+    let start = c .before .before .before .before .before .before .before .before .before .before .before .before .before .before in
+    single-hit (start .args .chars .now) (start .args .lengths .now) (start .args .heads .now) (start .args .links .now) (start .args .starts .now) (start .pre .0) (start .args .text .now) (start .args .at)
+    (c .before .before .before .before .loop .next) (c .before .before .before .before .loop .inv) (c .before .before .before .loop-test .taken) (start .pre .1) (c .if1 .taken)
+
+mul-next-2 : tie.Need-mul-next-2 Inv-loop μ-loop
+mul-next-2 c = omega (arith, known (c .before .before .before))
+
+shared-slice-read-next-2 : tie.Need-shared-slice-read-next-2 Inv-loop μ-loop
+shared-slice-read-next-2 c = omega (arith, known (c .before .before .before .before), c .before .before .before .before .before .before .before .before .before .before .before .before .before .before .before .pre .0 .links-long)
+
+cast-next-2 : tie.Need-cast-next-2 Inv-loop μ-loop
+cast-next-2 c = omega (arith, c .shared-slice-known11 .given (c .before .before .before .before .before .loop .next - 1))
+
+loop-less : tie.Need-loop-less Inv-loop μ-loop
+loop-less c =
+    let start = c .before .before .before .before .before .before .before .before .before .before .before .before .before .before .before in
+    single-stop (start .args .chars .now) (start .args .lengths .now) (start .args .heads .now) (start .args .links .now) (start .args .starts .now) (start .pre .0) (start .args .text .now) (start .args .at)
+    (c .before .before .before .before .before .loop .next) (c .before .before .before .before .before .loop .inv) (c .before .before .before .before .loop-test .taken) .falls
+
+loop-again : tie.Need-loop-again Inv-loop μ-loop
+loop-again c =
+    let start = c .before .before .before .before .before .before .before .before .before .before .before .before .before .before .before in
+    single-miss (start .args .chars .now) (start .args .lengths .now) (start .args .heads .now) (start .args .links .now) (start .args .starts .now) (start .pre .0) (start .args .text .now) (start .args .at)
+    (c .before .before .before .before .before .loop .next) (c .before .before .before .before .before .loop .inv) (c .before .before .before .before .loop-test .taken) (c .before .if1 .left)
+
+returns-2 : tie.Need-returns-2 Inv-loop μ-loop
+returns-2 c =
+    let start = c .before .before .before .before .before .before .before .before .before .before .before in
+    single-none (start .args .chars .now) (start .args .lengths .now) (start .args .heads .now) (start .args .links .now) (start .args .starts .now) (start .pre .0) (start .args .text .now) (start .args .at)
+    (rw (c .loop-test .left) at (c .before .loop .inv))
+
+pub find-single-spec : {M : Type 1} → statement M
+find-single-spec =
+    tie.close
+    (tie.spec
+    Inv-loop
+    μ-loop
+    mul-c
+    shared-slice-read-c
+    bucket-of-char-requires
+    mul-next
+    shared-slice-read-next
+    cast-next
+    loop-holds
+    sub-number
+    mul-start
+    shared-slice-read-start
+    cast-start
+    mul-if1
+    shared-slice-read-if1
+    returns
+    mul-next-2
+    shared-slice-read-next-2
+    cast-next-2
+    loop-less
+    loop-again
+    returns-2)

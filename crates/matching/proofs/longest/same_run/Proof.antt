@@ -1,0 +1,81 @@
+-- `same_run` meets its contract. The invariant: the characters read so far are the same. The measure is how many are left. Assumes
+-- nothing.
+use mathlib.Core.Path.{_≡_, refl}
+use Prim.Native.Nat.{ℕ, _+_, _-_, _≤_, _<_}
+use native.Mathlib.Omega.{arith}
+use lib.ListN.{getD}
+use borrow.Author.Needs.{needs}
+use borrow.Author.Count.{below-more}
+use Rattle.basics.specs.Bools.{clash}
+use Rattle.matching.proofs.longest.same_run.Statement.{statement}
+use Rattle.matching.proofs.longest.same_run.Tie as tie
+
+abbrev Inv-loop : tie.InvT-loop
+Inv-loop chars at text from count i₀ i = (i ≤ count) × ((j : ℕ) → j < i → getD chars (at + j) 0 ≡ getD text (from + j) 0)
+
+abbrev μ-loop : tie.MeasureT-loop
+μ-loop chars at text from count i₀ i = count - i
+
+loop-holds : tie.Need-loop-holds Inv-loop μ-loop
+loop-holds c = (omega arith, λ j l. absurd (omega arith))
+
+add-if1 : tie.Need-add-if1 Inv-loop μ-loop
+add-if1 c = search needs
+
+mul-if1 : tie.Need-mul-if1 Inv-loop μ-loop
+mul-if1 c = search needs
+
+shared-slice-read-if1 : tie.Need-shared-slice-read-if1 Inv-loop μ-loop
+shared-slice-read-if1 c = search needs
+
+add-if1-2 : tie.Need-add-if1-2 Inv-loop μ-loop
+add-if1-2 c = search needs
+
+mul-if1-2 : tie.Need-mul-if1-2 Inv-loop μ-loop
+mul-if1-2 c = search needs
+
+shared-slice-read-if1-2 : tie.Need-shared-slice-read-if1-2 Inv-loop μ-loop
+shared-slice-read-if1-2 c = search needs
+
+returns : tie.Need-returns Inv-loop μ-loop
+returns c =
+    let start = c .before .before .before .before .before in
+    record {
+      yes = λ t. clash t refl;
+      no = λ f same. c .if1 .taken (same (c .before .before .before .before .loop .i) (c .before .before .before .loop-test .taken));
+    }
+
+add-i : tie.Need-add-i Inv-loop μ-loop
+add-i c = search needs
+
+loop-less : tie.Need-loop-less Inv-loop μ-loop
+loop-less c = omega arith
+
+loop-again : tie.Need-loop-again Inv-loop μ-loop
+loop-again c = (omega arith, below-more _ _ (c .before .before .before .before .loop .inv .1) (c .if1 .left))
+
+returns-2 : tie.Need-returns-2 Inv-loop μ-loop
+returns-2 c =
+    record {
+      yes = λ t j l. c .before .loop .inv .1 j (omega arith);
+      no = λ f. clash refl f;
+    }
+
+pub same-run-spec : {M : Type 1} → statement M
+same-run-spec =
+    tie.close
+    (tie.spec
+    Inv-loop
+    μ-loop
+    loop-holds
+    add-if1
+    mul-if1
+    shared-slice-read-if1
+    add-if1-2
+    mul-if1-2
+    shared-slice-read-if1-2
+    returns
+    add-i
+    loop-less
+    loop-again
+    returns-2)

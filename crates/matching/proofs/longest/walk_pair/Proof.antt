@@ -1,0 +1,139 @@
+-- `walk_pair` meets its contract. The invariant: a walk along the pair's chain, on which no word passed stands and ends after `end`.
+-- The measure is the next word's number. Assumes nothing.
+use Prim.Native.Nat.{_+_, _-_, _<_}
+use native.Mathlib.Omega.{arith}
+use lib.ListN.{length, getD}
+use Rattle.laws.specs.Chains.{Stop}
+use Rattle.laws.specs.WordTable.{pair-bucket, bucket-of}
+use Rattle.laws.specs.WordChains.{Passed, Pair-walk, pair-start, pair-none, pair-stop, pair-known, pair-hit, pair-miss, pair-narrowed}
+use Rattle.matching.proofs.longest.walk_pair.Statement.{statement}
+use Rattle.matching.proofs.longest.walk_pair.Tie as tie
+
+abbrev Inv-loop : tie.InvT-loop
+Inv-loop chars lengths heads links starts text at end x y bucket next₀ left₀ next left = Pair-walk chars lengths links text at end next
+
+abbrev μ-loop : tie.MeasureT-loop
+μ-loop chars lengths heads links starts text at end x y bucket next₀ left₀ next left = next
+
+-- the word that the walk has come to is one
+known : (c : tie.In-loop Inv-loop μ-loop) → c .before .loop .next - 1 < length (c .before .before .before .before .before .before .before .before .before .before .before .before .args .lengths .now)
+known c =
+    let start = c .before .before .before .before .before .before .before .before .before .before .before .before in
+    pair-known (start .args .chars .now) (start .args .lengths .now) (start .args .heads .now) (start .args .links .now) (start .args .starts .now) (start .pre .0) (start .args .text .now) (start .args .at) (start .args .end) (c .before .loop .next) (c .before .loop .inv) (c .loop-test .taken)
+
+-- its link leads to a lower one
+stop :
+    (c : tie.In-loop Inv-loop μ-loop) →
+    Stop (c .before .before .before .before .before .before .before .before .before .before .before .before .args .links .now) (bucket-of (c .before .before .before .before .before .before .before .before .before .before .before .before .args .chars .now) (c .before .before .before .before .before .before .before .before .before .before .before .before .args .lengths .now))
+    (pair-bucket (getD (c .before .before .before .before .before .before .before .before .before .before .before .before .args .text .now) (c .before .before .before .before .before .before .before .before .before .before .before .before .args .at) 0) (getD (c .before .before .before .before .before .before .before .before .before .before .before .before .args .text .now) (c .before .before .before .before .before .before .before .before .before .before .before .before .args .at + 1) 0))
+    (length (c .before .before .before .before .before .before .before .before .before .before .before .before .args .lengths .now))
+    (Passed (c .before .before .before .before .before .before .before .before .before .before .before .before .args .chars .now) (c .before .before .before .before .before .before .before .before .before .before .before .before .args .lengths .now) (c .before .before .before .before .before .before .before .before .before .before .before .before .args .text .now) (c .before .before .before .before .before .before .before .before .before .before .before .before .args .at + 1) (c .before .before .before .before .before .before .before .before .before .before .before .before .args .end + 1))
+    (c .before .loop .next)
+stop c =
+    let start = c .before .before .before .before .before .before .before .before .before .before .before .before in
+    pair-stop (start .args .chars .now) (start .args .lengths .now) (start .args .heads .now) (start .args .links .now) (start .args .starts .now) (start .pre .0) (start .args .text .now) (start .args .at) (start .args .end) (c .before .loop .next) (c .before .loop .inv) (c .loop-test .taken)
+
+mul-x : tie.Need-mul-x Inv-loop μ-loop
+mul-x c = omega (arith, c .before .before .before .before .before .before .pre .1)
+
+shared-slice-read-x : tie.Need-shared-slice-read-x Inv-loop μ-loop
+shared-slice-read-x c = omega (arith, c .before .before .before .before .before .before .before .pre .1)
+
+add-y : tie.Need-add-y Inv-loop μ-loop
+add-y c = omega (arith, c .before .before .before .before .before .before .before .pre .1)
+
+mul-y : tie.Need-mul-y Inv-loop μ-loop
+mul-y c = omega (arith, c .before .before .before .before .before .before .before .pre .1)
+
+shared-slice-read-y : tie.Need-shared-slice-read-y Inv-loop μ-loop
+shared-slice-read-y c = c .before .before .before .before .before .before .before .before .pre .1
+
+bucket-of-pair-requires : tie.Need-bucket-of-pair-requires Inv-loop μ-loop
+bucket-of-pair-requires c κs = tt
+
+mul-next : tie.Need-mul-next Inv-loop μ-loop
+mul-next c = omega (arith, c .bucket-of-pair .ensures .1)
+
+shared-slice-read-next : tie.Need-shared-slice-read-next Inv-loop μ-loop
+shared-slice-read-next c = omega (arith, c .before .bucket-of-pair .ensures .1, c .before .before .before .before .before .before .before .before .before .before .pre .0 .heads-long)
+
+cast-next : tie.Need-cast-next Inv-loop μ-loop
+cast-next c = omega (arith, c .shared-slice-known9 .given (c .before .bucket-of-pair .result))
+
+loop-holds : tie.Need-loop-holds Inv-loop μ-loop
+loop-holds c =
+    let start = c .before .before .before .before .before .before .before .before .before .before in
+    rw (c .before .bucket-of-pair .ensures .0) (pair-start (start .args .chars .now) (start .args .lengths .now) (start .args .heads .now) (start .args .links .now) (start .args .starts .now) (start .pre .0) (start .args .text .now) (start .args .at) (start .args .end))
+
+narrow-requires : tie.Need-narrow-requires Inv-loop μ-loop
+narrow-requires c κs = (c .before .before .before .before .before .before .before .before .before .before .before .before .before .pre .0 .words, omega (arith, c .before .before .before .before .before .before .before .before .before .before .before .before .before .pre .1), stop (c .before) .below)
+
+returns : tie.Need-returns Inv-loop μ-loop
+returns c =
+    let start = c .before .before .before .before .before .before .before .before .before .before .before .before .before .before in
+    pair-narrowed (start .args .chars .now) (start .args .lengths .now) (start .args .heads .now) (start .args .links .now) (start .args .starts .now) (start .pre .0) (start .args .text .now) (start .args .at) (start .args .end) (c .before .before .before .loop .next) (c .before .before .before .loop .inv) (c .before .before .loop-test .taken) (c .narrow .result) (c .narrow .ensures)
+
+sub-left : tie.Need-sub-left Inv-loop μ-loop
+sub-left c = omega (arith, c .if1 .left)
+
+sub-number : tie.Need-sub-number Inv-loop μ-loop
+sub-number c = omega (arith, c .before .loop-test .taken)
+
+stands-after-requires : tie.Need-stands-after-requires Inv-loop μ-loop
+stands-after-requires c κs = (c .before .before .before .before .before .before .before .before .before .before .before .before .before .pre .0 .words, omega (arith, c .before .before .before .before .before .before .before .before .before .before .before .before .before .pre .1), known (c .before))
+
+returns-2 : tie.Need-returns-2 Inv-loop μ-loop
+returns-2 c =
+    let start = c .before .before .before .before .before .before .before .before .before .before .before .before .before .before .before in
+    pair-hit (start .args .chars .now) (start .args .lengths .now) (start .args .heads .now) (start .args .links .now) (start .args .starts .now) (start .pre .0) (start .args .text .now) (start .args .at) (start .args .end) (c .before .before .before .before .loop .next) (c .before .before .before .before .loop .inv) (c .before .before .before .loop-test .taken) (c .before .stands-after .result) (c .before .stands-after .ensures) (c .if2 .taken)
+
+mul-next-2 : tie.Need-mul-next-2 Inv-loop μ-loop
+mul-next-2 c = omega (arith, known (c .before .before .before))
+
+shared-slice-read-next-2 : tie.Need-shared-slice-read-next-2 Inv-loop μ-loop
+shared-slice-read-next-2 c = omega (arith, known (c .before .before .before .before), c .before .before .before .before .before .before .before .before .before .before .before .before .before .before .before .before .pre .0 .links-long)
+
+cast-next-2 : tie.Need-cast-next-2 Inv-loop μ-loop
+cast-next-2 c = omega (arith, c .shared-slice-known10 .given (c .before .before .before .before .before .loop .next - 1))
+
+loop-less : tie.Need-loop-less Inv-loop μ-loop
+loop-less c = stop (c .before .before .before .before) .falls
+
+loop-again : tie.Need-loop-again Inv-loop μ-loop
+loop-again c =
+    let start = c .before .before .before .before .before .before .before .before .before .before .before .before .before .before .before .before in
+    pair-miss (start .args .chars .now) (start .args .lengths .now) (start .args .heads .now) (start .args .links .now) (start .args .starts .now) (start .pre .0) (start .args .text .now) (start .args .at) (start .args .end) (c .before .before .before .before .before .loop .next) (c .before .before .before .before .before .loop .inv) (c .before .before .before .before .loop-test .taken) (c .before .before .stands-after .result) (c .before .before .stands-after .ensures) (c .before .if2 .left)
+
+returns-3 : tie.Need-returns-3 Inv-loop μ-loop
+returns-3 c =
+    let start = c .before .before .before .before .before .before .before .before .before .before .before .before in
+    pair-none (start .args .chars .now) (start .args .lengths .now) (start .args .heads .now) (start .args .links .now) (start .args .starts .now) (start .pre .0) (start .args .text .now) (start .args .at) (start .args .end) (rw (c .loop-test .left) at (c .before .loop .inv))
+
+pub walk-pair-spec : {M : Type 1} → statement M
+walk-pair-spec =
+    tie.close
+    (tie.spec
+    Inv-loop
+    μ-loop
+    mul-x
+    shared-slice-read-x
+    add-y
+    mul-y
+    shared-slice-read-y
+    bucket-of-pair-requires
+    mul-next
+    shared-slice-read-next
+    cast-next
+    loop-holds
+    narrow-requires
+    returns
+    sub-left
+    sub-number
+    stands-after-requires
+    returns-2
+    mul-next-2
+    shared-slice-read-next-2
+    cast-next-2
+    loop-less
+    loop-again
+    returns-3)

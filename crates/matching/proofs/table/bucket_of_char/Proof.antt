@@ -1,0 +1,16 @@
+-- `bucket_of_char` meets its contract, which is its code, and a remainder is small. Assumes nothing.
+use mathlib.Core.Path.{refl}
+use borrow.Author.Needs.{needs}
+use Rattle.laws.specs.WordTable.{char-bucket, char-small}
+use Rattle.matching.proofs.table.bucket_of_char.Statement.{statement}
+use Rattle.matching.proofs.table.bucket_of_char.Tie as tie
+
+add-result : tie.Need-add-result
+add-result c = search needs
+
+returns : tie.Need-returns
+unfolding char-bucket
+returns c = (refl, char-small (c .args .x))
+
+pub bucket-of-char-spec : {M : Type 1} → statement M
+bucket-of-char-spec = tie.close (tie.spec add-result returns)

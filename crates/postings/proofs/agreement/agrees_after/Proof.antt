@@ -1,0 +1,84 @@
+-- `agrees_after` meets its contract. The invariant: the places before i are equal. The measure is how many shared places are left.
+-- Assumes nothing.
+use mathlib.Core.Path.{_≡_}
+use Prim.Native.Nat.{ℕ, _+_, _-_, _≤_, _<_}
+use native.Mathlib.Omega.{arith}
+use borrow.Author.Count.{below-more}
+use borrow.Author.Needs.{needs}
+use lib.ListN.{getD}
+use Rattle.laws.specs.AgreeWalk.{apart-short, apart-empty, apart-at, together}
+use Rattle.postings.proofs.agreement.agrees_after.Statement.{statement}
+use Rattle.postings.proofs.agreement.agrees_after.Tie as tie
+
+abbrev Inv-loop : tie.InvT-loop
+Inv-loop first second at shared i₀ i = (i ≤ shared) × ((k : ℕ) → k < i → getD first (at + k) 0 ≡ getD second k 0)
+
+abbrev μ-loop : tie.MeasureT-loop
+μ-loop first second at shared i₀ i = shared - i
+
+returns : tie.Need-returns Inv-loop μ-loop
+returns c = apart-short (c .before .before .before .args .first .now) (c .before .before .before .args .second .now) (c .before .before .before .args .at) (c .if1 .taken)
+
+returns-2 : tie.Need-returns-2 Inv-loop μ-loop
+returns-2 c = apart-empty (c .before .before .before .before .args .first .now) (c .before .before .before .before .args .second .now) (c .before .before .before .before .args .at) (c .if2 .taken)
+
+sub-lesser : tie.Need-sub-lesser Inv-loop μ-loop
+sub-lesser c = search needs
+
+lesser-requires : tie.Need-lesser-requires Inv-loop μ-loop
+lesser-requires c κs = search needs
+
+loop-holds : tie.Need-loop-holds Inv-loop μ-loop
+loop-holds c = (omega arith, λ k h. absurd (omega arith))
+
+add-if3 : tie.Need-add-if3 Inv-loop μ-loop
+add-if3 c = search needs
+
+mul-if3 : tie.Need-mul-if3 Inv-loop μ-loop
+mul-if3 c = search needs
+
+shared-slice-read-if3 : tie.Need-shared-slice-read-if3 Inv-loop μ-loop
+shared-slice-read-if3 c = search needs
+
+mul-if3-2 : tie.Need-mul-if3-2 Inv-loop μ-loop
+mul-if3-2 c = search needs
+
+shared-slice-read-if3-2 : tie.Need-shared-slice-read-if3-2 Inv-loop μ-loop
+shared-slice-read-if3-2 c = search needs
+
+returns-3 : tie.Need-returns-3 Inv-loop μ-loop
+returns-3 c = apart-at (c .before .before .before .before .before .before .before .before .before .before .args .first .now) (c .before .before .before .before .before .before .before .before .before .before .args .second .now) (c .before .before .before .before .before .before .before .before .before .before .args .at) (c .before .before .before .before .loop .i) (omega arith) (omega arith) (c .if3 .taken)
+
+add-i : tie.Need-add-i Inv-loop μ-loop
+add-i c = search needs
+
+loop-less : tie.Need-loop-less Inv-loop μ-loop
+loop-less c = search needs
+
+loop-again : tie.Need-loop-again Inv-loop μ-loop
+loop-again c = (omega arith, below-more _ _ (c .before .before .before .before .loop .inv .1) (c .if3 .left))
+
+returns-4 : tie.Need-returns-4 Inv-loop μ-loop
+returns-4 c = together (c .before .before .before .before .before .before .before .args .first .now) (c .before .before .before .before .before .before .before .args .second .now) (c .before .before .before .before .before .before .before .args .at) (c .before .loop .i) (omega arith) (c .before .before .before .if2 .left) (omega arith) (c .before .loop .inv .1)
+
+pub agrees-after-spec : {M : Type 1} → statement M
+agrees-after-spec =
+    tie.close
+    (tie.spec
+    Inv-loop
+    μ-loop
+    returns
+    returns-2
+    sub-lesser
+    lesser-requires
+    loop-holds
+    add-if3
+    mul-if3
+    shared-slice-read-if3
+    mul-if3-2
+    shared-slice-read-if3-2
+    returns-3
+    add-i
+    loop-less
+    loop-again
+    returns-4)

@@ -1,0 +1,145 @@
+-- `counts_of` meets its contract. The invariant: the counts and what the lines from i on add to them are the tally. The measure is
+-- how many lines are left. Assumes nothing.
+use mathlib.Core.Path.{sym, subst}
+use mathlib.Core.List.{List}
+use Prim.Native.Nat.{ℕ, _+_, _*_, _-_}
+use native.Mathlib.Omega.{arith}
+use lib.ListN.{getD}
+use Rattle.spec.specs.Dictionary.{longest-text}
+use Rattle.spec.specs.Words.{key}
+use Rattle.laws.specs.KeyLengths.{key-sizes}
+use Rattle.spec.specs.Dictionary.{lexicon}
+use Rattle.laws.specs.TallyWalk.{Tallied, tally-start, tally-step, tally-end, line-key}
+use Rattle.postings.proofs.tallying.counts_of.Statement.{statement}
+use Rattle.postings.proofs.tallying.counts_of.Tie as tie
+
+abbrev Inv-loop : tie.InvT-loop
+Inv-loop chars lengths index keys counts₀ i₀ counts i = Tallied (lexicon chars lengths) index counts i
+
+abbrev μ-loop : tie.MeasureT-loop
+μ-loop chars lengths index keys counts₀ i₀ counts i = keys - i
+
+shared-slice-read-keys : tie.Need-shared-slice-read-keys Inv-loop μ-loop
+shared-slice-read-keys c = omega (arith, c .before .before .before .before .pre .2)
+
+cast-keys : tie.Need-cast-keys Inv-loop μ-loop
+cast-keys c = omega (arith, c .shared-slice-known4 .given 1)
+
+loop-holds : tie.Need-loop-holds Inv-loop μ-loop
+loop-holds c = tally-start (lexicon (c .before .before .before .before .args .chars .now) (c .before .before .before .before .args .lengths .now)) (c .before .before .before .before .args .index .now)
+
+mul-kind : tie.Need-mul-kind Inv-loop μ-loop
+mul-kind c = omega (arith, c .loop-test .taken, c .before .before .before .before .before .before .pre .2)
+
+add-kind : tie.Need-add-kind Inv-loop μ-loop
+add-kind c = omega (arith, c .loop-test .taken, c .before .before .before .before .before .before .pre .2)
+
+mul-kind-2 : tie.Need-mul-kind-2 Inv-loop μ-loop
+mul-kind-2 c = omega (arith, c .loop-test .taken, c .before .before .before .before .before .before .pre .2)
+
+shared-slice-read-kind : tie.Need-shared-slice-read-kind Inv-loop μ-loop
+shared-slice-read-kind c = omega (arith, c .before .loop-test .taken, c .before .before .before .before .before .before .before .pre .2)
+
+mul-value : tie.Need-mul-value Inv-loop μ-loop
+mul-value c = omega (arith, c .before .loop-test .taken, c .before .before .before .before .before .before .before .pre .2)
+
+add-value : tie.Need-add-value Inv-loop μ-loop
+add-value c = omega (arith, c .before .loop-test .taken, c .before .before .before .before .before .before .before .pre .2)
+
+add-value-2 : tie.Need-add-value-2 Inv-loop μ-loop
+add-value-2 c = omega (arith, c .before .loop-test .taken, c .before .before .before .before .before .before .before .pre .2)
+
+mul-value-2 : tie.Need-mul-value-2 Inv-loop μ-loop
+mul-value-2 c = omega (arith, c .before .loop-test .taken, c .before .before .before .before .before .before .before .pre .2)
+
+shared-slice-read-value : tie.Need-shared-slice-read-value Inv-loop μ-loop
+shared-slice-read-value c = omega (arith, c .before .before .loop-test .taken, c .before .before .before .before .before .before .before .before .pre .2)
+
+mul-count : tie.Need-mul-count Inv-loop μ-loop
+mul-count c = omega (arith, c .before .before .loop-test .taken, c .before .before .before .before .before .before .before .before .pre .2)
+
+add-count : tie.Need-add-count Inv-loop μ-loop
+add-count c = omega (arith, c .before .before .loop-test .taken, c .before .before .before .before .before .before .before .before .pre .2)
+
+add-count-2 : tie.Need-add-count-2 Inv-loop μ-loop
+add-count-2 c = omega (arith, c .before .before .loop-test .taken, c .before .before .before .before .before .before .before .before .pre .2)
+
+mul-count-2 : tie.Need-mul-count-2 Inv-loop μ-loop
+mul-count-2 c = omega (arith, c .before .before .loop-test .taken, c .before .before .before .before .before .before .before .before .pre .2)
+
+shared-slice-read-count : tie.Need-shared-slice-read-count Inv-loop μ-loop
+shared-slice-read-count c = omega (arith, c .before .before .before .loop-test .taken, c .before .before .before .before .before .before .before .before .before .pre .2)
+
+cast-count : tie.Need-cast-count Inv-loop μ-loop
+cast-count c = omega (arith, c .shared-slice-known7 .given (2 + 3 * c .before .before .before .before .loop .i + 2))
+
+key-length-requires : tie.Need-key-length-requires Inv-loop μ-loop
+key-length-requires c κs =
+    let start = c .before .before .before .before .before .before .before .before .before in
+    let walk = c .before .before .before .before .loop in
+    (start .pre .0, (line-key longest-text (lexicon (start .args .chars .now) (start .args .lengths .now)) (start .args .index .now) (start .pre .1) (walk .i) (c .before .before .before .loop-test .taken)))
+
+sub-raised : tie.Need-sub-raised Inv-loop μ-loop
+sub-raised c =
+    let start = c .before .before .before .before .before .before .before .before .before .before in
+    let walk = c .before .before .before .before .before .loop in
+    let is = key-sizes (start .args .chars .now) (start .args .lengths .now) (start .pre .0) (key (getD (start .args .index .now) (2 + 3 * walk .i) 0) (getD (start .args .index .now) (2 + 3 * walk .i + 1) 0)) (line-key longest-text (lexicon (start .args .chars .now) (start .args .lengths .now)) (start .args .index .now) (start .pre .1) (walk .i) (c .before .before .before .before .loop-test .taken)) in
+    omega (arith, c .key-length .ensures, is .some)
+
+raised-requires : tie.Need-raised-requires Inv-loop μ-loop
+raised-requires c κs =
+    let start = c .before .before .before .before .before .before .before .before .before .before in
+    let walk = c .before .before .before .before .before .loop in
+    let is = key-sizes (start .args .chars .now) (start .args .lengths .now) (start .pre .0) (key (getD (start .args .index .now) (2 + 3 * walk .i) 0) (getD (start .args .index .now) (2 + 3 * walk .i + 1) 0)) (line-key longest-text (lexicon (start .args .chars .now) (start .args .lengths .now)) (start .args .index .now) (start .pre .1) (walk .i) (c .before .before .before .before .loop-test .taken)) in (
+      omega (arith, c .key-length .ensures, is .short, is .some),
+      omega (arith, walk .inv .bounded (c .key-length .result - 1), c .before .before .before .before .loop-test .taken, c .before .shared-slice-known7 .given (2 + 3 * walk .i + 2), c .before .shared-slice-known7 .given 1),
+    )
+
+add-i : tie.Need-add-i Inv-loop μ-loop
+add-i c = omega (arith, c .before .before .before .before .before .loop-test .taken, c .before .before .before .before .before .before .before .before .before .before .before .pre .2)
+
+loop-less : tie.Need-loop-less Inv-loop μ-loop
+loop-less c = omega (arith, c .before .before .before .before .before .loop-test .taken)
+
+loop-again : tie.Need-loop-again Inv-loop μ-loop
+loop-again c =
+    let start = c .before .before .before .before .before .before .before .before .before .before .before in
+    let walk = c .before .before .before .before .before .before .loop in
+    let is = key-sizes (start .args .chars .now) (start .args .lengths .now) (start .pre .0) (key (getD (start .args .index .now) (2 + 3 * walk .i) 0) (getD (start .args .index .now) (2 + 3 * walk .i + 1) 0)) (line-key longest-text (lexicon (start .args .chars .now) (start .args .lengths .now)) (start .args .index .now) (start .pre .1) (walk .i) (c .before .before .before .before .before .loop-test .taken)) in
+    subst (λ (counts : List ℕ). Tallied (lexicon (start .args .chars .now) (start .args .lengths .now)) (start .args .index .now) counts (walk .i + 1)) (sym (c .raised .ensures))
+    (tally-step (lexicon (start .args .chars .now) (start .args .lengths .now)) (start .args .index .now) (walk .counts) (walk .i) (walk .inv) (c .before .key-length .result - 1) (c .before .before .before .before .before .loop-test .taken) (omega (arith, c .before .before .shared-slice-known7 .given (2 + 3 * walk .i + 2))) (omega (arith, c .before .key-length .ensures, is .short, is .some)) (omega (arith, c .before .key-length .ensures, is .some)))
+
+returns : tie.Need-returns Inv-loop μ-loop
+returns c = tally-end (lexicon (c .before .before .before .before .before .before .args .chars .now) (c .before .before .before .before .before .before .args .lengths .now)) (c .before .before .before .before .before .before .args .index .now) (c .before .loop .counts) (c .before .loop .i) (c .before .loop .inv) longest-text (c .before .before .before .before .before .before .pre .1) (c .loop-test .left)
+
+pub counts-of-spec : {M : Type 1} → statement M
+counts-of-spec =
+    tie.close
+    (tie.spec
+    Inv-loop
+    μ-loop
+    shared-slice-read-keys
+    cast-keys
+    loop-holds
+    mul-kind
+    add-kind
+    mul-kind-2
+    shared-slice-read-kind
+    mul-value
+    add-value
+    add-value-2
+    mul-value-2
+    shared-slice-read-value
+    mul-count
+    add-count
+    add-count-2
+    mul-count-2
+    shared-slice-read-count
+    cast-count
+    key-length-requires
+    sub-raised
+    raised-requires
+    add-i
+    loop-less
+    loop-again
+    returns)

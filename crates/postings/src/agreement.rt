@@ -1,0 +1,63 @@
+// The agreement of a key with a string at an offset.
+//
+// A signed offset becomes two natural starts at once, one of them 0. Whichever of the two strings begins first, the other begins
+// at a place in it or after it, and the places that they share are compared in order.
+ghost use mathlib.Core.Path.{_≡_};
+ghost use Prim.Native.Nat.{min};
+ghost use Rattle.spec.specs.Search.{agrees, agrees-at};
+
+// Whether two strings agree, the first laid at 0 and the second at `at`.
+fn agrees_after(first: &[u16], second: &[u16], at: usize) -> bool
+    ensures { λ r. ⌜ r ≡ agrees (now (first .entry)) 0 (now (second .entry)) at ⌝ }
+{
+    if first.len() <= at {
+        return false;
+    }
+    if second.len() == 0 {
+        return false;
+    }
+    let shared = lesser(first.len() - at, second.len());
+    let mut i = 0;
+    while i < shared {
+        if first[at + i] != second[i] {
+            return false;
+        }
+        i += 1;
+    }
+    true
+}
+
+// Whether a string and a key agree, each laid where it is said to start.
+pub fn agrees_from_starts(
+    key: &[u16],
+    string: &[u16],
+    string_start: usize,
+    key_start: usize,
+) -> bool
+    ensures { λ r. ⌜ r ≡ agrees (now (string .entry)) «string_start» (now (key .entry)) «key_start» ⌝ }
+{
+    if string_start <= key_start {
+        agrees_after(string, key, key_start - string_start)
+    } else {
+        agrees_after(key, string, string_start - key_start)
+    }
+}
+
+// Whether a key agrees with a string at an offset, which is below 0 where the key begins first.
+pub fn agrees_at(key: &[u16], string: &[u16], offset: i32) -> bool
+    ensures { λ r. ⌜ r ≡ agrees-at (now (key .entry)) (now (string .entry)) offset ⌝ }
+{
+    if offset < 0 {
+        let back = -(offset + 1);
+        agrees_from_starts(key, string, back as usize + 1, 0)
+    } else {
+        agrees_from_starts(key, string, 0, offset as usize)
+    }
+}
+
+// The lesser of two numbers.
+fn lesser(a: usize, b: usize) -> usize
+    ensures { λ r. ⌜ r ≡ min a b ⌝ }
+{
+    if a < b { a } else { b }
+}

@@ -1,0 +1,204 @@
+// Readability of a delivered index, and the refusals 1, 2, 3 and 5.
+//
+// One walk over the directory, with the positions of each line as it is reached: the lines of words first, then those of lone
+// characters. Whether a lone character is a word is told by a walk over the words beside the lines, since both ascend. Sums are
+// in `usize`, so that no number of keys and no count wraps. The cost is linear in the index and the dictionary.
+ghost use mathlib.Core.Path.{_≡_};
+ghost use mathlib.Core.List.{[], _∷_};
+ghost use Prim.Native.Nat.{_+_, _*_, _≤_, _<_};
+ghost use lib.ListN.{length, drop};
+ghost use Rattle.spec.specs.Dictionary.{longest-text, lexicon};
+ghost use Rattle.spec.specs.Words.{key, is-word};
+ghost use Rattle.spec.specs.Index.{header, keys-of, rise-from, readable};
+ghost use Rattle.spec.specs.Calls.{index-refusal};
+ghost use Rattle.laws.specs.Lexicon.{Is-admitted};
+ghost use Rattle.laws.specs.LineWalk.{places-good, line-fits, walk-good};
+ghost use Rattle.laws.specs.LineSteps.{Lines-read};
+ghost use Rattle.laws.specs.LoneWords.{Passed, Reached};
+
+// Whether positions ascend strictly from 1 or more.
+fn rise(places: &[u16]) -> bool
+    ensures { λ r. ⌜ r ≡ rise-from 1 (now (places .entry)) ⌝ }
+{
+    let mut good = true;
+    let mut last: u16 = 0;
+    let mut i = 0;
+    while i < places.len() {
+        let place = places[i];
+        good = good & (last < place);
+        last = place;
+        i += 1;
+    }
+    good
+}
+
+// Whether `count` positions from `at` on are there, at least one, ascending, and a key of `long` characters ends by n at the last.
+fn places_good(index: &[u16], at: usize, count: usize, n: usize, long: usize) -> bool
+    requires { ⌜ (at ≤ length (now index)) × (n ≤ 65535) × (long ≤ 65535) ⌝ }
+    ensures { λ r. ⌜ r ≡ places-good n long count (drop at (now (index .entry))) ⌝ }
+{
+    if index.len() - at < count {
+        return false;
+    }
+    if count == 0 {
+        return false;
+    }
+    let end = at + count;
+    let last = index[end - 1] as usize;
+    if n + 1 < last + long {
+        return false;
+    }
+    rise(&index[at..end])
+}
+
+// Whether a word's directory line is good, where word numbers from `least` on are allowed.
+fn word_line_good(
+    chars: &[u16],
+    lengths: &[u16],
+    index: &[u16],
+    at: usize,
+    n: usize,
+    least: usize,
+    value: usize,
+    count: usize,
+) -> bool
+    requires { ⌜ Is-admitted (now chars) (now lengths) × (at ≤ length (now index)) × (n ≤ 65535) ⌝ }
+    ensures { λ r. ⌜ r ≡ line-fits (lexicon (now (chars .entry)) (now (lengths .entry))) n least (key 0 value) count (drop at (now (index .entry))) ⌝ }
+{
+    if value < least {
+        return false;
+    }
+    if lengths.len() <= value {
+        return false;
+    }
+    places_good(index, at, count, n, lengths[value] as usize)
+}
+
+// A word's number and where its characters start.
+struct Place {
+    word: usize,
+    at: usize,
+}
+
+// The first word from a place on that does not start with a character below `value`.
+fn skip_below(chars: &[u16], lengths: &[u16], from: Place, value: u16) -> Place
+    requires { ⌜ Passed (now chars) (now lengths) (from .word) (from .at) value ⌝ }
+    ensures { λ r. ⌜ Reached (now (chars .entry)) (now (lengths .entry)) (r .word) (r .at) value ⌝ }
+{
+    let mut word = from.word;
+    let mut at = from.at;
+    while word < lengths.len() {
+        if value <= chars[at] {
+            return Place { word, at };
+        }
+        at += lengths[word] as usize;
+        word += 1;
+    }
+    Place { word, at }
+}
+
+// Whether the one character is a word, which could only be the word reached.
+fn is_reached(chars: &[u16], lengths: &[u16], place: Place, value: u16) -> bool
+    requires { ⌜ Reached (now chars) (now lengths) (place .word) (place .at) value ⌝ }
+    ensures { λ r. ⌜ r ≡ is-word (lexicon (now (chars .entry)) (now (lengths .entry))) (value ∷ []) ⌝ }
+{
+    let word = place.word;
+    let at = place.at;
+    if lengths.len() <= word {
+        return false;
+    }
+    if chars[at] != value {
+        return false;
+    }
+    lengths[word] == 1
+}
+
+// Whether the lines from `from` on are good, where only lone characters may follow; the positions of the first start at `start`.
+fn lone_lines(chars: &[u16], lengths: &[u16], index: &[u16], from: usize, start: usize) -> bool
+    requires { ⌜ Is-admitted (now chars) (now lengths) × (header + 3 * keys-of (now index) ≤ length (now index)) × Lines-read (lexicon (now chars) (now lengths)) (now index) from start 65536 ⌝ }
+    ensures { λ r. ⌜ r ≡ walk-good (lexicon (now (chars .entry)) (now (lengths .entry))) (now (index .entry)) ⌝ }
+{
+    let n = index[0] as usize;
+    let keys = index[1] as usize;
+    let mut at = start;
+    let mut least = 0;
+    let mut words = Place { word: 0, at: 0 };
+    let mut i = from;
+    while i < keys {
+        let kind = index[2 + 3 * i];
+        let value = index[2 + 3 * i + 1];
+        let count = index[2 + 3 * i + 2] as usize;
+        if kind != 1 {
+            return false;
+        }
+        if (value as usize) < least {
+            return false;
+        }
+        words = skip_below(chars, lengths, words, value);
+        if is_reached(chars, lengths, words, value) {
+            return false;
+        }
+        if !places_good(index, at, count, n, 1) {
+            return false;
+        }
+        at += count;
+        least = value as usize + 1;
+        i += 1;
+    }
+    at == index.len()
+}
+
+// Whether all lines are good, and their positions are all that follows the directory.
+fn lines_good(chars: &[u16], lengths: &[u16], index: &[u16]) -> bool
+    requires { ⌜ Is-admitted (now chars) (now lengths) × (header ≤ length (now index)) × (header + 3 * keys-of (now index) ≤ length (now index)) ⌝ }
+    ensures { λ r. ⌜ r ≡ walk-good (lexicon (now (chars .entry)) (now (lengths .entry))) (now (index .entry)) ⌝ }
+{
+    let n = index[0] as usize;
+    let keys = index[1] as usize;
+    let mut at = 2 + 3 * keys;
+    let mut least = 0;
+    let mut i = 0;
+    while i < keys {
+        if index[2 + 3 * i] != 0 {
+            return lone_lines(chars, lengths, index, i, at);
+        }
+        let value = index[2 + 3 * i + 1] as usize;
+        let count = index[2 + 3 * i + 2] as usize;
+        if !word_line_good(chars, lengths, index, at, n, least, value, count) {
+            return false;
+        }
+        at = at + count;
+        least = value + 1;
+        i += 1;
+    }
+    at == index.len()
+}
+
+// Whether an index is readable, with a dictionary that is admitted.
+fn readable(chars: &[u16], lengths: &[u16], index: &[u16]) -> bool
+    requires { ⌜ Is-admitted (now chars) (now lengths) ⌝ }
+    ensures { λ r. ⌜ r ≡ readable longest-text (lexicon (now (chars .entry)) (now (lengths .entry))) (now (index .entry)) ⌝ }
+{
+    if index.len() < 2 {
+        return false;
+    }
+    let keys = index[1] as usize;
+    if index.len() < 2 + 3 * keys {
+        return false;
+    }
+    lines_good(chars, lengths, index)
+}
+
+// The number of the first line of 1, 2, 3 and 5 that dictionary and index meet, or 0.
+pub fn refusal_of(chars: &[u16], lengths: &[u16], index: &[u16]) -> u32
+    ensures { λ r. ⌜ r ≡ index-refusal (now (chars .entry)) (now (lengths .entry)) (now (index .entry)) ⌝ }
+{
+    let refusal = dictionary::admission::refusal_of(chars, lengths);
+    if refusal != 0 {
+        return refusal;
+    }
+    if !readable(chars, lengths, index) {
+        return 5;
+    }
+    0
+}
