@@ -1,7 +1,7 @@
 # What a reader types, and the steps that the gate (.ci/run) is made of.
 
 .DEFAULT_GOAL := help
-.PHONY: run test lib fmt clean help check check-fmt check-c check-rust example need-rt
+.PHONY: run test bench lib fmt clean help check check-fmt check-c check-rust examples need-rt
 .NOTPARALLEL:
 
 # A failed step of a pipeline fails its recipe.
@@ -19,13 +19,20 @@ export CARGO_NET_OFFLINE := true
 export MOPEKIHUA_LIB_DIR := $(CURDIR)/target/staticlib
 CARGO := cd rust && cargo
 
-## run: prove the library, and run the C example on it
-run: example
-	@target/examples/admit
+# A program in C each, with the output that it must print beside it.
+EXAMPLES := $(patsubst examples/%.c,%,$(wildcard examples/*.c))
+
+## run: prove the library, and run the C examples on it
+run: examples
+	@for example in $(EXAMPLES); do echo "== $$example"; target/examples/$$example; done
 
 ## test: the whole gate
 test:
 	@.ci/run
+
+## bench: prove the library, and time it beside the same algorithms in plain Rust
+bench: lib
+	$(CARGO) bench --locked --bench speed
 
 ## lib: prove the library and write target/staticlib/libmopekihua.a
 lib: need-rt
@@ -47,10 +54,11 @@ help:
 # The gate after `rt ci`.
 check: check-fmt check-c check-rust
 
-example: lib
-	@mkdir -p target/examples
-	$(CC) $(CFLAGS) -Iinclude examples/admit.c target/staticlib/libmopekihua.a \
-	  -o target/examples/admit
+examples: $(EXAMPLES:%=target/examples/%)
+
+target/examples/%: examples/%.c include/mopekihua.h lib
+	@mkdir -p $(@D)
+	$(CC) $(CFLAGS) -Iinclude $< target/staticlib/libmopekihua.a -o $@
 
 check-fmt: need-rt
 	rt fmt --check
@@ -59,8 +67,8 @@ check-fmt: need-rt
 # The header is included twice, alone: it brings what it needs and guards itself.
 TWICE := printf '\#include "mopekihua.h"\n\#include "mopekihua.h"\n'
 
-check-c: example
-	target/examples/admit | diff examples/admit.out -
+check-c: examples
+	for example in $(EXAMPLES); do target/examples/$$example | diff examples/$$example.out -; done
 	$(TWICE) | $(CC) -x c $(CFLAGS) -Iinclude -fsyntax-only -
 	@if printf '#include <stdint.h>\n' | $(CC) -x c++ -fsyntax-only - 2>/dev/null; then \
 	  set -x; $(TWICE) | $(CC) -x c++ $(CXXFLAGS) -Iinclude -fsyntax-only -; \

@@ -8,6 +8,9 @@
  * pointer is aligned for its element and not null, and that many elements can
  * be read behind it. For a slice of 0 elements it need not point at anything,
  * but should still be aligned and not null.
+ *
+ * A slice whose elements are not const is lent to be written: its elements can
+ * be written too, and none of them belongs to another slice of the same call.
  */
 #ifndef MOPEKIHUA_H
 #define MOPEKIHUA_H
@@ -100,6 +103,47 @@ typedef struct {
  */
 mopekihua_answer mopekihua_admit(const uint16_t *chars, size_t chars_len,
                                  const uint16_t *lengths, size_t lengths_len);
+
+/*
+ * Builds the index of a text: every word and every lone character of it that
+ * lies within no longer one, under its key, with its position.
+ *
+ * The dictionary is lent as to mopekihua_admit. The text is text_len
+ * characters, at positions 1 to text_len.
+ *
+ * The index is a run of 16-bit numbers: n, the length of the text; K, the
+ * number of keys; K directory lines of kind, value, count; then all positions,
+ * key after key in the order of the lines. Kind 0 is a word, its value the
+ * number of the word, the first being 0. Kind 1 is a lone character, one that
+ * is not itself a word, its value the character. Lines ascend by kind and then
+ * by value, and the positions under a key ascend. With the words ab, abc and
+ * bcd the index of the text abcdab is
+ *
+ *   6  3    0 0 1   0 1 1   0 2 1    5   1   2
+ *
+ * Answers, the first that applies:
+ *   MOPEKIHUA_DICTIONARY_TOO_LARGE, MOPEKIHUA_LENGTHS_WRONG,
+ *   MOPEKIHUA_WORDS_NOT_ASCENDING   as mopekihua_admit answers
+ *   MOPEKIHUA_TEXT_TOO_LONG         text_len is above 65,535
+ *   MOPEKIHUA_WORK_TOO_SHORT        work_len is below 8 * text_len
+ *   MOPEKIHUA_OUTPUT_TOO_SHORT      output_len is below the length of the
+ *                                   index
+ *   MOPEKIHUA_ACCEPTED              the index is written to the front of
+ *                                   output; count is its length
+ *
+ * An index has at most 2 + 4 * text_len numbers, so an output of this length
+ * is never too short.
+ *
+ * output past count is left as it was; after a refusal all of output is. work
+ * may hold anything, and all its work_len elements are 0 after every call,
+ * refused or not. For slices lent as said above the call always returns,
+ * whatever they hold.
+ */
+mopekihua_answer mopekihua_build(const uint16_t *chars, size_t chars_len,
+                                 const uint16_t *lengths, size_t lengths_len,
+                                 const uint16_t *text, size_t text_len,
+                                 uint16_t *output, size_t output_len,
+                                 uint16_t *work, size_t work_len);
 
 #ifdef __cplusplus
 }

@@ -36,6 +36,19 @@ unsafe extern "C" {
         lengths: *const u16,
         lengths_len: usize,
     ) -> Answer;
+
+    fn mopekihua_build(
+        chars: *const u16,
+        chars_len: usize,
+        lengths: *const u16,
+        lengths_len: usize,
+        text: *const u16,
+        text_len: usize,
+        output: *mut u16,
+        output_len: usize,
+        work: *mut u16,
+        work_len: usize,
+    ) -> Answer;
 }
 
 pub(crate) fn admit(chars: &[u16], lengths: &[u16]) -> Answer {
@@ -43,4 +56,30 @@ pub(crate) fn admit(chars: &[u16], lengths: &[u16]) -> Answer {
     // null also where it is empty, and readable for its length during the call.
     // The function writes nothing and keeps neither pointer.
     unsafe { mopekihua_admit(chars.as_ptr(), chars.len(), lengths.as_ptr(), lengths.len()) }
+}
+
+pub(crate) fn build(
+    chars: &[u16],
+    lengths: &[u16],
+    text: &[u16],
+    output: &mut [u16],
+    work: &mut [u16],
+) -> Answer {
+    // SAFETY: as in `admit`. `output` and `work` are borrowed to be written, so
+    // during the call nothing else refers to their elements; the function
+    // writes within their lengths and keeps no pointer.
+    unsafe {
+        mopekihua_build(
+            chars.as_ptr(),
+            chars.len(),
+            lengths.as_ptr(),
+            lengths.len(),
+            text.as_ptr(),
+            text.len(),
+            output.as_mut_ptr(),
+            output.len(),
+            work.as_mut_ptr(),
+            work.len(),
+        )
+    }
 }

@@ -2,8 +2,8 @@
 //! to answer what their definitions say.
 //!
 //! The functions here hand lent slices to the static library
-//! `libmopekihua.a` and type its answers. They copy nothing and allocate
-//! nothing.
+//! `libmopekihua.a` and type its answers. They copy nothing, and only those
+//! that answer a `Vec` allocate.
 //!
 //! # Dictionaries
 //!
@@ -17,6 +17,27 @@
 //! // The words ab, abc and bcd.
 //! let chars: Vec<u16> = "ababcbcd".encode_utf16().collect();
 //! assert_eq!(mopekihua::admit(&chars, &[2, 3, 3]), Ok(3));
+//! ```
+//!
+//! # Indexes
+//!
+//! [`build`] gives the complete maximal word index of a text: every word and
+//! every lone character of it (one that is not itself a word) that lies within
+//! no longer one. As numbers, an index is n, the length of the text; K, the
+//! number of keys; K directory lines of kind, value, count; then all positions,
+//! the first being 1, key after key. Kind 0 is a word and its value the number
+//! of the word, the first being 0; kind 1 is a lone character and its value the
+//! character. Keys ascend, and so do the positions under each.
+//!
+//! ```
+//! let chars: Vec<u16> = "ababcbcd".encode_utf16().collect();
+//! let text: Vec<u16> = "abcdabx".encode_utf16().collect();
+//! let index = mopekihua::build(&chars, &[2, 3, 3], &text)?;
+//! assert_eq!(index[..2], [7, 4]);
+//! // ab once, abc once, bcd once, x once; at 5, at 1, at 2, at 7.
+//! assert_eq!(index[2..14], [0, 0, 1, 0, 1, 1, 0, 2, 1, 1, 0x78, 1]);
+//! assert_eq!(index[14..], [5, 1, 2, 7]);
+//! # Ok::<(), mopekihua::Refusal>(())
 //! ```
 //!
 //! # What is proved and what is not
@@ -37,9 +58,11 @@
 
 #![deny(missing_docs, unsafe_op_in_unsafe_fn)]
 
+mod building;
 mod ffi;
 mod refusal;
 
+pub use building::{build, build_into, index_bound, work_needed};
 pub use refusal::Refusal;
 
 /// Admits a dictionary, and answers its number of words.

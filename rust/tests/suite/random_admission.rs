@@ -2,6 +2,7 @@
 
 use crate::support::damage::Damage;
 use crate::support::dictionary::Dictionary;
+use crate::support::lists::all_lists;
 use crate::support::oracle;
 use crate::support::random::Random;
 
@@ -113,19 +114,4 @@ fn every_small_dictionary() {
         }
     }
     tally.assert_at_least([50, 0, 10_000, 50]);
-}
-
-/// All lists of at most `longest` of these elements.
-fn all_lists(elements: &[u16], longest: usize) -> Vec<Vec<u16>> {
-    let mut lists = vec![Vec::new()];
-    let mut done = 0;
-    for _ in 0..longest {
-        for at in std::mem::replace(&mut done, lists.len())..lists.len() {
-            for &element in elements {
-                let longer = [&lists[at][..], &[element]].concat();
-                lists.push(longer);
-            }
-        }
-    }
-    lists
 }

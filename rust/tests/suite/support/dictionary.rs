@@ -3,6 +3,7 @@
 use std::collections::BTreeSet;
 use std::fmt;
 
+use super::lent::{GUARDS, Lent};
 use super::random::Random;
 
 #[derive(Clone, Default)]
@@ -69,13 +70,30 @@ impl Dictionary {
             })
             .collect();
         let longest = random.one_of(&[1, 2, 3, 6, 32]);
-        let words: BTreeSet<Vec<u16>> = (0..random.within(0, most))
-            .map(|_| {
-                let length = random.within(1, longest);
-                (0..length).map(|_| random.one_of(&alphabet)).collect()
-            })
-            .collect();
-        Self::of(words)
+        let count = random.within(0, most);
+        Self::random_over(&alphabet, random, count, longest)
+    }
+
+    /// An admitted dictionary of at most `most` words of at most `longest` of
+    /// these characters; fewer where the same word is drawn twice.
+    pub fn random_over(alphabet: &[u16], random: &mut Random, most: usize, longest: usize) -> Self {
+        let words = (0..most).map(|_| {
+            let length = random.within(1, longest);
+            (0..length).map(|_| random.one_of(alphabet)).collect()
+        });
+        Self::of_set(words)
+    }
+
+    /// These words in ascending order, each once, without those for which a
+    /// dictionary has no room.
+    pub fn of_set(words: impl IntoIterator<Item = Vec<u16>>) -> Self {
+        let mut dictionary = Dictionary::default();
+        for word in words.into_iter().collect::<BTreeSet<_>>() {
+            if dictionary.lengths.len() < 4096 && dictionary.chars.len() + word.len() <= 65_535 {
+                dictionary.push(&word);
+            }
+        }
+        dictionary
     }
 
     /// Near the two limits of refusal 1, on either side of them; words ascend.
@@ -110,46 +128,18 @@ impl Dictionary {
         self.chars[start..start + usize::from(self.lengths[number])].to_vec()
     }
 
-    /// The library's answer: the number of words or of the refusal.
-    ///
-    /// The slices are lent out of the middle of larger ones, once between zeros
-    /// and once between 0xFFFF: all must be as before, and the answer must not
-    /// depend on what lies beside the slices.
+    /// The library's answer: the number of words or of the refusal. Nothing
+    /// that was lent is changed.
     pub fn admit(&self) -> Result<usize, u32> {
-        let between_zeros = self.admit_between(0x0000);
-        assert_eq!(between_zeros, self.admit_between(0xFFFF), "{self:?}");
-        between_zeros
-    }
-
-    fn admit_between(&self, guard: u16) -> Result<usize, u32> {
-        let chars = Guarded::new(&self.chars, guard);
-        let lengths = Guarded::new(&self.lengths, guard);
-        let answer = mopekihua::admit(chars.inner(), lengths.inner());
-        chars.assert_unchanged(&self.chars, guard);
-        lengths.assert_unchanged(&self.lengths, guard);
-        answer.map_err(mopekihua::Refusal::number)
-    }
-}
-
-/// A slice between two runs of guard numbers.
-struct Guarded(Vec<u16>);
-
-impl Guarded {
-    const WIDTH: usize = 40;
-
-    fn new(inner: &[u16], guard: u16) -> Self {
-        let run = [guard; Self::WIDTH];
-        Guarded([&run, inner, &run].concat())
-    }
-
-    fn inner(&self) -> &[u16] {
-        &self.0[Self::WIDTH..self.0.len() - Self::WIDTH]
-    }
-
-    fn assert_unchanged(&self, inner: &[u16], guard: u16) {
-        assert!(
-            self.0 == Self::new(inner, guard).0,
-            "a lent slice was changed"
-        );
+        let [first, second] = GUARDS.map(|guard| {
+            let chars = Lent::new(&self.chars, guard);
+            let lengths = Lent::new(&self.lengths, guard);
+            let answer = mopekihua::admit(chars.inner(), lengths.inner());
+            chars.assert_holds(&self.chars, "chars");
+            lengths.assert_holds(&self.lengths, "lengths");
+            answer.map_err(mopekihua::Refusal::number)
+        });
+        assert_eq!(first, second, "{self:?}");
+        first
     }
 }

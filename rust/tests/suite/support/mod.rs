@@ -1,7 +1,12 @@
 //! What the tests share: a plain reading of the definitions to compare with,
-//! random dictionaries, and the ways to damage them.
+//! random dictionaries and texts, the ways to damage them, and calls that hold
+//! the library to all that it says of the slices lent.
 
+pub mod building;
 pub mod damage;
 pub mod dictionary;
+pub mod lent;
+pub mod lists;
 pub mod oracle;
 pub mod random;
+pub mod text;

@@ -1,4 +1,9 @@
-//! The definitions read as plainly as they are written, with no regard to cost.
+//! The definitions read as plainly as they are written, with little regard to
+//! cost.
+
+mod index;
+
+pub use index::build;
 
 /// Admission: the number of words, or the number of the refusal.
 pub fn admit(chars: &[u16], lengths: &[u16]) -> Result<usize, u32> {

@@ -1,0 +1,48 @@
+//! Times every operation of the library beside the same algorithm in plain
+//! Rust, in one run, and prints the two best times of a call and their ratio.
+//!
+//! Ordinary rows are sheets of Japanese-like text with a dictionary of 4,096
+//! words, from a seeded generator. Adversarial rows are the inputs on which a
+//! careless algorithm gets slow; their last column says how much a character
+//! costs there beside an ordinary one.
+//!
+//! Operations named on the command line are timed, or all:
+//! `cargo bench --bench speed -- build`.
+
+mod adversary;
+mod plain;
+mod race;
+mod rows;
+mod sheets;
+
+// The tests use more of the generator.
+#[allow(dead_code)]
+#[path = "../tests/suite/support/random.rs"]
+mod random;
+
+use sheets::Sheets;
+
+/// Prints the rows of an operation.
+type Print = fn(&Sheets);
+
+/// The name of each operation, and its rows.
+const OPERATIONS: &[(&str, Print)] = &[
+    ("admission", rows::admission::print),
+    ("build", rows::building::print),
+];
+
+fn main() {
+    // Cargo adds `--bench`.
+    let named: Vec<String> = std::env::args()
+        .skip(1)
+        .filter(|argument| !argument.starts_with("--"))
+        .collect();
+    let sheets = Sheets::new();
+    race::print_head();
+    for (name, print) in OPERATIONS {
+        if named.is_empty() || named.iter().any(|one| one == name) {
+            println!("{name}");
+            print(&sheets);
+        }
+    }
+}

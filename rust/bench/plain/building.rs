@@ -1,0 +1,156 @@
+//! Building: one mark a position, positions of equal keys linked to chains, and
+//! the chains written out in the order of the keys.
+
+use super::admission::admit;
+use super::matching::MatchTable;
+
+/// The mark of a lone character; other marks are 0 or the number of a word + 1.
+const LONE: u16 = 4_097;
+
+/// A key as one number, its word number or 4,096 + its character: codes in order
+/// are keys in order.
+const CODES: usize = 4_096 + 65_536;
+
+/// A page of codes without a key is passed over.
+const PAGE: usize = 64;
+
+pub fn build(
+    chars: &[u16],
+    lengths: &[u16],
+    text: &[u16],
+    output: &mut [u16],
+    work: &mut [u16],
+) -> Result<usize, u32> {
+    let answer = build_uncleared(chars, lengths, text, output, work);
+    work.fill(0);
+    answer
+}
+
+fn build_uncleared(
+    chars: &[u16],
+    lengths: &[u16],
+    text: &[u16],
+    output: &mut [u16],
+    work: &mut [u16],
+) -> Result<usize, u32> {
+    admit(chars, lengths)?;
+    if text.len() > 65_535 {
+        return Err(4);
+    }
+    if work.len() < 8 * text.len() {
+        return Err(7);
+    }
+    let marks = &mut work[..text.len()];
+    scan(&MatchTable::new(chars, lengths), text, marks);
+    let chains = Chains::link(text, marks);
+    let size = 2 + 3 * chains.keys + chains.entries;
+    if output.len() < size {
+        return Err(8);
+    }
+    output[0] = text.len() as u16;
+    output[1] = chains.keys as u16;
+    let (directory, positions) = output[2..size].split_at_mut(3 * chains.keys);
+    chains.write_directory(marks, directory);
+    chains.write_positions(marks, positions);
+    Ok(size)
+}
+
+/// Marks each position with what is registered there.
+fn scan(table: &MatchTable, text: &[u16], marks: &mut [u16]) {
+    let mut last = 0;
+    for (at, mark) in marks.iter_mut().enumerate() {
+        (*mark, last) = step(table, text, at, last);
+    }
+}
+
+/// The mark at a place, and the last registered end after it.
+fn step(table: &MatchTable, text: &[u16], at: usize, last: usize) -> (u16, usize) {
+    let found = table.longest(text, at, last);
+    if found != 0 {
+        (found, at + table.length(found))
+    } else if at + 1 > last {
+        (LONE, at + 1)
+    } else {
+        (0, last)
+    }
+}
+
+/// The first position of each key; the marks have become links to the next.
+struct Chains {
+    heads: [u16; CODES],
+    pages: [bool; CODES / PAGE],
+    keys: usize,
+    entries: usize,
+}
+
+impl Chains {
+    /// Links from the last position to the first.
+    fn link(text: &[u16], marks: &mut [u16]) -> Chains {
+        let mut chains = Chains {
+            heads: [0; CODES],
+            pages: [false; CODES / PAGE],
+            keys: 0,
+            entries: 0,
+        };
+        for (at, (mark, &character)) in marks.iter_mut().zip(text).enumerate().rev() {
+            if *mark == 0 {
+                continue;
+            }
+            let code = if *mark == LONE {
+                4_096 + usize::from(character)
+            } else {
+                usize::from(*mark - 1)
+            };
+            let head = chains.heads[code];
+            chains.keys += usize::from(head == 0);
+            chains.entries += 1;
+            chains.pages[code / PAGE] = true;
+            chains.heads[code] = at as u16 + 1;
+            *mark = head;
+        }
+        chains
+    }
+
+    /// The code and the first position of each key in order.
+    fn each(&self, mut visit: impl FnMut(usize, u16)) {
+        for (page, heads) in self.heads.chunks_exact(PAGE).enumerate() {
+            if self.pages[page] {
+                for (place, &head) in heads.iter().enumerate() {
+                    if head != 0 {
+                        visit(page * PAGE + place, head);
+                    }
+                }
+            }
+        }
+    }
+
+    fn write_directory(&self, links: &[u16], directory: &mut [u16]) {
+        let mut lines = directory.chunks_exact_mut(3);
+        self.each(|code, head| {
+            let mut count = 0;
+            let mut position = head;
+            while position != 0 {
+                count += 1;
+                position = links[usize::from(position - 1)];
+            }
+            if let Some([kind, value, counted]) = lines.next() {
+                *kind = u16::from(code >= 4_096);
+                *value = if code >= 4_096 { code - 4_096 } else { code } as u16;
+                *counted = count;
+            }
+        });
+    }
+
+    fn write_positions(&self, links: &[u16], positions: &mut [u16]) {
+        let mut places = positions.iter_mut();
+        self.each(|_, head| {
+            let mut position = head;
+            while position != 0 {
+                if let Some(place) = places.next() {
+                    *place = position;
+                }
+                position = links[usize::from(position - 1)];
+            }
+        });
+    }
+}

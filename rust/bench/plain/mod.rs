@@ -1,0 +1,6 @@
+//! The library's algorithms in plain Rust: what the proved code is timed
+//! beside. Each answers as the library does, with a refusal by its number.
+
+pub mod admission;
+pub mod building;
+pub mod matching;

@@ -1,0 +1,4 @@
+//! The rows of each operation. Both programs are compared before they are timed.
+
+pub mod admission;
+pub mod building;

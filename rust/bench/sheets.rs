@@ -1,0 +1,132 @@
+//! Japanese-like dictionaries and texts from a seeded generator: kanji compounds,
+//! katakana words, inflected words and particles, a few of each very common and
+//! most of them rare.
+
+use std::collections::BTreeSet;
+
+use crate::random::Random;
+
+/// A dictionary as it is lent, and texts to index with it.
+pub struct Case {
+    pub chars: Vec<u16>,
+    pub lengths: Vec<u16>,
+    pub texts: Vec<Vec<u16>>,
+}
+
+impl Case {
+    /// Words in ascending order, as many as a dictionary holds.
+    pub fn new(words: &BTreeSet<Vec<u16>>, texts: Vec<Vec<u16>>) -> Case {
+        let mut chars = Vec::new();
+        let mut lengths = Vec::new();
+        for word in words.iter().take(4096) {
+            if chars.len() + word.len() <= 65_535 {
+                chars.extend(word);
+                lengths.push(word.len() as u16);
+            }
+        }
+        Case {
+            chars,
+            lengths,
+            texts,
+        }
+    }
+
+    /// The number of characters in all texts.
+    pub fn chars_in_texts(&self) -> usize {
+        self.texts.iter().map(Vec::len).sum()
+    }
+}
+
+/// One dictionary, and sheets of four sizes.
+pub struct Sheets {
+    /// The name of a size, and its sheets.
+    pub sizes: Vec<(&'static str, Case)>,
+}
+
+impl Sheets {
+    pub fn new() -> Sheets {
+        let mut random = Random::seeded(2_026);
+        let mut words = BTreeSet::new();
+        let mut by_rank = Vec::new();
+        while words.len() < 4096 {
+            let word = word(&mut random);
+            if words.insert(word.clone()) {
+                by_rank.push(word);
+            }
+        }
+        let mut sheets = |count: usize, low: usize, high: usize| {
+            let texts = (0..count).map(|_| {
+                let n = random.within(low, high);
+                text(&mut random, &by_rank, n)
+            });
+            Case::new(&words, texts.collect())
+        };
+        Sheets {
+            sizes: vec![
+                ("about 60 characters", sheets(32, 40, 80)),
+                ("about 300 characters", sheets(16, 250, 350)),
+                ("about 5,000 characters", sheets(4, 4_500, 5_500)),
+                ("about 60,000 characters", sheets(1, 60_000, 60_000)),
+            ],
+        }
+    }
+}
+
+/// A rank below `count`, low ones far more often.
+fn rank(random: &mut Random, count: usize) -> usize {
+    let most = random.place(count);
+    let fewer = random.within(0, most);
+    random.within(0, fewer)
+}
+
+fn kanji(random: &mut Random) -> u16 {
+    // Spread over the block, as the common ones are.
+    0x4E00 + (rank(random, 3_000) * 7_919 % 20_900) as u16
+}
+
+fn hiragana(random: &mut Random) -> u16 {
+    0x3042 + rank(random, 80) as u16
+}
+
+fn katakana(random: &mut Random) -> u16 {
+    0x30A2 + rank(random, 85) as u16
+}
+
+/// `low` to `high` characters of one kind.
+fn run(
+    random: &mut Random,
+    low: usize,
+    high: usize,
+    draw: impl Fn(&mut Random) -> u16,
+) -> Vec<u16> {
+    (0..random.within(low, high))
+        .map(|_| draw(random))
+        .collect()
+}
+
+fn word(random: &mut Random) -> Vec<u16> {
+    match random.within(0, 19) {
+        0..=1 => run(random, 1, 1, kanji),
+        2..=9 => run(random, 2, 2, kanji),
+        10..=12 => run(random, 3, 4, kanji),
+        13..=15 => run(random, 3, 8, katakana),
+        16..=17 => [run(random, 1, 2, kanji), run(random, 1, 3, hiragana)].concat(),
+        _ => run(random, 2, 5, hiragana),
+    }
+}
+
+/// A text of `n` characters: known words, particles, and words of no dictionary.
+fn text(random: &mut Random, by_rank: &[Vec<u16>], n: usize) -> Vec<u16> {
+    let mut text = Vec::new();
+    while text.len() < n {
+        match random.within(0, 19) {
+            0..=10 => text.extend(&by_rank[rank(random, by_rank.len())]),
+            11..=15 => text.extend(run(random, 1, 2, hiragana)),
+            16..=17 => text.extend(word(random)),
+            18 => text.extend(run(random, 1, 4, |random| 0xFF10 + random.place(10) as u16)),
+            _ => text.push(random.one_of(&[0x3001, 0x3002, 0x300C, 0x300D])),
+        }
+    }
+    text.truncate(n);
+    text
+}

@@ -1,0 +1,91 @@
+//! Texts, alone and together with a dictionary that has to do with them.
+
+use super::dictionary::Dictionary;
+use super::random::Random;
+
+/// The characters of a string.
+pub fn spelt(text: &str) -> Vec<u16> {
+    text.encode_utf16().collect()
+}
+
+/// `n` of these characters, drawn evenly.
+pub fn random_over(alphabet: &[u16], random: &mut Random, n: usize) -> Vec<u16> {
+    (0..n).map(|_| random.one_of(alphabet)).collect()
+}
+
+/// A dictionary and a text.
+#[derive(Clone, Debug)]
+pub struct Subject {
+    pub dictionary: Dictionary,
+    pub text: Vec<u16>,
+}
+
+impl Subject {
+    /// One to five characters, so that words nest, overlap and repeat.
+    pub fn of_few_characters(random: &mut Random, longest_text: usize) -> Subject {
+        let alphabet = few_characters(random);
+        let longest_word = random.one_of(&[1, 2, 3, 6, 32]);
+        let most = random.within(0, 60);
+        let dictionary = Dictionary::random_over(&alphabet, random, most, longest_word);
+        let n = random.within(0, longest_text);
+        let text = random_over(&alphabet, random, n);
+        Subject { dictionary, text }
+    }
+
+    /// Kana and a few hundred kanji, with words of 1 to 32 characters cut from
+    /// the text and from another one, so that they overlap and nest.
+    pub fn of_japanese(random: &mut Random, longest_text: usize) -> Subject {
+        let kanji = random.within(1, 400) as u16;
+        let alphabet: Vec<u16> = (0x3041..0x3097).chain(0x4E00..0x4E00 + kanji).collect();
+        let n = random.within(1, longest_text);
+        let text = random_over(&alphabet, random, n);
+        let other = random_over(&alphabet, random, 64);
+        let mut words = Vec::new();
+        for _ in 0..random.within(0, 120) {
+            let from = if random.within(0, 4) == 0 {
+                &other
+            } else {
+                &text
+            };
+            words.push(part_of(from, random));
+        }
+        let dictionary = Dictionary::of_set(words);
+        Subject { dictionary, text }
+    }
+
+    /// Up to 4,096 words over few characters, cut from the text, and prefixes of
+    /// these: many share their first characters, whatever a table of words
+    /// goes by.
+    pub fn crowded(random: &mut Random, longest_text: usize) -> Subject {
+        let alphabet = few_characters(random);
+        let n = random.within(1, longest_text);
+        let text = random_over(&alphabet, random, n);
+        let mut words = Vec::new();
+        for _ in 0..random.one_of(&[10, 100, 1000, 2000]) {
+            let word = part_of(&text, random);
+            words.push(word[..random.within(1, word.len())].to_vec());
+            words.push(word);
+        }
+        let dictionary = Dictionary::of_set(words);
+        Subject { dictionary, text }
+    }
+}
+
+/// A string of 1 to 32 characters that stands in the text, mostly a short one.
+fn part_of(text: &[u16], random: &mut Random) -> Vec<u16> {
+    let start = random.place(text.len());
+    let most = random.one_of(&[1, 2, 2, 3, 4, 8, 32]);
+    let long = random.within(1, most).min(text.len() - start);
+    text[start..start + long].to_vec()
+}
+
+/// One to five characters. Half of the time they are equal in their low bits,
+/// which hash tables go by.
+fn few_characters(random: &mut Random) -> Vec<u16> {
+    let count = random.within(1, 5);
+    let first = random.one_of(&[0x0000, 0x0061, 0x3042, 0x4E00, 0xFFFF]);
+    let step = random.one_of(&[1, 37, 0x0800, 0x2000]);
+    (0..count as u16)
+        .map(|place| first ^ place.wrapping_mul(step))
+        .collect()
+}
