@@ -78,6 +78,17 @@ typedef struct {
     size_t count;
 } mopekihua_answer;
 
+/* What the tally answers. */
+typedef struct {
+    /* 0 (MOPEKIHUA_ACCEPTED), or the number of the refusal. */
+    uint32_t refusal;
+    /* The number of entries, the sum of by_length; 0 beside a refusal. */
+    size_t count;
+    /* The number of entries of each length: by_length[0] of those of one
+     * character, by_length[31] of those of 32. All 0 beside a refusal. */
+    uint64_t by_length[32];
+} mopekihua_tally_answer;
+
 /*
  * Admits a dictionary: says whether it is one that the other operations take.
  *
@@ -144,6 +155,36 @@ mopekihua_answer mopekihua_build(const uint16_t *chars, size_t chars_len,
                                  const uint16_t *text, size_t text_len,
                                  uint16_t *output, size_t output_len,
                                  uint16_t *work, size_t work_len);
+
+/*
+ * Counts the entries of an index by the length of what they spell: a word, or a
+ * lone character, which has length 1.
+ *
+ * The dictionary is lent as to mopekihua_admit, and the index as
+ * mopekihua_build writes it. It may come from elsewhere and hold anything. It
+ * is readable, for n its first number and K its second, if
+ *   - it has at least 2 numbers, and at least 2 + 3K;
+ *   - every kind is 0 or 1, every word number is below lengths_len, and no lone
+ *     character is itself a word;
+ *   - the directory lines ascend strictly by kind and then by value;
+ *   - every count is at least 1, and index_len is 2 + 3K + the sum of them;
+ *   - under each key positions ascend strictly from 1 or more, and the last
+ *     character of the key falls at or before n.
+ *
+ * Answers, the first that applies:
+ *   MOPEKIHUA_DICTIONARY_TOO_LARGE, MOPEKIHUA_LENGTHS_WRONG,
+ *   MOPEKIHUA_WORDS_NOT_ASCENDING   as mopekihua_admit answers
+ *   MOPEKIHUA_INDEX_NOT_READABLE    the index is not readable
+ *   MOPEKIHUA_ACCEPTED              count is the number of entries, by_length
+ *                                   the number of those of each length
+ *
+ * Nothing is written. For slices lent as said above the call always returns,
+ * whatever they hold, in time linear in the dictionary and the index.
+ */
+mopekihua_tally_answer mopekihua_tally(const uint16_t *chars, size_t chars_len,
+                                       const uint16_t *lengths,
+                                       size_t lengths_len,
+                                       const uint16_t *index, size_t index_len);
 
 #ifdef __cplusplus
 }

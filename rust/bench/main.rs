@@ -29,6 +29,7 @@ type Print = fn(&Sheets);
 const OPERATIONS: &[(&str, Print)] = &[
     ("admission", rows::admission::print),
     ("build", rows::building::print),
+    ("tally", rows::tally::print),
 ];
 
 fn main() {

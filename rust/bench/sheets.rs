@@ -31,6 +31,13 @@ impl Case {
         }
     }
 
+    /// The index of each text.
+    pub fn indexes(&self) -> Vec<Vec<u16>> {
+        let index_of = |text: &Vec<u16>| mopekihua::build(&self.chars, &self.lengths, text);
+        let indexes: Result<_, _> = self.texts.iter().map(index_of).collect();
+        indexes.expect("the generators keep to the limits")
+    }
+
     /// The number of characters in all texts.
     pub fn chars_in_texts(&self) -> usize {
         self.texts.iter().map(Vec::len).sum()

@@ -1,7 +1,7 @@
 //! The C functions of the library as `include/mopekihua.h` declares them, each
 //! behind a safe function over slices. All `unsafe` of this crate is here.
 
-use crate::Refusal;
+use crate::{Refusal, Tally};
 
 /// `mopekihua_answer`.
 #[repr(C)]
@@ -14,17 +14,45 @@ pub(crate) struct Answer {
 
 impl Answer {
     /// The count, or the refusal by its name.
-    ///
-    /// # Panics
-    ///
-    /// On a number that is no refusal, which the proved library never answers.
     pub(crate) fn into_result(self) -> Result<usize, Refusal> {
-        match (self.refusal, Refusal::from_number(self.refusal)) {
-            (0, _) => Ok(self.count),
-            (_, Some(refusal)) => Err(refusal),
-            (number, None) => {
-                panic!("libmopekihua.a answered {number}, which is no refusal of this version")
-            }
+        accepted(self.refusal, self.count)
+    }
+}
+
+/// `mopekihua_tally_answer`.
+#[repr(C)]
+pub(crate) struct TallyAnswer {
+    /// 0 where the call was accepted.
+    refusal: u32,
+    /// 0 beside a refusal.
+    count: usize,
+    /// All 0 beside a refusal.
+    by_length: [u64; 32],
+}
+
+impl TallyAnswer {
+    /// The tally, or the refusal by its name.
+    pub(crate) fn into_result(self) -> Result<Tally, Refusal> {
+        let TallyAnswer {
+            refusal,
+            count,
+            by_length,
+        } = self;
+        accepted(refusal, Tally { by_length, count })
+    }
+}
+
+/// The value where the number is 0, else the refusal by its name.
+///
+/// # Panics
+///
+/// On a number that is no refusal, which the proved library never answers.
+fn accepted<T>(number: u32, value: T) -> Result<T, Refusal> {
+    match (number, Refusal::from_number(number)) {
+        (0, _) => Ok(value),
+        (_, Some(refusal)) => Err(refusal),
+        (_, None) => {
+            panic!("libmopekihua.a answered {number}, which is no refusal of this version")
         }
     }
 }
@@ -49,6 +77,15 @@ unsafe extern "C" {
         work: *mut u16,
         work_len: usize,
     ) -> Answer;
+
+    fn mopekihua_tally(
+        chars: *const u16,
+        chars_len: usize,
+        lengths: *const u16,
+        lengths_len: usize,
+        index: *const u16,
+        index_len: usize,
+    ) -> TallyAnswer;
 }
 
 pub(crate) fn admit(chars: &[u16], lengths: &[u16]) -> Answer {
@@ -80,6 +117,20 @@ pub(crate) fn build(
             output.len(),
             work.as_mut_ptr(),
             work.len(),
+        )
+    }
+}
+
+pub(crate) fn tally(chars: &[u16], lengths: &[u16], index: &[u16]) -> TallyAnswer {
+    // SAFETY: as in `admit`.
+    unsafe {
+        mopekihua_tally(
+            chars.as_ptr(),
+            chars.len(),
+            lengths.as_ptr(),
+            lengths.len(),
+            index.as_ptr(),
+            index.len(),
         )
     }
 }

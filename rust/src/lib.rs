@@ -40,6 +40,20 @@
 //! # Ok::<(), mopekihua::Refusal>(())
 //! ```
 //!
+//! An index may also come from elsewhere. Operations on an index first test
+//! that it is readable with the dictionary lent:
+//!
+//! - it has at least 2 numbers, and at least 2 + 3K;
+//! - every kind is 0 or 1, every word number is below the number of words, and
+//!   no lone character is itself a word;
+//! - the directory lines ascend strictly by kind and then by value;
+//! - every count is at least 1, and the length of the index is 2 + 3K + the sum
+//!   of the counts;
+//! - under each key positions ascend strictly from 1 or more, and the last
+//!   character of the key falls at or before n.
+//!
+//! [`tally`] counts the entries of a readable index by their lengths.
+//!
 //! # What is proved and what is not
 //!
 //! The library's code is proved: for every input, declined ones too, the
@@ -61,9 +75,11 @@
 mod building;
 mod ffi;
 mod refusal;
+mod tally;
 
 pub use building::{build, build_into, index_bound, work_needed};
 pub use refusal::Refusal;
+pub use tally::{Tally, tally};
 
 /// Admits a dictionary, and answers its number of words.
 ///

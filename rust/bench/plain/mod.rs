@@ -4,3 +4,4 @@
 pub mod admission;
 pub mod building;
 pub mod matching;
+pub mod reading;

@@ -4,5 +4,7 @@ mod admission;
 mod building;
 mod random_admission;
 mod random_building;
+mod random_reading;
+mod reading;
 mod refusal;
 mod support;

@@ -118,6 +118,12 @@ impl Dictionary {
         self.lengths.push(word.len() as u16);
     }
 
+    pub fn remove(&mut self, number: usize) {
+        let start = self.start(number);
+        let end = start + usize::from(self.lengths.remove(number));
+        self.chars.drain(start..end);
+    }
+
     /// Where the word with this number starts among the characters.
     pub fn start(&self, number: usize) -> usize {
         self.lengths[..number].iter().map(|&l| usize::from(l)).sum()

@@ -5,8 +5,10 @@
 pub mod building;
 pub mod damage;
 pub mod dictionary;
+pub mod index_damage;
 pub mod lent;
 pub mod lists;
 pub mod oracle;
 pub mod random;
+pub mod reading;
 pub mod text;

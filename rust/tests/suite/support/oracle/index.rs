@@ -14,6 +14,14 @@ pub enum Key {
 }
 
 impl Key {
+    /// What the key spells.
+    pub fn spells(self, words: &[Vec<u16>]) -> Vec<u16> {
+        match self {
+            Key::Word(number) => words[usize::from(number)].clone(),
+            Key::Lone(character) => vec![character],
+        }
+    }
+
     fn pair(self) -> [u16; 2] {
         match self {
             Key::Word(number) => [0, number],

@@ -2,8 +2,10 @@
 //! cost.
 
 mod index;
+mod reading;
 
-pub use index::build;
+pub use index::{Key, Line, build, index_of, numbers};
+pub use reading::tally;
 
 /// Admission: the number of words, or the number of the refusal.
 pub fn admit(chars: &[u16], lengths: &[u16]) -> Result<usize, u32> {
@@ -23,7 +25,7 @@ pub fn admit(chars: &[u16], lengths: &[u16]) -> Result<usize, u32> {
 }
 
 /// The words of a dictionary whose lengths add up.
-fn split(chars: &[u16], lengths: &[u16]) -> Vec<Vec<u16>> {
+pub fn split(chars: &[u16], lengths: &[u16]) -> Vec<Vec<u16>> {
     let mut rest = chars;
     let mut words = Vec::new();
     for &length in lengths {

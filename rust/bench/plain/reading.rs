@@ -1,0 +1,117 @@
+//! Readability and the tally: one walk over the directory with the positions of
+//! each line as it is reached, and for lone characters a walk over the words
+//! beside it, since both ascend.
+
+use super::admission::admit;
+
+/// The number of lines 1, 2, 3 and 5 that dictionary and index meet, if any.
+pub fn admit_index(chars: &[u16], lengths: &[u16], index: &[u16]) -> Result<(), u32> {
+    admit(chars, lengths)?;
+    if readable(chars, lengths, index) {
+        Ok(())
+    } else {
+        Err(5)
+    }
+}
+
+pub fn tally(chars: &[u16], lengths: &[u16], index: &[u16]) -> Result<([u64; 32], usize), u32> {
+    admit_index(chars, lengths, index)?;
+    let keys = usize::from(index[1]);
+    let mut by_length = [0; 32];
+    for line in index[2..2 + 3 * keys].chunks_exact(3) {
+        let long = if line[0] == 0 {
+            lengths[usize::from(line[1])]
+        } else {
+            1
+        };
+        by_length[usize::from(long - 1) % 32] += u64::from(line[2]);
+    }
+    Ok((by_length, index.len() - 2 - 3 * keys))
+}
+
+fn readable(chars: &[u16], lengths: &[u16], index: &[u16]) -> bool {
+    let &[n, keys, ref rest @ ..] = index else {
+        return false;
+    };
+    let Some((directory, positions)) = rest.split_at_checked(3 * usize::from(keys)) else {
+        return false;
+    };
+    let mut least = 0;
+    let mut rest = positions;
+    for (place, line) in directory.chunks_exact(3).enumerate() {
+        let &[kind, value, count] = line else {
+            return false;
+        };
+        if kind != 0 {
+            return lone_lines_good(chars, lengths, n, &directory[3 * place..], rest);
+        }
+        let Some(&long) = lengths.get(usize::from(value)) else {
+            return false;
+        };
+        if usize::from(value) < least || !places_good(&mut rest, count, n, long) {
+            return false;
+        }
+        least = usize::from(value) + 1;
+    }
+    rest.is_empty()
+}
+
+/// Whether these lines, of which each must be one of a lone character, are good,
+/// and their positions are all that is left.
+fn lone_lines_good(
+    chars: &[u16],
+    lengths: &[u16],
+    n: u16,
+    directory: &[u16],
+    positions: &[u16],
+) -> bool {
+    let mut rest = positions;
+    let mut least = 0;
+    let (mut word, mut at) = (0, 0);
+    for line in directory.chunks_exact(3) {
+        let &[kind, value, count] = line else {
+            return false;
+        };
+        if kind != 1 || usize::from(value) < least {
+            return false;
+        }
+        // The first word that does not start with a lower character.
+        while word < lengths.len() && chars[at] < value {
+            at += usize::from(lengths[word]);
+            word += 1;
+        }
+        if word < lengths.len() && chars[at] == value && lengths[word] == 1 {
+            return false;
+        }
+        if !places_good(&mut rest, count, n, 1) {
+            return false;
+        }
+        least = usize::from(value) + 1;
+    }
+    rest.is_empty()
+}
+
+/// Takes the positions of a key of `long` characters off the rest, and says
+/// whether they are there and good.
+#[inline]
+fn places_good(rest: &mut &[u16], count: u16, n: u16, long: u16) -> bool {
+    let Some((places, after)) = rest.split_at_checked(usize::from(count)) else {
+        return false;
+    };
+    *rest = after;
+    let Some(&last) = places.last() else {
+        return false;
+    };
+    usize::from(last) + usize::from(long) <= usize::from(n) + 1 && rise(places)
+}
+
+/// Whether positions ascend strictly from 1 or more.
+fn rise(places: &[u16]) -> bool {
+    let mut good = true;
+    let mut last = 0;
+    for &place in places {
+        good &= last < place;
+        last = place;
+    }
+    good
+}
