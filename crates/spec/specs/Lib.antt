@@ -11,4 +11,7 @@ pub mod Calls
 pub mod Promise
 pub mod Beyond
 pub mod Published
+pub mod JobSheet
+pub mod JobAnswer
 pub mod Examples
+pub mod JobExamples
