@@ -4,3 +4,4 @@ pub mod Member
 pub mod Order
 pub mod Pigeonhole
 pub mod Steps
+pub mod Placed

@@ -1,0 +1,4 @@
+-- The laws that proofs of code cite.
+pub mod Printing
+pub mod Copying
+pub mod IndexPrinting

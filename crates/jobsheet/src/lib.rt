@@ -1,0 +1,2 @@
+// The job sheet: reading it, and printing the answer to it.
+pub mod print;
