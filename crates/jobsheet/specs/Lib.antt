@@ -2,3 +2,7 @@
 pub mod Printing
 pub mod Copying
 pub mod IndexPrinting
+pub mod FormReading
+pub mod Digits
+pub mod LineReading
+pub mod SheetReading

@@ -1,2 +1,4 @@
 // The job sheet: reading it, and printing the answer to it.
+pub mod form;
 pub mod print;
+pub mod sheet;

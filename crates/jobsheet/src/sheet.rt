@@ -1,0 +1,78 @@
+// The job sheet, line by line. All characters of its forms are run together in one slice, and their lengths stand in another: the
+// words, then the text, then the finds. A form takes seven bytes and five for each character, so slices of a seventh and a fifth
+// of the sheet's length hold every sheet.
+ghost use mathlib.Core.Path.{_≡_};
+ghost use Prim.Native.Nat.{_≤_};
+ghost use lib.ListN.{length};
+ghost use Rattle.jobsheet.specs.LineReading.{Line-end, Form-end};
+ghost use Rattle.jobsheet.specs.SheetReading.{Room, Forms-got};
+use crate::form;
+
+// Where the line that starts at `at` ends: at its LF, or at the end of the sheet.
+fn line_end(sheet: &[u8], at: usize) -> usize
+    requires { ⌜ at ≤ length (now sheet) ⌝ }
+    ensures { λ r. ⌜ Line-end (now (sheet .entry)) at r ⌝ }
+{
+    let mut i = at;
+    while i < sheet.len() {
+        if sheet[i] == b'\n' {
+            return i;
+        }
+        i += 1;
+    }
+    i
+}
+
+// Where the form with this head that starts at `at` ends: at its LF. The end of the sheet where there is no such form.
+fn form_end(sheet: &[u8], at: usize, head: &[u8]) -> usize
+    requires { ⌜ (at ≤ length (now sheet)) × (length (now head) ≡ 5) ⌝ }
+    ensures { λ r. ⌜ Form-end (now (head .entry)) (now (sheet .entry)) at r ⌝ }
+{
+    let end = line_end(sheet, at);
+    if sheet.len() <= end {
+        return end;
+    }
+    if form::is_form(&sheet[at..end], head) {
+        return end;
+    }
+    sheet.len()
+}
+
+// Where reading goes on: at a byte of the sheet, after so many characters and so many forms.
+pub struct Place {
+    pub at: usize,
+    pub used: usize,
+    pub count: usize,
+}
+
+// Reads all forms with a head that stand at `at`.
+fn read_forms(
+    sheet: &[u8],
+    at: usize,
+    head: &[u8],
+    chars: &mut [u16],
+    used: usize,
+    lengths: &mut [u16],
+    count: usize,
+) -> Place
+    requires { ⌜ Room (now head) (now sheet) at used count (now chars) (now lengths) × (length (now head) ≡ 5) ⌝ }
+    ensures { λ r. ⌜ Forms-got (now (head .entry)) (now (sheet .entry)) at used count (now (chars .entry)) (now (lengths .entry)) (r .at) (r .used) (r .count) (now (chars .exit)) (now (lengths .exit)) ⌝ }
+{
+    let mut from = at;
+    let mut filled = used;
+    let mut i = count;
+    let mut end = form_end(sheet, from, head);
+    while end < sheet.len() {
+        let next = form::put_string(&sheet[from..end], chars, filled);
+        lengths[i] = (next - filled) as u16;
+        filled = next;
+        i += 1;
+        from = end + 1;
+        end = form_end(sheet, from, head);
+    }
+    Place {
+        at: from,
+        used: filled,
+        count: i,
+    }
+}
