@@ -6,3 +6,4 @@ pub mod FormReading
 pub mod Digits
 pub mod LineReading
 pub mod SheetReading
+pub mod WholeSheet

@@ -45,7 +45,7 @@ unfolding onto-all
 onto-none ls m = refl
 
 -- there is a first line
-lines-some : (bs : List ℕ) → (m : List ℕ) × (ls : List (List ℕ)) × (lines bs ≡ m ∷ ls)
+pub lines-some : (bs : List ℕ) → (m : List ℕ) × (ls : List (List ℕ)) × (lines bs ≡ m ∷ ls)
 unfolding lines onto-first
 lines-some [] = ([], [], refl)
 lines-some (b ∷ bs) = pick (eqb b line-feed) (lines-some bs)

@@ -6,6 +6,7 @@ ghost use Prim.Native.Nat.{_≤_};
 ghost use lib.ListN.{length};
 ghost use Rattle.jobsheet.specs.LineReading.{Line-end, Form-end};
 ghost use Rattle.jobsheet.specs.SheetReading.{Room, Forms-got};
+ghost use Rattle.jobsheet.specs.WholeSheet.{Enough, Sheet-read};
 use crate::form;
 
 // Where the line that starts at `at` ends: at its LF, or at the end of the sheet.
@@ -74,5 +75,55 @@ fn read_forms(
         at: from,
         used: filled,
         count: i,
+    }
+}
+
+// The parts of a sheet: whether it is in form and counts; how many words it has, and characters in them; how many characters in the
+// text; how many finds.
+pub struct Parts {
+    pub good: bool,
+    pub words: usize,
+    pub dictionary: usize,
+    pub text: usize,
+    pub finds: usize,
+}
+
+// Reads a sheet.
+pub fn read_sheet(sheet: &[u8], chars: &mut [u16], lengths: &mut [u16]) -> Parts
+    requires { ⌜ Enough (now sheet) (now chars) (now lengths) ⌝ }
+    ensures { λ r. ⌜ Sheet-read (now (sheet .entry)) (now (chars .entry)) (now (lengths .entry)) (r .good) (r .words) (r .dictionary) (r .text) (r .finds) (now (chars .exit)) (now (lengths .exit)) ⌝ }
+{
+    let words = read_forms(sheet, 0, b"(word", chars, 0, lengths, 0);
+    let texts = read_forms(
+        sheet,
+        words.at,
+        b"(text",
+        chars,
+        words.used,
+        lengths,
+        words.count,
+    );
+    let finds = read_forms(
+        sheet,
+        texts.at,
+        b"(find",
+        chars,
+        texts.used,
+        lengths,
+        texts.count,
+    );
+    let text = texts.used - words.used;
+    let found = finds.count - texts.count;
+    let one_text = texts.count - words.count == 1;
+    Parts {
+        good: one_text
+            & (finds.at == sheet.len())
+            & (words.count <= 200)
+            & (text <= 2000)
+            & (found <= 50),
+        words: words.count,
+        dictionary: words.used,
+        text,
+        finds: found,
     }
 }
