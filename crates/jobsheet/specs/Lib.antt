@@ -7,3 +7,4 @@ pub mod Digits
 pub mod LineReading
 pub mod SheetReading
 pub mod WholeSheet
+pub mod JobReading
