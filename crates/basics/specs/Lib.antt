@@ -5,3 +5,4 @@ pub mod Order
 pub mod Pigeonhole
 pub mod Steps
 pub mod Placed
+pub mod Copying

@@ -3,7 +3,7 @@ ghost use mathlib.Core.Path.{_≡_};
 ghost use Prim.Native.Nat.{_+_, _≤_};
 ghost use lib.ListN.{length, take, drop};
 ghost use Rattle.spec.specs.JobSheet.{sheet-refusal};
-ghost use Rattle.jobsheet.specs.JobReading.{some-length-wrong, parts-refusal, Job-parts};
+ghost use Rattle.laws.specs.JobReading.{some-length-wrong, parts-refusal, Job-parts};
 use crate::sheet;
 use dictionary::admission;
 

@@ -46,3 +46,11 @@ pub mod Cover
 pub mod Reach
 pub mod ReachRaises
 pub mod ReachExact
+pub mod Printing
+pub mod IndexPrinting
+pub mod FormReading
+pub mod Digits
+pub mod LineReading
+pub mod SheetReading
+pub mod WholeSheet
+pub mod JobReading

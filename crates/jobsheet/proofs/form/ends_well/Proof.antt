@@ -8,7 +8,7 @@ use borrow.Author.Needs.{needs}
 use borrow.Author.Tests.{not-true, not-false}
 use lib.ListN.{length, getD, drop}
 use Rattle.spec.specs.JobSheet.{ends-well}
-use Rattle.jobsheet.specs.FormReading.{spaced-at, ends-next, ends-other, ends-last}
+use Rattle.laws.specs.FormReading.{spaced-at, ends-next, ends-other, ends-last}
 use Rattle.jobsheet.proofs.form.ends_well.Statement.{statement}
 use Rattle.jobsheet.proofs.form.ends_well.Tie as tie
 

@@ -5,7 +5,7 @@ use Prim.Native.Nat.{_-_}
 use native.Mathlib.Omega.{arith}
 use borrow.Author.Needs.{needs}
 use lib.ListN.{length}
-use Rattle.jobsheet.specs.FormReading.{Head-read, head-short, head-start, head-step, head-stop, head-end}
+use Rattle.laws.specs.FormReading.{Head-read, head-short, head-start, head-step, head-stop, head-end}
 use Rattle.jobsheet.proofs.form.has_head.Statement.{statement}
 use Rattle.jobsheet.proofs.form.has_head.Tie as tie
 

@@ -4,7 +4,7 @@ use mathlib.Core.Path.{_≡_}
 use Prim.Native.Nat.{_-_}
 use native.Mathlib.Omega.{arith}
 use lib.ListN.{length}
-use Rattle.jobsheet.specs.FormReading.{String-read, string-start, string-end, string-step, string-room, spaced-here}
+use Rattle.laws.specs.FormReading.{String-read, string-start, string-end, string-step, string-room, spaced-here}
 use Rattle.jobsheet.proofs.form.put_string.Statement.{statement}
 use Rattle.jobsheet.proofs.form.put_string.Tie as tie
 

@@ -4,7 +4,7 @@ use native.Mathlib.Omega.{arith}
 use borrow.Author.Needs.{needs}
 use borrow.Author.Tests.{not-true, not-false}
 use Rattle.spec.specs.JobSheet.{sheet-refusal}
-use Rattle.jobsheet.specs.JobReading.{job-parts, parts-tested, sheet-long, sheet-broken, sheet-whole}
+use Rattle.laws.specs.JobReading.{job-parts, parts-tested, sheet-long, sheet-broken, sheet-whole}
 use Rattle.jobsheet.proofs.job.read_job.Statement.{statement}
 use Rattle.jobsheet.proofs.job.read_job.Tie as tie
 

@@ -5,7 +5,7 @@ use Prim.Native.Nat.{_-_, _≤_}
 use native.Mathlib.Omega.{arith}
 use borrow.Author.Needs.{needs}
 use lib.ListN.{length, drop}
-use Rattle.jobsheet.specs.JobReading.{some-length-wrong, length-none, length-many, length-right, lengths-end}
+use Rattle.laws.specs.JobReading.{some-length-wrong, length-none, length-many, length-right, lengths-end}
 use Rattle.jobsheet.proofs.job.some_length_wrong.Statement.{statement}
 use Rattle.jobsheet.proofs.job.some_length_wrong.Tie as tie
 

@@ -4,7 +4,7 @@ use Prim.Native.Nat.{_-_, _≤_}
 use native.Mathlib.Omega.{arith}
 use lib.ListN.{length, drop}
 use Rattle.basics.specs.Placed.{Writing, writing-start}
-use Rattle.jobsheet.specs.Copying.{copy-room, copy-step, copy-end}
+use Rattle.basics.specs.Copying.{copy-room, copy-step, copy-end}
 use Rattle.jobsheet.proofs.print.put_bytes.Statement.{statement}
 use Rattle.jobsheet.proofs.print.put_bytes.Tie as tie
 

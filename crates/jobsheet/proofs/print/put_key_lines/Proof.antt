@@ -6,7 +6,7 @@ use native.Mathlib.Omega.{arith}
 use borrow.Author.Needs.{needs}
 use lib.ListN.{length}
 use Rattle.spec.specs.Index.{keys-of, count-at}
-use Rattle.jobsheet.specs.IndexPrinting.{Whole, Keys-printed, keys-start, keys-end, keys-step, places-fit, line-fits}
+use Rattle.laws.specs.IndexPrinting.{Whole, Keys-printed, keys-start, keys-end, keys-step, places-fit, line-fits}
 use Rattle.jobsheet.proofs.print.put_key_lines.Statement.{statement}
 use Rattle.jobsheet.proofs.print.put_key_lines.Tie as tie
 

@@ -7,7 +7,7 @@ use borrow.Author.Needs.{needs}
 use lib.ListN.{length, getD, drop}
 use Rattle.basics.specs.Placed.{Writing, writing-start, writing-as, writing-room, writing-step, writing-end}
 use Rattle.spec.specs.JobAnswer.{decimal, gap}
-use Rattle.jobsheet.specs.Printing.{each-spaced, each-next, each-end}
+use Rattle.laws.specs.Printing.{each-spaced, each-next, each-end}
 use Rattle.jobsheet.proofs.print.put_next_positions.Statement.{statement}
 use Rattle.jobsheet.proofs.print.put_next_positions.Tie as tie
 

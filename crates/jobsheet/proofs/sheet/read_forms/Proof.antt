@@ -5,7 +5,7 @@ use Prim.Native.Nat.{_+_, _-_, _≤_}
 use native.Mathlib.Omega.{arith}
 use borrow.Author.Needs.{needs}
 use lib.ListN.{length}
-use Rattle.jobsheet.specs.SheetReading.{Forms-read, forms-start, forms-end, forms-step, line-long, line-good, string-short, string-fits, length-fits}
+use Rattle.laws.specs.SheetReading.{Forms-read, forms-start, forms-end, forms-step, line-long, line-good, string-short, string-fits, length-fits}
 use Rattle.jobsheet.proofs.sheet.read_forms.Statement.{statement}
 use Rattle.jobsheet.proofs.sheet.read_forms.Tie as tie
 

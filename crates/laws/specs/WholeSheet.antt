@@ -11,8 +11,8 @@ use borrow.Author.Tests.{eq-eqb, ne-eqb, eqb-true, eqb-false}
 use Rattle.basics.specs.Bools.{true-or-false}
 use Rattle.basics.specs.Placed.{placed, length-placed, placed-none, placed-append, Wrote}
 use Rattle.spec.specs.JobSheet.{word-head, text-head, find-head, line-feed, onto-first, lines, forms, after, nothing-left, words-on, texts-on, finds-on, left-on, text-on, in-form, in-counts, run-together, lengths-of}
-use Rattle.jobsheet.specs.LineReading.{size, size-lines, forms-size, lines-some}
-use Rattle.jobsheet.specs.SheetReading.{Room, Forms-got}
+use Rattle.laws.specs.LineReading.{size, size-lines, forms-size, lines-some}
+use Rattle.laws.specs.SheetReading.{Room, Forms-got}
 
 -- ONE READING AFTER THE OTHER
 

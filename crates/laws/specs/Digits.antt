@@ -10,7 +10,7 @@ use lib.ListN.{getD}
 use borrow.Author.Tests.{ltb-true, leb-true}
 use Rattle.basics.specs.Bools.{true-or-false, and-left, and-right}
 use Rattle.spec.specs.JobSheet.{digit, is-digit, character, is-spaced}
-use Rattle.jobsheet.specs.FormReading.{spaced-at, character-at}
+use Rattle.laws.specs.FormReading.{spaced-at, character-at}
 
 -- THE TABLE
 

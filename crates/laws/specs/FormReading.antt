@@ -14,7 +14,7 @@ use Rattle.basics.specs.Bools.{clash, true-or-false, false-put, and-put, and-le
 use Rattle.basics.specs.Placed.{Wrote, Writing, writing-start, writing-as, writing-one, writing-end}
 use Rattle.spec.specs.Words.{same}
 use Rattle.spec.specs.JobSheet.{closing, space, no-digit, head-length, digit, is-digit, character, is-spaced, ends-well, characters, is-form, string-in}
-use Rattle.jobsheet.specs.Copying.{drop-next}
+use Rattle.basics.specs.Copying.{drop-next}
 
 -- THE HEAD
 

@@ -10,10 +10,10 @@ use lib.ListN.{length, getD, take, drop, length-append, length-drop, drop-of-len
 use lib.Seq.{take-suc, getD-drop}
 use borrow.Author.Tests.{eq-eqb, ne-eqb}
 use Rattle.basics.specs.Bools.{true-or-false}
 use Rattle.laws.specs.WordCode.{part}
 use Rattle.spec.specs.JobSheet.{line-feed, is-form, string-in, onto-first, lines, forms, after, run-together}
-use Rattle.jobsheet.specs.Copying.{drop-next}
-use Rattle.jobsheet.specs.FormReading.{form-long}
+use Rattle.basics.specs.Copying.{drop-next}
+use Rattle.laws.specs.FormReading.{form-long}
 
 -- ONE LINE
 

@@ -7,10 +7,10 @@ use native.Mathlib.Omega.{arith}
 use lib.Dec.{ltb, leb, eqb}
 use lib.ListN.{length, getD, take, drop, set, length-append}
 use Rattle.basics.specs.Placed.{Wrote, Writing, writing-start, writing-as, writing-room, writing-step, writing-one, writing-end}
 use Rattle.laws.specs.WordCode.{part, length-part}
 use Rattle.spec.specs.JobSheet.{ends-well, string-in, lines, forms, after, run-together, lengths-of}
-use Rattle.jobsheet.specs.FormReading.{form-ends, form-long}
-use Rattle.jobsheet.specs.LineReading.{Form-end}
+use Rattle.laws.specs.FormReading.{form-ends, form-long}
+use Rattle.laws.specs.LineReading.{Form-end}
 
 -- the strings of the forms with head h from `at` on
 abbrev pub strings-at : (h s : List ℕ) → (at : ℕ) → List (List ℕ)

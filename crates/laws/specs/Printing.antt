@@ -10,7 +10,7 @@ use lib.ListN.{length, getD, take, drop, drop-of-length-le}
 use lib.Seq.{take-all}
 use borrow.Author.Tests.{lt-ltb, le-ltb, eq-eqb, ne-eqb}
 use Rattle.basics.specs.Bools.{le-or-lt}
-use Rattle.jobsheet.specs.Copying.{drop-next}
+use Rattle.basics.specs.Copying.{drop-next}
 use Rattle.spec.specs.Words.{Key, key}
 use Rattle.spec.specs.Numbers.{Line, line}
 use Rattle.spec.specs.JobAnswer.{decimal-within, decimal, digit-byte, hexadecimal, index-head, key-word-head, key-lone-head, found-head, refused-head, gap, opening-list, ending, ending-list, spaced, index-line, found-line, refused-line, key-name, key-line}

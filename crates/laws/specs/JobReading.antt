@@ -14,8 +14,8 @@ use Rattle.basics.specs.Placed.{placed}
 use Rattle.spec.specs.Dictionary.{dictionary-refusal, words-from}
 use Rattle.spec.specs.Calls.{string-wrong, or-else}
 use Rattle.spec.specs.JobSheet.{words-on, texts-on, text-on, finds-on, nothing-left, left-on, in-form, in-counts, run-together, lengths-of, sheet-too-long, sheet-wrong, some-string-wrong, contents-refusal, sheet-refusal}
-use Rattle.jobsheet.specs.Copying.{drop-next}
-use Rattle.jobsheet.specs.WholeSheet.{Sheet-read, one-text, length-lengths}
+use Rattle.basics.specs.Copying.{drop-next}
+use Rattle.laws.specs.WholeSheet.{Sheet-read, one-text, length-lengths}
 
 -- EVERY FIND IS TESTED, by its length
 
