@@ -80,7 +80,7 @@ pub fn put_next_decimal(out: &mut [u8], at: usize, n: usize) -> usize
     requires { ⌜ at + length (gap ++ decimal n) ≤ length (now out) ⌝ }
     ensures { λ r. ⌜ Wrote (gap ++ decimal n) at (now (out .entry)) r (now (out .exit)) ⌝ }
 {
-    let end = put_byte(out, at, b' ');
+    let end = put_bytes(out, at, b" ");
     put_decimal(out, end, n)
 }
 

@@ -133,7 +133,7 @@ pub record Job-examples : Type 0 where
   pub no-text : job-answer (word a) ≡ refused (one ∷ one ∷ [])
   pub two-texts : job-answer (text a ++ text a) ≡ refused (one ∷ one ∷ [])
   pub word-after-text : job-answer (text a ++ word a) ≡ refused (one ∷ one ∷ [])
-  pub last-line-feed : job-answer (text-head ++ (41 ∷ [])) ≡ refused (one ∷ one ∷ [])
+  pub last-line-feed : job-answer (text a ++ find-head ++ a ++ (41 ∷ [])) ≡ refused (one ∷ one ∷ [])
   pub byte-after-the-last : job-answer (text a ++ (32 ∷ [])) ≡ refused (one ∷ one ∷ [])
   pub line-after-the-last : job-answer (text a ++ (10 ∷ [])) ≡ refused (one ∷ one ∷ [])
   pub carriage-return : job-answer (text-head ++ (41 ∷ 13 ∷ 10 ∷ [])) ≡ refused (one ∷ one ∷ [])
