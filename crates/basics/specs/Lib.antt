@@ -7,3 +7,5 @@ pub mod Stores
 pub mod Writing
 pub mod Chain
 pub mod Copying
+pub mod Placed
+pub mod PlacedCopies

@@ -86,3 +86,11 @@ pub mod TallyAnswers
 pub mod KeyLengths
 pub mod LinePlaces
 pub mod Opening
+pub mod Printing
+pub mod IndexPrinting
+pub mod FormReading
+pub mod Digits
+pub mod LineReading
+pub mod SheetReading
+pub mod WholeSheet
+pub mod JobReading

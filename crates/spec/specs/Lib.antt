@@ -13,3 +13,6 @@ pub mod Beyond
 pub mod Published
 pub mod Models
 pub mod Examples
+pub mod JobSheet
+pub mod JobAnswer
+pub mod JobExamples
