@@ -94,3 +94,15 @@ pub mod LineReading
 pub mod SheetReading
 pub mod WholeSheet
 pub mod JobReading
+pub mod Window
+pub mod WindowSearch
+pub mod Marking
+pub mod Opened
+pub mod Tables
+pub mod Raising
+pub mod Finding
+pub mod Sizing
+pub mod Searching
+pub mod Bearing
+pub mod Judging
+pub mod Cutting

@@ -1,7 +1,7 @@
 // The face of the library: every public operation once, for C and Rust to link. No operation has a `requires`, and each contract
 // fixes the answer and the final content of every slice lent to be written, for refused input too. A slice lent to be read
 // stays as it was by its type.
-ghost use Rattle.spec.specs.Calls.{Admit-says, Build-says, Tally-says};
+ghost use Rattle.spec.specs.Calls.{Admit-says, Build-says, Cut-says, Search-says, Tally-says};
 use spec::Answer;
 use spec::TallyAnswer;
 
@@ -27,6 +27,36 @@ pub extern "C" fn mopekihua_build(
     ensures { λ r. ⌜ Build-says (now (chars .entry)) (now (lengths .entry)) (now (text .entry)) r (now (output .entry)) (now (output .exit)) (now (work .entry)) (now (work .exit)) ⌝ }
 {
     builder::build::build(chars, lengths, text, output, work)
+}
+
+// Finds a string in an index, received or not, without the text. Refusals 1, 2, 3, 5, 6, 8, which leave the output as it was;
+// accepted it answers how many positions are written to the front of the output, ascending, each once.
+#[no_mangle]
+pub extern "C" fn mopekihua_search(
+    chars: &[u16],
+    lengths: &[u16],
+    index: &[u16],
+    string: &[u16],
+    output: &mut [u16],
+) -> Answer
+    ensures { λ r. ⌜ Search-says (now (chars .entry)) (now (lengths .entry)) (now (index .entry)) (now (string .entry)) r (now (output .entry)) (now (output .exit)) ⌝ }
+{
+    searcher::search::search_index(chars, lengths, index, string, output)
+}
+
+// Cuts an index down to the keys that bear on a string. Refusals 1, 2, 3, 5, 6, 8, which leave the output as it was; accepted it answers
+// the count of numbers written to the front of the output.
+#[no_mangle]
+pub extern "C" fn mopekihua_cut(
+    chars: &[u16],
+    lengths: &[u16],
+    index: &[u16],
+    string: &[u16],
+    output: &mut [u16],
+) -> Answer
+    ensures { λ r. ⌜ Cut-says (now (chars .entry)) (now (lengths .entry)) (now (index .entry)) (now (string .entry)) r (now (output .entry)) (now (output .exit)) ⌝ }
+{
+    searcher::cut::cut_index(chars, lengths, index, string, output)
 }
 
 // Tallies an index by word length. Refusals 1, 2, 3, 5, with 32 zeros; accepted it answers the number of entries, and under l - 1

@@ -1,0 +1,79 @@
+-- The pass over one position list: each entry at the offset raises the reach of its start. Assumes nothing.
+use mathlib.Core.Path.{_≡_, refl, sym}
+use mathlib.Core.List.{List}
+use Prim.Native.Nat.{ℕ, _+_, _-_, _≤_, _<_, max}
+use native.Mathlib.Omega.{arith}
+use lib.ListN.{length, getD, drop, set, length-set}
+use Rattle.laws.specs.Window.{Within, within-more, within-set, Reaches, Midway, midway-start, midway-step, midway-end}
+use Rattle.laws.specs.WindowSearch.{raise-all, places-all, raise-before, raise-after, raise-far, raise-less, raise-here, places-none, places-next}
+
+-- a key of this length shares a place with the string at the offset, and the numbers that the pass computes are small
+pub record Offset-fits (long i o q : ℕ) : Type 0 where
+  pub shared : i ≤ o + long
+  pub end-small : o + long ≤ 65535
+  pub first-small : q ≤ 65536
+
+-- after j of the positions bs, with the window at rs and no reach above top
+pub record Marking (bs : List ℕ) (l i o q : ℕ) (old : List ℕ) (most : ℕ) (rs : List ℕ) (top j : ℕ) : Type 0 where
+  pub within : j ≤ length bs
+  pub way : Midway (places-all i o l q (drop j bs)) (places-all i o l q bs old) old rs top
+  pub top-small : top ≤ max most (o + l - i)
+
+pub marking-start :
+    (bs : List ℕ) (l i o q : ℕ) (old : List ℕ) (most : ℕ) → Within most old → Marking bs l i o q old most old most 0
+marking-start bs l i o q old most w =
+    record { within = omega arith; way = midway-start (places-all i o l q bs) old most w; top-small = omega arith }
+
+module _ (bs : List ℕ) (l i o q : ℕ) (old : List ℕ) (most : ℕ) (rs : List ℕ) (top j : ℕ) (h : Marking bs l i o q old most rs top j) where
+  pub marking-end : length bs ≤ j → Reaches (places-all i o l q bs old) rs top
+  marking-end past =
+      midway-end (places-all i o l q (drop j bs)) (places-all i o l q bs old) old rs top (h .way) (places-none i o l q bs j past rs)
+
+  module _ (some : j < length bs) where
+    -- the jth position changes nothing
+    pass : raise-all i o l q (getD bs j 0) rs ≡ rs → Marking bs l i o q old most rs top (j + 1)
+    pass same =
+        record {
+          within = omega arith;
+          way =
+              midway-step (places-all i o l q (drop j bs)) (places-all i o l q (drop (j + 1) bs)) (places-all i o l q bs old) old rs
+              rs top top (raise-all i o l q (getD bs j 0) rs) (h .way) (places-next i o l q bs j some rs) refl
+              (record { is = sym same; bounded = h .way .bounded });
+          top-small = h .top-small;
+        }
+
+    pub marking-before : getD bs j 0 + i < q + o → Marking bs l i o q old most rs top (j + 1)
+    marking-before early = pass (raise-before i o l q (getD bs j 0) rs early)
+
+    module _ (lo : q + o ≤ getD bs j 0 + i) where
+      pub marking-after : length rs ≤ getD bs j 0 + i - (q + o) → Marking bs l i o q old most rs top (j + 1)
+      marking-after late = pass (raise-after i o l q (getD bs j 0) rs lo late)
+
+      module _ (inside : getD bs j 0 + i - (q + o) < length rs) where
+        pub marking-far : getD rs (getD bs j 0 + i - (q + o)) 0 < o → Marking bs l i o q old most rs top (j + 1)
+        marking-far far = pass (raise-far i o l q (getD bs j 0) rs lo inside far)
+
+        module _ (near : o ≤ getD rs (getD bs j 0 + i - (q + o)) 0) where
+          pub marking-less :
+              o + l - i ≤ getD rs (getD bs j 0 + i - (q + o)) 0 → Marking bs l i o q old most rs top (j + 1)
+          marking-less less = pass (raise-less i o l q (getD bs j 0) rs lo inside near less)
+
+          pub marking-raised :
+              getD rs (getD bs j 0 + i - (q + o)) 0 < o + l - i → (peak : ℕ) → peak ≡ max most (o + l - i) →
+              Marking bs l i o q old most (set rs (getD bs j 0 + i - (q + o)) (o + l - i)) peak (j + 1)
+          marking-raised gain peak is =
+              record {
+                within = omega arith;
+                way =
+                    midway-step (places-all i o l q (drop j bs)) (places-all i o l q (drop (j + 1) bs))
+                    (places-all i o l q bs old) old rs (set rs (getD bs j 0 + i - (q + o)) (o + l - i)) top peak
+                    (raise-all i o l q (getD bs j 0) rs) (h .way) (places-next i o l q bs j some rs)
+                    (length-set rs (getD bs j 0 + i - (q + o)) (o + l - i))
+                    (record {
+                      is = sym (raise-here i o l q (getD bs j 0) rs lo inside near gain);
+                      bounded =
+                          within-set peak rs (getD bs j 0 + i - (q + o)) (o + l - i) (omega arith)
+                          (within-more top peak rs (omega (arith, h .top-small)) (h .way .bounded));
+                    });
+                top-small = omega arith;
+              }
