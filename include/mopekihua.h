@@ -186,6 +186,39 @@ mopekihua_tally_answer mopekihua_tally(const uint16_t *chars, size_t chars_len,
                                        size_t lengths_len,
                                        const uint16_t *index, size_t index_len);
 
+/*
+ * Finds a string in an index, without the text.
+ *
+ * The dictionary is lent as to mopekihua_admit, the index as to
+ * mopekihua_tally. Lay the string at position p so that it ends at or before
+ * n. An entry agrees with it if the two overlap and carry equal characters
+ * wherever both lie. Position p is found if each of its string_len positions
+ * is covered by an entry that agrees. If a text has this index, these are
+ * exactly the positions at which the string stands in it; the index need not
+ * be that of a text.
+ *
+ * Answers, the first that applies:
+ *   MOPEKIHUA_DICTIONARY_TOO_LARGE, MOPEKIHUA_LENGTHS_WRONG,
+ *   MOPEKIHUA_WORDS_NOT_ASCENDING   as mopekihua_admit answers
+ *   MOPEKIHUA_INDEX_NOT_READABLE    the index is not readable
+ *   MOPEKIHUA_STRING_LENGTH_WRONG   string_len is 0 or above 256
+ *   MOPEKIHUA_OUTPUT_TOO_SHORT      output_len is below the number of
+ *                                   positions found
+ *   MOPEKIHUA_ACCEPTED              the positions found are written to the
+ *                                   front of output, ascending, each once;
+ *                                   count is their number
+ *
+ * At most n positions are found, so an output of this length is never too
+ * short. output past count is left as it was; after a refusal all of output
+ * is. For slices lent as said above the call always returns, whatever they
+ * hold.
+ */
+mopekihua_answer mopekihua_search(const uint16_t *chars, size_t chars_len,
+                                  const uint16_t *lengths, size_t lengths_len,
+                                  const uint16_t *index, size_t index_len,
+                                  const uint16_t *string, size_t string_len,
+                                  uint16_t *output, size_t output_len);
+
 #ifdef __cplusplus
 }
 #endif

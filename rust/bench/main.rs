@@ -30,6 +30,7 @@ const OPERATIONS: &[(&str, Print)] = &[
     ("admission", rows::admission::print),
     ("build", rows::building::print),
     ("tally", rows::tally::print),
+    ("search", rows::searching::print),
 ];
 
 fn main() {

@@ -37,6 +37,13 @@ pub fn race(mut proved: impl FnMut(), mut plain: impl FnMut()) -> Race {
     best
 }
 
+/// The best time of one program alone, in nanoseconds.
+pub fn best(run: &mut impl FnMut()) -> f64 {
+    (0..ROUNDS)
+        .map(|_| nanoseconds(run))
+        .fold(f64::INFINITY, f64::min)
+}
+
 fn nanoseconds(run: &mut impl FnMut()) -> f64 {
     let begun = Instant::now();
     run();

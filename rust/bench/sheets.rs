@@ -5,6 +5,7 @@
 use std::collections::BTreeSet;
 
 use crate::random::Random;
+use crate::rows::searching::Search;
 
 /// A dictionary as it is lent, and texts to index with it.
 pub struct Case {
@@ -36,6 +37,23 @@ impl Case {
         let index_of = |text: &Vec<u16>| mopekihua::build(&self.chars, &self.lengths, text);
         let indexes: Result<_, _> = self.texts.iter().map(index_of).collect();
         indexes.expect("the generators keep to the limits")
+    }
+
+    /// Eight strings of these lengths from each text, as far as it is as long.
+    pub fn searches(&self, low: usize, high: usize) -> Vec<Search> {
+        let mut random = Random::seeded(256);
+        let mut searches = Vec::new();
+        for (number, text) in self.texts.iter().enumerate() {
+            for _ in 0..8 {
+                let long = random.within(low, high).min(text.len());
+                let start = random.within(0, text.len() - long);
+                searches.push(Search {
+                    text: number,
+                    string: text[start..start + long].to_vec(),
+                });
+            }
+        }
+        searches
     }
 
     /// The number of characters in all texts.

@@ -86,6 +86,19 @@ unsafe extern "C" {
         index: *const u16,
         index_len: usize,
     ) -> TallyAnswer;
+
+    fn mopekihua_search(
+        chars: *const u16,
+        chars_len: usize,
+        lengths: *const u16,
+        lengths_len: usize,
+        index: *const u16,
+        index_len: usize,
+        string: *const u16,
+        string_len: usize,
+        output: *mut u16,
+        output_len: usize,
+    ) -> Answer;
 }
 
 pub(crate) fn admit(chars: &[u16], lengths: &[u16]) -> Answer {
@@ -131,6 +144,30 @@ pub(crate) fn tally(chars: &[u16], lengths: &[u16], index: &[u16]) -> TallyAnswe
             lengths.len(),
             index.as_ptr(),
             index.len(),
+        )
+    }
+}
+
+pub(crate) fn search(
+    chars: &[u16],
+    lengths: &[u16],
+    index: &[u16],
+    string: &[u16],
+    output: &mut [u16],
+) -> Answer {
+    // SAFETY: as in `admit`, and for `output` as in `build`.
+    unsafe {
+        mopekihua_search(
+            chars.as_ptr(),
+            chars.len(),
+            lengths.as_ptr(),
+            lengths.len(),
+            index.as_ptr(),
+            index.len(),
+            string.as_ptr(),
+            string.len(),
+            output.as_mut_ptr(),
+            output.len(),
         )
     }
 }

@@ -52,7 +52,8 @@
 //! - under each key positions ascend strictly from 1 or more, and the last
 //!   character of the key falls at or before n.
 //!
-//! [`tally`] counts the entries of a readable index by their lengths.
+//! [`tally`] counts the entries of a readable index by their lengths, and
+//! [`search`] finds a string in it without the text.
 //!
 //! # What is proved and what is not
 //!
@@ -75,10 +76,12 @@
 mod building;
 mod ffi;
 mod refusal;
+mod searching;
 mod tally;
 
 pub use building::{build, build_into, index_bound, work_needed};
 pub use refusal::Refusal;
+pub use searching::{search, search_into};
 pub use tally::{Tally, tally};
 
 /// Admits a dictionary, and answers its number of words.

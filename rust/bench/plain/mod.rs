@@ -5,3 +5,4 @@ pub mod admission;
 pub mod building;
 pub mod matching;
 pub mod reading;
+pub mod searching;

@@ -2,4 +2,5 @@
 
 pub mod admission;
 pub mod building;
+pub mod searching;
 pub mod tally;

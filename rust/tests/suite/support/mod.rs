@@ -4,6 +4,7 @@
 
 pub mod building;
 pub mod damage;
+pub mod delivery;
 pub mod dictionary;
 pub mod index_damage;
 pub mod lent;
@@ -11,4 +12,5 @@ pub mod lists;
 pub mod oracle;
 pub mod random;
 pub mod reading;
+pub mod searching;
 pub mod text;

@@ -3,9 +3,11 @@
 
 mod index;
 mod reading;
+mod searching;
 
 pub use index::{Key, Line, build, index_of, numbers};
 pub use reading::tally;
+pub use searching::{places_in_text, search};
 
 /// Admission: the number of words, or the number of the refusal.
 pub fn admit(chars: &[u16], lengths: &[u16]) -> Result<usize, u32> {

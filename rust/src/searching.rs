@@ -1,0 +1,86 @@
+//! Finding a string in an index.
+
+use crate::{Refusal, ffi};
+
+/// Finds a string in an index, writes the positions into a lent slice, and
+/// answers how many there are.
+///
+/// `chars` and `lengths` are a dictionary as for [`admit`](crate::admit). Lay
+/// the string at position p so that it ends at or before n. An entry agrees with
+/// it if the two overlap and carry equal characters wherever both lie; p is
+/// found if each position of the string is covered by an entry that agrees. If
+/// a text has this index, these are exactly the positions at which the string
+/// stands in it. The index need not be that of a text.
+///
+/// The positions are written to the front of `output`, ascending, each once,
+/// and the rest of `output` stays as it was; after a refusal all of it does. At
+/// most n positions are found, so an output of that length is never too short.
+///
+/// # Errors
+///
+/// The first that applies:
+///
+/// - those of [`admit`](crate::admit);
+/// - [`Refusal::IndexNotReadable`]: the index is not
+///   [readable](crate#indexes) with this dictionary;
+/// - [`Refusal::StringLengthWrong`]: the string is empty or longer than 256;
+/// - [`Refusal::OutputTooShort`]: `output` is shorter than the positions found.
+///
+/// # Examples
+///
+/// ```
+/// // The words ab, abc and bcd, and the index of abcdab.
+/// let chars: Vec<u16> = "ababcbcd".encode_utf16().collect();
+/// let index = [6, 3, 0, 0, 1, 0, 1, 1, 0, 2, 1, 5, 1, 2];
+/// let ab: Vec<u16> = "ab".encode_utf16().collect();
+/// let mut output = [9; 3];
+/// let found = mopekihua::search_into(&chars, &[2, 3, 3], &index, &ab, &mut output);
+/// assert_eq!(found, Ok(2));
+/// assert_eq!(output, [1, 5, 9]);
+/// ```
+pub fn search_into(
+    chars: &[u16],
+    lengths: &[u16],
+    index: &[u16],
+    string: &[u16],
+    output: &mut [u16],
+) -> Result<usize, Refusal> {
+    ffi::search(chars, lengths, index, string, output).into_result()
+}
+
+/// Finds a string in an index, and answers the positions, ascending, each once.
+///
+/// This is [`search_into`] with an output of n numbers, allocated here.
+///
+/// # Errors
+///
+/// The first that applies:
+///
+/// - those of [`admit`](crate::admit);
+/// - [`Refusal::IndexNotReadable`]: the index is not
+///   [readable](crate#indexes) with this dictionary;
+/// - [`Refusal::StringLengthWrong`]: the string is empty or longer than 256.
+///
+/// # Examples
+///
+/// ```
+/// // The words a, aa and aaa: aa stands at three places of aaaa.
+/// let a = [0x61; 6];
+/// let index = mopekihua::build(&a, &[1, 2, 3], &a[..4])?;
+/// assert_eq!(mopekihua::search(&a, &[1, 2, 3], &index, &a[..2])?, [1, 2, 3]);
+/// # Ok::<(), mopekihua::Refusal>(())
+/// ```
+pub fn search(
+    chars: &[u16],
+    lengths: &[u16],
+    index: &[u16],
+    string: &[u16],
+) -> Result<Vec<u16>, Refusal> {
+    // Without numbers the index is refused, and nothing is written.
+    let n = index.first().copied().unwrap_or(0);
+    let mut output = vec![0; usize::from(n)];
+    let count = search_into(chars, lengths, index, string, &mut output)?;
+    output.truncate(count);
+    output.shrink_to_fit();
+    Ok(output)
+}
