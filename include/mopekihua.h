@@ -219,6 +219,37 @@ mopekihua_answer mopekihua_search(const uint16_t *chars, size_t chars_len,
                                   const uint16_t *string, size_t string_len,
                                   uint16_t *output, size_t output_len);
 
+/*
+ * Cuts an index down to what a search for one string needs: the same n, and
+ * exactly the keys that bear on the string, with all their positions.
+ *
+ * A key bears on the string if what it spells contains the string, is contained
+ * in it, ends in a nonempty start of it, or starts with a nonempty end of it. A
+ * search for the string finds the same in the cut-down index as in the whole
+ * one.
+ *
+ * Answers, the first that applies:
+ *   MOPEKIHUA_DICTIONARY_TOO_LARGE, MOPEKIHUA_LENGTHS_WRONG,
+ *   MOPEKIHUA_WORDS_NOT_ASCENDING   as mopekihua_admit answers
+ *   MOPEKIHUA_INDEX_NOT_READABLE    the index is not readable, as for
+ *                                   mopekihua_tally
+ *   MOPEKIHUA_STRING_LENGTH_WRONG   string_len is 0 or above 256
+ *   MOPEKIHUA_OUTPUT_TOO_SHORT      output_len is below the length of the
+ *                                   cut-down index
+ *   MOPEKIHUA_ACCEPTED              the cut-down index is written to the front
+ *                                   of output; count is its length
+ *
+ * It has at most index_len numbers, so an output of this length is never too
+ * short. output past count is left as it was; after a refusal all of output
+ * is. For slices lent as said above the call always returns, whatever they
+ * hold.
+ */
+mopekihua_answer mopekihua_cut(const uint16_t *chars, size_t chars_len,
+                               const uint16_t *lengths, size_t lengths_len,
+                               const uint16_t *index, size_t index_len,
+                               const uint16_t *string, size_t string_len,
+                               uint16_t *output, size_t output_len);
+
 #ifdef __cplusplus
 }
 #endif

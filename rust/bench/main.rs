@@ -31,6 +31,7 @@ const OPERATIONS: &[(&str, Print)] = &[
     ("build", rows::building::print),
     ("tally", rows::tally::print),
     ("search", rows::searching::print),
+    ("cut", rows::cutting::print),
 ];
 
 fn main() {

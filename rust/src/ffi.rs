@@ -99,6 +99,19 @@ unsafe extern "C" {
         output: *mut u16,
         output_len: usize,
     ) -> Answer;
+
+    fn mopekihua_cut(
+        chars: *const u16,
+        chars_len: usize,
+        lengths: *const u16,
+        lengths_len: usize,
+        index: *const u16,
+        index_len: usize,
+        string: *const u16,
+        string_len: usize,
+        output: *mut u16,
+        output_len: usize,
+    ) -> Answer;
 }
 
 pub(crate) fn admit(chars: &[u16], lengths: &[u16]) -> Answer {
@@ -158,6 +171,30 @@ pub(crate) fn search(
     // SAFETY: as in `admit`, and for `output` as in `build`.
     unsafe {
         mopekihua_search(
+            chars.as_ptr(),
+            chars.len(),
+            lengths.as_ptr(),
+            lengths.len(),
+            index.as_ptr(),
+            index.len(),
+            string.as_ptr(),
+            string.len(),
+            output.as_mut_ptr(),
+            output.len(),
+        )
+    }
+}
+
+pub(crate) fn cut(
+    chars: &[u16],
+    lengths: &[u16],
+    index: &[u16],
+    string: &[u16],
+    output: &mut [u16],
+) -> Answer {
+    // SAFETY: as in `admit`, and for `output` as in `build`.
+    unsafe {
+        mopekihua_cut(
             chars.as_ptr(),
             chars.len(),
             lengths.as_ptr(),

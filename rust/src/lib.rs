@@ -53,7 +53,8 @@
 //!   character of the key falls at or before n.
 //!
 //! [`tally`] counts the entries of a readable index by their lengths, and
-//! [`search`] finds a string in it without the text.
+//! [`search`] finds a string in it without the text. [`cut`] leaves what a
+//! search for one string needs.
 //!
 //! # What is proved and what is not
 //!
@@ -74,12 +75,14 @@
 #![deny(missing_docs, unsafe_op_in_unsafe_fn)]
 
 mod building;
+mod cutting;
 mod ffi;
 mod refusal;
 mod searching;
 mod tally;
 
 pub use building::{build, build_into, index_bound, work_needed};
+pub use cutting::{cut, cut_into};
 pub use refusal::Refusal;
 pub use searching::{search, search_into};
 pub use tally::{Tally, tally};

@@ -3,6 +3,7 @@
 
 pub mod admission;
 pub mod building;
+pub mod cutting;
 pub mod matching;
 pub mod reading;
 pub mod searching;

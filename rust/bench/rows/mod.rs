@@ -2,5 +2,6 @@
 
 pub mod admission;
 pub mod building;
+pub mod cutting;
 pub mod searching;
 pub mod tally;

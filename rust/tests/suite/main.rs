@@ -2,8 +2,10 @@
 
 mod admission;
 mod building;
+mod cutting;
 mod random_admission;
 mod random_building;
+mod random_cutting;
 mod random_reading;
 mod random_searching;
 mod reading;

@@ -1,10 +1,12 @@
 //! The definitions read as plainly as they are written, with little regard to
 //! cost.
 
+mod cutting;
 mod index;
 mod reading;
 mod searching;
 
+pub use cutting::cut;
 pub use index::{Key, Line, build, index_of, numbers};
 pub use reading::tally;
 pub use searching::{places_in_text, search};

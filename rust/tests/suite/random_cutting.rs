@@ -1,0 +1,58 @@
+//! Cut-down indexes of random ones against the definition; and a search of the
+//! cut-down index finds what a search of the whole one does.
+
+use crate::support::cutting::cut;
+use crate::support::delivery::Delivery;
+use crate::support::random::Random;
+use crate::support::searching::search;
+use crate::support::text::Subject;
+
+/// Cuts with an output just long enough and one short, and searches both.
+fn try_out(delivery: &Delivery, string: &[u16]) {
+    let Delivery { dictionary, index } = delivery;
+    let less = cut(dictionary, index, string, index.len()).expect("a readable index");
+    assert_eq!(
+        cut(dictionary, index, string, less.len()).as_ref(),
+        Ok(&less)
+    );
+    assert_eq!(cut(dictionary, index, string, less.len() - 1), Err(8));
+    let n = usize::from(index[0]);
+    let found = search(dictionary, index, string, n);
+    assert_eq!(search(dictionary, &less, string, n), found);
+    assert_eq!(
+        cut(dictionary, &less, string, less.len()).as_ref(),
+        Ok(&less)
+    );
+}
+
+#[test]
+fn indexes_of_texts() {
+    let mut random = Random::seeded(41);
+    for round in 0..1_000 {
+        let subject = match round % 2 {
+            0 => Subject::of_few_characters(&mut random, 60),
+            _ => Subject::of_japanese(&mut random, 60),
+        };
+        if subject.text.is_empty() {
+            continue;
+        }
+        let delivery = Delivery::of_text(&subject);
+        for _ in 0..4 {
+            let start = random.place(subject.text.len());
+            let long = random.within(1, 6).min(subject.text.len() - start);
+            try_out(&delivery, &subject.text[start..start + long]);
+        }
+    }
+}
+
+#[test]
+fn readable_indexes_of_no_text() {
+    let mut random = Random::seeded(42);
+    for _ in 0..2_000 {
+        let delivery = Delivery::random(&mut random);
+        let alphabet = [&delivery.dictionary.chars[..], &[0x61]].concat();
+        let length = random.one_of(&[1, 2, 3, 8, 40]);
+        let string: Vec<u16> = (0..length).map(|_| random.one_of(&alphabet)).collect();
+        try_out(&delivery, &string);
+    }
+}
