@@ -32,10 +32,10 @@ pub extern "C" fn mopekihua_build(
 // Finds a string in an index, received or not, without the text. Refusals 1, 2, 3, 5, 6, 8, which leave the output as it was;
 // accepted it answers how many positions are written to the front of the output, ascending, each once.
 #[no_mangle]
-pub extern "C" fn mopekihua_search(
-    chars: &[u16],
+pub extern "C" fn mopekihua_search<'a>(
+    chars: &'a [u16],
     lengths: &[u16],
-    index: &[u16],
+    index: &'a [u16],
     string: &[u16],
     output: &mut [u16],
 ) -> Answer
@@ -47,10 +47,10 @@ pub extern "C" fn mopekihua_search(
 // Cuts an index down to the keys that bear on a string. Refusals 1, 2, 3, 5, 6, 8, which leave the output as it was; accepted it answers
 // the count of numbers written to the front of the output.
 #[no_mangle]
-pub extern "C" fn mopekihua_cut(
-    chars: &[u16],
+pub extern "C" fn mopekihua_cut<'a>(
+    chars: &'a [u16],
     lengths: &[u16],
-    index: &[u16],
+    index: &'a [u16],
     string: &[u16],
     output: &mut [u16],
 ) -> Answer
