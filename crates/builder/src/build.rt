@@ -139,6 +139,14 @@ fn index_text(
     )
 }
 
+// Clears the work slice, and answers a refusal.
+pub fn refuse(work: &mut [u16], refusal: u32) -> Answer
+    ensures { λ r. ⌜ (r .refusal ≡ refusal) × (r .count ≡ 0) × (now (work .exit) ≡ zeros (now (work .entry))) ⌝ }
+{
+    clear(work);
+    Answer { refusal, count: 0 }
+}
+
 // Builds the index of a text: refusals 1, 2, 3, 4, 7, 8; accepted it answers the count of numbers written. The work slice is cleared
 // on every path.
 pub fn build(
@@ -152,8 +160,7 @@ pub fn build(
 {
     let refusal = early_refusal(chars, lengths, text, work.len());
     if refusal != 0 {
-        clear(work);
-        return Answer { refusal, count: 0 };
+        return refuse(work, refusal);
     }
     let answer = index_text(chars, lengths, text, output, work);
     clear(work);

@@ -34,18 +34,18 @@ pub fn step(
 {
     let found = find_longest(chars, lengths, heads, links, starts, text, at, end);
     let number = found.number;
-    if number != 0 {
+    if number == 0 {
+        if at < end {
+            return Stepped { mark: 0, end };
+        }
         return Stepped {
-            mark: number as u16,
-            end: at + found.long,
+            mark: 4097,
+            end: at + 1,
         };
     }
-    if at < end {
-        return Stepped { mark: 0, end };
-    }
     Stepped {
-        mark: 4097,
-        end: at + 1,
+        mark: number as u16,
+        end: at + found.long,
     }
 }
 

@@ -230,12 +230,12 @@ marks-linkable lex good ts ms marks short = record { long = marks .long; short =
 
 module _ (cs ls ts : List ℕ) (w : ℕ) (o : List ℕ) where
   pub build-refused :
-      (early-refusal cs ls ts w ≡ 0 → ⊥) → (r : ℕ) → r ≡ early-refusal cs ls ts w →
-      Puts (build-refusal cs ls ts (length o) w) (index-of (lexicon cs ls) ts) (record { refusal = r; count = 0 }) o o
-  build-refused some r e =
+      (early-refusal cs ls ts w ≡ 0 → ⊥) → (r : Answer) → r .refusal ≡ early-refusal cs ls ts w → r .count ≡ 0 →
+      Puts (build-refusal cs ls ts (length o) w) (index-of (lexicon cs ls) ts) r o o
+  build-refused some r number count =
       let same : build-refusal cs ls ts (length o) w ≡ early-refusal cs ls ts w = build-early cs ls ts w (length o) some in
-      puts-refused (build-refusal cs ls ts (length o) w) (index-of (lexicon cs ls) ts) (record { refusal = r; count = 0 }) o o
-      (e ∙ sym same) (λ (z : build-refusal cs ls ts (length o) w ≡ 0). some (sym same ∙ z)) refl refl
+      puts-refused (build-refusal cs ls ts (length o) w) (index-of (lexicon cs ls) ts) r o o (number ∙ sym same)
+      (λ (z : build-refusal cs ls ts (length o) w ≡ 0). some (sym same ∙ z)) count refl
 
   -- what follows the scan answers for the call
   pub build-marked :

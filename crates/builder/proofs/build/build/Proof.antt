@@ -11,8 +11,8 @@ use Rattle.builder.proofs.build.build.Tie as tie
 early-refusal-requires : tie.Need-early-refusal-requires
 early-refusal-requires c κs = search needs
 
-clear-requires : tie.Need-clear-requires
-clear-requires c κs = search needs
+refuse-requires : tie.Need-refuse-requires
+refuse-requires c κs = search needs
 
 same-length : tie.Need-same-length
 same-length c = search needs
@@ -24,18 +24,19 @@ returns c =
     let cs = start .args .chars .now in
     let ls = start .args .lengths .now in
     let ts = start .args .text .now in
-    let w = length (start .args .work .now) in (
+    let w = length (start .args .work .now) in
+    let said = c .before .before .refuse .ensures in (
       build-refused cs ls ts w (start .args .output .now)
           (λ (none : early-refusal cs ls ts w ≡ 0). c .before .before .before .before .if1 .taken (c .before .before .before .before .before .early-refusal .ensures ∙ none))
-          (c .before .before .before .before .before .early-refusal .result) (c .before .before .before .before .before .early-refusal .ensures),
-      c .before .before .clear .ensures,
+          (c .before .before .refuse .result) (said .0 ∙ c .before .before .before .before .before .early-refusal .ensures) (said .1),
+      said .2,
     )
 
 index-text-requires : tie.Need-index-text-requires
 index-text-requires c κs = search needs
 
-clear-requires-2 : tie.Need-clear-requires-2
-clear-requires-2 c κs = search needs
+clear-requires : tie.Need-clear-requires
+clear-requires c κs = search needs
 
 same-length-2 : tie.Need-same-length-2
 same-length-2 c = search needs
@@ -47,7 +48,7 @@ returns-2 : tie.Need-returns-2
 unfolding Build-says zeros
 returns-2 c = (
   c .before .before .before .before .before .before .before .before .index-text .ensures,
-  c .before .before .clear2 .ensures ∙ ap (λ (n : ℕ). replicate n 0) (c .before .before .before .before .before .before .before .before .index-text .kept .1 .1 .1 .1 .0),
+  c .before .before .clear .ensures ∙ ap (λ (n : ℕ). replicate n 0) (c .before .before .before .before .before .before .before .before .index-text .kept .1 .1 .1 .1 .0),
 )
 
 pub build-spec : {M : Type 1} → statement M
@@ -55,11 +56,11 @@ build-spec =
     tie.close
     (tie.spec
     early-refusal-requires
-    clear-requires
+    refuse-requires
     same-length
     returns
     index-text-requires
-    clear-requires-2
+    clear-requires
     same-length-2
     same-length-3
     returns-2)
