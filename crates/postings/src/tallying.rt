@@ -2,8 +2,8 @@
 // travel by value.
 ghost use mathlib.Core.Path.{_≡_};
 ghost use mathlib.Core.Bool.{true};
-ghost use Prim.Native.Nat.{_+_, _*_, _-_, _≤_, _<_};
-ghost use lib.ListN.{length, getD, set};
+ghost use Prim.Native.Nat.{_+_, _*_, _-_, _≤_};
+ghost use lib.ListN.{length, replicate};
 ghost use Rattle.spec.specs.Dictionary.{longest-text, lexicon};
 ghost use Rattle.spec.specs.Words.{key, spells};
 ghost use Rattle.spec.specs.Index.{header, keys-of, readable};
@@ -12,16 +12,6 @@ ghost use Rattle.spec.specs.Calls.{Tally-says};
 ghost use Rattle.laws.specs.Facts.{Is-key};
 ghost use Rattle.laws.specs.Lexicon.{Is-admitted};
 use spec::TallyAnswer;
-
-// The counts with one of them raised.
-fn raised(counts: [u64; 32], place: usize, more: u64) -> [u64; 32]
-    requires { ⌜ (place < 32) × (getD counts place 0 + more ≤ 4294967295) ⌝ }
-    ensures { λ r. ⌜ r ≡ set counts place (getD counts place 0 + more) ⌝ }
-{
-    let mut next = counts;
-    next[place] = next[place] + more;
-    next
-}
 
 // How many characters a key spells.
 pub fn key_length(chars: &[u16], lengths: &[u16], kind: u16, value: u16) -> usize
@@ -35,21 +25,20 @@ pub fn key_length(chars: &[u16], lengths: &[u16], kind: u16, value: u16) -> usiz
     lengths[word] as usize
 }
 
-// The 32 counts of a readable index.
-fn counts_of(chars: &[u16], lengths: &[u16], index: &[u16]) -> [u64; 32]
-    requires { ⌜ Is-admitted (now chars) (now lengths) × (readable longest-text (lexicon (now chars) (now lengths)) (now index) ≡ true) × (header + 3 * keys-of (now index) ≤ length (now index)) ⌝ }
+// 32 zeros, with one place raised for each key of a readable index by the count of its positions.
+fn raised(chars: &[u16], lengths: &[u16], index: &[u16], zeros: [u64; 32]) -> [u64; 32]
+    requires { ⌜ Is-admitted (now chars) (now lengths) × (readable longest-text (lexicon (now chars) (now lengths)) (now index) ≡ true) × (header + 3 * keys-of (now index) ≤ length (now index)) × (zeros ≡ replicate 32 0) ⌝ }
     ensures { λ r. ⌜ r ≡ tally (lexicon (now (chars .entry)) (now (lengths .entry))) (now (index .entry)) ⌝ }
 {
     let keys = index[1] as usize;
-    let mut counts = [0u64; 32];
+    let mut counts = zeros;
     let mut i = 0;
     while i < keys {
         let kind = index[2 + 3 * i];
         let value = index[2 + 3 * i + 1];
         let count = index[2 + 3 * i + 2] as u64;
-        let long = key_length(chars, lengths, kind, value);
-        let next = raised(counts, long - 1, count);
-        counts = next;
+        let place = key_length(chars, lengths, kind, value) - 1;
+        counts[place] = counts[place] + count;
         i += 1;
     }
     counts
@@ -77,7 +66,7 @@ pub fn tally(chars: &[u16], lengths: &[u16], index: &[u16]) -> TallyAnswer
         };
     }
     let count = entries_of(index);
-    let by_length = counts_of(chars, lengths, index);
+    let by_length = raised(chars, lengths, index, [0u64; 32]);
     TallyAnswer {
         refusal,
         count,

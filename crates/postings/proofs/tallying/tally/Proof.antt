@@ -27,20 +27,20 @@ entries-of-requires c κs =
     let read = index-read (start .args .chars .now) (start .args .lengths .now) (start .args .index .now) (λ (i : ℕ). omega (arith, c .before .before .before .before .shared-slice-known .given i)) (sym (c .before .refusal-of .ensures) ∙ c .if1 .left) in
     (read .fits .has-header, read .fits .has-directory)
 
-counts-of-requires : tie.Need-counts-of-requires
-counts-of-requires c κs =
+raised-requires : tie.Need-raised-requires
+raised-requires c κs =
     let start = c .before .before .before .before .before .before in
     let read = index-read (start .args .chars .now) (start .args .lengths .now) (start .args .index .now) (λ (i : ℕ). omega (arith, c .before .before .before .before .before .shared-slice-known .given i)) (sym (c .before .before .refusal-of .ensures) ∙ c .before .if1 .left) in
-    (read .is-admitted, read .is-readable, read .fits .has-directory)
+    (read .is-admitted, read .is-readable, read .fits .has-directory, refl)
 
 returns-2 : tie.Need-returns-2
 returns-2 c =
     let start = c .before .before .before .before .before .before .before in
     let read = index-read (start .args .chars .now) (start .args .lengths .now) (start .args .index .now) (λ (i : ℕ). omega (arith, c .before .before .before .before .before .before .shared-slice-known .given i)) (sym (c .before .before .before .refusal-of .ensures) ∙ c .before .before .if1 .left) in
-    tally-accepted (start .args .chars .now) (start .args .lengths .now) (start .args .index .now) (record { refusal = c .before .before .before .refusal-of .result; count = c .before .entries-of .result; «by_length» = c .counts-of .result }) (c .before .before .before .refusal-of .ensures) (sym (c .before .before .before .refusal-of .ensures) ∙ c .before .before .if1 .left)
-    (c .before .entries-of .ensures ∙ entries-left longest-text (lexicon (start .args .chars .now) (start .args .lengths .now)) (start .args .index .now) (read .is-readable)) (c .counts-of .ensures)
+    tally-accepted (start .args .chars .now) (start .args .lengths .now) (start .args .index .now) (record { refusal = c .before .before .before .refusal-of .result; count = c .before .entries-of .result; «by_length» = c .raised .result }) (c .before .before .before .refusal-of .ensures) (sym (c .before .before .before .refusal-of .ensures) ∙ c .before .before .if1 .left)
+    (c .before .entries-of .ensures ∙ entries-left longest-text (lexicon (start .args .chars .now) (start .args .lengths .now)) (start .args .index .now) (read .is-readable)) (c .raised .ensures)
 
 pub tally-spec : {M : Type 1} → statement M
 tally-spec =
     tie.close
-    (tie.spec refusal-of-requires returns entries-of-requires counts-of-requires returns-2)
+    (tie.spec refusal-of-requires returns entries-of-requires raised-requires returns-2)

@@ -1,4 +1,4 @@
--- `counts_of` meets its contract. The invariant: the counts and what the lines from i on add to them are the tally. The measure is
+-- `raised` meets its contract. The invariant: the counts and what the lines from i on add to them are the tally. The measure is
 -- how many lines are left. Assumes nothing.
 use mathlib.Core.Path.{sym, subst}
 use mathlib.Core.List.{List}
@@ -10,8 +10,8 @@ use Rattle.spec.specs.Words.{key}
 use Rattle.laws.specs.KeyLengths.{key-sizes}
 use Rattle.spec.specs.Dictionary.{lexicon}
 use Rattle.laws.specs.TallyWalk.{Tallied, tally-start, tally-step, tally-end, line-key}
-use Rattle.postings.proofs.tallying.counts_of.Statement.{statement}
-use Rattle.postings.proofs.tallying.counts_of.Tie as tie
+use Rattle.postings.proofs.tallying.raised.Statement.{statement}
+use Rattle.postings.proofs.tallying.raised.Tie as tie
 
 abbrev Inv-loop : tie.InvT-loop
 Inv-loop chars lengths index keys counts₀ i₀ counts i = Tallied (lexicon chars lengths) index counts i
@@ -26,7 +26,10 @@ cast-keys : tie.Need-cast-keys Inv-loop μ-loop
 cast-keys c = omega (arith, c .shared-slice-known4 .given 1)
 
 loop-holds : tie.Need-loop-holds Inv-loop μ-loop
-loop-holds c = tally-start (lexicon (c .before .before .before .before .args .chars .now) (c .before .before .before .before .args .lengths .now)) (c .before .before .before .before .args .index .now)
+loop-holds c =
+    let start = c .before .before .before .before in
+    subst (λ (counts : List ℕ). Tallied (lexicon (start .args .chars .now) (start .args .lengths .now)) (start .args .index .now) counts 0) (sym (start .pre .3))
+    (tally-start (lexicon (start .args .chars .now) (start .args .lengths .now)) (start .args .index .now))
 
 mul-kind : tie.Need-mul-kind Inv-loop μ-loop
 mul-kind c = omega (arith, c .loop-test .taken, c .before .before .before .before .before .before .pre .2)
@@ -79,41 +82,66 @@ key-length-requires c κs =
     let walk = c .before .before .before .before .loop in
     (start .pre .0, (line-key longest-text (lexicon (start .args .chars .now) (start .args .lengths .now)) (start .args .index .now) (start .pre .1) (walk .i) (c .before .before .before .loop-test .taken)))
 
-sub-raised : tie.Need-sub-raised Inv-loop μ-loop
-sub-raised c =
+sub-place : tie.Need-sub-place Inv-loop μ-loop
+sub-place c =
     let start = c .before .before .before .before .before .before .before .before .before .before in
     let walk = c .before .before .before .before .before .loop in
     let is = key-sizes (start .args .chars .now) (start .args .lengths .now) (start .pre .0) (key (getD (start .args .index .now) (2 + 3 * walk .i) 0) (getD (start .args .index .now) (2 + 3 * walk .i + 1) 0)) (line-key longest-text (lexicon (start .args .chars .now) (start .args .lengths .now)) (start .args .index .now) (start .pre .1) (walk .i) (c .before .before .before .before .loop-test .taken)) in
     omega (arith, c .key-length .ensures, is .some)
 
-raised-requires : tie.Need-raised-requires Inv-loop μ-loop
-raised-requires c κs =
+mul-counts : tie.Need-mul-counts Inv-loop μ-loop
+mul-counts c =
     let start = c .before .before .before .before .before .before .before .before .before .before in
     let walk = c .before .before .before .before .before .loop in
-    let is = key-sizes (start .args .chars .now) (start .args .lengths .now) (start .pre .0) (key (getD (start .args .index .now) (2 + 3 * walk .i) 0) (getD (start .args .index .now) (2 + 3 * walk .i + 1) 0)) (line-key longest-text (lexicon (start .args .chars .now) (start .args .lengths .now)) (start .args .index .now) (start .pre .1) (walk .i) (c .before .before .before .before .loop-test .taken)) in (
-      omega (arith, c .key-length .ensures, is .short, is .some),
-      omega (arith, walk .inv .bounded (c .key-length .result - 1), c .before .before .before .before .loop-test .taken, c .before .shared-slice-known7 .given (2 + 3 * walk .i + 2), c .before .shared-slice-known7 .given 1),
-    )
+    let is = key-sizes (start .args .chars .now) (start .args .lengths .now) (start .pre .0) (key (getD (start .args .index .now) (2 + 3 * walk .i) 0) (getD (start .args .index .now) (2 + 3 * walk .i + 1) 0)) (line-key longest-text (lexicon (start .args .chars .now) (start .args .lengths .now)) (start .args .index .now) (start .pre .1) (walk .i) (c .before .before .before .before .loop-test .taken)) in
+    omega (arith, c .key-length .ensures, is .short, is .some)
+
+array-read-counts : tie.Need-array-read-counts Inv-loop μ-loop
+array-read-counts c =
+    let start = c .before .before .before .before .before .before .before .before .before .before in
+    let walk = c .before .before .before .before .before .loop in
+    let is = key-sizes (start .args .chars .now) (start .args .lengths .now) (start .pre .0) (key (getD (start .args .index .now) (2 + 3 * walk .i) 0) (getD (start .args .index .now) (2 + 3 * walk .i + 1) 0)) (line-key longest-text (lexicon (start .args .chars .now) (start .args .lengths .now)) (start .args .index .now) (start .pre .1) (walk .i) (c .before .before .before .before .loop-test .taken)) in
+    omega (arith, c .key-length .ensures, is .short, is .some)
+
+add-counts : tie.Need-add-counts Inv-loop μ-loop
+add-counts c =
+    let start = c .before .before .before .before .before .before .before .before .before .before in
+    let walk = c .before .before .before .before .before .loop in
+    let is = key-sizes (start .args .chars .now) (start .args .lengths .now) (start .pre .0) (key (getD (start .args .index .now) (2 + 3 * walk .i) 0) (getD (start .args .index .now) (2 + 3 * walk .i + 1) 0)) (line-key longest-text (lexicon (start .args .chars .now) (start .args .lengths .now)) (start .args .index .now) (start .pre .1) (walk .i) (c .before .before .before .before .loop-test .taken)) in
+    omega (arith, c .key-length .ensures, is .short, is .some, walk .inv .bounded (c .key-length .result - 1), c .before .before .before .before .loop-test .taken, c .before .shared-slice-known7 .given (2 + 3 * walk .i + 2), c .before .shared-slice-known7 .given 1)
+
+mul-counts-2 : tie.Need-mul-counts-2 Inv-loop μ-loop
+mul-counts-2 c =
+    let start = c .before .before .before .before .before .before .before .before .before .before in
+    let walk = c .before .before .before .before .before .loop in
+    let is = key-sizes (start .args .chars .now) (start .args .lengths .now) (start .pre .0) (key (getD (start .args .index .now) (2 + 3 * walk .i) 0) (getD (start .args .index .now) (2 + 3 * walk .i + 1) 0)) (line-key longest-text (lexicon (start .args .chars .now) (start .args .lengths .now)) (start .args .index .now) (start .pre .1) (walk .i) (c .before .before .before .before .loop-test .taken)) in
+    omega (arith, c .key-length .ensures, is .short, is .some)
+
+array-write-counts : tie.Need-array-write-counts Inv-loop μ-loop
+array-write-counts c =
+    let start = c .before .before .before .before .before .before .before .before .before .before in
+    let walk = c .before .before .before .before .before .loop in
+    let is = key-sizes (start .args .chars .now) (start .args .lengths .now) (start .pre .0) (key (getD (start .args .index .now) (2 + 3 * walk .i) 0) (getD (start .args .index .now) (2 + 3 * walk .i + 1) 0)) (line-key longest-text (lexicon (start .args .chars .now) (start .args .lengths .now)) (start .args .index .now) (start .pre .1) (walk .i) (c .before .before .before .before .loop-test .taken)) in
+    omega (arith, c .key-length .ensures, is .short, is .some)
 
 add-i : tie.Need-add-i Inv-loop μ-loop
-add-i c = omega (arith, c .before .before .before .before .before .loop-test .taken, c .before .before .before .before .before .before .before .before .before .before .before .pre .2)
+add-i c = omega (arith, c .before .before .before .before .loop-test .taken, c .before .before .before .before .before .before .before .before .before .before .pre .2)
 
 loop-less : tie.Need-loop-less Inv-loop μ-loop
-loop-less c = omega (arith, c .before .before .before .before .before .loop-test .taken)
+loop-less c = omega (arith, c .before .before .before .before .loop-test .taken)
 
 loop-again : tie.Need-loop-again Inv-loop μ-loop
 loop-again c =
-    let start = c .before .before .before .before .before .before .before .before .before .before .before in
-    let walk = c .before .before .before .before .before .before .loop in
-    let is = key-sizes (start .args .chars .now) (start .args .lengths .now) (start .pre .0) (key (getD (start .args .index .now) (2 + 3 * walk .i) 0) (getD (start .args .index .now) (2 + 3 * walk .i + 1) 0)) (line-key longest-text (lexicon (start .args .chars .now) (start .args .lengths .now)) (start .args .index .now) (start .pre .1) (walk .i) (c .before .before .before .before .before .loop-test .taken)) in
-    subst (λ (counts : List ℕ). Tallied (lexicon (start .args .chars .now) (start .args .lengths .now)) (start .args .index .now) counts (walk .i + 1)) (sym (c .raised .ensures))
-    (tally-step (lexicon (start .args .chars .now) (start .args .lengths .now)) (start .args .index .now) (walk .counts) (walk .i) (walk .inv) (c .before .key-length .result - 1) (c .before .before .before .before .before .loop-test .taken) (omega (arith, c .before .before .shared-slice-known7 .given (2 + 3 * walk .i + 2))) (omega (arith, c .before .key-length .ensures, is .short, is .some)) (omega (arith, c .before .key-length .ensures, is .some)))
+    let start = c .before .before .before .before .before .before .before .before .before .before in
+    let walk = c .before .before .before .before .before .loop in
+    let is = key-sizes (start .args .chars .now) (start .args .lengths .now) (start .pre .0) (key (getD (start .args .index .now) (2 + 3 * walk .i) 0) (getD (start .args .index .now) (2 + 3 * walk .i + 1) 0)) (line-key longest-text (lexicon (start .args .chars .now) (start .args .lengths .now)) (start .args .index .now) (start .pre .1) (walk .i) (c .before .before .before .before .loop-test .taken)) in
+    tally-step (lexicon (start .args .chars .now) (start .args .lengths .now)) (start .args .index .now) (walk .counts) (walk .i) (walk .inv) (c .key-length .result - 1) (c .before .before .before .before .loop-test .taken) (omega (arith, c .before .shared-slice-known7 .given (2 + 3 * walk .i + 2))) (omega (arith, c .key-length .ensures, is .short, is .some)) (omega (arith, c .key-length .ensures, is .some))
 
 returns : tie.Need-returns Inv-loop μ-loop
 returns c = tally-end (lexicon (c .before .before .before .before .before .before .args .chars .now) (c .before .before .before .before .before .before .args .lengths .now)) (c .before .before .before .before .before .before .args .index .now) (c .before .loop .counts) (c .before .loop .i) (c .before .loop .inv) longest-text (c .before .before .before .before .before .before .pre .1) (c .loop-test .left)
 
-pub counts-of-spec : {M : Type 1} → statement M
-counts-of-spec =
+pub raised-spec : {M : Type 1} → statement M
+raised-spec =
     tie.close
     (tie.spec
     Inv-loop
@@ -137,8 +165,12 @@ counts-of-spec =
     shared-slice-read-count
     cast-count
     key-length-requires
-    sub-raised
-    raised-requires
+    sub-place
+    mul-counts
+    array-read-counts
+    add-counts
+    mul-counts-2
+    array-write-counts
     add-i
     loop-less
     loop-again
