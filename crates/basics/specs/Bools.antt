@@ -56,6 +56,10 @@ pub or-get : (a b : Bool) → (a || b) ≡ true → (a ≡ true) ⊎ (b ≡ true
 or-get true b t = inl refl
 or-get false b t = inr t
 
+pub or-false : (b : Bool) → (b || false) ≡ b
+or-false true = refl
+or-false false = refl
+
 pub or-none : {a b : Bool} → a ≡ false → b ≡ false → (a || b) ≡ false
 or-none p q = rw (p, q)
 

@@ -13,6 +13,7 @@ ghost use Rattle.spec.specs.Dictionary.{lengths-good, total, words-from, word-b
 ghost use Rattle.spec.specs.Calls.{Admit-says};
 ghost use Rattle.laws.specs.WordCode.{part, code, Neighbours};
 ghost use Rattle.laws.specs.Admission.{Fitting};
+use crate::numbers::lesser;
 use spec::Answer;
 
 // Whether every length is 1 to 32 and they add up to `count`.
@@ -69,18 +70,13 @@ fn prefix_code(chars: &[u16], at: usize, end: usize) -> u64
 fn comes_before(left: &[u16], right: &[u16]) -> bool
     ensures { λ r. ⌜ r ≡ word-before (now (left .entry)) (now (right .entry)) ⌝ }
 {
+    let shared = lesser(left.len(), right.len());
     let mut i = 0;
-    while i < left.len() {
-        if right.len() <= i {
-            return false;
-        }
+    while i < shared {
         let x = left[i];
         let y = right[i];
-        if x < y {
-            return true;
-        }
-        if y < x {
-            return false;
+        if x != y {
+            return x < y;
         }
         i += 1;
     }

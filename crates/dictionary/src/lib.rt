@@ -1,2 +1,3 @@
 // The dictionary as it is lent: all characters run together, and a list of lengths.
 pub mod admission;
+pub mod numbers;

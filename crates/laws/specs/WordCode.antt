@@ -4,14 +4,14 @@ use mathlib.Core.Path.{_≡_, refl, sym, ap, _∙_}
 use mathlib.Core.Bool.{Bool, true, false, _&&_, _||_, cond}
 use mathlib.Core.List.{List, [], _∷_}
 use mathlib.Core.Logic.{_⊎_, inl, inr, ⊎-elim}
-use Prim.Native.Nat.{ℕ, zero, suc, _+_, _*_, _-_, _≤_, _<_}
+use Prim.Native.Nat.{ℕ, zero, suc, _+_, _*_, _-_, _≤_, _<_, min}
 use native.Mathlib.Numerals.{add-one}
 use native.Mathlib.Omega.{arith}
 use lib.Dec.{ltb, eqb}
 use lib.ListN.{length, getD, take, drop, length-drop, drop-of-length-le}
 use lib.Seq.{drop-cons, drop-drop, getD-take, getD-drop, length-take-le}
 use borrow.Author.Tests.{lt-ltb, le-ltb, eq-eqb, ne-eqb}
-use Rattle.basics.specs.Bools.{or-left, le-or-lt}
+use Rattle.basics.specs.Bools.{or-left, or-false, le-or-lt}
 use Rattle.spec.specs.Dictionary.{word-before}
 
 -- THE LOOP OVER CHARACTERS: what is left of both words from i on
@@ -24,13 +24,10 @@ module _ (w v : List ℕ) (i : ℕ) where
   unfolding word-before
   heads a b = rw (add-one i, drop-cons w i 0, drop-cons v i 0)
 
-  pub before-less : i < length w → i < length v → getD w i 0 < getD v i 0 → word-before (drop i w) (drop i v) ≡ true
-  before-less a b less = heads a b ∙ or-left _ (lt-ltb (getD w i 0) (getD v i 0) less)
-
-  pub before-more : i < length w → i < length v → getD v i 0 < getD w i 0 → word-before (drop i w) (drop i v) ≡ false
-  before-more a b more =
-      heads a b
-      ∙ rw (le-ltb (getD w i 0) (getD v i 0) (omega arith), ne-eqb (getD w i 0) (getD v i 0) (λ (e : getD w i 0 ≡ getD v i 0). omega arith))
+  pub before-differ :
+      i < length w → i < length v → (getD w i 0 ≡ getD v i 0 → ⊥) →
+      word-before (drop i w) (drop i v) ≡ ltb (getD w i 0) (getD v i 0)
+  before-differ a b differ = heads a b ∙ rw (ne-eqb (getD w i 0) (getD v i 0) differ) (or-false (ltb (getD w i 0) (getD v i 0)))
 
   pub before-same :
       i < length w → i < length v → getD w i 0 ≡ getD v i 0 →
@@ -38,18 +35,20 @@ module _ (w v : List ℕ) (i : ℕ) where
   before-same a b e =
       heads a b ∙ rw (le-ltb (getD w i 0) (getD v i 0) (omega arith), eq-eqb (getD w i 0) (getD v i 0) e)
 
-  pub before-end : length v ≤ i → word-before (drop i w) (drop i v) ≡ false
+  before-end : length v ≤ i → word-before (drop i w) (drop i v) ≡ false
   unfolding word-before
   before-end b = rw (drop-of-length-le v b)
 
-  -- all of w is read, and v agrees with it so far
-  pub before-read : length w ≤ i → i ≤ length w → i ≤ length v → word-before (drop i w) (drop i v) ≡ ltb (length w) (length v)
+  -- all of one is read, and the other agrees with it so far
+  pub before-read :
+      min (length w) (length v) ≤ i → i ≤ length w → i ≤ length v → word-before (drop i w) (drop i v) ≡ ltb (length w) (length v)
   unfolding word-before
   before-read past within some =
       ⊎-elim
       (λ (e : length v ≤ i). before-end e ∙ sym (le-ltb (length w) (length v) (omega arith)))
       (λ (l : i < length v).
-      rw (drop-of-length-le w past, drop-cons v i 0) (sym (lt-ltb (length w) (length v) (omega arith))))
+      let read : length w ≤ i = omega arith in
+      rw (drop-of-length-le w read, drop-cons v i 0) (sym (lt-ltb (length w) (length v) (omega arith))))
       (le-or-lt (length v) i)
 
 -- THE PACKED START OF A WORD

@@ -3,8 +3,8 @@
 // A signed offset becomes two natural starts at once, one of them 0. Whichever of the two strings begins first, the other begins
 // at a place in it or after it, and the places that they share are compared in order.
 ghost use mathlib.Core.Path.{_≡_};
-ghost use Prim.Native.Nat.{min};
 ghost use Rattle.spec.specs.Search.{agrees, agrees-at};
+use dictionary::numbers::lesser;
 
 // Whether two strings agree, the first laid at 0 and the second at `at`.
 fn agrees_after(first: &[u16], second: &[u16], at: usize) -> bool
@@ -53,11 +53,4 @@ pub fn agrees_at(key: &[u16], string: &[u16], offset: i32) -> bool
     } else {
         agrees_from_starts(key, string, 0, offset as usize)
     }
-}
-
-// The lesser of two numbers.
-fn lesser(a: usize, b: usize) -> usize
-    ensures { λ r. ⌜ r ≡ min a b ⌝ }
-{
-    if a < b { a } else { b }
 }
