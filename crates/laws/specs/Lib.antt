@@ -106,3 +106,6 @@ pub mod Searching
 pub mod Bearing
 pub mod Judging
 pub mod Cutting
+pub mod Reflects
+pub mod RefusalRows
+pub mod DemandOne
