@@ -109,3 +109,6 @@ pub mod Cutting
 pub mod Reflects
 pub mod RefusalRows
 pub mod DemandOne
+pub mod Delivery
+pub mod PublishedIndex
+pub mod DemandTwo
