@@ -112,3 +112,5 @@ pub mod DemandOne
 pub mod Delivery
 pub mod PublishedIndex
 pub mod DemandTwo
+pub mod DemandThree
+pub mod DemandsHold
