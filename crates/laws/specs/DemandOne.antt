@@ -19,7 +19,7 @@ use Rattle.spec.specs.Search.{find}
 use Rattle.spec.specs.Cut.{cut-down}
 use Rattle.spec.specs.Tally.{tally}
 use Rattle.spec.specs.Calls.{zeros, Answers, in-front, Puts, build-refusal, index-refusal, reception-refusal, recovery-refusal, find-refusal, Admit-says, Build-says, Receive-says, Recover-says, Search-says, Cut-says, Tally-says}
-use Rattle.spec.specs.Demands.{Written, Untouched, Cleared, Row, Meets, Decides, dictionary-rows, build-rows, index-rows, reception-rows, recovery-rows, find-rows, First-demand}
+use Rattle.spec.specs.Demands.{Written, Untouched, Cleared, Row, Meets, Accepts, Refuses, Decides, dictionary-rows, build-rows, index-rows, reception-rows, recovery-rows, find-rows, First-demand}
 use Rattle.laws.specs.Answering.{accepted-yes, accepted-no}
 use Rattle.laws.specs.Recover.{length-recovered}
 use Rattle.laws.specs.RefusalRows.{First, Rising, first-decides, dictionary-first, dictionary-rising, build-first, index-first, index-rising, reception-first, recovery-first, find-first}
@@ -57,6 +57,14 @@ module _ (n : ℕ) (xs : List ℕ) (r : Answer) (o z : List ℕ) (puts : Puts n 
       record { count = puts .0 .1 ∙ accepted-no n (length xs) 0 some; same = puts .1 ∙ accepted-no n (in-front xs o) o some }
 
 -- WHAT IS DECIDED
+
+-- the table fixes one number
+pub one-number : (rows : List Row) (m n : ℕ) (A B : Type 0) → Refuses rows m A → Refuses rows n B → m ≡ n
+one-number rows m n A B h k = omega (arith, h .lowest n (k .met), k .lowest m (h .met))
+
+-- no input is both accepted and refused
+pub not-both : (rows : List Row) (m n : ℕ) (A B : Type 0) → Accepts rows m A → Refuses rows n B → ⊥
+not-both rows m n A B h k = h .none-met n (k .met)
 
 -- with what an accepted and a refused call end with
 decides :
