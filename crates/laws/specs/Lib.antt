@@ -106,3 +106,11 @@ pub mod Searching
 pub mod Bearing
 pub mod Judging
 pub mod Cutting
+pub mod Reflects
+pub mod RefusalRows
+pub mod DemandOne
+pub mod Delivery
+pub mod PublishedIndex
+pub mod DemandTwo
+pub mod DemandThree
+pub mod DemandsHold

@@ -11,6 +11,7 @@ pub mod Calls
 pub mod Promise
 pub mod Beyond
 pub mod Published
+pub mod Demands
 pub mod Models
 pub mod Examples
 pub mod JobSheet

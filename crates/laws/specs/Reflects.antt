@@ -1,0 +1,134 @@
+-- The tests of the refusal table and the facts that they test. Assumes nothing.
+use mathlib.Core.Path.{_≡_, refl, subst}
+use mathlib.Core.Bool.{Bool, true, false, _&&_, _||_, not}
+use mathlib.Core.Logic.{_⊎_, inl, inr, ⊎-elim}
+use mathlib.Core.List.{List, [], _∷_}
+use Prim.Native.Nat.{ℕ, _*_, _<_}
+use native.Mathlib.Omega.{arith}
+use lib.Dec.{ltb, leb, eqb}
+use lib.ListN.{length}
+use borrow.Author.Tests.{ltb-true, ltb-false, leb-true, leb-false, eqb-true, eqb-false, not-false}
+use Rattle.basics.specs.Bools.{clash, not-get}
+use Rattle.basics.specs.Member.{In}
+use Rattle.spec.specs.Dictionary.{longest-text, Lexicon, total, words-from, too-large, length-good, lengths-good, lengths-wrong, ascend, disordered}
+use Rattle.spec.specs.Index.{readable}
+use Rattle.spec.specs.Calls.{text-too-long, unreadable, string-wrong, work-short, output-short}
+use Rattle.spec.specs.Demands.{Too-large, Lengths-wrong, Disordered, Text-too-long, Unreadable, String-wrong, Work-short, Output-short}
+
+-- TESTS AND FACTS
+
+pub record Reflects (t : Bool) (B : Type 0) : Type 0 where
+  pub holds : t ≡ true → B
+  pub fails : t ≡ false → B → ⊥
+
+pub reflects-false : (t : Bool) → Reflects (not t) (t ≡ false)
+reflects-false t = record { holds = not-get t; fails = λ f g. clash (not-false t f) g }
+
+pub reflects-lt : (a b : ℕ) → Reflects (ltb a b) (a < b)
+reflects-lt a b = record { holds = ltb-true a b; fails = λ f h. omega (arith, ltb-false a b f) }
+
+pub reflects-eq : (a b : ℕ) → Reflects (eqb a b) (a ≡ b)
+reflects-eq a b = record { holds = eqb-true a b; fails = eqb-false a b }
+
+pub reflects-ne : (a b : ℕ) → Reflects (not (eqb a b)) (a ≡ b → ⊥)
+reflects-ne a b =
+    record {
+      holds = λ t. eqb-false a b (not-get (eqb a b) t);
+      fails = λ f h. h (eqb-true a b (not-false (eqb a b) f));
+    }
+
+pub reflects-or : (s t : Bool) (A B : Type 0) → Reflects s A → Reflects t B → Reflects (s || t) (A ⊎ B)
+reflects-or true t A B p q = record { holds = λ e. inl (p .holds refl); fails = λ f. clash refl f }
+reflects-or false t A B p q =
+    record { holds = λ e. inr (q .holds e); fails = λ f. ⊎-elim (λ (v : A). p .fails refl v) (λ (w : B). q .fails f w) }
+
+pub reflects-and : (s t : Bool) (A B : Type 0) → Reflects s A → Reflects t B → Reflects (s && t) (A × B)
+reflects-and true t A B p q = record { holds = λ e. (p .holds refl, q .holds e); fails = λ f h. q .fails f (h .1) }
+reflects-and false t A B p q = record { holds = λ e. clash e refl; fails = λ f h. p .fails refl (h .0) }
+
+-- one of two tests fails
+pub reflects-nand : (s t : Bool) (A B : Type 0) → Reflects (not s) A → Reflects (not t) B → Reflects (not (s && t)) (A ⊎ B)
+reflects-nand true t A B p q =
+    record { holds = λ e. inr (q .holds e); fails = λ f. ⊎-elim (λ (v : A). p .fails refl v) (λ (w : B). q .fails f w) }
+reflects-nand false t A B p q = record { holds = λ e. inl (p .holds refl); fails = λ f. clash refl f }
+
+abbrev Wrong : ℕ → Type 0
+Wrong l = (l ≡ 0) ⊎ (32 < l)
+
+pub reflects-length : (l : ℕ) → Reflects (not (length-good l)) (Wrong l)
+unfolding length-good
+reflects-length l = reflects-nand (leb 1 l) (leb l 32) (l ≡ 0) (32 < l) low high
+  where
+    low : Reflects (not (leb 1 l)) (l ≡ 0)
+    low =
+        record {
+          holds = λ t. omega (arith, leb-false 1 l (not-get (leb 1 l) t));
+          fails = λ f e. omega (arith, leb-true 1 l (not-false (leb 1 l) f));
+        }
+
+    high : Reflects (not (leb l 32)) (32 < l)
+    high =
+        record {
+          holds = λ t. leb-false l 32 (not-get (leb l 32) t);
+          fails = λ f h. omega (arith, leb-true l 32 (not-false (leb l 32) f));
+        }
+
+pub reflects-lengths : (ls : List ℕ) → Reflects (not (lengths-good ls)) ((l : ℕ) × In l ls × Wrong l)
+unfolding lengths-good
+reflects-lengths [] = record { holds = λ t. clash t refl; fails = λ f h. h .1 }
+reflects-lengths (l ∷ ls) =
+    widen
+    (reflects-nand (length-good l) (lengths-good ls) (Wrong l) ((k : ℕ) × In k ls × Wrong k) (reflects-length l) (reflects-lengths ls))
+  where
+    split : (k : ℕ) × In k (l ∷ ls) × Wrong k → Wrong l ⊎ ((k : ℕ) × In k ls × Wrong k)
+    split (k, inl e, w) = inl (subst Wrong e w)
+    split (k, inr m, w) = inr (k, m, w)
+
+    join : Wrong l ⊎ ((k : ℕ) × In k ls × Wrong k) → (k : ℕ) × In k (l ∷ ls) × Wrong k
+    join (inl w) = (l, inl refl, w)
+    join (inr (k, m, w)) = (k, inr m, w)
+
+    widen :
+        {t : Bool} → Reflects t (Wrong l ⊎ ((k : ℕ) × In k ls × Wrong k)) → Reflects t ((k : ℕ) × In k (l ∷ ls) × Wrong k)
+    widen both = record { holds = λ t. join (both .holds t); fails = λ f h. both .fails f (split h) }
+
+-- the lines of the table
+
+module _ (cs ls : List ℕ) where
+  pub reflects-too-large : Reflects (too-large cs ls) (Too-large cs ls)
+  unfolding too-large
+  reflects-too-large =
+      reflects-or (ltb 4096 (length ls)) (ltb 65535 (length cs)) (4096 < length ls) (65535 < length cs) (reflects-lt 4096 (length ls))
+      (reflects-lt 65535 (length cs))
+
+  pub reflects-lengths-wrong : Reflects (lengths-wrong cs ls) (Lengths-wrong cs ls)
+  unfolding lengths-wrong
+  reflects-lengths-wrong =
+      reflects-nand (lengths-good ls) (eqb (total ls) (length cs)) ((l : ℕ) × In l ls × Wrong l) (total ls ≡ length cs → ⊥)
+      (reflects-lengths ls) (reflects-ne (total ls) (length cs))
+
+  pub reflects-disordered : Reflects (disordered cs ls) (Disordered cs ls)
+  unfolding disordered
+  reflects-disordered = reflects-false (ascend (words-from ls cs))
+
+pub reflects-text : (ts : List ℕ) → Reflects (text-too-long ts) (Text-too-long ts)
+unfolding text-too-long
+reflects-text ts = reflects-lt 65535 (length ts)
+
+pub reflects-unreadable : (lex : Lexicon) (xs : List ℕ) → Reflects (unreadable lex xs) (Unreadable lex xs)
+unfolding unreadable
+reflects-unreadable lex xs = reflects-false (readable longest-text lex xs)
+
+pub reflects-string : (s : List ℕ) → Reflects (string-wrong s) (String-wrong s)
+unfolding string-wrong
+reflects-string s =
+    reflects-or (eqb (length s) 0) (ltb 256 (length s)) (length s ≡ 0) (256 < length s) (reflects-eq (length s) 0)
+    (reflects-lt 256 (length s))
+
+pub reflects-work : (n : ℕ) (w : List ℕ) → Reflects (work-short n (length w)) (Work-short n w)
+unfolding work-short
+reflects-work n w = reflects-lt (length w) (8 * n)
+
+pub reflects-output : (xs o : List ℕ) → Reflects (output-short (length xs) (length o)) (Output-short xs o)
+unfolding output-short
+reflects-output xs o = reflects-lt (length o) (length xs)

@@ -1,0 +1,217 @@
+-- The refusal number of each operation is that of the first row of the table that the call meets, in the order of their numbers, and
+-- 0 where it meets none. Assumes nothing.
+use mathlib.Core.Path.{_≡_, refl, sym, _∙_, subst}
+use mathlib.Core.Bool.{Bool, true, false, _&&_, not, cond}
+use mathlib.Core.Logic.{_⊎_, inl, inr}
+use mathlib.Core.List.{List, [], _∷_, _++_}
+use Prim.Native.Nat.{ℕ, zero, suc, _≤_, _<_}
+use native.Mathlib.Omega.{arith}
+use lib.Dec.{ltb}
+use lib.ListN.{length}
+use borrow.Author.Tests.{eq-eqb, ne-eqb, not-false}
+use Rattle.basics.specs.Bools.{clash, not-get, and-put}
+use Rattle.spec.specs.Dictionary.{longest-text, lexicon, all-chars, too-large, lengths-wrong, disordered, dictionary-refusal, admitted}
+use Rattle.spec.specs.Numbers.{index-of}
+use Rattle.spec.specs.Index.{n-of}
+use Rattle.spec.specs.Reception.{recovered, received}
+use Rattle.spec.specs.Calls.{text-too-long, unreadable, string-wrong, work-short, output-short, no-text, or-else, build-refusal, index-refusal, reception-refusal, recovery-refusal, find-refusal}
+use Rattle.spec.specs.Beyond.{Demand-three}
+use Rattle.spec.specs.Demands.{Too-large, Lengths-wrong, Disordered, Text-too-long, Unreadable, String-wrong, Work-short, Output-short, Recovery-short, No-text, Has-text, Row, row, Meets, Accepts, Refuses, Decides, dictionary-rows, build-rows, index-rows, reception-rows, recovery-rows, find-rows}
+use Rattle.laws.specs.IndexRefusal.{index-accepted}
+use Rattle.laws.specs.Promises.{demand-three}
+use Rattle.laws.specs.Reflects.{Reflects, reflects-lt, reflects-and, reflects-too-large, reflects-lengths-wrong, reflects-disordered, reflects-text, reflects-unreadable, reflects-string, reflects-work, reflects-output}
+
+-- ROWS IN ORDER
+
+-- n is the number of the first row that is met, 0 if none is
+unfoldable pub First : List Row → (n : ℕ) → Type 0
+First [] n = n ≡ 0
+First (l ∷ ls) n = (l .when × (l .returned ≡ n)) ⊎ ((l .when → ⊥) × First ls n)
+
+-- numbers rise from `least` on
+abbrev pub Rising : (least : ℕ) → List Row → Type 0
+Rising a [] = Unit
+Rising a (l ∷ ls) = (a ≤ l .returned) × Rising (suc (l .returned)) ls
+
+rising-above : (a : ℕ) (rows : List Row) → Rising a rows → (k : ℕ) → Meets rows k → a ≤ k
+rising-above a [] up k m = absurd m
+rising-above a (l ∷ ls) up k (inl (e, w)) = omega (arith, up .0, e)
+rising-above a (l ∷ ls) up k (inr m) = omega (arith, up .0, rising-above (suc (l .returned)) ls (up .1) k m)
+
+-- where numbers rise, the first row met is the lowest
+pub first-decides : (a : ℕ) (rows : List Row) → 1 ≤ a → Rising a rows → (n : ℕ) → First rows n → Decides rows n Unit Unit
+unfolding First
+first-decides a [] some up n e = inl (record { none-met = λ k m. m; number = e; result = tt })
+first-decides a (l ∷ ls) some up n (inl (w, e)) =
+    inr
+    (record {
+      met = inl (e, w);
+      lowest = lowest;
+      number = λ z. omega (arith, up .0, e);
+      result = tt;
+    })
+  where
+    lowest : (k : ℕ) → Meets (l ∷ ls) k → n ≤ k
+    lowest k (inl (f, v)) = omega (arith, e, f)
+    lowest k (inr m) = omega (arith, e, rising-above (suc (l .returned)) ls (up .1) k m)
+first-decides a (l ∷ ls) some up n (inr (unmet, f)) = widen (first-decides (suc (l .returned)) ls (omega arith) (up .1) n f)
+  where
+    none : Accepts ls n Unit → (k : ℕ) → Meets (l ∷ ls) k → ⊥
+    none h k (inl (e, w)) = unmet w
+    none h k (inr m) = h .none-met k m
+
+    lowest : Refuses ls n Unit → (k : ℕ) → Meets (l ∷ ls) k → n ≤ k
+    lowest h k (inl (e, w)) = absurd (unmet w)
+    lowest h k (inr m) = h .lowest k m
+
+    widen : Decides ls n Unit Unit → Decides (l ∷ ls) n Unit Unit
+    widen (inl h) = inl (record { none-met = none h; number = h .number; result = tt })
+    widen (inr h) = inr (record { met = inr (h .met); lowest = lowest h; number = h .number; result = tt })
+
+first-none : First [] 0
+unfolding First
+first-none = refl
+
+-- a row before others, by its test
+first-cond :
+    (k : ℕ) (B : Type 0) (t : Bool) (rows : List Row) (n : ℕ) → Reflects t B → (t ≡ false → First rows n) →
+    First (row k B ∷ rows) (cond t k n)
+unfolding First
+first-cond k B true rows n is rest = inl (is .holds refl, refl)
+first-cond k B false rows n is rest = inr (is .fails refl, rest refl)
+
+or-else-some : (a b : ℕ) → 1 ≤ a → or-else a b ≡ a
+unfolding or-else
+or-else-some a b h = rw (ne-eqb a 0 (λ (e : a ≡ 0). omega arith))
+
+or-else-none : (a b : ℕ) → a ≡ 0 → or-else a b ≡ b
+unfolding or-else
+or-else-none a b e = rw (eq-eqb a 0 e)
+
+-- rows before others
+first-then :
+    (a : ℕ) (rows more : List Row) → 1 ≤ a → Rising a rows → (m n : ℕ) → First rows m → (m ≡ 0 → First more n) →
+    First (rows ++ more) (or-else m n)
+unfolding First
+first-then a [] more some up m n e rest = subst (First more) (sym (or-else-none m n e)) (rest e)
+first-then a (l ∷ ls) more some up m n (inl (w, e)) rest =
+    inl (w, e ∙ sym (or-else-some m n (omega (arith, up .0, e))))
+first-then a (l ∷ ls) more some up m n (inr (unmet, f)) rest =
+    inr (unmet, first-then (suc (l .returned)) ls more (omega arith) (up .1) m n f rest)
+
+-- THE OPERATIONS
+
+module _ (cs ls : List ℕ) where
+  pub dictionary-first : First (dictionary-rows cs ls) (dictionary-refusal cs ls)
+  unfolding dictionary-refusal
+  dictionary-first =
+      first-cond 1 (Too-large cs ls) (too-large cs ls) _ _ (reflects-too-large cs ls)
+      (λ f.
+      first-cond 2 (Lengths-wrong cs ls) (lengths-wrong cs ls) _ _ (reflects-lengths-wrong cs ls)
+      (λ g. first-cond 3 (Disordered cs ls) (disordered cs ls) _ _ (reflects-disordered cs ls) (λ h. first-none)))
+
+  pub dictionary-rising : Rising 1 (dictionary-rows cs ls)
+  dictionary-rising = (omega arith, (omega arith, (omega arith, tt)))
+
+  pub build-first : (ts o w : List ℕ) → First (build-rows cs ls ts o w) (build-refusal cs ls ts (length o) (length w))
+  unfolding build-refusal
+  build-first ts o w =
+      first-then 1 (dictionary-rows cs ls) _ (omega arith) dictionary-rising _ _ dictionary-first
+      (λ a.
+      first-cond 4 (Text-too-long ts) (text-too-long ts) _ _ (reflects-text ts)
+      (λ f.
+      first-cond 7 (Work-short (length ts) w) (work-short (length ts) (length w)) _ _ (reflects-work (length ts) w)
+      (λ g.
+      first-cond 8 (Output-short (index-of (lexicon cs ls) ts) o) (output-short (length (index-of (lexicon cs ls) ts)) (length o)) _ _
+      (reflects-output (index-of (lexicon cs ls) ts) o) (λ h. first-none))))
+
+module _ (cs ls xs : List ℕ) where
+  pub index-first : First (index-rows cs ls xs) (index-refusal cs ls xs)
+  unfolding index-refusal
+  index-first =
+      first-then 1 (dictionary-rows cs ls) _ (omega arith) (dictionary-rising cs ls) _ _ (dictionary-first cs ls)
+      (λ a.
+      first-cond 5 (Unreadable (lexicon cs ls) xs) (unreadable (lexicon cs ls) xs) _ _ (reflects-unreadable (lexicon cs ls) xs)
+      (λ f. first-none))
+
+  pub index-rising : Rising 1 (index-rows cs ls xs)
+  index-rising = (omega arith, (omega arith, (omega arith, (omega arith, tt))))
+
+  pub find-first : (s ys o : List ℕ) → First (find-rows cs ls xs s ys o) (find-refusal cs ls xs s (length ys) (length o))
+  unfolding find-refusal
+  find-first s ys o =
+      first-then 1 (index-rows cs ls xs) _ (omega arith) index-rising _ _ index-first
+      (λ a.
+      first-cond 6 (String-wrong s) (string-wrong s) _ _ (reflects-string s)
+      (λ f.
+      first-cond 8 (Output-short ys o) (output-short (length ys) (length o)) _ _ (reflects-output ys o) (λ g. first-none)))
+
+-- 8 of recovery, tested after 9, is not met where 9 is
+regroup :
+    (i : ℕ) (b c d : Bool) →
+    or-else (or-else i (cond b 7 (cond c 9 0))) (cond d 8 0) ≡ or-else i (cond b 7 (cond (d && not c) 8 (cond c 9 0)))
+unfolding or-else
+regroup zero true c d = refl
+regroup zero false true true = refl
+regroup zero false true false = refl
+regroup zero false false true = refl
+regroup zero false false false = refl
+regroup (suc i) b c d = rw (ne-eqb (suc i) 0 (λ (e : suc i ≡ 0). omega arith), ne-eqb (suc i) 0 (λ (e : suc i ≡ 0). omega arith))
+
+module _ (cs ls xs : List ℕ) (chars : all-chars cs ≡ true) where
+  admits : index-refusal cs ls xs ≡ 0 → admitted cs ls ≡ true
+  unfolding admitted
+  admits none = and-put chars (eq-eqb (dictionary-refusal cs ls) 0 (index-accepted cs ls xs none .no-refusal))
+
+  index-text : index-refusal cs ls xs ≡ 0 → (received longest-text (lexicon cs ls) xs ≡ true) → Has-text (lexicon cs ls) xs
+  unfolding Demand-three
+  index-text none t =
+      let serves = demand-three longest-text cs ls xs (admits none) .0 t in
+      (recovered (lexicon cs ls) xs, serves .text)
+
+  text-index : index-refusal cs ls xs ≡ 0 → Has-text (lexicon cs ls) xs → received longest-text (lexicon cs ls) xs ≡ true
+  unfolding Demand-three
+  text-index none h = demand-three longest-text cs ls xs (admits none) .1 (h .0) (h .1)
+
+  reflects-no-text : index-refusal cs ls xs ≡ 0 → Reflects (no-text (lexicon cs ls) xs) (No-text (lexicon cs ls) xs)
+  unfolding no-text
+  reflects-no-text none =
+      record {
+        holds = λ t. (index-accepted cs ls xs none .is-readable, λ h. clash (text-index none h) (not-get _ t));
+        fails = λ f h. h .1 (index-text none (not-false _ f));
+      }
+
+  pub reception-first : (w : List ℕ) → First (reception-rows cs ls xs w) (reception-refusal cs ls xs (length w))
+  unfolding reception-refusal
+  reception-first w =
+      first-then 1 (index-rows cs ls xs) _ (omega arith) (index-rising cs ls xs) _ _ (index-first cs ls xs)
+      (λ a.
+      first-cond 7 (Work-short (n-of xs) w) (work-short (n-of xs) (length w)) _ _ (reflects-work (n-of xs) w)
+      (λ f.
+      first-cond 9 (No-text (lexicon cs ls) xs) (no-text (lexicon cs ls) xs) _ _ (reflects-no-text a) (λ g. first-none)))
+
+  reflects-recovery-short :
+      index-refusal cs ls xs ≡ 0 → (o : List ℕ) →
+      Reflects (output-short (n-of xs) (length o) && not (no-text (lexicon cs ls) xs)) (Recovery-short (lexicon cs ls) xs o)
+  unfolding no-text output-short
+  reflects-recovery-short none o =
+      reflects-and (ltb (length o) (n-of xs)) (not (not (received longest-text (lexicon cs ls) xs))) (length o < n-of xs)
+      (Has-text (lexicon cs ls) xs) (reflects-lt (length o) (n-of xs))
+      (record {
+        holds = λ t. index-text none (not-false _ (not-get _ t));
+        fails = λ f h. clash (text-index none h) (not-get _ (not-false _ f));
+      })
+
+  pub recovery-first : (o w : List ℕ) → First (recovery-rows cs ls xs o w) (recovery-refusal cs ls xs (length o) (length w))
+  unfolding recovery-refusal reception-refusal
+  recovery-first o w =
+      subst (First (recovery-rows cs ls xs o w))
+      (sym (regroup (index-refusal cs ls xs) (work-short (n-of xs) (length w)) (no-text (lexicon cs ls) xs) (output-short (n-of xs) (length o))))
+      (first-then 1 (index-rows cs ls xs) _ (omega arith) (index-rising cs ls xs) _ _ (index-first cs ls xs)
+      (λ a.
+      first-cond 7 (Work-short (n-of xs) w) (work-short (n-of xs) (length w)) _ _ (reflects-work (n-of xs) w)
+      (λ f.
+      first-cond 8 (Recovery-short (lexicon cs ls) xs o) (output-short (n-of xs) (length o) && not (no-text (lexicon cs ls) xs)) _ _
+      (reflects-recovery-short a o)
+      (λ g.
+      first-cond 9 (No-text (lexicon cs ls) xs) (no-text (lexicon cs ls) xs) _ _ (reflects-no-text a) (λ h. first-none)))))
