@@ -106,3 +106,7 @@ pub mod Searching
 pub mod Bearing
 pub mod Judging
 pub mod Cutting
+pub mod PlaceWalk
+pub mod LinePass
+pub mod PaintWalk
+pub mod NoteWalk
