@@ -120,6 +120,7 @@ module _ (cs ls xs : List ℕ) (can : Can-read cs ls xs) (i begin end : ℕ) (li
 
 -- THE LINES
 
+-- what a line paints does not depend on its number
 abbrev paint-lines : Lexicon → ℕ → List Line → List ℕ → List ℕ
 paint-lines lex i ls us = paint lex (flat lex ls) us
 

@@ -31,8 +31,9 @@ pub fn note_lines(index: &[u16], notes: &mut [u16])
     let mut line = 0;
     while line < keys {
         let end = begin + index[2 + 3 * line + 2] as usize;
-        line += 1;
-        mark_places(line as u16, &index[begin..end], notes);
+        let number = line + 1;
+        mark_places(number as u16, &index[begin..end], notes);
         begin = end;
+        line = number;
     }
 }

@@ -30,7 +30,7 @@ cast-slots c = omega (arith, c .shared-slice-known .given (c .before .before .lo
 sub-slots : tie.Need-sub-slots Inv-loop μ-loop
 sub-slots c =
     let l = c .before .before .loop in
-    c .before .before .before .pre .from (l .i) (c .before .loop-test .taken)
+    omega (arith, c .before .before .before .pre .from (l .i) (c .before .loop-test .taken))
 
 mul-slots-2 : tie.Need-mul-slots-2 Inv-loop μ-loop
 mul-slots-2 c = omega (arith, c .shared-slice-known .given (c .before .before .loop .i))

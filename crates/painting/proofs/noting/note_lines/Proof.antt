@@ -9,7 +9,6 @@ use Rattle.laws.specs.Noting.{note-lines}
 use Rattle.laws.specs.NoteWalk.{Noting-lines, noting-start, noting-room, noting-step, noting-end}
 use Rattle.painting.proofs.noting.note_lines.Statement.{statement}
 use Rattle.painting.proofs.noting.note_lines.Tie as tie
-use Rattle.painting.proofs.noting.mark_places.Reads as mark-places-reads
 
 abbrev Inv-loop : tie.InvT-loop
 Inv-loop index notes₀ keys begin₀ line₀ notes begin line = Noting-lines index notes₀ notes begin line
@@ -59,8 +58,8 @@ add-end-3 c =
     let l = c .before .before .loop in
     omega (arith, s .good, lies-room (s .args .index .now) (l .line) (l .begin) (l .begin + getD (s .args .index .now) (2 + 3 * l .line + 2) 0) (passing-lies note-lines (s .args .index .now) (s .args .notes .now) (l .notes) (l .begin) (l .line) (l .inv) (c .before .loop-test .taken)) (s .pre .fits))
 
-add-line : tie.Need-add-line Inv-loop μ-loop
-add-line c = omega (arith, c .before .loop-test .taken, c .before .before .before .shared-slice-known2 .given 1)
+add-number : tie.Need-add-number Inv-loop μ-loop
+add-number c = omega (arith, c .before .loop-test .taken, c .before .before .before .shared-slice-known2 .given 1)
 
 cast-mark-places : tie.Need-cast-mark-places Inv-loop μ-loop
 cast-mark-places c = omega (arith, c .before .loop-test .taken, c .before .before .before .shared-slice-known2 .given 1)
@@ -128,7 +127,7 @@ note-lines-spec =
     shared-slice-read-end
     cast-end
     add-end-3
-    add-line
+    add-number
     cast-mark-places
     mul-mark-places
     sub-mark-places

@@ -11,7 +11,6 @@ use Rattle.laws.specs.LinePass.{lies-room}
 use Rattle.laws.specs.PaintWalk.{started-words, started-read, Painting-lines, painting-start, painting-lies, painting-step, painting-end}
 use Rattle.painting.proofs.painting.paint_entries.Statement.{statement}
 use Rattle.painting.proofs.painting.paint_entries.Tie as tie
-use Rattle.painting.proofs.painting.paint_line.Reads as paint-line-reads
 
 abbrev Inv-loop : tie.InvT-loop
 Inv-loop chars lengths starts index text₀ keys begin₀ line₀ text begin line =

@@ -8,8 +8,6 @@ use Rattle.laws.specs.LinePass.{lies-room}
 use Rattle.laws.specs.PaintWalk.{word-paints, word-painted, lone-paints, lone-painted}
 use Rattle.painting.proofs.painting.paint_line.Statement.{statement}
 use Rattle.painting.proofs.painting.paint_line.Tie as tie
-use Rattle.painting.proofs.noting.mark_places.Reads as mark-places-reads
-use Rattle.painting.proofs.painting.paint_places.Reads as paint-places-reads
 
 mul-value : tie.Need-mul-value
 mul-value c = search needs

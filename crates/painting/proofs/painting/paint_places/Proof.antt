@@ -7,7 +7,6 @@ use lib.ListN.{length}
 use Rattle.laws.specs.PlaceWalk.{Painted, painted-start, painted-step, painted-end}
 use Rattle.painting.proofs.painting.paint_places.Statement.{statement}
 use Rattle.painting.proofs.painting.paint_places.Tie as tie
-use Rattle.painting.proofs.painting.paint_string.Reads as paint-string-reads
 
 abbrev Inv-loop : tie.InvT-loop
 Inv-loop string places text₀ i₀ text i = Painted string places text₀ text i
@@ -30,7 +29,7 @@ cast-paint-string : tie.Need-cast-paint-string Inv-loop μ-loop
 cast-paint-string c = omega (arith, c .shared-slice-known3 .given (c .before .before .loop .i))
 
 sub-paint-string : tie.Need-sub-paint-string Inv-loop μ-loop
-sub-paint-string c = c .before .before .before .before .before .before .pre .from (c .before .before .loop .i) (c .before .loop-test .taken)
+sub-paint-string c = omega (arith, c .before .before .before .before .before .before .pre .from (c .before .before .loop .i) (c .before .loop-test .taken))
 
 paint-string-requires : tie.Need-paint-string-requires Inv-loop μ-loop
 paint-string-requires c κs =
