@@ -114,3 +114,7 @@ pub mod PublishedIndex
 pub mod DemandTwo
 pub mod DemandThree
 pub mod DemandsHold
+pub mod PlaceWalk
+pub mod LinePass
+pub mod PaintWalk
+pub mod NoteWalk
