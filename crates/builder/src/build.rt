@@ -7,14 +7,16 @@ ghost use Prim.Native.Nat.{_≤_};
 ghost use lib.ListN.{length, take};
 ghost use Rattle.spec.specs.Dictionary.{lexicon};
 ghost use Rattle.spec.specs.Numbers.{index-of};
-ghost use Rattle.spec.specs.Calls.{zeros, Puts, build-refusal, Build-says};
+ghost use Rattle.spec.specs.Calls.{Puts, build-refusal, Build-says};
 ghost use Rattle.laws.specs.Linking.{Linkable, Fresh};
 ghost use Rattle.laws.specs.Building.{early-refusal, Marked-says, Blank};
-use crate::group::link;
-use crate::scan::scan;
-use crate::write::write_index;
 use dictionary::admission::refusal_of;
+use grouping::group::link;
+use grouping::write::write_index;
 use matching::table::hang_words;
+use scanning::scan::scan;
+use scanning::work::clear;
+use scanning::work::refuse;
 use spec::Answer;
 
 // The first refusal that needs no result, or 0: the dictionary's, a text too long, a work slice too short.
@@ -32,17 +34,6 @@ fn early_refusal(chars: &[u16], lengths: &[u16], text: &[u16], work: usize) -> u
         return 7;
     }
     0
-}
-
-// Zeros over the whole slice.
-pub fn clear(work: &mut [u16])
-    ensures { λ _. ⌜ now (work .exit) ≡ zeros (now (work .entry)) ⌝ }
-{
-    let mut i = 0;
-    while i < work.len() {
-        work[i] = 0;
-        i += 1;
-    }
 }
 
 // Writes the index that marks stand for, or answers 8. The marks give way to links.
@@ -137,14 +128,6 @@ fn index_text(
         &mut links,
         &mut starts,
     )
-}
-
-// Clears the work slice, and answers a refusal.
-pub fn refuse(work: &mut [u16], refusal: u32) -> Answer
-    ensures { λ r. ⌜ (r .refusal ≡ refusal) × (r .count ≡ 0) × (now (work .exit) ≡ zeros (now (work .entry))) ⌝ }
-{
-    clear(work);
-    Answer { refusal, count: 0 }
 }
 
 // Builds the index of a text: refusals 1, 2, 3, 4, 7, 8; accepted it answers the count of numbers written. The work slice is cleared

@@ -1,5 +1,2 @@
 // Building an index: the text is scanned, positions are put together under their keys, and written.
 pub mod build;
-pub mod group;
-pub mod scan;
-pub mod write;

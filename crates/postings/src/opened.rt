@@ -26,7 +26,7 @@ pub struct Bounds {
 pub fn bounds_of<'a>(chars: &'a [u16], lengths: &'a [u16], index: &'a [u16]) -> Bounds
     ensures { λ r. ⌜ Bounded (now (chars .entry)) (now (lengths .entry)) (now (index .entry)) (r .refusal) (r .keys) (r .first) ⌝ }
 {
-    let refusal = crate::readability::refusal_of(chars, lengths, index);
+    let refusal = reading::readability::refusal_of(chars, lengths, index);
     if refusal != 0 {
         return Bounds {
             refusal,

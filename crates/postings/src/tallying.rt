@@ -57,7 +57,7 @@ fn entries_of(index: &[u16]) -> usize
 pub fn tally(chars: &[u16], lengths: &[u16], index: &[u16]) -> TallyAnswer
     ensures { λ r. ⌜ Tally-says (now (chars .entry)) (now (lengths .entry)) (now (index .entry)) r ⌝ }
 {
-    let refusal = crate::readability::refusal_of(chars, lengths, index);
+    let refusal = reading::readability::refusal_of(chars, lengths, index);
     if refusal != 0 {
         return TallyAnswer {
             refusal,

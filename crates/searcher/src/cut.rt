@@ -12,7 +12,7 @@ use crate::bearing::note_chars;
 use crate::cutting::judge;
 use crate::cutting::write_cut;
 use crate::directory::fill_words;
-use postings::readability::refusal_of;
+use reading::readability::refusal_of;
 use spec::Answer;
 
 // Cuts the index down, with a table of characters and a flag for each line lent.

@@ -18,7 +18,7 @@ use crate::finding::count_found;
 use crate::finding::write_found;
 use crate::reaching::raise_firsts;
 use crate::reaching::raise_stages;
-use postings::readability::refusal_of;
+use reading::readability::refusal_of;
 use spec::Answer;
 
 // Searches the starts of a cleared window.

@@ -1,0 +1,2 @@
+// Whether delivered numbers are a readable index.
+pub mod readability;

@@ -1,0 +1,23 @@
+// The work slice, which is all zeros after every call, refused or not.
+ghost use mathlib.Core.Path.{_≡_};
+ghost use Rattle.spec.specs.Calls.{zeros};
+use spec::Answer;
+
+// Zeros over the whole slice.
+pub fn clear(work: &mut [u16])
+    ensures { λ _. ⌜ now (work .exit) ≡ zeros (now (work .entry)) ⌝ }
+{
+    let mut i = 0;
+    while i < work.len() {
+        work[i] = 0;
+        i += 1;
+    }
+}
+
+// Clears the work slice, and answers a refusal.
+pub fn refuse(work: &mut [u16], refusal: u32) -> Answer
+    ensures { λ r. ⌜ (r .refusal ≡ refusal) × (r .count ≡ 0) × (now (work .exit) ≡ zeros (now (work .entry))) ⌝ }
+{
+    clear(work);
+    Answer { refusal, count: 0 }
+}
