@@ -106,3 +106,4 @@ pub mod Searching
 pub mod Bearing
 pub mod Judging
 pub mod Cutting
+pub mod Accepting
