@@ -106,4 +106,8 @@ pub mod Searching
 pub mod Bearing
 pub mod Judging
 pub mod Cutting
+pub mod PlaceWalk
+pub mod LinePass
+pub mod PaintWalk
+pub mod NoteWalk
 pub mod Accepting

@@ -1,0 +1,154 @@
+-- Painting a readable index line by line, as a loop does it. Assumes nothing.
+use mathlib.Core.Path.{_≡_, refl, sym, ap, _∙_}
+use mathlib.Core.Bool.{true}
+use mathlib.Core.List.{List, [], _∷_, _++_}
+use Prim.Native.Nat.{ℕ, _+_, _*_, _-_, _≤_, _<_}
+use native.Mathlib.Omega.{arith}
+use lib.ListN.{length, getD, take, drop}
+use lib.Seq.{sets}
+use Rattle.basics.specs.Member.{in-getD}
+use Rattle.spec.specs.Dictionary.{Lexicon, longest-text, lexicon}
+use Rattle.spec.specs.Words.{Key, key, spells, Entry, entry}
+use Rattle.spec.specs.Numbers.{Line, line}
+use Rattle.spec.specs.Index.{header, n-of, keys-of, kind-at, value-at, count-at, key-at, lines-in, readable}
+use Rattle.laws.specs.Facts.{Good-line, entries-at, flat}
+use Rattle.laws.specs.Keys.{spells-lone}
+use Rattle.laws.specs.FlatOrder.{rise-least}
+use Rattle.laws.specs.Lexicon.{Is-admitted, admitted-get, admitted-lexicon}
+use Rattle.laws.specs.WordTable.{start-of, Started}
+use Rattle.laws.specs.Readable.{readable-get}
+use Rattle.laws.specs.LineWalk.{readable-fits}
+use Rattle.laws.specs.Opened.{line-of}
+use Rattle.laws.specs.Tables.{Can-read, Word-starts, line-is-good, key-is, word-spelt}
+use Rattle.laws.specs.Painting.{paint}
+use Rattle.laws.specs.Noting.{note-places}
+use Rattle.laws.specs.PlaceWalk.{paint-places, length-paint-places, paint-mark, Lie-within}
+use Rattle.laws.specs.LinePass.{Line-lies, lies-places, Passing, passing-start, passing-lies, passing-step, passing-end}
+
+-- WHAT IS READ
+
+-- a readable index and an admitted dictionary, with the table of starts
+module _ (cs ls starts : List ℕ) (started : Started cs ls starts) where
+  pub started-words : Word-starts ls (length ls) starts
+  unfolding start-of
+  started-words =
+      record { within = omega arith; room = omega (arith, started .starts-long); at = λ w b. started .started w (omega arith) }
+
+  pub started-read :
+      (xs : List ℕ) → readable longest-text (lexicon cs ls) xs ≡ true → keys-of xs ≤ 65535 → Can-read cs ls xs
+  started-read xs can keys =
+      record {
+        few-words = facts .few;
+        few-chars = facts .small;
+        sum = facts .sum;
+        lexicon-good = admitted-lexicon cs ls (started .dictionary);
+        fits = readable-fits longest-text (lexicon cs ls) xs can;
+        lines = readable-get longest-text (lexicon cs ls) xs can .lines;
+        n-small = readable-get longest-text (lexicon cs ls) xs can .length-allowed;
+        keys-small = keys;
+      }
+    where
+      facts : Is-admitted cs ls
+      facts = admitted-get cs ls (started .dictionary)
+
+-- the places of a good line have room for its key
+pub good-lie :
+    (lex : Lexicon) (n : ℕ) (l : Line) → Good-line lex n l → Lie-within (length (spells lex (l .key-of))) n (l .places)
+good-lie lex n l good =
+    record {
+      from = λ j b. rise-least 1 (l .places) (getD (l .places) j 0) (good .rise) (in-getD (l .places) j 0 b);
+      to = λ j b. good .fits (getD (l .places) j 0) (in-getD (l .places) j 0 b);
+    }
+
+-- ONE LINE
+
+paint-run :
+    (lex : Lexicon) (k : Key) (ps : List ℕ) (es : List Entry) (us : List ℕ) →
+    paint lex (entries-at lex k ps ++ es) us ≡ paint lex es (paint-places (spells lex k) ps us)
+unfolding paint paint-places entries-at entry
+paint-run lex k [] es us = refl
+paint-run lex k (p ∷ ps) es us = paint-run lex k ps es (sets us (p - 1) (spells lex k))
+
+pub paint-line :
+    (lex : Lexicon) (l : Line) (ls : List Line) (us : List ℕ) →
+    paint lex (flat lex (l ∷ ls)) us ≡ paint lex (flat lex ls) (paint-places (spells lex (l .key-of)) (l .places) us)
+unfolding flat
+paint-line lex l ls us = paint-run lex (l .key-of) (l .places) (flat lex ls) us
+
+module _ (cs ls xs : List ℕ) (can : Can-read cs ls xs) (i begin end : ℕ) (lies : Line-lies xs i begin end) (us : List ℕ)
+    (long : length us ≡ n-of xs) where
+  -- the key of line i has room at each of its positions
+  key-room :
+      Lie-within (length (spells (lexicon cs ls) (key-at xs i))) (length us) (take (end - begin) (drop begin xs))
+  unfolding line
+  key-room =
+      rw (lies-places xs i begin end lies, long)
+      (good-lie (lexicon cs ls) (n-of xs) (line-of xs i) (line-is-good cs ls xs can i (lies .below)))
+
+  -- a word, spelt by its part of the characters
+  module _ (word : kind-at xs i ≡ 0) (ws : List ℕ) (table : Word-starts ls (length ls) ws) where
+    abbrev part : List ℕ
+    part =
+        take (getD ws (value-at xs i) 0 + getD ls (value-at xs i) 0 - getD ws (value-at xs i) 0) (drop (getD ws (value-at xs i) 0) cs)
+
+    spelt : part ≡ spells (lexicon cs ls) (key-at xs i)
+    spelt = word-spelt cs ls xs can i (lies .below) word ws table
+
+    pub word-paints : Lie-within (length part) (length us) (take (end - begin) (drop begin xs))
+    word-paints = rw spelt key-room
+
+    pub word-painted :
+        (next : List ℕ) → next ≡ paint-places part (take (end - begin) (drop begin xs)) us →
+        next ≡ paint-places (spells (lexicon cs ls) (key-at xs i)) (take (end - begin) (drop begin xs)) us
+    word-painted next e = e ∙ ap (λ (s : List ℕ). paint-places s (take (end - begin) (drop begin xs)) us) spelt
+
+  -- a lone character, which is one mark
+  module _ (lone : kind-at xs i ≡ 0 → ⊥) where
+    spelt-lone : spells (lexicon cs ls) (key-at xs i) ≡ value-at xs i ∷ []
+    unfolding key
+    spelt-lone =
+        let kind : kind-at xs i ≡ 1 = omega (arith, key-is cs ls xs can i (lies .below) .kind-small, lone) in
+        spells-lone (lexicon cs ls) (key-at xs i) kind
+
+    pub lone-paints : Lie-within 1 (length us) (take (end - begin) (drop begin xs))
+    lone-paints = rw spelt-lone at key-room
+
+    pub lone-painted :
+        (next : List ℕ) → next ≡ note-places (value-at xs i) (take (end - begin) (drop begin xs)) us →
+        next ≡ paint-places (spells (lexicon cs ls) (key-at xs i)) (take (end - begin) (drop begin xs)) us
+    lone-painted next e = rw spelt-lone (e ∙ sym (paint-mark (value-at xs i) (take (end - begin) (drop begin xs)) us))
+
+-- THE LINES
+
+-- what a line paints does not depend on its number
+abbrev paint-lines : Lexicon → ℕ → List Line → List ℕ → List ℕ
+paint-lines lex i ls us = paint lex (flat lex ls) us
+
+-- the lines before line i are painted; the positions of line i start at `at`
+abbrev pub Painting-lines : (lex : Lexicon) (xs old now : List ℕ) (at i : ℕ) → Type 0
+Painting-lines lex xs old now at i = Passing (paint-lines lex) xs old now at i
+
+module _ (lex : Lexicon) (xs old : List ℕ) where
+  pub painting-start : Painting-lines lex xs old old (header + 3 * keys-of xs) 0
+  painting-start = passing-start (paint-lines lex) xs old
+
+  module _ (now : List ℕ) (at i : ℕ) (h : Painting-lines lex xs old now at i) where
+    pub painting-lies : i < keys-of xs → Line-lies xs i at (at + count-at xs i)
+    painting-lies below = passing-lies (paint-lines lex) xs old now at i h below
+
+    pub painting-step :
+        (end : ℕ) → Line-lies xs i at end → (next : List ℕ) →
+        next ≡ paint-places (spells lex (key-at xs i)) (take (end - at) (drop at xs)) now →
+        Painting-lines lex xs old next end (i + 1)
+    unfolding line
+    painting-step end lies next e =
+        rw (lies .end-is)
+        (passing-step (paint-lines lex) xs old now at i h (lies .below) next
+        (ap length e ∙ length-paint-places (spells lex (key-at xs i)) (take (end - at) (drop at xs)) now)
+        (paint-line lex (line-of xs i) (drop (i + 1) (lines-in xs)) now
+        ∙ ap (λ (us : List ℕ). paint lex (flat lex (drop (i + 1) (lines-in xs))) us)
+        (sym (e ∙ ap (λ (ps : List ℕ). paint-places (spells lex (key-at xs i)) ps now) (lies-places xs i at end lies)))))
+
+    pub painting-end : keys-of xs ≤ i → now ≡ paint lex (flat lex (lines-in xs)) old
+    unfolding paint flat
+    painting-end past = passing-end (paint-lines lex) xs old now at i h past refl

@@ -1,0 +1,91 @@
+// A text painted from the entries of an index: each entry's characters at its position, line after line.
+//
+// A word is spelt by a part of the dictionary's characters, which a table of starts finds; a lone character is one store at each of
+// its positions. Where entries disagree the last one painted stays, and where there is none the text is as it was: reception finds
+// both by scanning what was painted. The cost is the length of an entry's key.
+ghost use mathlib.Core.Path.{_≡_};
+ghost use mathlib.Core.Bool.{true};
+ghost use Prim.Native.Nat.{_+_, _-_, _≤_};
+ghost use lib.ListN.{length, take, drop};
+ghost use lib.Seq.{sets};
+ghost use Rattle.spec.specs.Dictionary.{longest-text, lexicon};
+ghost use Rattle.spec.specs.Words.{spells};
+ghost use Rattle.spec.specs.Index.{n-of, key-at, lines-in, readable};
+ghost use Rattle.laws.specs.Facts.{flat};
+ghost use Rattle.laws.specs.WordTable.{Started};
+ghost use Rattle.laws.specs.Tables.{Can-read, Word-starts};
+ghost use Rattle.laws.specs.Painting.{paint};
+ghost use Rattle.laws.specs.PlaceWalk.{paint-places, Lie-within};
+ghost use Rattle.laws.specs.LinePass.{Line-lies};
+use crate::noting::mark_places;
+
+// Sets a string's characters from a place on.
+fn paint_string(string: &[u16], at: usize, text: &mut [u16])
+    requires { ⌜ at + length (now string) ≤ length (now text) ⌝ }
+    ensures { λ r. ⌜ now (text .exit) ≡ sets (now (text .entry)) at (now (string .entry)) ⌝ }
+{
+    let mut i = 0;
+    while i < string.len() {
+        text[at + i] = string[i];
+        i += 1;
+    }
+}
+
+// Sets a string at each of these positions.
+fn paint_places(string: &[u16], places: &[u16], text: &mut [u16])
+    requires { ⌜ Lie-within (length (now string)) (length (now text)) (now places) ⌝ }
+    ensures { λ r. ⌜ now (text .exit) ≡ paint-places (now (string .entry)) (now (places .entry)) (now (text .entry)) ⌝ }
+{
+    let mut i = 0;
+    while i < places.len() {
+        paint_string(string, places[i] as usize - 1, text);
+        i += 1;
+    }
+}
+
+// Sets what the key of a line spells at each of the line's positions, which lie from `begin` to `end`.
+fn paint_line(
+    chars: &[u16],
+    lengths: &[u16],
+    starts: &[u16],
+    index: &[u16],
+    line: usize,
+    begin: usize,
+    end: usize,
+    text: &mut [u16],
+)
+    requires { ⌜ Can-read (now chars) (now lengths) (now index) × Word-starts (now lengths) (length (now lengths)) (now starts) × Line-lies (now index) line begin end × (length (now text) ≡ n-of (now index)) ⌝ }
+    ensures { λ r. ⌜ now (text .exit) ≡ paint-places (spells (lexicon (now (chars .entry)) (now (lengths .entry))) (key-at (now (index .entry)) line)) (take (end - begin) (drop begin (now (index .entry)))) (now (text .entry)) ⌝ }
+{
+    let value = index[2 + 3 * line + 1];
+    if index[2 + 3 * line] != 0 {
+        mark_places(value, &index[begin..end], text);
+        return;
+    }
+    let word = value as usize;
+    let start = starts[word] as usize;
+    let stop = start + lengths[word] as usize;
+    paint_places(&chars[start..stop], &index[begin..end], text);
+}
+
+// Paints every entry of a readable index.
+pub fn paint_entries(
+    chars: &[u16],
+    lengths: &[u16],
+    starts: &[u16],
+    index: &[u16],
+    text: &mut [u16],
+)
+    requires { ⌜ Started (now chars) (now lengths) (now starts) × (readable longest-text (lexicon (now chars) (now lengths)) (now index) ≡ true) × (length (now text) ≡ n-of (now index)) ⌝ }
+    ensures { λ r. ⌜ now (text .exit) ≡ paint (lexicon (now (chars .entry)) (now (lengths .entry))) (flat (lexicon (now (chars .entry)) (now (lengths .entry))) (lines-in (now (index .entry)))) (now (text .entry)) ⌝ }
+{
+    let keys = index[1] as usize;
+    let mut begin = 2 + 3 * keys;
+    let mut line = 0;
+    while line < keys {
+        let end = begin + index[2 + 3 * line + 2] as usize;
+        paint_line(chars, lengths, starts, index, line, begin, end, text);
+        begin = end;
+        line += 1;
+    }
+}
