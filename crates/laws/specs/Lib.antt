@@ -111,3 +111,5 @@ pub mod LinePass
 pub mod PaintWalk
 pub mod NoteWalk
 pub mod Accepting
+pub mod Receiving
+pub mod ReceivedText
