@@ -1,9 +1,10 @@
 -- From the refusal number to what a call says: one law for an accepted call, one for a refusal. Assumes nothing.
 use mathlib.Core.Path.{_≡_, sym, _∙_}
+use mathlib.Core.List.{List}
 use Prim.Native.Nat.{ℕ}
 use borrow.Author.Tests.{eq-eqb, ne-eqb}
 use Rattle.spec.specs.declared.Answer.{Answer}
-use Rattle.spec.specs.Calls.{accepted, Answers}
+use Rattle.spec.specs.Calls.{accepted, Answers, zeros}
 
 module _ {ℓ} {A : Type ℓ} (n : ℕ) (x y : A) where
   pub accepted-yes : n ≡ 0 → accepted n x y ≡ x
@@ -22,3 +23,9 @@ module _ (n c : ℕ) (r : Answer) (number : r .refusal ≡ n) where
   pub answers-refused : (n ≡ 0 → ⊥) → r .count ≡ 0 → Answers n c r
   unfolding Answers
   answers-refused some count = (number, count ∙ sym (accepted-no n c 0 some))
+
+-- a refusal, and the work slice cleared
+pub record Refuses (number : ℕ) (r : Answer) (work work-now : List ℕ) : Type 0 where
+  pub is : r .refusal ≡ number
+  pub nothing : r .count ≡ 0
+  pub cleared : work-now ≡ zeros work

@@ -118,3 +118,6 @@ pub mod PlaceWalk
 pub mod LinePass
 pub mod PaintWalk
 pub mod NoteWalk
+pub mod Accepting
+pub mod Receiving
+pub mod ReceivedText

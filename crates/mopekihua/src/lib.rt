@@ -1,7 +1,7 @@
 // The face of the library: every public operation once, for C and Rust to link. No operation has a `requires`, and each contract
 // fixes the answer and the final content of every slice lent to be written, for refused input too. A slice lent to be read
 // stays as it was by its type.
-ghost use Rattle.spec.specs.Calls.{Admit-says, Build-says, Cut-says, Search-says, Tally-says};
+ghost use Rattle.spec.specs.Calls.{Admit-says, Build-says, Cut-says, Receive-says, Recover-says, Search-says, Tally-says};
 use spec::Answer;
 use spec::TallyAnswer;
 
@@ -27,6 +27,35 @@ pub extern "C" fn mopekihua_build(
     ensures { λ r. ⌜ Build-says (now (chars .entry)) (now (lengths .entry)) (now (text .entry)) r (now (output .entry)) (now (output .exit)) (now (work .entry)) (now (work .exit)) ⌝ }
 {
     builder::build::build(chars, lengths, text, output, work)
+}
+
+// Receives an index: whether some text of its stated length has it. Refusals 1, 2, 3, 5, 7, 9; accepted it answers that length. The
+// work slice is all zeros after every call.
+#[no_mangle]
+pub extern "C" fn mopekihua_receive(
+    chars: &[u16],
+    lengths: &[u16],
+    index: &[u16],
+    work: &mut [u16],
+) -> Answer
+    ensures { λ r. ⌜ Receive-says (now (chars .entry)) (now (lengths .entry)) (now (index .entry)) r (now (work .entry)) (now (work .exit)) ⌝ }
+{
+    receiver::receive::receive(chars, lengths, index, work)
+}
+
+// Recovers the text of an index. Refusals 1, 2, 3, 5, 7, 9, then 8, which leave the output as it was; accepted it answers how many
+// characters are written to the front of the output. The work slice is all zeros after every call.
+#[no_mangle]
+pub extern "C" fn mopekihua_recover(
+    chars: &[u16],
+    lengths: &[u16],
+    index: &[u16],
+    output: &mut [u16],
+    work: &mut [u16],
+) -> Answer
+    ensures { λ r. ⌜ Recover-says (now (chars .entry)) (now (lengths .entry)) (now (index .entry)) r (now (output .entry)) (now (output .exit)) (now (work .entry)) (now (work .exit)) ⌝ }
+{
+    receiver::recover::recover(chars, lengths, index, output, work)
 }
 
 // Finds a string in an index, received or not, without the text. Refusals 1, 2, 3, 5, 6, 8, which leave the output as it was;

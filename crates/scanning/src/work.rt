@@ -1,6 +1,7 @@
 // The work slice, which is all zeros after every call, refused or not.
 ghost use mathlib.Core.Path.{_≡_};
 ghost use Rattle.spec.specs.Calls.{zeros};
+ghost use Rattle.laws.specs.Answering.{Refuses};
 use spec::Answer;
 
 // Zeros over the whole slice.
@@ -16,7 +17,7 @@ pub fn clear(work: &mut [u16])
 
 // Clears the work slice, and answers a refusal.
 pub fn refuse(work: &mut [u16], refusal: u32) -> Answer
-    ensures { λ r. ⌜ (r .refusal ≡ refusal) × (r .count ≡ 0) × (now (work .exit) ≡ zeros (now (work .entry))) ⌝ }
+    ensures { λ r. ⌜ Refuses refusal r (now (work .entry)) (now (work .exit)) ⌝ }
 {
     clear(work);
     Answer { refusal, count: 0 }

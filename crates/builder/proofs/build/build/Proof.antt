@@ -28,8 +28,8 @@ returns c =
     let said = c .before .before .refuse .ensures in (
       build-refused cs ls ts w (start .args .output .now)
           (λ (none : early-refusal cs ls ts w ≡ 0). c .before .before .before .before .if1 .taken (c .before .before .before .before .before .early-refusal .ensures ∙ none))
-          (c .before .before .refuse .result) (said .0 ∙ c .before .before .before .before .before .early-refusal .ensures) (said .1),
-      said .2,
+          (c .before .before .refuse .result) (said .is ∙ c .before .before .before .before .before .early-refusal .ensures) (said .nothing),
+      said .cleared,
     )
 
 index-text-requires : tie.Need-index-text-requires

@@ -1,0 +1,46 @@
+-- `text_with` meets its contract: the words are hung up, and the table serves the test. Assumes nothing.
+use native.Mathlib.Omega.{arith}
+use lib.ListN.{length}
+use Rattle.laws.specs.ReceivedText.{delivered-room}
+use borrow.Author.Needs.{needs}
+use Rattle.receiver.proofs.text.text_with.Statement.{statement}
+use Rattle.receiver.proofs.text.text_with.Tie as tie
+
+hang-words-requires : tie.Need-hang-words-requires
+hang-words-requires c κs =
+    let start = c .before .before .before .before .before .before .before .before .before .before in
+    let cs = start .args .chars .now in
+    let ls = start .args .lengths .now in
+    let xs = start .args .index .now in
+    let w = start .args .work .now in
+    delivered-room cs ls xs (length w) (λ i h. omega (arith, c .before .before .before .before .before .before .before .before .before .shared-slice-known .given i)) (start .pre .0) (start .args .heads .now) (start .args .links .now) (start .args .starts .now) (start .pre .1)
+
+text-by-requires : tie.Need-text-by-requires
+text-by-requires c κs = search needs
+
+same-length : tie.Need-same-length
+same-length c = search needs
+
+same-length-2 : tie.Need-same-length-2
+same-length-2 c = search needs
+
+same-length-3 : tie.Need-same-length-3
+same-length-3 c = search needs
+
+same-length-4 : tie.Need-same-length-4
+same-length-4 c = search needs
+
+returns : tie.Need-returns
+returns c = search needs
+
+pub text-with-spec : {M : Type 1} → statement M
+text-with-spec =
+    tie.close
+    (tie.spec
+    hang-words-requires
+    text-by-requires
+    same-length
+    same-length-2
+    same-length-3
+    same-length-4
+    returns)

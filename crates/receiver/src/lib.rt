@@ -1,0 +1,5 @@
+// Reception of a delivered index, and recovery of its text.
+pub mod accepting;
+pub mod receive;
+pub mod recover;
+pub mod text;

@@ -1,0 +1,62 @@
+// Recovery of the text of a delivered index.
+//
+// It is reception, whose painting is the text: it goes to the output once the output is known to be long enough.
+ghost use mathlib.Core.Path.{_≡_};
+ghost use Prim.Native.Nat.{_≤_};
+ghost use lib.ListN.{length};
+ghost use Rattle.spec.specs.Calls.{in-front, Recover-says};
+ghost use Rattle.laws.specs.Receiving.{Gives};
+use crate::receive::delivery_refusal;
+use crate::receive::no_text;
+use crate::text::text_of;
+use scanning::work::clear;
+use scanning::work::refuse;
+use spec::Answer;
+
+// Copies a text to the front of the output.
+fn put_text(text: &[u16], output: &mut [u16])
+    requires { ⌜ length (now text) ≤ length (now output) ⌝ }
+    ensures { λ _. ⌜ now (output .exit) ≡ in-front (now (text .entry)) (now (output .entry)) ⌝ }
+{
+    let mut i = 0;
+    while i < text.len() {
+        output[i] = text[i];
+        i += 1;
+    }
+}
+
+// Copies the first `n` numbers of the work slice to the output, or answers 8; and clears the work slice.
+fn give_text(n: usize, output: &mut [u16], work: &mut [u16]) -> Answer
+    requires { ⌜ n ≤ length (now work) ⌝ }
+    ensures { λ r. ⌜ Gives n r (now (output .entry)) (now (output .exit)) (now (work .entry)) (now (work .exit)) ⌝ }
+{
+    if output.len() < n {
+        return refuse(work, 8);
+    }
+    put_text(&work[..n], output);
+    clear(work);
+    Answer {
+        refusal: 0,
+        count: n,
+    }
+}
+
+// Recovers the text of an index: refusals 1, 2, 3, 5, 7, 9, then 8; accepted it answers the length of the text.
+pub fn recover(
+    chars: &[u16],
+    lengths: &[u16],
+    index: &[u16],
+    output: &mut [u16],
+    work: &mut [u16],
+) -> Answer
+    ensures { λ r. ⌜ Recover-says (now (chars .entry)) (now (lengths .entry)) (now (index .entry)) r (now (output .entry)) (now (output .exit)) (now (work .entry)) (now (work .exit)) ⌝ }
+{
+    let refusal = delivery_refusal(chars, lengths, index, work.len());
+    if refusal != 0 {
+        return refuse(work, refusal);
+    }
+    if !text_of(chars, lengths, index, work) {
+        return no_text(work);
+    }
+    give_text(index[0] as usize, output, work)
+}
