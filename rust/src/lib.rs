@@ -77,6 +77,7 @@
 mod building;
 mod cutting;
 mod ffi;
+mod output;
 mod refusal;
 mod searching;
 mod tally;

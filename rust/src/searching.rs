@@ -1,5 +1,6 @@
 //! Finding a string in an index.
 
+use crate::output::written;
 use crate::{Refusal, ffi};
 
 /// Finds a string in an index, writes the positions into a lent slice, and
@@ -78,9 +79,7 @@ pub fn search(
 ) -> Result<Vec<u16>, Refusal> {
     // Without numbers the index is refused, and nothing is written.
     let n = index.first().copied().unwrap_or(0);
-    let mut output = vec![0; usize::from(n)];
-    let count = search_into(chars, lengths, index, string, &mut output)?;
-    output.truncate(count);
-    output.shrink_to_fit();
-    Ok(output)
+    written(usize::from(n), |output| {
+        search_into(chars, lengths, index, string, output)
+    })
 }

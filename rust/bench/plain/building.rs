@@ -21,27 +21,23 @@ pub fn build(
     output: &mut [u16],
     work: &mut [u16],
 ) -> Result<usize, u32> {
-    let answer = build_uncleared(chars, lengths, text, output, work);
+    let answer = admit(chars, lengths).and_then(|_| {
+        if text.len() > 65_535 {
+            return Err(4);
+        }
+        if work.len() < 8 * text.len() {
+            return Err(7);
+        }
+        let marks = &mut work[..text.len()];
+        scan(&MatchTable::new(chars, lengths), text, marks);
+        write_marked(text, marks, output)
+    });
     work.fill(0);
     answer
 }
 
-fn build_uncleared(
-    chars: &[u16],
-    lengths: &[u16],
-    text: &[u16],
-    output: &mut [u16],
-    work: &mut [u16],
-) -> Result<usize, u32> {
-    admit(chars, lengths)?;
-    if text.len() > 65_535 {
-        return Err(4);
-    }
-    if work.len() < 8 * text.len() {
-        return Err(7);
-    }
-    let marks = &mut work[..text.len()];
-    scan(&MatchTable::new(chars, lengths), text, marks);
+/// Writes the index that the marks stand for. They become links.
+fn write_marked(text: &[u16], marks: &mut [u16], output: &mut [u16]) -> Result<usize, u32> {
     let chains = Chains::link(text, marks);
     let size = 2 + 3 * chains.keys + chains.entries;
     if output.len() < size {

@@ -1,23 +1,15 @@
 //! The cut-down index: which keys agree with the string at some offset, then the
 //! size, the directory and the positions.
 
-use super::reading::admit_index;
+use super::Query;
 
-pub fn cut(
-    chars: &[u16],
-    lengths: &[u16],
-    index: &[u16],
-    string: &[u16],
-    output: &mut [u16],
-) -> Result<usize, u32> {
-    admit_index(chars, lengths, index)?;
-    if string.is_empty() || string.len() > 256 {
-        return Err(6);
-    }
+pub fn cut(query: Query, output: &mut [u16]) -> Result<usize, u32> {
+    query.admit()?;
+    let index = query.index;
     let (directory, positions) = index[2..].split_at(3 * usize::from(index[1]));
     let mut flags = [false; 65_536];
     let flags = &mut flags[..directory.len() / 3];
-    judge(chars, lengths, directory, string, flags);
+    judge(&query, directory, flags);
     let kept = |line: &(&[u16], &bool)| *line.1;
     let lines = || directory.chunks_exact(3).zip(flags.iter());
     let keys = lines().filter(kept).count();
@@ -49,7 +41,13 @@ pub fn cut(
 }
 
 /// Notes for each line whether its key bears on the string.
-fn judge(chars: &[u16], lengths: &[u16], directory: &[u16], string: &[u16], flags: &mut [bool]) {
+fn judge(query: &Query, directory: &[u16], flags: &mut [bool]) {
+    let Query {
+        chars,
+        lengths,
+        string,
+        ..
+    } = *query;
     // The low bytes of the string's characters: most keys start with another.
     let mut present = [false; 256];
     for &character in string {

@@ -7,3 +7,5 @@ pub mod cutting;
 pub mod matching;
 pub mod reading;
 pub mod searching;
+
+pub use reading::Query;

@@ -2,42 +2,27 @@
 //! where it may be laid. Keys that begin at its front or before it come first,
 //! then those that begin within it, from its front to its end.
 
-use super::reading::admit_index;
+use super::Query;
 
 /// The fewest starts for which the longer array is taken: a short sheet does
 /// not pay for clearing it.
 const FEW: usize = 4_096;
 
-pub fn search(
-    chars: &[u16],
-    lengths: &[u16],
-    index: &[u16],
-    string: &[u16],
-    output: &mut [u16],
-) -> Result<usize, u32> {
-    admit_index(chars, lengths, index)?;
-    if string.is_empty() || string.len() > 256 {
-        return Err(6);
-    }
-    let starts = (usize::from(index[0]) + 1).saturating_sub(string.len());
+pub fn search(query: Query, output: &mut [u16]) -> Result<usize, u32> {
+    query.admit()?;
+    let starts = (usize::from(query.index[0]) + 1).saturating_sub(query.string.len());
     if starts <= FEW {
         let mut reach = [0; FEW];
-        find(chars, lengths, index, string, &mut reach[..starts], output)
+        find(query, &mut reach[..starts], output)
     } else {
         let mut reach = [0; 65_535];
-        find(chars, lengths, index, string, &mut reach[..starts], output)
+        find(query, &mut reach[..starts], output)
     }
 }
 
-fn find(
-    chars: &[u16],
-    lengths: &[u16],
-    index: &[u16],
-    string: &[u16],
-    reach: &mut [u16],
-    output: &mut [u16],
-) -> Result<usize, u32> {
-    let directory = Directory::new(chars, lengths, index);
+fn find(query: Query, reach: &mut [u16], output: &mut [u16]) -> Result<usize, u32> {
+    let string = query.string;
+    let directory = Directory::new(query.chars, query.lengths, query.index);
     let mut cover = Cover {
         reach,
         most: 0,

@@ -1,8 +1,6 @@
 //! Admission of the ordinary dictionary, and of the adversarial ones.
 
-use std::hint::black_box;
-
-use crate::race::{print_row, race};
+use super::{Room, Row};
 use crate::sheets::{Case, Sheets};
 use crate::{adversary, plain};
 
@@ -20,26 +18,16 @@ pub fn print(sheets: &Sheets) {
     }
 }
 
-/// Prints a row, and answers the cost of a character in nanoseconds.
 fn print_case(name: &str, case: &Case, ordinary: Option<f64>) -> f64 {
-    let Case { chars, lengths, .. } = case;
-    let expected = Ok(lengths.len());
-    assert_eq!(
-        mopekihua::admit(chars, lengths).map_err(|r| r.number()),
-        expected
-    );
-    assert_eq!(plain::admission::admit(chars, lengths), expected);
-    let times = race(
-        || {
-            let _ = black_box(mopekihua::admit(black_box(chars), black_box(lengths)));
-        },
-        || {
-            let _ = black_box(plain::admission::admit(
-                black_box(chars),
-                black_box(lengths),
-            ));
-        },
-    );
-    print_row(&format!("  {name}"), times, 1, chars.len(), ordinary);
-    times.proved / chars.len() as f64
+    let row = Row {
+        name,
+        inputs: std::slice::from_ref(case),
+        chars: case.chars.len(),
+        ordinary,
+        room: Room::default(),
+    };
+    row.print(
+        |case, _| mopekihua::admit(&case.chars, &case.lengths).map_err(mopekihua::Refusal::number),
+        |case, _| plain::admission::admit(&case.chars, &case.lengths),
+    )
 }

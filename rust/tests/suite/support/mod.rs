@@ -3,7 +3,7 @@
 //! the library to all that it says of the slices lent.
 
 pub mod building;
-pub mod cutting;
+pub mod call;
 pub mod damage;
 pub mod delivery;
 pub mod dictionary;

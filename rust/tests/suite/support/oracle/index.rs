@@ -56,11 +56,7 @@ pub fn build(
     if work_len < 8 * text.len() {
         return Err(7);
     }
-    let index = index_of(&super::split(chars, lengths), text);
-    if output_len < index.len() {
-        return Err(8);
-    }
-    Ok(index)
+    super::put(index_of(&super::split(chars, lengths), text), output_len)
 }
 
 /// The numbers of the text's complete maximal word index.
