@@ -99,6 +99,8 @@ functions! {
     admit calls mopekihua_admit(chars, lengths;) -> Answer;
     build calls mopekihua_build(chars, lengths, text; output, work) -> Answer;
     tally calls mopekihua_tally(chars, lengths, index;) -> TallyAnswer;
+    receive calls mopekihua_receive(chars, lengths, index; work) -> Answer;
+    recover calls mopekihua_recover(chars, lengths, index; output, work) -> Answer;
     search calls mopekihua_search(chars, lengths, index, string; output) -> Answer;
     cut calls mopekihua_cut(chars, lengths, index, string; output) -> Answer;
 }

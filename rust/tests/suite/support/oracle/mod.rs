@@ -4,11 +4,13 @@
 mod cutting;
 mod index;
 mod reading;
+mod reception;
 mod searching;
 
 pub use cutting::cut_down;
-pub use index::{Key, Line, build, index_of, numbers};
+pub use index::{Key, Line, build, index_of, lines_of, numbers};
 pub use reading::{Opened, open, tally};
+pub use reception::receive;
 pub use searching::{answer, find, places_in_text};
 
 /// Admission: the number of words, or the number of the refusal.
@@ -29,7 +31,7 @@ pub fn admit(chars: &[u16], lengths: &[u16]) -> Result<usize, u32> {
 }
 
 /// The result, or the number of the refusal where the output is shorter.
-fn put(result: Vec<u16>, output_len: usize) -> Result<Vec<u16>, u32> {
+pub fn put(result: Vec<u16>, output_len: usize) -> Result<Vec<u16>, u32> {
     if output_len < result.len() {
         return Err(8);
     }
