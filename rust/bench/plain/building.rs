@@ -5,7 +5,7 @@ use super::admission::admit;
 use super::matching::MatchTable;
 
 /// The mark of a lone character; other marks are 0 or the number of a word + 1.
-const LONE: u16 = 4_097;
+pub const LONE: u16 = 4_097;
 
 /// A key as one number, its word number or 4,096 + its character: codes in order
 /// are keys in order.
@@ -60,7 +60,7 @@ fn scan(table: &MatchTable, text: &[u16], marks: &mut [u16]) {
 }
 
 /// The mark at a place, and the last registered end after it.
-fn step(table: &MatchTable, text: &[u16], at: usize, last: usize) -> (u16, usize) {
+pub fn step(table: &MatchTable, text: &[u16], at: usize, last: usize) -> (u16, usize) {
     let found = table.longest(text, at, last);
     if found != 0 {
         (found, at + table.length(found))

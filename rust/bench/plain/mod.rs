@@ -6,6 +6,7 @@ pub mod building;
 pub mod cutting;
 pub mod matching;
 pub mod reading;
+pub mod reception;
 pub mod searching;
 
 pub use reading::Query;

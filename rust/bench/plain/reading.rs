@@ -5,7 +5,7 @@
 use super::admission::admit;
 
 /// The number of lines 1, 2, 3 and 5 that dictionary and index meet, if any.
-fn admit_index(chars: &[u16], lengths: &[u16], index: &[u16]) -> Result<(), u32> {
+pub fn admit_index(chars: &[u16], lengths: &[u16], index: &[u16]) -> Result<(), u32> {
     admit(chars, lengths)?;
     if readable(chars, lengths, index) {
         Ok(())
