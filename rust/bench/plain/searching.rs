@@ -69,8 +69,9 @@ fn cover_front(directory: &Directory, string: &[u16], cover: &mut Cover) {
 }
 
 /// Whether two strings that begin together are equal where both lie.
-fn agree(one: &[u16], other: &[u16]) -> bool {
-    one.iter().zip(other).all(|(x, y)| x == y)
+pub fn agree(one: &[u16], other: &[u16]) -> bool {
+    let shared = one.len().min(other.len());
+    one[..shared] == other[..shared]
 }
 
 /// How many characters of the string are covered from its front, for each start.
@@ -85,11 +86,16 @@ impl Cover<'_> {
     /// characters after their start.
     fn lay(&mut self, positions: &[u16], back: usize, long: usize) {
         let covered = long.min(self.whole) as u16;
+        let reach = &mut *self.reach;
+        let mut some = false;
         for &position in positions {
-            if let Some(reach) = self.reach.get_mut(usize::from(position) - 1 + back) {
+            if let Some(reach) = reach.get_mut(usize::from(position) - 1 + back) {
                 *reach = (*reach).max(covered);
-                self.most = self.most.max(covered);
+                some = true;
             }
+        }
+        if some {
+            self.most = self.most.max(covered);
         }
     }
 
@@ -97,14 +103,21 @@ impl Cover<'_> {
     /// reaches as far.
     fn raise(&mut self, positions: &[u16], offset: usize, long: usize) {
         let covered = (offset + long).min(self.whole) as u16;
+        let least = offset as u16;
+        let reach = &mut *self.reach;
+        let mut some = false;
         for &position in positions {
-            let start = (usize::from(position) - 1).wrapping_sub(offset);
-            if let Some(reach) = self.reach.get_mut(start) {
-                if usize::from(*reach) >= offset {
-                    *reach = (*reach).max(covered);
-                    self.most = self.most.max(covered);
+            let start = usize::from(position).wrapping_sub(offset + 1);
+            if let Some(reach) = reach.get_mut(start) {
+                // From `least` up, and below `covered`.
+                if reach.wrapping_sub(least) < covered - least {
+                    *reach = covered;
+                    some = true;
                 }
             }
+        }
+        if some {
+            self.most = self.most.max(covered);
         }
     }
 }

@@ -1,14 +1,15 @@
 //! Admission of the ordinary dictionary, and of the adversarial ones.
 
 use super::{Room, Row};
+use crate::adversary::{self, Adversary};
+use crate::plain;
 use crate::sheets::{Case, Sheets};
-use crate::{adversary, plain};
 
 pub fn print(sheets: &Sheets) {
     let (_, ordinary) = &sheets.sizes[0];
     let cost = print_case("4,096 Japanese words", ordinary, None);
     let mut last = 0;
-    for (name, case) in &adversary::cases() {
+    for Adversary { name, case, .. } in &adversary::cases() {
         // Several inputs have the same dictionary.
         if case.lengths.len() >= 2_000 && case.chars.len() != last {
             last = case.chars.len();

@@ -11,7 +11,7 @@ pub mod tally;
 use std::fmt::Debug;
 use std::hint::black_box;
 
-use crate::adversary;
+use crate::adversary::{self, Adversary};
 use crate::race::{print_row, race};
 use crate::sheets::{Case, Sheets};
 
@@ -23,7 +23,7 @@ fn print_sheets(sheets: &Sheets, print: impl Fn(&str, &Case, Option<f64>) -> f64
     for (name, case) in &sheets.sizes {
         ordinary = print(name, case, None);
     }
-    for (name, case) in &adversary::cases() {
+    for Adversary { name, case, .. } in &adversary::cases() {
         print(name, case, Some(ordinary));
     }
 }

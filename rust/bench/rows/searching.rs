@@ -1,29 +1,40 @@
-//! Search, and beside it how long a scan of the text takes where it is at hand.
+//! Search, and for information after each row how long a scan of the text takes
+//! where that is at hand.
 
 use std::hint::black_box;
 
 use super::strings::Operation;
-use crate::plain;
-use crate::race::best;
+use crate::plain::{scanning, searching};
+use crate::race::{best, print_information};
 use crate::sheets::{Case, Search, Sheets};
 
 pub fn print(sheets: &Sheets) {
     let search = Operation {
         proved: mopekihua::search_into,
-        plain: plain::searching::search,
+        plain: searching::search,
         beside: print_scan,
     };
     search.print(sheets);
 }
 
-/// For information.
+/// The scan finds what the search does.
 fn print_scan(case: &Case, searches: &[Search]) {
-    let mut scan = || {
+    let Case {
+        chars,
+        lengths,
+        texts,
+    } = case;
+    let indexes = case.indexes();
+    let mut output = vec![0; 65_535];
+    for Search { text, string } in searches {
+        let count = scanning::scan(&texts[*text], string, &mut output);
+        let found = mopekihua::search(chars, lengths, &indexes[*text], string);
+        assert_eq!(found.as_deref(), Ok(&output[..count]));
+    }
+    let time = best(&mut || {
         for Search { text, string } in black_box(searches) {
-            let windows = case.texts[*text].windows(string.len());
-            black_box(windows.filter(|window| window == string).count());
+            black_box(scanning::scan(&texts[*text], string, &mut output));
         }
-    };
-    let per_call = best(&mut scan) / searches.len() as f64 / 1_000.0;
-    println!("    a scan of the text takes {per_call:.2} µs");
+    });
+    print_information("a scan of the text", time, searches.len());
 }
