@@ -187,6 +187,61 @@ mopekihua_tally_answer mopekihua_tally(const uint16_t *chars, size_t chars_len,
                                        const uint16_t *index, size_t index_len);
 
 /*
+ * Receives an index: says whether some text has it.
+ *
+ * The dictionary is lent as to mopekihua_admit, the index as to
+ * mopekihua_tally. A readable index need not be that of a text: no entry may
+ * cover a position, two entries may show different characters at one, or an
+ * entry may stand where the text that the entries spell has a longer one. If a
+ * text has it, no other text does.
+ *
+ * Answers, the first that applies:
+ *   MOPEKIHUA_DICTIONARY_TOO_LARGE, MOPEKIHUA_LENGTHS_WRONG,
+ *   MOPEKIHUA_WORDS_NOT_ASCENDING   as mopekihua_admit answers
+ *   MOPEKIHUA_INDEX_NOT_READABLE    the index is not readable, as for
+ *                                   mopekihua_tally
+ *   MOPEKIHUA_WORK_TOO_SHORT        work_len is below 8 * n, for n the first
+ *                                   number of the index
+ *   MOPEKIHUA_NO_TEXT               no text has this index
+ *   MOPEKIHUA_ACCEPTED              a text has it; count is n, its length
+ *
+ * work may hold anything, and all its work_len elements are 0 after every call,
+ * refused or not. For slices lent as said above the call always returns,
+ * whatever they hold.
+ */
+mopekihua_answer mopekihua_receive(const uint16_t *chars, size_t chars_len,
+                                   const uint16_t *lengths, size_t lengths_len,
+                                   const uint16_t *index, size_t index_len,
+                                   uint16_t *work, size_t work_len);
+
+/*
+ * Recovers the text that an index is that of.
+ *
+ * The dictionary is lent as to mopekihua_admit, the index as to
+ * mopekihua_tally.
+ *
+ * Answers, the first that applies:
+ *   MOPEKIHUA_DICTIONARY_TOO_LARGE, MOPEKIHUA_LENGTHS_WRONG,
+ *   MOPEKIHUA_WORDS_NOT_ASCENDING   as mopekihua_admit answers
+ *   MOPEKIHUA_INDEX_NOT_READABLE, MOPEKIHUA_WORK_TOO_SHORT,
+ *   MOPEKIHUA_NO_TEXT               as mopekihua_receive answers
+ *   MOPEKIHUA_OUTPUT_TOO_SHORT      output_len is below n, the first number of
+ *                                   the index, which a text has
+ *   MOPEKIHUA_ACCEPTED              the text is written to the front of
+ *                                   output; count is n, its length
+ *
+ * output past count is left as it was; after a refusal all of output is. work
+ * may hold anything, and all its work_len elements are 0 after every call,
+ * refused or not. For slices lent as said above the call always returns,
+ * whatever they hold.
+ */
+mopekihua_answer mopekihua_recover(const uint16_t *chars, size_t chars_len,
+                                   const uint16_t *lengths, size_t lengths_len,
+                                   const uint16_t *index, size_t index_len,
+                                   uint16_t *output, size_t output_len,
+                                   uint16_t *work, size_t work_len);
+
+/*
  * Finds a string in an index, without the text.
  *
  * The dictionary is lent as to mopekihua_admit, the index as to

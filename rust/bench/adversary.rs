@@ -11,33 +11,58 @@ const LONGEST: usize = 65_535;
 /// The character that everything here is made of.
 const A: u16 = 0x3042;
 
-/// The name of each input, and the input.
-pub fn cases() -> Vec<(String, Case)> {
-    let equal = || vec![vec![A; LONGEST]];
+/// An input and its name.
+pub struct Adversary {
+    pub name: String,
+    pub case: Case,
+    /// How long the short strings are that it is searched for, beside those of
+    /// 256: from the first number to the second.
+    pub short: &'static [(usize, usize)],
+}
+
+impl Adversary {
+    fn new(name: &str, words: &BTreeSet<Vec<u16>>, text: Vec<u16>) -> Adversary {
+        Adversary {
+            name: name.to_string(),
+            case: Case::new(words, vec![text]),
+            short: &[],
+        }
+    }
+}
+
+pub fn cases() -> Vec<Adversary> {
+    let equal = || vec![A; LONGEST];
+    let up_to = |longest: usize| (1..=longest).map(|long| vec![A; long]).collect();
     let mut cases = vec![
-        (
-            "65,535 equal characters; words a, aa, aaa".to_string(),
-            Case::new(&(1..=3).map(|long| vec![A; long]).collect(), equal()),
+        Adversary {
+            short: &[(1, 1), (2, 2), (3, 3)],
+            ..Adversary::new(
+                "65,535 equal characters; words a, aa, aaa",
+                &up_to(3),
+                equal(),
+            )
+        },
+        Adversary::new(
+            "65,535 equal characters; words of 1 to 32 of them",
+            &up_to(32),
+            equal(),
         ),
-        (
-            "65,535 equal characters; words of 1 to 32 of them".to_string(),
-            Case::new(&(1..=32).map(|long| vec![A; long]).collect(), equal()),
-        ),
-        (
-            "65,535 different characters; no words".to_string(),
-            Case::new(&BTreeSet::new(), vec![(0..=65_534).rev().collect()]),
+        Adversary::new(
+            "65,535 different characters; no words",
+            &BTreeSet::new(),
+            (0..=65_534).rev().collect(),
         ),
     ];
     for shared in [1, 2, 31] {
         let words = sharing(shared);
-        let strung = strung_together(&words);
-        let case = Case::new(&words, equal());
-        let name = format!("{} words that share {shared} first", case.lengths.len());
-        cases.push((format!("{name}; equal characters"), case));
-        cases.push((
-            format!("{name}; their words"),
-            Case::new(&words, vec![strung]),
-        ));
+        let name = format!("{} words that share {shared} first", words.len());
+        let equal_name = format!("{name}; equal characters");
+        cases.push(Adversary::new(&equal_name, &words, equal()));
+        let strung_name = format!("{name}; their words");
+        cases.push(Adversary {
+            short: &[(2, 12)],
+            ..Adversary::new(&strung_name, &words, strung_together(&words))
+        });
     }
     cases
 }

@@ -30,6 +30,8 @@ const OPERATIONS: &[(&str, Print)] = &[
     ("admission", rows::admission::print),
     ("build", rows::building::print),
     ("tally", rows::tally::print),
+    ("receive", rows::reception::print_receive),
+    ("recover", rows::reception::print_recover),
     ("search", rows::searching::print),
     ("cut", rows::cutting::print),
 ];

@@ -57,18 +57,31 @@ pub fn print_head() {
     );
 }
 
+/// A time in the column of plain Rust, with nothing to set it beside: `calls`
+/// calls took it.
+pub fn print_information(name: &str, time: f64, calls: usize) {
+    println!(
+        "    for information: {name:<37} {:>11} {:>11}",
+        "",
+        per_call(time, calls)
+    );
+}
+
+fn per_call(time: f64, calls: usize) -> String {
+    format!("{:.2} µs", time / calls as f64 / 1_000.0)
+}
+
 /// A row of `calls` calls over `chars` characters in all. `ordinary` is the
 /// cost of an ordinary character in nanoseconds, for adversarial rows.
 pub fn print_row(name: &str, race: Race, calls: usize, chars: usize, ordinary: Option<f64>) {
-    let per_call = |time: f64| format!("{:.2} µs", time / calls as f64 / 1_000.0);
     let per_char = race.proved / chars as f64;
     let beside = ordinary.map_or_else(String::new, |ordinary| {
         format!("{:.2}", per_char / ordinary)
     });
     println!(
         "{name:<58} {:>11} {:>11} {:>6.2} {per_char:>8.2} {beside:>10}",
-        per_call(race.proved),
-        per_call(race.plain),
+        per_call(race.proved, calls),
+        per_call(race.plain, calls),
         race.proved / race.plain,
     );
 }

@@ -5,7 +5,12 @@
 use std::collections::BTreeSet;
 
 use crate::random::Random;
-use crate::rows::searching::Search;
+
+/// A string, and the text whose index is searched for it.
+pub struct Search {
+    pub text: usize,
+    pub string: Vec<u16>,
+}
 
 /// A dictionary as it is lent, and texts to index with it.
 pub struct Case {

@@ -1,5 +1,6 @@
 //! Building the index of a text.
 
+use crate::output::written;
 use crate::{Refusal, ffi};
 
 /// The longest text that has an index.
@@ -104,10 +105,8 @@ pub fn build_into(
 /// assert_eq!(mopekihua::build(&a, &[1, 2, 3], &a[..4]), Ok(vec![4, 1, 0, 2, 2, 1, 2]));
 /// ```
 pub fn build(chars: &[u16], lengths: &[u16], text: &[u16]) -> Result<Vec<u16>, Refusal> {
-    let mut output = vec![0; index_bound(text.len())];
     let mut work = vec![0; work_needed(text.len())];
-    let count = build_into(chars, lengths, text, &mut output, &mut work)?;
-    output.truncate(count);
-    output.shrink_to_fit();
-    Ok(output)
+    written(index_bound(text.len()), |output| {
+        build_into(chars, lengths, text, output, &mut work)
+    })
 }

@@ -1,5 +1,6 @@
 //! The cut-down index for one string.
 
+use crate::output::written;
 use crate::{Refusal, ffi};
 
 /// Cuts an index down to what a search for one string needs, into a lent slice,
@@ -76,9 +77,7 @@ pub fn cut(
     index: &[u16],
     string: &[u16],
 ) -> Result<Vec<u16>, Refusal> {
-    let mut output = vec![0; index.len()];
-    let count = cut_into(chars, lengths, index, string, &mut output)?;
-    output.truncate(count);
-    output.shrink_to_fit();
-    Ok(output)
+    written(index.len(), |output| {
+        cut_into(chars, lengths, index, string, output)
+    })
 }

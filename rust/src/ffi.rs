@@ -57,154 +57,50 @@ fn accepted<T>(number: u32, value: T) -> Result<T, Refusal> {
     }
 }
 
-unsafe extern "C" {
-    fn mopekihua_admit(
-        chars: *const u16,
-        chars_len: usize,
-        lengths: *const u16,
-        lengths_len: usize,
-    ) -> Answer;
+/// Declares C functions, and for each a safe function over slices. The slices
+/// lent to be read come first; those lent to be written follow the semicolon.
+macro_rules! functions {
+    ($(
+        $name:ident calls $function:ident($($read:ident),*; $($written:ident),*) -> $answer:ident;
+    )*) => {
+        unsafe extern "C" {
+            $(
+                fn $function(
+                    $($read: *const u16, _: usize,)*
+                    $($written: *mut u16, _: usize,)*
+                ) -> $answer;
+            )*
+        }
 
-    fn mopekihua_build(
-        chars: *const u16,
-        chars_len: usize,
-        lengths: *const u16,
-        lengths_len: usize,
-        text: *const u16,
-        text_len: usize,
-        output: *mut u16,
-        output_len: usize,
-        work: *mut u16,
-        work_len: usize,
-    ) -> Answer;
-
-    fn mopekihua_tally(
-        chars: *const u16,
-        chars_len: usize,
-        lengths: *const u16,
-        lengths_len: usize,
-        index: *const u16,
-        index_len: usize,
-    ) -> TallyAnswer;
-
-    fn mopekihua_search(
-        chars: *const u16,
-        chars_len: usize,
-        lengths: *const u16,
-        lengths_len: usize,
-        index: *const u16,
-        index_len: usize,
-        string: *const u16,
-        string_len: usize,
-        output: *mut u16,
-        output_len: usize,
-    ) -> Answer;
-
-    fn mopekihua_cut(
-        chars: *const u16,
-        chars_len: usize,
-        lengths: *const u16,
-        lengths_len: usize,
-        index: *const u16,
-        index_len: usize,
-        string: *const u16,
-        string_len: usize,
-        output: *mut u16,
-        output_len: usize,
-    ) -> Answer;
+        $(
+            pub(crate) fn $name(
+                $($read: &[u16],)*
+                $($written: &mut [u16],)*
+            ) -> $answer {
+                // SAFETY: The library has this function with this signature.
+                // Each pointer and length are those of a slice that outlives
+                // the call: the pointer is aligned and not null, and that many
+                // elements can be read behind it, also for an empty slice. What
+                // is borrowed to be written nothing else refers to during the
+                // call. The function reads and writes within the lengths and
+                // keeps no pointer.
+                unsafe {
+                    $function(
+                        $($read.as_ptr(), $read.len(),)*
+                        $($written.as_mut_ptr(), $written.len(),)*
+                    )
+                }
+            }
+        )*
+    };
 }
 
-pub(crate) fn admit(chars: &[u16], lengths: &[u16]) -> Answer {
-    // SAFETY: each pointer and length are those of one live slice: aligned, not
-    // null also where it is empty, and readable for its length during the call.
-    // The function writes nothing and keeps neither pointer.
-    unsafe { mopekihua_admit(chars.as_ptr(), chars.len(), lengths.as_ptr(), lengths.len()) }
-}
-
-pub(crate) fn build(
-    chars: &[u16],
-    lengths: &[u16],
-    text: &[u16],
-    output: &mut [u16],
-    work: &mut [u16],
-) -> Answer {
-    // SAFETY: as in `admit`. `output` and `work` are borrowed to be written, so
-    // during the call nothing else refers to their elements; the function
-    // writes within their lengths and keeps no pointer.
-    unsafe {
-        mopekihua_build(
-            chars.as_ptr(),
-            chars.len(),
-            lengths.as_ptr(),
-            lengths.len(),
-            text.as_ptr(),
-            text.len(),
-            output.as_mut_ptr(),
-            output.len(),
-            work.as_mut_ptr(),
-            work.len(),
-        )
-    }
-}
-
-pub(crate) fn tally(chars: &[u16], lengths: &[u16], index: &[u16]) -> TallyAnswer {
-    // SAFETY: as in `admit`.
-    unsafe {
-        mopekihua_tally(
-            chars.as_ptr(),
-            chars.len(),
-            lengths.as_ptr(),
-            lengths.len(),
-            index.as_ptr(),
-            index.len(),
-        )
-    }
-}
-
-pub(crate) fn search(
-    chars: &[u16],
-    lengths: &[u16],
-    index: &[u16],
-    string: &[u16],
-    output: &mut [u16],
-) -> Answer {
-    // SAFETY: as in `admit`, and for `output` as in `build`.
-    unsafe {
-        mopekihua_search(
-            chars.as_ptr(),
-            chars.len(),
-            lengths.as_ptr(),
-            lengths.len(),
-            index.as_ptr(),
-            index.len(),
-            string.as_ptr(),
-            string.len(),
-            output.as_mut_ptr(),
-            output.len(),
-        )
-    }
-}
-
-pub(crate) fn cut(
-    chars: &[u16],
-    lengths: &[u16],
-    index: &[u16],
-    string: &[u16],
-    output: &mut [u16],
-) -> Answer {
-    // SAFETY: as in `admit`, and for `output` as in `build`.
-    unsafe {
-        mopekihua_cut(
-            chars.as_ptr(),
-            chars.len(),
-            lengths.as_ptr(),
-            lengths.len(),
-            index.as_ptr(),
-            index.len(),
-            string.as_ptr(),
-            string.len(),
-            output.as_mut_ptr(),
-            output.len(),
-        )
-    }
+functions! {
+    admit calls mopekihua_admit(chars, lengths;) -> Answer;
+    build calls mopekihua_build(chars, lengths, text; output, work) -> Answer;
+    tally calls mopekihua_tally(chars, lengths, index;) -> TallyAnswer;
+    receive calls mopekihua_receive(chars, lengths, index; work) -> Answer;
+    recover calls mopekihua_recover(chars, lengths, index; output, work) -> Answer;
+    search calls mopekihua_search(chars, lengths, index, string; output) -> Answer;
+    cut calls mopekihua_cut(chars, lengths, index, string; output) -> Answer;
 }

@@ -52,8 +52,9 @@
 //! - under each key positions ascend strictly from 1 or more, and the last
 //!   character of the key falls at or before n.
 //!
-//! [`tally`] counts the entries of a readable index by their lengths, and
-//! [`search`] finds a string in it without the text. [`cut`] leaves what a
+//! [`receive`] says whether some text has such an index, and [`recover`] gives
+//! that text. [`tally`] counts the entries of a readable index by their lengths,
+//! and [`search`] finds a string in it without the text. [`cut`] leaves what a
 //! search for one string needs.
 //!
 //! # What is proved and what is not
@@ -77,12 +78,15 @@
 mod building;
 mod cutting;
 mod ffi;
+mod output;
+mod reception;
 mod refusal;
 mod searching;
 mod tally;
 
 pub use building::{build, build_into, index_bound, work_needed};
 pub use cutting::{cut, cut_into};
+pub use reception::{receive, receive_with, recover, recover_into};
 pub use refusal::Refusal;
 pub use searching::{search, search_into};
 pub use tally::{Tally, tally};

@@ -1,5 +1,6 @@
 //! Finding a string in an index.
 
+use crate::output::{stated_length, written};
 use crate::{Refusal, ffi};
 
 /// Finds a string in an index, writes the positions into a lent slice, and
@@ -76,11 +77,7 @@ pub fn search(
     index: &[u16],
     string: &[u16],
 ) -> Result<Vec<u16>, Refusal> {
-    // Without numbers the index is refused, and nothing is written.
-    let n = index.first().copied().unwrap_or(0);
-    let mut output = vec![0; usize::from(n)];
-    let count = search_into(chars, lengths, index, string, &mut output)?;
-    output.truncate(count);
-    output.shrink_to_fit();
-    Ok(output)
+    written(stated_length(index), |output| {
+        search_into(chars, lengths, index, string, output)
+    })
 }

@@ -5,7 +5,7 @@ use super::admission::admit;
 use super::matching::MatchTable;
 
 /// The mark of a lone character; other marks are 0 or the number of a word + 1.
-const LONE: u16 = 4_097;
+pub const LONE: u16 = 4_097;
 
 /// A key as one number, its word number or 4,096 + its character: codes in order
 /// are keys in order.
@@ -21,27 +21,23 @@ pub fn build(
     output: &mut [u16],
     work: &mut [u16],
 ) -> Result<usize, u32> {
-    let answer = build_uncleared(chars, lengths, text, output, work);
+    let answer = admit(chars, lengths).and_then(|_| {
+        if text.len() > 65_535 {
+            return Err(4);
+        }
+        if work.len() < 8 * text.len() {
+            return Err(7);
+        }
+        let marks = &mut work[..text.len()];
+        scan(&MatchTable::new(chars, lengths), text, marks);
+        write_marked(text, marks, output)
+    });
     work.fill(0);
     answer
 }
 
-fn build_uncleared(
-    chars: &[u16],
-    lengths: &[u16],
-    text: &[u16],
-    output: &mut [u16],
-    work: &mut [u16],
-) -> Result<usize, u32> {
-    admit(chars, lengths)?;
-    if text.len() > 65_535 {
-        return Err(4);
-    }
-    if work.len() < 8 * text.len() {
-        return Err(7);
-    }
-    let marks = &mut work[..text.len()];
-    scan(&MatchTable::new(chars, lengths), text, marks);
+/// Writes the index that the marks stand for. They become links.
+fn write_marked(text: &[u16], marks: &mut [u16], output: &mut [u16]) -> Result<usize, u32> {
     let chains = Chains::link(text, marks);
     let size = 2 + 3 * chains.keys + chains.entries;
     if output.len() < size {
@@ -64,7 +60,7 @@ fn scan(table: &MatchTable, text: &[u16], marks: &mut [u16]) {
 }
 
 /// The mark at a place, and the last registered end after it.
-fn step(table: &MatchTable, text: &[u16], at: usize, last: usize) -> (u16, usize) {
+pub fn step(table: &MatchTable, text: &[u16], at: usize, last: usize) -> (u16, usize) {
     let found = table.longest(text, at, last);
     if found != 0 {
         (found, at + table.length(found))

@@ -1,30 +1,27 @@
-//! The cut-down index: which keys agree with the string at some offset, then the
-//! size, the directory and the positions.
+//! The cut-down index: a table of the string's characters tells of nearly every
+//! key that it does not bear on the string, the others are laid at each offset;
+//! then the directory and the positions of those that bear.
 
-use super::reading::admit_index;
+use super::Query;
+use super::searching::agree;
 
-pub fn cut(
-    chars: &[u16],
-    lengths: &[u16],
-    index: &[u16],
-    string: &[u16],
-    output: &mut [u16],
-) -> Result<usize, u32> {
-    admit_index(chars, lengths, index)?;
-    if string.is_empty() || string.len() > 256 {
-        return Err(6);
+pub fn cut(query: Query, output: &mut [u16]) -> Result<usize, u32> {
+    query.admit()?;
+    let keys = usize::from(query.index[1]);
+    // A short index does not pay for clearing many flags.
+    if keys <= 1_024 {
+        cut_flagged(query, &mut [false; 1_024][..keys], output)
+    } else if keys <= 8_192 {
+        cut_flagged(query, &mut [false; 8_192][..keys], output)
+    } else {
+        cut_flagged(query, &mut [false; 65_536][..keys], output)
     }
-    let (directory, positions) = index[2..].split_at(3 * usize::from(index[1]));
-    let mut flags = [false; 65_536];
-    let flags = &mut flags[..directory.len() / 3];
-    judge(chars, lengths, directory, string, flags);
-    let kept = |line: &(&[u16], &bool)| *line.1;
-    let lines = || directory.chunks_exact(3).zip(flags.iter());
-    let keys = lines().filter(kept).count();
-    let entries: usize = lines()
-        .filter(kept)
-        .map(|(line, _)| usize::from(line[2]))
-        .sum();
+}
+
+fn cut_flagged(query: Query, flags: &mut [bool], output: &mut [u16]) -> Result<usize, u32> {
+    let index = query.index;
+    let (directory, positions) = index[2..].split_at(3 * flags.len());
+    let (keys, entries) = judge(&query, directory, flags);
     let size = 2 + 3 * keys + entries;
     let Some(output) = output.get_mut(..size) else {
         return Err(8);
@@ -32,50 +29,73 @@ pub fn cut(
     output[0] = index[0];
     output[1] = keys as u16;
     let (new_directory, mut new_positions) = output[2..].split_at_mut(3 * keys);
-    for (place, (line, _)) in new_directory.chunks_exact_mut(3).zip(lines().filter(kept)) {
-        place.copy_from_slice(line);
-    }
-    let mut rest = positions;
-    for (line, &flag) in lines() {
-        let (places, after) = rest.split_at(usize::from(line[2]));
-        rest = after;
+    let mut new_lines = new_directory.chunks_exact_mut(3);
+    let mut at = 0;
+    for (line, &flag) in directory.chunks_exact(3).zip(flags.iter()) {
+        let count = usize::from(line[2]);
         if flag {
-            let (front, back) = new_positions.split_at_mut(places.len());
-            front.copy_from_slice(places);
+            if let Some(place) = new_lines.next() {
+                place.copy_from_slice(line);
+            }
+            let (front, back) = new_positions.split_at_mut(count);
+            front.copy_from_slice(&positions[at..at + count]);
             new_positions = back;
         }
+        at += count;
     }
     Ok(size)
 }
 
-/// Notes for each line whether its key bears on the string.
-fn judge(chars: &[u16], lengths: &[u16], directory: &[u16], string: &[u16], flags: &mut [bool]) {
-    // The low bytes of the string's characters: most keys start with another.
-    let mut present = [false; 256];
-    for &character in string {
-        present[usize::from(character as u8)] = true;
-    }
-    let mut start = 0;
-    let mut number = 0;
+/// Flags each line whose key bears on the string, and answers how many these are
+/// and how many positions they have.
+fn judge(query: &Query, directory: &[u16], flags: &mut [bool]) -> (usize, usize) {
+    let Query {
+        chars,
+        lengths,
+        string,
+        ..
+    } = *query;
+    let seen = Seen::new(string);
+    let (mut keys, mut entries) = (0, 0);
+    let (mut number, mut start) = (0, 0);
     for (flag, line) in flags.iter_mut().zip(directory.chunks_exact(3)) {
-        if line[0] != 0 {
-            *flag = present[usize::from(line[1] as u8)] && string.contains(&line[1]);
-            continue;
+        *flag = if line[0] == 0 {
+            // Words and lines ascend together.
+            while number < usize::from(line[1]) {
+                start += usize::from(lengths[number]);
+                number += 1;
+            }
+            let word = &chars[start..start + usize::from(lengths[number])];
+            begins_before(word, string) || seen.has(word[0]) && begins_within(word, string)
+        } else {
+            seen.has(line[1])
+        };
+        keys += usize::from(*flag);
+        entries += if *flag { usize::from(line[2]) } else { 0 };
+    }
+    (keys, entries)
+}
+
+/// Which characters the string has, one bit each.
+struct Seen([u64; 1_024]);
+
+impl Seen {
+    fn new(string: &[u16]) -> Seen {
+        let mut seen = Seen([0; 1_024]);
+        for &character in string {
+            seen.0[usize::from(character / 64)] |= 1 << (character % 64);
         }
-        // Words and lines ascend together.
-        while number < usize::from(line[1]) {
-            start += usize::from(lengths[number]);
-            number += 1;
-        }
-        let word = &chars[start..start + usize::from(lengths[number])];
-        *flag = begins_before(word, string)
-            || present[usize::from(word[0] as u8)] && begins_within(word, string);
+        seen
+    }
+
+    fn has(&self, character: u16) -> bool {
+        self.0[usize::from(character / 64)] >> (character % 64) & 1 == 1
     }
 }
 
 /// Whether the word agrees with the string at its front or before it.
 fn begins_before(word: &[u16], string: &[u16]) -> bool {
-    (0..word.len()).any(|back| word[back] == string[0] && equal(&word[back..], string))
+    (0..word.len()).any(|back| word[back] == string[0] && agree(&word[back..], string))
 }
 
 /// Whether the word agrees with the string after its front.
@@ -83,10 +103,5 @@ fn begins_within(word: &[u16], string: &[u16]) -> bool {
     let offsets = 1..string.len();
     offsets
         .filter(|&offset| string[offset] == word[0])
-        .any(|offset| equal(word, &string[offset..]))
-}
-
-/// Whether two strings that begin together are equal where both lie.
-fn equal(one: &[u16], other: &[u16]) -> bool {
-    one.iter().zip(other).all(|(x, y)| x == y)
+        .any(|offset| agree(word, &string[offset..]))
 }

@@ -78,7 +78,7 @@ impl<'a> MatchTable<'a> {
         usize::from(self.lengths[usize::from(found - 1)])
     }
 
-    fn word(&self, number: usize) -> &[u16] {
+    pub fn word(&self, number: usize) -> &[u16] {
         let start = usize::from(self.starts[number]);
         &self.chars[start..start + usize::from(self.lengths[number])]
     }

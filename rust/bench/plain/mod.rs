@@ -6,4 +6,8 @@ pub mod building;
 pub mod cutting;
 pub mod matching;
 pub mod reading;
+pub mod reception;
+pub mod scanning;
 pub mod searching;
+
+pub use reading::Query;

@@ -14,6 +14,26 @@ pub fn admit_index(chars: &[u16], lengths: &[u16], index: &[u16]) -> Result<(), 
     }
 }
 
+/// An index, and a string to look for in it.
+#[derive(Clone, Copy)]
+pub struct Query<'a> {
+    pub chars: &'a [u16],
+    pub lengths: &'a [u16],
+    pub index: &'a [u16],
+    pub string: &'a [u16],
+}
+
+impl Query<'_> {
+    /// The number of lines 1, 2, 3, 5 and 6 that it meets, if any.
+    pub fn admit(&self) -> Result<(), u32> {
+        admit_index(self.chars, self.lengths, self.index)?;
+        if self.string.is_empty() || self.string.len() > 256 {
+            return Err(6);
+        }
+        Ok(())
+    }
+}
+
 pub fn tally(chars: &[u16], lengths: &[u16], index: &[u16]) -> Result<([u64; 32], usize), u32> {
     admit_index(chars, lengths, index)?;
     let keys = usize::from(index[1]);

@@ -2,42 +2,27 @@
 //! where it may be laid. Keys that begin at its front or before it come first,
 //! then those that begin within it, from its front to its end.
 
-use super::reading::admit_index;
+use super::Query;
 
 /// The fewest starts for which the longer array is taken: a short sheet does
 /// not pay for clearing it.
 const FEW: usize = 4_096;
 
-pub fn search(
-    chars: &[u16],
-    lengths: &[u16],
-    index: &[u16],
-    string: &[u16],
-    output: &mut [u16],
-) -> Result<usize, u32> {
-    admit_index(chars, lengths, index)?;
-    if string.is_empty() || string.len() > 256 {
-        return Err(6);
-    }
-    let starts = (usize::from(index[0]) + 1).saturating_sub(string.len());
+pub fn search(query: Query, output: &mut [u16]) -> Result<usize, u32> {
+    query.admit()?;
+    let starts = (usize::from(query.index[0]) + 1).saturating_sub(query.string.len());
     if starts <= FEW {
         let mut reach = [0; FEW];
-        find(chars, lengths, index, string, &mut reach[..starts], output)
+        find(query, &mut reach[..starts], output)
     } else {
         let mut reach = [0; 65_535];
-        find(chars, lengths, index, string, &mut reach[..starts], output)
+        find(query, &mut reach[..starts], output)
     }
 }
 
-fn find(
-    chars: &[u16],
-    lengths: &[u16],
-    index: &[u16],
-    string: &[u16],
-    reach: &mut [u16],
-    output: &mut [u16],
-) -> Result<usize, u32> {
-    let directory = Directory::new(chars, lengths, index);
+fn find(query: Query, reach: &mut [u16], output: &mut [u16]) -> Result<usize, u32> {
+    let string = query.string;
+    let directory = Directory::new(query.chars, query.lengths, query.index);
     let mut cover = Cover {
         reach,
         most: 0,
@@ -84,8 +69,9 @@ fn cover_front(directory: &Directory, string: &[u16], cover: &mut Cover) {
 }
 
 /// Whether two strings that begin together are equal where both lie.
-fn agree(one: &[u16], other: &[u16]) -> bool {
-    one.iter().zip(other).all(|(x, y)| x == y)
+pub fn agree(one: &[u16], other: &[u16]) -> bool {
+    let shared = one.len().min(other.len());
+    one[..shared] == other[..shared]
 }
 
 /// How many characters of the string are covered from its front, for each start.
@@ -100,11 +86,16 @@ impl Cover<'_> {
     /// characters after their start.
     fn lay(&mut self, positions: &[u16], back: usize, long: usize) {
         let covered = long.min(self.whole) as u16;
+        let reach = &mut *self.reach;
+        let mut some = false;
         for &position in positions {
-            if let Some(reach) = self.reach.get_mut(usize::from(position) - 1 + back) {
+            if let Some(reach) = reach.get_mut(usize::from(position) - 1 + back) {
                 *reach = (*reach).max(covered);
-                self.most = self.most.max(covered);
+                some = true;
             }
+        }
+        if some {
+            self.most = self.most.max(covered);
         }
     }
 
@@ -112,14 +103,21 @@ impl Cover<'_> {
     /// reaches as far.
     fn raise(&mut self, positions: &[u16], offset: usize, long: usize) {
         let covered = (offset + long).min(self.whole) as u16;
+        let least = offset as u16;
+        let reach = &mut *self.reach;
+        let mut some = false;
         for &position in positions {
-            let start = (usize::from(position) - 1).wrapping_sub(offset);
-            if let Some(reach) = self.reach.get_mut(start) {
-                if usize::from(*reach) >= offset {
-                    *reach = (*reach).max(covered);
-                    self.most = self.most.max(covered);
+            let start = usize::from(position).wrapping_sub(offset + 1);
+            if let Some(reach) = reach.get_mut(start) {
+                // From `least` up, and below `covered`.
+                if reach.wrapping_sub(least) < covered - least {
+                    *reach = covered;
+                    some = true;
                 }
             }
+        }
+        if some {
+            self.most = self.most.max(covered);
         }
     }
 }

@@ -1,16 +1,15 @@
 //! Admission of the ordinary dictionary, and of the adversarial ones.
 
-use std::hint::black_box;
-
-use crate::race::{print_row, race};
+use super::{Room, Row};
+use crate::adversary::{self, Adversary};
+use crate::plain;
 use crate::sheets::{Case, Sheets};
-use crate::{adversary, plain};
 
 pub fn print(sheets: &Sheets) {
     let (_, ordinary) = &sheets.sizes[0];
     let cost = print_case("4,096 Japanese words", ordinary, None);
     let mut last = 0;
-    for (name, case) in &adversary::cases() {
+    for Adversary { name, case, .. } in &adversary::cases() {
         // Several inputs have the same dictionary.
         if case.lengths.len() >= 2_000 && case.chars.len() != last {
             last = case.chars.len();
@@ -20,26 +19,16 @@ pub fn print(sheets: &Sheets) {
     }
 }
 
-/// Prints a row, and answers the cost of a character in nanoseconds.
 fn print_case(name: &str, case: &Case, ordinary: Option<f64>) -> f64 {
-    let Case { chars, lengths, .. } = case;
-    let expected = Ok(lengths.len());
-    assert_eq!(
-        mopekihua::admit(chars, lengths).map_err(|r| r.number()),
-        expected
-    );
-    assert_eq!(plain::admission::admit(chars, lengths), expected);
-    let times = race(
-        || {
-            let _ = black_box(mopekihua::admit(black_box(chars), black_box(lengths)));
-        },
-        || {
-            let _ = black_box(plain::admission::admit(
-                black_box(chars),
-                black_box(lengths),
-            ));
-        },
-    );
-    print_row(&format!("  {name}"), times, 1, chars.len(), ordinary);
-    times.proved / chars.len() as f64
+    let row = Row {
+        name,
+        inputs: std::slice::from_ref(case),
+        chars: case.chars.len(),
+        ordinary,
+        room: Room::default(),
+    };
+    row.print(
+        |case, _| mopekihua::admit(&case.chars, &case.lengths).map_err(mopekihua::Refusal::number),
+        |case, _| plain::admission::admit(&case.chars, &case.lengths),
+    )
 }

@@ -3,5 +3,87 @@
 pub mod admission;
 pub mod building;
 pub mod cutting;
+pub mod reception;
 pub mod searching;
+mod strings;
 pub mod tally;
+
+use std::fmt::Debug;
+use std::hint::black_box;
+
+use crate::adversary::{self, Adversary};
+use crate::race::{print_row, race};
+use crate::sheets::{Case, Sheets};
+
+/// Prints the rows of an operation on whole sheets: each size, then the
+/// adversarial ones beside the largest. `print` prints a row, and answers the
+/// cost of a character in nanoseconds.
+fn print_sheets(sheets: &Sheets, print: impl Fn(&str, &Case, Option<f64>) -> f64) {
+    let mut ordinary = 0.0;
+    for (name, case) in &sheets.sizes {
+        ordinary = print(name, case, None);
+    }
+    for Adversary { name, case, .. } in &adversary::cases() {
+        print(name, case, Some(ordinary));
+    }
+}
+
+/// What each program is lent to write to.
+#[derive(Clone, Default, PartialEq)]
+struct Room {
+    output: Vec<u16>,
+    work: Vec<u16>,
+}
+
+/// A row to be timed.
+struct Row<'a, I> {
+    name: &'a str,
+    /// Each is handed to one call.
+    inputs: &'a [I],
+    /// How many characters these are in all.
+    chars: usize,
+    /// The cost of an ordinary character in nanoseconds, for adversarial rows.
+    ordinary: Option<f64>,
+    room: Room,
+}
+
+impl<I> Row<'_, I> {
+    /// Prints the row, and answers the cost of a character in nanoseconds. Both
+    /// programs accept every input, answer the same and write the same.
+    fn print<T: Debug + PartialEq>(
+        self,
+        proved: impl Fn(&I, &mut Room) -> Result<T, u32>,
+        plain: impl Fn(&I, &mut Room) -> Result<T, u32>,
+    ) -> f64 {
+        let name = self.name;
+        let mut plain_room = self.room.clone();
+        let mut room = self.room;
+        for input in self.inputs {
+            let answer = proved(input, &mut room);
+            assert!(answer.is_ok(), "{name}");
+            assert_eq!(answer, plain(input, &mut plain_room), "{name}");
+            assert!(room == plain_room, "{name}");
+        }
+        let times = race(
+            || {
+                for input in black_box(self.inputs) {
+                    let _ = black_box(proved(input, &mut room));
+                }
+            },
+            || {
+                for input in black_box(self.inputs) {
+                    let _ = black_box(plain(input, &mut plain_room));
+                }
+            },
+        );
+        let calls = self.inputs.len();
+        print_row(
+            &format!("  {name}"),
+            times,
+            calls,
+            self.chars,
+            self.ordinary,
+        );
+        times.proved / self.chars as f64
+    }
+}

@@ -224,14 +224,8 @@ fn every_refusal_clears_a_long_work_slice() {
 /// ways: the lowest number is answered.
 #[test]
 fn the_lowest_number_is_answered() {
-    let dictionaries = [
-        (Dictionary::spelt("ab abc bcd"), None),
-        (Dictionary::of_single_characters(4097), Some(1)),
-        (Dictionary::of([[7; 33]]), Some(2)),
-        (Dictionary::spelt("b a"), Some(3)),
-    ];
     let texts = [(spelt("abcdab"), None), (vec![97; 65_536], Some(4))];
-    for (dictionary, refused_dictionary) in &dictionaries {
+    for (dictionary, refused_dictionary) in &Dictionary::good_and_refused() {
         for (text, refused_text) in &texts {
             for work in [8 * text.len(), 8 * text.len() - 1, 0] {
                 let refused_work = (work < 8 * text.len()).then_some(7);

@@ -1,9 +1,9 @@
 //! The cut-down index at each of its limits. Every answer is written out from
 //! the definition, and is also the one that the oracle gives.
 
-use crate::support::cutting::cut;
 use crate::support::dictionary::Dictionary;
 use crate::support::oracle::{Key, Line, numbers};
+use crate::support::searching::{assert_lowest_number, cut};
 use crate::support::text::spelt;
 
 /// Which of these words and lone characters bear on the string: all stand at 1
@@ -111,25 +111,5 @@ fn more_than_65535_entries() {
 
 #[test]
 fn the_lowest_number_is_answered() {
-    let dictionaries = [
-        (Dictionary::spelt("ab abc bcd"), None),
-        (Dictionary::of_single_characters(4097), Some(1)),
-        (Dictionary::of([[7; 33]]), Some(2)),
-        (Dictionary::spelt("b a"), Some(3)),
-    ];
-    let abcdab: &[u16] = &[6, 3, 0, 0, 1, 0, 1, 1, 0, 2, 1, 5, 1, 2];
-    for (dictionary, refused_dictionary) in &dictionaries {
-        for (index, refused_index) in [(abcdab, None), (&abcdab[1..], Some(5)), (&[], Some(5))] {
-            for (string, refused_string) in [("ab", None), ("", Some(6))] {
-                for (output_len, refused_output) in [(14, None), (13, Some(8)), (0, Some(8))] {
-                    let expected = refused_dictionary
-                        .or(refused_index)
-                        .or(refused_string)
-                        .or(refused_output);
-                    let answer = cut(dictionary, index, &spelt(string), output_len);
-                    assert_eq!(answer.err(), expected);
-                }
-            }
-        }
-    }
+    assert_lowest_number(cut, 14);
 }

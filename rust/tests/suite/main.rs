@@ -3,12 +3,15 @@
 mod admission;
 mod building;
 mod cutting;
+mod damaged_reception;
 mod random_admission;
 mod random_building;
 mod random_cutting;
 mod random_reading;
+mod random_reception;
 mod random_searching;
 mod reading;
+mod reception;
 mod refusal;
 mod searching;
 mod support;

@@ -1,10 +1,9 @@
 //! Cut-down indexes of random ones against the definition; and a search of the
 //! cut-down index finds what a search of the whole one does.
 
-use crate::support::cutting::cut;
 use crate::support::delivery::Delivery;
 use crate::support::random::Random;
-use crate::support::searching::search;
+use crate::support::searching::{cut, search};
 use crate::support::text::Subject;
 
 /// Cuts with an output just long enough and one short, and searches both.

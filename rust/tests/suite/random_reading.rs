@@ -1,25 +1,23 @@
 //! Readability and tally of random indexes, right and damaged, against the
 //! oracle.
 
+use crate::support::delivery::Delivery;
 use crate::support::dictionary::Dictionary;
 use crate::support::index_damage::IndexDamage;
 use crate::support::lists::all_lists;
-use crate::support::oracle;
 use crate::support::random::Random;
 use crate::support::reading::tally;
 use crate::support::text::Subject;
 
 /// A dictionary and the index of a text of at least one character.
-fn random_index(random: &mut Random) -> (Dictionary, Vec<u16>) {
+fn random_index(random: &mut Random) -> Delivery {
     loop {
-        let Subject { dictionary, text } = match random.within(0, 2) {
+        let subject = match random.within(0, 2) {
             0 => Subject::of_japanese(random, 60),
             _ => Subject::of_few_characters(random, 60),
         };
-        if !text.is_empty() {
-            let words = oracle::split(&dictionary.chars, &dictionary.lengths);
-            let index = oracle::index_of(&words, &text);
-            return (dictionary, index);
+        if !subject.text.is_empty() {
+            return Delivery::of_text(&subject);
         }
     }
 }
@@ -28,7 +26,7 @@ fn random_index(random: &mut Random) -> (Dictionary, Vec<u16>) {
 fn indexes_of_texts_are_readable() {
     let mut random = Random::seeded(21);
     for _ in 0..2_000 {
-        let (dictionary, index) = random_index(&mut random);
+        let Delivery { dictionary, index } = random_index(&mut random);
         let (by_length, count) = tally(&dictionary, &index).expect("the index of a text");
         assert_eq!(by_length.iter().sum::<u64>(), count as u64);
         assert_eq!(count, index.len() - 2 - 3 * usize::from(index[1]));
@@ -41,7 +39,10 @@ fn damaged_indexes() {
     for damage in IndexDamage::ALL {
         let mut refused = 0;
         for _ in 0..1_000 {
-            let (dictionary, mut index) = random_index(&mut random);
+            let Delivery {
+                dictionary,
+                mut index,
+            } = random_index(&mut random);
             damage.apply(&mut index, &mut random);
             refused += usize::from(tally(&dictionary, &index).is_err());
         }
@@ -55,7 +56,10 @@ fn lightly_damaged_indexes() {
     let mut random = Random::seeded(23);
     let mut accepted = 0;
     for _ in 0..5_000 {
-        let (dictionary, mut index) = random_index(&mut random);
+        let Delivery {
+            dictionary,
+            mut index,
+        } = random_index(&mut random);
         for _ in 0..random.within(1, 3) {
             IndexDamage::ShiftPosition.apply(&mut index, &mut random);
         }
@@ -70,7 +74,10 @@ fn indexes_with_another_dictionary() {
     let mut random = Random::seeded(24);
     let mut accepted = 0;
     for _ in 0..3_000 {
-        let (mut dictionary, index) = random_index(&mut random);
+        let Delivery {
+            mut dictionary,
+            index,
+        } = random_index(&mut random);
         for _ in 0..random.within(1, 3) {
             if let Some(number) = dictionary.lengths.len().checked_sub(1) {
                 dictionary.remove(random.within(0, number));

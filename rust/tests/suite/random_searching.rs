@@ -74,11 +74,7 @@ fn words_that_share_their_first_characters() {
 fn long_texts() {
     let mut random = Random::seeded(34);
     for _ in 0..4 {
-        let mut subject = Subject::of_japanese(&mut random, 4_000);
-        while subject.text.len() < 65_535 {
-            subject.text.extend_from_within(..);
-        }
-        subject.text.truncate(65_535);
+        let subject = Subject::of_longest_text(&mut random);
         compare_with_text(&subject, &mut random);
     }
 }

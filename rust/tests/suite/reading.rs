@@ -286,13 +286,12 @@ fn an_index_of_65535_keys() {
 
 #[test]
 fn the_lowest_number_is_answered() {
-    for (dictionary, number) in [
-        (Dictionary::of_single_characters(4097), 1),
-        (Dictionary::of([[7; 33]]), 2),
-        (Dictionary::spelt("b a"), 3),
-    ] {
-        for index in [&[][..], &[0, 0], &[6, 1, 2, 0, 1, 1], &[6, 1, 1, 97, 1, 1]] {
-            assert_eq!(tally(&dictionary, index), Err(number));
+    for (dictionary, refused) in Dictionary::good_and_refused() {
+        for index in [&[][..], &[6, 1, 2, 0, 1, 1]] {
+            assert_eq!(tally(&dictionary, index), Err(refused.unwrap_or(5)));
+        }
+        for index in [&[0, 0][..], &[6, 1, 1, 97, 1, 1]] {
+            assert_eq!(tally(&dictionary, index).err(), refused);
         }
     }
 }

@@ -4,7 +4,7 @@
 use crate::support::delivery::Delivery;
 use crate::support::dictionary::Dictionary;
 use crate::support::oracle::{Key, numbers};
-use crate::support::searching::search;
+use crate::support::searching::{assert_lowest_number, search};
 use crate::support::text::{Subject, spelt};
 
 /// The index of a text.
@@ -172,26 +172,5 @@ fn the_longest_text() {
 
 #[test]
 fn the_lowest_number_is_answered() {
-    let good = Dictionary::spelt("ab abc bcd");
-    let dictionaries = [
-        (good, None),
-        (Dictionary::of_single_characters(4097), Some(1)),
-        (Dictionary::of([[7; 33]]), Some(2)),
-        (Dictionary::spelt("b a"), Some(3)),
-    ];
-    let abcdab: &[u16] = &[6, 3, 0, 0, 1, 0, 1, 1, 0, 2, 1, 5, 1, 2];
-    for (dictionary, refused_dictionary) in &dictionaries {
-        for (index, refused_index) in [(abcdab, None), (&abcdab[1..], Some(5)), (&[], Some(5))] {
-            for (string, refused_string) in [("ab", None), ("", Some(6))] {
-                for (output_len, refused_output) in [(2, None), (1, Some(8)), (0, Some(8))] {
-                    let expected = refused_dictionary
-                        .or(refused_index)
-                        .or(refused_string)
-                        .or(refused_output);
-                    let answer = search(dictionary, index, &spelt(string), output_len);
-                    assert_eq!(answer.err(), expected);
-                }
-            }
-        }
-    }
+    assert_lowest_number(search, 2);
 }

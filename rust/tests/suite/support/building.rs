@@ -1,7 +1,7 @@
 //! Building through the library, held to all that its definition says.
 
+use super::call::{Written, assert_call};
 use super::dictionary::Dictionary;
-use super::lent::{GUARDS, Lent, in_front, leftover};
 use super::oracle;
 
 /// How much is lent to write to.
@@ -45,31 +45,15 @@ pub fn assert_builds(
     room: Room,
     expected: Result<&[u16], u32>,
 ) {
-    let Dictionary { chars, lengths } = dictionary;
-    for guard in GUARDS {
-        let before = leftover(room.output, guard);
-        let lent_chars = Lent::new(chars, guard);
-        let lent_lengths = Lent::new(lengths, guard);
-        let lent_text = Lent::new(text, guard);
-        let mut output = Lent::new(&before, guard);
-        let mut work = Lent::new(&leftover(room.work, !guard), guard);
-        let answer = mopekihua::build_into(
-            lent_chars.inner(),
-            lent_lengths.inner(),
-            lent_text.inner(),
-            output.inner_mut(),
-            work.inner_mut(),
-        );
-        assert_eq!(
-            answer.map_err(mopekihua::Refusal::number),
-            expected.map(<[u16]>::len),
-            "{room:?}, {dictionary:?}, text {:?}",
-            &text[..text.len().min(100)]
-        );
-        lent_chars.assert_holds(chars, "chars");
-        lent_lengths.assert_holds(lengths, "lengths");
-        lent_text.assert_holds(text, "text");
-        output.assert_holds(&in_front(expected.unwrap_or_default(), &before), "output");
-        work.assert_holds(&vec![0; room.work], "work");
-    }
+    assert_call(
+        [&dictionary.chars, &dictionary.lengths, text],
+        [
+            Written::Output(room.output, expected.unwrap_or_default()),
+            Written::Work(room.work),
+        ],
+        expected.map(<[u16]>::len),
+        |[chars, lengths, text], [output, work]| {
+            mopekihua::build_into(chars, lengths, text, output, work)
+        },
+    );
 }

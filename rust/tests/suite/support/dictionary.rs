@@ -3,7 +3,7 @@
 use std::collections::BTreeSet;
 use std::fmt;
 
-use super::lent::{GUARDS, Lent};
+use super::lent::{GUARDS, Lent, few};
 use super::random::Random;
 
 #[derive(Clone, Default)]
@@ -15,7 +15,6 @@ pub struct Dictionary {
 /// Few enough numbers to read where a test fails.
 impl fmt::Debug for Dictionary {
     fn fmt(&self, f: &mut fmt::Formatter<'_>) -> fmt::Result {
-        let few = |numbers: &[u16]| numbers[..numbers.len().min(100)].to_vec();
         f.debug_struct("Dictionary")
             .field("chars_len", &self.chars.len())
             .field("chars", &few(&self.chars))
@@ -94,6 +93,16 @@ impl Dictionary {
             }
         }
         dictionary
+    }
+
+    /// A right dictionary and one for each of refusals 1 to 3, with the number.
+    pub fn good_and_refused() -> [(Self, Option<u32>); 4] {
+        [
+            (Self::spelt("ab abc bcd"), None),
+            (Self::of_single_characters(4097), Some(1)),
+            (Self::of([[7; 33]]), Some(2)),
+            (Self::spelt("b a"), Some(3)),
+        ]
     }
 
     /// Near the two limits of refusal 1, on either side of them; words ascend.

@@ -49,6 +49,11 @@ impl Lent {
     }
 }
 
+/// Few enough numbers of a slice to read where a test fails.
+pub fn few(numbers: &[u16]) -> &[u16] {
+    &numbers[..numbers.len().min(100)]
+}
+
 /// What an output or work slice holds before a call: `len` numbers that differ
 /// from their neighbours and depend on the guard.
 pub fn leftover(len: usize, guard: u16) -> Vec<u16> {

@@ -3,15 +3,17 @@
 //! the library to all that it says of the slices lent.
 
 pub mod building;
-pub mod cutting;
+pub mod call;
 pub mod damage;
 pub mod delivery;
 pub mod dictionary;
+pub mod entries;
 pub mod index_damage;
 pub mod lent;
 pub mod lists;
 pub mod oracle;
 pub mod random;
 pub mod reading;
+pub mod reception;
 pub mod searching;
 pub mod text;

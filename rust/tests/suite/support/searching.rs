@@ -1,8 +1,15 @@
-//! Search through the library, held to all that its definition says.
+//! Search and the cut-down index through the library, which are called alike,
+//! held to all that their definitions say.
 
+use mopekihua::Refusal;
+
+use super::call::{Written, assert_call};
 use super::dictionary::Dictionary;
-use super::lent::{GUARDS, Lent, in_front, leftover};
 use super::oracle;
+use super::text::spelt;
+
+/// `search_into` or `cut_into`.
+type Call = fn(&[u16], &[u16], &[u16], &[u16], &mut [u16]) -> Result<usize, Refusal>;
 
 /// The library's answer for an output of this length: the positions found, or
 /// the number of the refusal. It is the oracle's.
@@ -13,15 +20,30 @@ pub fn search(
     string: &[u16],
     output_len: usize,
 ) -> Result<Vec<u16>, u32> {
-    let Dictionary { chars, lengths } = dictionary;
-    let expected = oracle::search(chars, lengths, index, string, output_len);
-    let answer = expected.as_deref().map_err(|&number| number);
-    assert_finds(dictionary, index, string, output_len, answer);
+    let expected = oracle::answer(dictionary, index, string, output_len, oracle::find);
+    assert_finds(dictionary, index, string, output_len, as_slice(&expected));
     expected
 }
 
-/// The library finds these positions or refuses. The positions stand in front of
-/// what the output held, or nothing of that is changed.
+/// The same for the cut-down index.
+#[track_caller]
+pub fn cut(
+    dictionary: &Dictionary,
+    index: &[u16],
+    string: &[u16],
+    output_len: usize,
+) -> Result<Vec<u16>, u32> {
+    let expected = oracle::answer(dictionary, index, string, output_len, oracle::cut_down);
+    let lent = [&dictionary.chars, &dictionary.lengths, index, string];
+    assert_answers(mopekihua::cut_into, lent, output_len, as_slice(&expected));
+    expected
+}
+
+fn as_slice(answer: &Result<Vec<u16>, u32>) -> Result<&[u16], u32> {
+    answer.as_deref().map_err(|&number| number)
+}
+
+/// The library finds these positions or refuses.
 #[track_caller]
 pub fn assert_finds(
     dictionary: &Dictionary,
@@ -30,31 +52,44 @@ pub fn assert_finds(
     output_len: usize,
     expected: Result<&[u16], u32>,
 ) {
-    let Dictionary { chars, lengths } = dictionary;
-    for guard in GUARDS {
-        let before = leftover(output_len, guard);
-        let lent_chars = Lent::new(chars, guard);
-        let lent_lengths = Lent::new(lengths, guard);
-        let lent_index = Lent::new(index, guard);
-        let lent_string = Lent::new(string, guard);
-        let mut output = Lent::new(&before, guard);
-        let answer = mopekihua::search_into(
-            lent_chars.inner(),
-            lent_lengths.inner(),
-            lent_index.inner(),
-            lent_string.inner(),
-            output.inner_mut(),
-        );
-        assert_eq!(
-            answer.map_err(mopekihua::Refusal::number),
-            expected.map(<[u16]>::len),
-            "output of {output_len}, {dictionary:?}, string {string:?}, index {:?}",
-            &index[..index.len().min(100)]
-        );
-        lent_chars.assert_holds(chars, "chars");
-        lent_lengths.assert_holds(lengths, "lengths");
-        lent_index.assert_holds(index, "index");
-        lent_string.assert_holds(string, "string");
-        output.assert_holds(&in_front(expected.unwrap_or_default(), &before), "output");
+    let lent = [&dictionary.chars, &dictionary.lengths, index, string];
+    assert_answers(mopekihua::search_into, lent, output_len, expected);
+}
+
+/// The library gives these numbers or refuses. They stand in front of what the
+/// output held, or nothing of that is changed.
+#[track_caller]
+fn assert_answers(call: Call, lent: [&[u16]; 4], output_len: usize, expected: Result<&[u16], u32>) {
+    let output = Written::Output(output_len, expected.unwrap_or_default());
+    assert_call(
+        lent,
+        [output],
+        expected.map(<[u16]>::len),
+        |[chars, lengths, index, string], [output]| call(chars, lengths, index, string, output),
+    );
+}
+
+/// Dictionaries, indexes, strings and outputs that meet each number, put
+/// together in all ways: the lowest number is answered. `size` numbers are just
+/// enough for the answer to ab in the index of abcdab.
+#[track_caller]
+pub fn assert_lowest_number(
+    answer: impl Fn(&Dictionary, &[u16], &[u16], usize) -> Result<Vec<u16>, u32>,
+    size: usize,
+) {
+    let abcdab: &[u16] = &[6, 3, 0, 0, 1, 0, 1, 1, 0, 2, 1, 5, 1, 2];
+    for (dictionary, refused_dictionary) in &Dictionary::good_and_refused() {
+        for (index, refused_index) in [(abcdab, None), (&abcdab[1..], Some(5)), (&[], Some(5))] {
+            for (string, refused_string) in [("ab", None), ("", Some(6))] {
+                for (len, refused_output) in [(size, None), (size - 1, Some(8)), (0, Some(8))] {
+                    let expected = refused_dictionary
+                        .or(refused_index)
+                        .or(refused_string)
+                        .or(refused_output);
+                    let answer = answer(dictionary, index, &spelt(string), len);
+                    assert_eq!(answer.err(), expected);
+                }
+            }
+        }
     }
 }

@@ -53,6 +53,16 @@ impl Subject {
         Subject { dictionary, text }
     }
 
+    /// A text of 65,535 characters, in which a shorter one is repeated.
+    pub fn of_longest_text(random: &mut Random) -> Subject {
+        let mut subject = Subject::of_japanese(random, 4_000);
+        while subject.text.len() < 65_535 {
+            subject.text.extend_from_within(..);
+        }
+        subject.text.truncate(65_535);
+        subject
+    }
+
     /// Up to 4,096 words over few characters, cut from the text, and prefixes of
     /// these: many share their first characters, whatever a table of words
     /// goes by.

@@ -1,26 +1,12 @@
 //! The cut-down index for one string.
 
-/// Cutting down: the cut-down index, or the number of the refusal, for an output
-/// of this length.
-pub fn cut(
-    chars: &[u16],
-    lengths: &[u16],
-    numbers: &[u16],
-    string: &[u16],
-    output_len: usize,
-) -> Result<Vec<u16>, u32> {
-    super::admit(chars, lengths)?;
-    let words = super::split(chars, lengths);
-    let mut lines = super::reading::read(&words, numbers).ok_or(5u32)?;
-    if string.is_empty() || string.len() > 256 {
-        return Err(6);
-    }
-    lines.retain(|(key, _)| bears(&key.spells(&words), string));
-    let index = super::numbers(numbers[0], &lines);
-    if output_len < index.len() {
-        return Err(8);
-    }
-    Ok(index)
+use super::Opened;
+
+/// The same n, and the keys that bear on the string with all their positions.
+pub fn cut_down(opened: &Opened, string: &[u16]) -> Vec<u16> {
+    let mut lines = opened.lines.clone();
+    lines.retain(|(key, _)| bears(&key.spells(&opened.words), string));
+    super::numbers(opened.n, &lines)
 }
 
 /// Whether what a key spells contains the string, is contained in it, ends in a

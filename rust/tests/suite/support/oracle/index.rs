@@ -56,15 +56,16 @@ pub fn build(
     if work_len < 8 * text.len() {
         return Err(7);
     }
-    let index = index_of(&super::split(chars, lengths), text);
-    if output_len < index.len() {
-        return Err(8);
-    }
-    Ok(index)
+    super::put(index_of(&super::split(chars, lengths), text), output_len)
 }
 
 /// The numbers of the text's complete maximal word index.
 pub fn index_of(words: &[Vec<u16>], text: &[u16]) -> Vec<u16> {
+    numbers(text.len() as u16, &lines_of(words, text))
+}
+
+/// Its lines.
+pub fn lines_of(words: &[Vec<u16>], text: &[u16]) -> Vec<Line> {
     let complete = complete(words, text);
     let mut lines = BTreeMap::<Key, Vec<u16>>::new();
     for (at, standing) in complete.iter().enumerate() {
@@ -74,7 +75,7 @@ pub fn index_of(words: &[Vec<u16>], text: &[u16]) -> Vec<u16> {
             }
         }
     }
-    numbers(text.len() as u16, &lines.into_iter().collect::<Vec<_>>())
+    lines.into_iter().collect()
 }
 
 /// All entries, by where they start, counted from 0.

@@ -4,12 +4,14 @@
 mod cutting;
 mod index;
 mod reading;
+mod reception;
 mod searching;
 
-pub use cutting::cut;
-pub use index::{Key, Line, build, index_of, numbers};
-pub use reading::tally;
-pub use searching::{places_in_text, search};
+pub use cutting::cut_down;
+pub use index::{Key, Line, build, index_of, lines_of, numbers};
+pub use reading::{Opened, open, tally};
+pub use reception::receive;
+pub use searching::{answer, find, places_in_text};
 
 /// Admission: the number of words, or the number of the refusal.
 pub fn admit(chars: &[u16], lengths: &[u16]) -> Result<usize, u32> {
@@ -26,6 +28,14 @@ pub fn admit(chars: &[u16], lengths: &[u16]) -> Result<usize, u32> {
         return Err(3);
     }
     Ok(words.len())
+}
+
+/// The result, or the number of the refusal where the output is shorter.
+pub fn put(result: Vec<u16>, output_len: usize) -> Result<Vec<u16>, u32> {
+    if output_len < result.len() {
+        return Err(8);
+    }
+    Ok(result)
 }
 
 /// The words of a dictionary whose lengths add up.

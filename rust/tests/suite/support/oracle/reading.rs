@@ -2,8 +2,40 @@
 
 use super::{Key, Line};
 
+/// A readable index and its dictionary.
+pub struct Opened {
+    pub words: Vec<Vec<u16>>,
+    pub n: u16,
+    pub lines: Vec<Line>,
+}
+
+impl Opened {
+    /// The position of each entry, and what its key spells.
+    pub fn entries(&self) -> Vec<(usize, Vec<u16>)> {
+        let mut entries = Vec::new();
+        for (key, positions) in &self.lines {
+            let spelt = key.spells(&self.words);
+            entries.extend(
+                positions
+                    .iter()
+                    .map(|&start| (usize::from(start), spelt.clone())),
+            );
+        }
+        entries
+    }
+}
+
+/// The index, or the number of the refusal.
+pub fn open(chars: &[u16], lengths: &[u16], numbers: &[u16]) -> Result<Opened, u32> {
+    super::admit(chars, lengths)?;
+    let words = super::split(chars, lengths);
+    let lines = read(&words, numbers).ok_or(5u32)?;
+    let n = numbers[0];
+    Ok(Opened { words, n, lines })
+}
+
 /// The lines of these numbers, if they are a readable index with these words.
-pub fn read(words: &[Vec<u16>], numbers: &[u16]) -> Option<Vec<Line>> {
+fn read(words: &[Vec<u16>], numbers: &[u16]) -> Option<Vec<Line>> {
     let &[n, keys, ref rest @ ..] = numbers else {
         return None;
     };
@@ -44,9 +76,7 @@ fn positions_good(words: &[Vec<u16>], n: u16, (key, positions): &Line) -> bool {
 
 /// The tally: 32 counts and their sum, or the number of the refusal.
 pub fn tally(chars: &[u16], lengths: &[u16], numbers: &[u16]) -> Result<([u64; 32], usize), u32> {
-    super::admit(chars, lengths)?;
-    let words = super::split(chars, lengths);
-    let lines = read(&words, numbers).ok_or(5u32)?;
+    let Opened { words, lines, .. } = open(chars, lengths, numbers)?;
     let mut by_length = [0; 32];
     let mut count = 0;
     for (key, positions) in &lines {

@@ -1,43 +1,30 @@
 //! Search of an index by the definition, and search of a text.
 
-use super::Line;
+use super::Opened;
+use crate::support::dictionary::Dictionary;
 
-/// Search: the positions found, or the number of the refusal, for an output of
-/// this length.
-pub fn search(
-    chars: &[u16],
-    lengths: &[u16],
+/// Search or the cut-down index: the result, or the number of the refusal, for
+/// an output of this length.
+pub fn answer(
+    dictionary: &Dictionary,
     numbers: &[u16],
     string: &[u16],
     output_len: usize,
+    result: fn(&Opened, &[u16]) -> Vec<u16>,
 ) -> Result<Vec<u16>, u32> {
-    super::admit(chars, lengths)?;
-    let words = super::split(chars, lengths);
-    let lines = super::reading::read(&words, numbers).ok_or(5u32)?;
+    let opened = super::open(&dictionary.chars, &dictionary.lengths, numbers)?;
     if string.is_empty() || string.len() > 256 {
         return Err(6);
     }
-    let found = find(&words, usize::from(numbers[0]), &lines, string);
-    if output_len < found.len() {
-        return Err(8);
-    }
-    Ok(found)
+    super::put(result(&opened, string), output_len)
 }
 
 /// The positions of which each place of the string laid there is covered by an
 /// entry that agrees.
-fn find(words: &[Vec<u16>], n: usize, lines: &[Line], string: &[u16]) -> Vec<u16> {
-    let mut entries = Vec::new();
-    for (key, positions) in lines {
-        let spelt = key.spells(words);
-        entries.extend(
-            positions
-                .iter()
-                .map(|&start| (usize::from(start), spelt.clone())),
-        );
-    }
+pub fn find(opened: &Opened, string: &[u16]) -> Vec<u16> {
+    let mut entries = opened.entries();
     entries.sort();
-    let last = (n + 1).saturating_sub(string.len());
+    let last = (usize::from(opened.n) + 1).saturating_sub(string.len());
     let found = |&laid: &usize| is_found(laid, string, &entries);
     (1..=last).filter(found).map(|laid| laid as u16).collect()
 }

@@ -1,0 +1,110 @@
+//! Reception and recovery: the entries paint a text, and each notes at its start
+//! the number of its directory line. The step of building is then run over the
+//! painted text: what it registers must be what is noted, and as many.
+
+use super::building::{LONE, step};
+use super::matching::MatchTable;
+use super::reading::admit_index;
+
+pub fn receive(
+    chars: &[u16],
+    lengths: &[u16],
+    index: &[u16],
+    work: &mut [u16],
+) -> Result<usize, u32> {
+    let answer = text_of(chars, lengths, index, work).map(<[u16]>::len);
+    work.fill(0);
+    answer
+}
+
+pub fn recover(
+    chars: &[u16],
+    lengths: &[u16],
+    index: &[u16],
+    output: &mut [u16],
+    work: &mut [u16],
+) -> Result<usize, u32> {
+    let answer = text_of(chars, lengths, index, work).and_then(|text| {
+        let front = output.get_mut(..text.len()).ok_or(8u32)?;
+        front.copy_from_slice(text);
+        Ok(text.len())
+    });
+    work.fill(0);
+    answer
+}
+
+/// The text that has the index, at the front of the work slice.
+fn text_of<'a>(
+    chars: &[u16],
+    lengths: &[u16],
+    index: &[u16],
+    work: &'a mut [u16],
+) -> Result<&'a [u16], u32> {
+    admit_index(chars, lengths, index)?;
+    let n = usize::from(index[0]);
+    if work.len() < 8 * n {
+        return Err(7);
+    }
+    let (text, notes) = work[..2 * n].split_at_mut(n);
+    notes.fill(0);
+    let table = MatchTable::new(chars, lengths);
+    let (directory, positions) = index[2..].split_at(3 * usize::from(index[1]));
+    paint(&table, directory, positions, text, notes);
+    if registered(&table, directory, text, notes) == Some(positions.len()) {
+        Ok(text)
+    } else {
+        Err(9)
+    }
+}
+
+/// Writes each entry's characters to its place, and the number of its line + 1
+/// to its start.
+fn paint(
+    table: &MatchTable,
+    directory: &[u16],
+    positions: &[u16],
+    text: &mut [u16],
+    notes: &mut [u16],
+) {
+    let mut rest = positions;
+    for (number, line) in directory.chunks_exact(3).enumerate() {
+        let (places, after) = rest.split_at(usize::from(line[2]));
+        rest = after;
+        let spelt = if line[0] == 0 {
+            table.word(usize::from(line[1]))
+        } else {
+            &line[1..2]
+        };
+        for &place in places {
+            let start = usize::from(place) - 1;
+            notes[start] = number as u16 + 1;
+            for (character, &shown) in text[start..start + spelt.len()].iter_mut().zip(spelt) {
+                *character = shown;
+            }
+        }
+    }
+}
+
+/// How many entries the text has registered, if each is noted where it starts.
+fn registered(table: &MatchTable, directory: &[u16], text: &[u16], notes: &[u16]) -> Option<usize> {
+    let mut count = 0;
+    let mut last = 0;
+    for (at, (&character, &note)) in text.iter().zip(notes).enumerate() {
+        let mark;
+        (mark, last) = step(table, text, at, last);
+        if mark == 0 {
+            continue;
+        }
+        let line = 3 * usize::from(note).checked_sub(1)?;
+        let key = if mark == LONE {
+            [1, character]
+        } else {
+            [0, mark - 1]
+        };
+        if directory[line..line + 2] != key {
+            return None;
+        }
+        count += 1;
+    }
+    Some(count)
+}

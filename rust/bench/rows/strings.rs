@@ -1,0 +1,98 @@
+//! The rows of an operation on an index and a string, with admission and
+//! readability: the whole call. Strings are cut from the texts; over the
+//! adversarial ones they are of 256 characters, and for some of them short ones
+//! too.
+
+use mopekihua::Refusal;
+
+use super::{Room, Row};
+use crate::adversary::{self, Adversary};
+use crate::plain::Query;
+use crate::sheets::{Case, Search, Sheets};
+
+/// An operation of the library.
+type Proved = fn(&[u16], &[u16], &[u16], &[u16], &mut [u16]) -> Result<usize, Refusal>;
+
+/// The same in plain Rust.
+type Plain = fn(Query, &mut [u16]) -> Result<usize, u32>;
+
+/// An operation, and what follows a row of it.
+pub struct Operation {
+    pub proved: Proved,
+    pub plain: Plain,
+    pub beside: fn(&Case, &[Search]),
+}
+
+impl Operation {
+    pub fn print(&self, sheets: &Sheets) {
+        let print_sizes = |low, high| {
+            let mut largest = 0.0;
+            for (name, case) in &sheets.sizes {
+                let name = format!("{name}, strings of {low} to {high}");
+                largest = self.print_row(&name, case, (low, high), None);
+            }
+            largest
+        };
+        let short = print_sizes(2, 12);
+        print_sizes(50, 256);
+        let (_, largest) = &sheets.sizes[sheets.sizes.len() - 1];
+        let name = "about 60,000 characters, strings of 256";
+        let long = self.print_row(name, largest, (256, 256), None);
+        for adversary in &adversary::cases() {
+            let Adversary { name, case, .. } = adversary;
+            for &(low, high) in adversary.short {
+                let name = match high - low {
+                    0 => format!("{name}, {low}"),
+                    _ => format!("{name}, {low} to {high}"),
+                };
+                self.print_row(&name, case, (low, high), Some(short));
+            }
+            self.print_row(&format!("{name}, 256"), case, (256, 256), Some(long));
+        }
+    }
+
+    /// Prints the row for strings of these lengths and what follows it, and
+    /// answers the cost of a character in nanoseconds.
+    fn print_row(
+        &self,
+        name: &str,
+        case: &Case,
+        (low, high): (usize, usize),
+        ordinary: Option<f64>,
+    ) -> f64 {
+        let Case { chars, lengths, .. } = case;
+        let searches = case.searches(low, high);
+        let indexes = case.indexes();
+        // At most n positions are found, and a cut-down index is no longer than
+        // the index.
+        let longest = indexes.iter().map(Vec::len).max().unwrap_or(0);
+        let row = Row {
+            name,
+            inputs: &searches,
+            chars: searches.iter().map(|one| case.texts[one.text].len()).sum(),
+            ordinary,
+            room: Room {
+                output: vec![0; longest.max(65_535)],
+                work: Vec::new(),
+            },
+        };
+        let cost = row.print(
+            |Search { text, string }, room| {
+                (self.proved)(chars, lengths, &indexes[*text], string, &mut room.output)
+                    .map_err(Refusal::number)
+            },
+            |Search { text, string }, room| {
+                let index = &indexes[*text];
+                let query = Query {
+                    chars,
+                    lengths,
+                    index,
+                    string,
+                };
+                (self.plain)(query, &mut room.output)
+            },
+        );
+        (self.beside)(case, &searches);
+        cost
+    }
+}

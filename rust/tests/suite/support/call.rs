@@ -1,0 +1,68 @@
+//! A call of the library, held to what its definition says of the answer and of
+//! every slice lent.
+
+use std::fmt::Debug;
+
+use mopekihua::Refusal;
+
+use super::lent::{GUARDS, Lent, few, in_front, leftover};
+
+/// A slice lent to be written: its length, and what the call leaves in it.
+pub enum Written<'a> {
+    /// These numbers in front of what it held.
+    Output(usize, &'a [u16]),
+    /// Zeros.
+    Work(usize),
+}
+
+impl Written<'_> {
+    fn len(&self) -> usize {
+        match *self {
+            Written::Output(len, _) | Written::Work(len) => len,
+        }
+    }
+
+    fn after(&self, before: &[u16]) -> Vec<u16> {
+        match self {
+            Written::Output(_, numbers) => in_front(numbers, before),
+            Written::Work(len) => vec![0; *len],
+        }
+    }
+}
+
+/// The library gives this answer, or the refusal with this number, whatever
+/// lies beside the slices and whatever those lent to be written hold. Nothing is
+/// changed but what is written.
+#[track_caller]
+pub fn assert_call<const R: usize, const W: usize, T: Debug + PartialEq>(
+    read: [&[u16]; R],
+    written: [Written; W],
+    expected: Result<T, u32>,
+    call: impl Fn([&[u16]; R], [&mut [u16]; W]) -> Result<T, Refusal>,
+) {
+    for guard in GUARDS {
+        let lent = read.map(|slice| Lent::new(slice, guard));
+        let before = written
+            .each_ref()
+            .map(|slice| leftover(slice.len(), !guard));
+        let mut filled = before.each_ref().map(|slice| Lent::new(slice, guard));
+        let answer = call(
+            lent.each_ref().map(Lent::inner),
+            filled.each_mut().map(Lent::inner_mut),
+        );
+        assert_eq!(
+            answer.map_err(Refusal::number),
+            expected,
+            "lent to be read: {:?}; lengths of those to be written: {:?}",
+            read.map(few),
+            written.each_ref().map(Written::len),
+        );
+        for (place, (lent, slice)) in lent.iter().zip(read).enumerate() {
+            lent.assert_holds(slice, &format!("slice {place} lent to be read"));
+        }
+        for (place, slice) in written.iter().enumerate() {
+            let name = format!("slice {place} lent to be written");
+            filled[place].assert_holds(&slice.after(&before[place]), &name);
+        }
+    }
+}
