@@ -1,0 +1,4 @@
+// The answer to a job sheet: bytes in, bytes out.
+pub mod answer;
+pub mod finds;
+pub mod lines;
