@@ -7,7 +7,7 @@ ghost use lib.ListN.{length};
 ghost use Rattle.basics.specs.Placed.{Wrote};
 ghost use Rattle.spec.specs.JobAnswer.{job-answer};
 ghost use Rattle.laws.specs.Sizing.{Sized};
-ghost use Rattle.laws.specs.JobAnswering.{Parts-there, printed-there};
+ghost use Rattle.laws.specs.JobParts.{Parts-there, printed-there};
 ghost use Rattle.spec.specs.JobAnswer.{Job-says};
 use crate::lines::put_printed;
 use jobreader::job::read_job;

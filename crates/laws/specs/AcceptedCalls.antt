@@ -24,7 +24,7 @@ use Rattle.laws.specs.IndexRefusal.{accepts-index, index-accepted}
 use Rattle.laws.specs.IndexPrinting.{Whole}
 use Rattle.laws.specs.Sizing.{Is-string}
 use Rattle.laws.specs.Building.{early-none, output-fits, build-late, reached-lexicon}
-use Rattle.laws.specs.IndexLength.{index-short}
+use Rattle.laws.specs.Numbers16.{index-short}
 use Rattle.laws.specs.PrintedBounds.{find-few}
 
 -- the result of a call is the front of the slice lent for it
@@ -39,7 +39,7 @@ in-hand ys count z rest e w =
       is = ap (take count) w ∙ take-at ys rest count (sym e);
     }
 
-puts-get : (n : ℕ) (ys : List ℕ) (r : Answer) (o z : List ℕ) → n ≡ 0 → Puts n ys r o z → In-hand ys (r .count) z
+pub puts-get : (n : ℕ) (ys : List ℕ) (r : Answer) (o z : List ℕ) → n ≡ 0 → Puts n ys r o z → In-hand ys (r .count) z
 unfolding Puts Answers in-front
 puts-get n ys r o z none puts =
     in-hand ys (r .count) z (drop (length ys) o) (puts .0 .1 ∙ accepted-yes n (length ys) 0 none)
@@ -88,7 +88,7 @@ module _ (cs ls ts : List ℕ) (chars : Chars cs) (text : Chars ts) (none : dict
             sym
             (accepts-index cs ls (index-of (lexicon cs ls) ts) none (index-readable (lexicon cs ls) good ts text longest-text (omega arith)));
         short = rw (n-of-index (lexicon cs ls) ts) short;
-        few = omega (arith, index-short (lexicon cs ls) good ts text);
+        few = omega (arith, index-short (lexicon cs ls) ts good text);
       }
 
   pub build-accepted :

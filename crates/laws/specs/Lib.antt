@@ -106,8 +106,9 @@ pub mod Searching
 pub mod Bearing
 pub mod Judging
 pub mod Cutting
-pub mod IndexLength
 pub mod PrintedBounds
 pub mod AcceptedCalls
 pub mod FindWalk
 pub mod JobAnswering
+pub mod JobParts
+pub mod AnswerLength

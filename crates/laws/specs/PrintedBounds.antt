@@ -7,7 +7,6 @@ use Prim.Native.Nat.{ℕ, zero, suc, _+_, _*_, _-_, _/_, _%_, _≤_, _<_}
 use native.Mathlib.Omega.{arith}
 use lib.Dec.{eqb}
 use lib.ListN.{length, getD, take, drop, length-append, length-drop, take-append-drop}
-use lib.Seq.{getD-drop}
 use Rattle.basics.specs.Bools.{le-or-lt}
 use Rattle.spec.specs.Dictionary.{Lexicon}
 use Rattle.spec.specs.Words.{Key, key}
@@ -15,7 +14,7 @@ use Rattle.spec.specs.Numbers.{Line, line}
 use Rattle.spec.specs.Index.{header, n-of, keys-of, count-at, key-at, entries-of, lines-from, lines-in}
 use Rattle.spec.specs.Search.{all-covered, found-from, find}
 use Rattle.spec.specs.JobAnswer.{decimal, hexadecimal, index-head, key-word-head, key-lone-head, found-head, refused-head, gap, opening-list, ending, ending-list, spaced, index-line, found-line, refused-line, key-name, key-line, key-lines, index-lines, found-lines}
-use Rattle.laws.specs.WordCode.{Small}
+use Rattle.laws.specs.WordCode.{Small, small-drop, small-take}
 use Rattle.laws.specs.Printing.{decimal-small, decimal-large, length-hexadecimal, each-spaced, spaced-first, listed, index-line-parts, found-line-parts, refused-line-parts, key-line-parts}
 use Rattle.laws.specs.IndexPrinting.{Whole}
 
@@ -39,15 +38,6 @@ pub decimal-short : (n : ℕ) → n ≤ 65535 → length (decimal n) ≤ 5
 decimal-short n h = digits-within 4 n (omega arith)
 
 -- LISTS OF POSITIONS
-
-small-drop : (c : ℕ) (ps : List ℕ) → Small ps → Small (drop c ps)
-small-drop c ps small i = rw (getD-drop c ps i 0) (small (c + i))
-
-small-take : (c : ℕ) (ps : List ℕ) → Small ps → Small (take c ps)
-small-take zero ps small i = omega arith
-small-take (suc c) [] small i = omega arith
-small-take (suc c) (p ∷ ps) small zero = small 0
-small-take (suc c) (p ∷ ps) small (suc i) = small-take c ps (λ j. small (suc j)) i
 
 each-short : (ps : List ℕ) → Small ps → length (each-spaced ps) ≤ 6 * length ps
 unfolding each-spaced
