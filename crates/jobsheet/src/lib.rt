@@ -1,6 +1,4 @@
-// The job sheet: reading it, and printing the answer to it.
-pub mod digits;
-pub mod form;
-pub mod job;
-pub mod print;
-pub mod sheet;
+// The answer to a job sheet: bytes in, bytes out.
+pub mod answer;
+pub mod finds;
+pub mod lines;

@@ -121,3 +121,9 @@ pub mod NoteWalk
 pub mod Accepting
 pub mod Receiving
 pub mod ReceivedText
+pub mod PrintedBounds
+pub mod AcceptedCalls
+pub mod FindWalk
+pub mod JobAnswering
+pub mod JobParts
+pub mod AnswerLength

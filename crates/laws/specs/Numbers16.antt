@@ -1,8 +1,9 @@
--- Every number of a text's index is a 16-bit number, if the text has at most 65,535 characters. Assumes nothing.
+-- How many numbers a text's index has, and that every one is a 16-bit number if the text has at most 65,535 characters. Assumes
+-- nothing.
 use mathlib.Core.Path.{_≡_, refl}
 use mathlib.Core.Logic.{inl, inr, ⊎-elim}
 use mathlib.Core.List.{List, [], _∷_, _++_}
-use Prim.Native.Nat.{ℕ, _+_, _≤_, _<_}
+use Prim.Native.Nat.{ℕ, _+_, _*_, _≤_, _<_}
 use native.Mathlib.Omega.{arith}
 use lib.ListN.{length, getD, length-append}
 use Rattle.basics.specs.Member.{In, in-append-get, in-getD}
@@ -11,7 +12,7 @@ use Rattle.spec.specs.Words.{entries}
 use Rattle.spec.specs.Numbers.{Line, sorted, lines-of, directory, positions, numbers, index-of}
 use Rattle.laws.specs.Facts.{Chars, Good-lexicon, Good-line, Good-lines}
 use Rattle.laws.specs.Keys.{spells-some, value-below}
-use Rattle.laws.specs.Slices.{entries-of-numbers}
+use Rattle.laws.specs.Slices.{entries-of-numbers, length-numbers}
 use Rattle.laws.specs.IndexOf.{lines-in-index, index-lines-good, entries-of-index}
 use Rattle.laws.specs.Scan.{length-scan}
 use Rattle.laws.specs.Longest.{longest-at, make-index}
@@ -22,6 +23,28 @@ use Rattle.laws.specs.Grouped.{scan-count}
 pub entries-few : (lex : Lexicon) (ts : List ℕ) → Good-lexicon lex → Chars ts → length (entries lex ts) ≤ length ts
 unfolding make-index
 entries-few lex ts good chars = omega (arith, scan-count lex good ts chars, length-scan (longest-at lex ts) (length ts) 1 1)
+
+-- at most as many lines as positions
+lines-few :
+    (lex : Lexicon) (n : ℕ) (ls : List Line) → ((l : Line) → In l ls → Good-line lex n l) → length ls ≤ length (positions ls)
+unfolding positions
+lines-few lex n [] each = omega arith
+lines-few lex n (l ∷ ls) each =
+    omega (arith, each l (inl refl) .some, lines-few lex n ls (λ m i. each m (inr i)), length-append (l .places) (positions ls))
+
+-- so n, K, three numbers a key and one an entry are at most 2 + 4n
+pub index-short : (lex : Lexicon) (ts : List ℕ) → Good-lexicon lex → Chars ts → length (index-of lex ts) ≤ 2 + 4 * length ts
+unfolding index-of
+index-short lex ts good chars =
+    let lines : List Line = lines-of (sorted (entries lex ts)) in
+    omega (
+      arith,
+      length-numbers (length ts) lines,
+      lines-few lex (length ts) lines ((rw lines-in-index at (index-lines-good lex good ts chars)) .each),
+      entries-few lex ts good chars,
+      entries-of-index lex good ts chars,
+      entries-of-numbers (length ts) lines,
+    )
 
 -- NUMBERS BELOW A BOUND
 
@@ -62,17 +85,11 @@ module _ (lex : Lexicon) (good : Good-lexicon lex) (bound : ℕ) (wide : 65536 �
   positions-below (l ∷ ls) each =
       below-append bound (l .places) (positions ls) (place-below l (each l (inl refl))) (positions-below ls (λ m i. each m (inr i)))
 
-  lines-few : (ls : List Line) → ((l : Line) → In l ls → Good-line lex n l) → length ls ≤ length (positions ls)
-  unfolding positions
-  lines-few [] each = omega arith
-  lines-few (l ∷ ls) each =
-      omega (arith, each l (inl refl) .some, lines-few ls (λ m i. each m (inr i)), length-append (l .places) (positions ls))
-
   pub numbers-below : (ls : List Line) → Good-lines lex n ls → length (positions ls) < bound → Below bound (numbers n ls)
   unfolding numbers
   numbers-below ls lines few =
       below-cons bound n (length ls ∷ (directory ls ++ positions ls)) short
-      (below-cons bound (length ls) (directory ls ++ positions ls) (omega (arith, lines-few ls (lines .each)))
+      (below-cons bound (length ls) (directory ls ++ positions ls) (omega (arith, lines-few lex n ls (lines .each)))
       (below-append bound (directory ls) (positions ls) (directory-below ls (lines .each) few) (positions-below ls (lines .each))))
 
 -- THE INDEX OF A TEXT

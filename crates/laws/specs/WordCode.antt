@@ -70,7 +70,7 @@ unfolding first-digit
 digit-small [] h = omega arith
 digit-small (x ∷ xs) h = omega (arith, h 0)
 
-small-drop : (i : ℕ) (w : List ℕ) → Small w → Small (drop i w)
+pub small-drop : (i : ℕ) (w : List ℕ) → Small w → Small (drop i w)
 small-drop i w h j = rw (getD-drop i w j 0) (h (i + j))
 
 digit-less : (w v : List ℕ) → first-digit w < first-digit v → word-before w v ≡ true
@@ -205,7 +205,7 @@ pub record Neighbours (cs : List ℕ) (at next end a b : ℕ) : Type 0 where
   pub first-code : a ≡ code (part cs at next)
   pub second-code : b ≡ code (part cs next end)
 
-small-take : (n : ℕ) (w : List ℕ) → Small w → Small (take n w)
+pub small-take : (n : ℕ) (w : List ℕ) → Small w → Small (take n w)
 small-take zero w h i = omega arith
 small-take (suc n) [] h i = omega arith
 small-take (suc n) (x ∷ xs) h zero = h 0

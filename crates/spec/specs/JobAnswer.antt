@@ -10,7 +10,8 @@ use Rattle.spec.specs.Words.{Key}
 use Rattle.spec.specs.Numbers.{Line, index-of}
 use Rattle.spec.specs.Index.{n-of, keys-of, entries-of, lines-in}
 use Rattle.spec.specs.Search.{find}
-use Rattle.spec.specs.Calls.{accepted}
+use Rattle.spec.specs.declared.Answer.{Answer}
+use Rattle.spec.specs.Calls.{output-short, accepted, Puts}
 use Rattle.spec.specs.JobSheet.{line-feed, space, closing, words-on, text-on, finds-on, run-together, lengths-of, sheet-refusal}
 
 -- NUMBERS: "H below is one character as four upper-case hexadecimal digits; other numbers are decimal."
@@ -120,3 +121,8 @@ printed s =
 -- "Every find is tested before anything is printed. A refused sheet prints only `(refused N)`."
 unfoldable pub job-answer : (sheet : List ℕ) → List ℕ
 job-answer s = accepted (sheet-refusal s) (printed s) (refused-line (sheet-refusal s))
+
+-- THE CALL: the answer's bytes at the front of the output, or 8 where it is too short for them. The line of a refused sheet is an answer
+-- like any other.
+unfoldable pub Job-says : (sheet : List ℕ) → Answer → (out out-now : List ℕ) → Type 0
+Job-says s r o z = Puts (cond (output-short (length (job-answer s)) (length o)) 8 0) (job-answer s) r o z

@@ -1,0 +1,59 @@
+-- `has_head` meets its contract. The invariant: the first i bytes are those of the head. The measure is how many are left. Assumes
+-- nothing.
+use mathlib.Core.Path.{sym}
+use Prim.Native.Nat.{_-_}
+use native.Mathlib.Omega.{arith}
+use borrow.Author.Needs.{needs}
+use lib.ListN.{length}
+use Rattle.laws.specs.FormReading.{Head-read, head-short, head-start, head-step, head-stop, head-end}
+use Rattle.jobreader.proofs.form.has_head.Statement.{statement}
+use Rattle.jobreader.proofs.form.has_head.Tie as tie
+
+abbrev Inv-loop : tie.InvT-loop
+Inv-loop line head i₀ i = Head-read line head i
+
+abbrev μ-loop : tie.MeasureT-loop
+μ-loop line head i₀ i = length head - i
+
+returns : tie.Need-returns Inv-loop μ-loop
+returns c = sym (head-short (c .before .args .line .now) (c .before .args .head .now) (c .if1 .taken))
+
+loop-holds : tie.Need-loop-holds Inv-loop μ-loop
+loop-holds c = head-start (c .before .args .line .now) (c .before .args .head .now) (c .if1 .left)
+
+shared-slice-read-if2 : tie.Need-shared-slice-read-if2 Inv-loop μ-loop
+shared-slice-read-if2 c = omega (arith, c .before .before .loop .inv .room)
+
+shared-slice-read-if2-2 : tie.Need-shared-slice-read-if2-2 Inv-loop μ-loop
+shared-slice-read-if2-2 c = omega arith
+
+returns-2 : tie.Need-returns-2 Inv-loop μ-loop
+returns-2 c = sym (head-stop (c .before .before .before .before .before .before .args .line .now) (c .before .before .before .before .before .before .args .head .now) (c .before .before .before .before .loop .i) (c .before .before .before .before .loop .inv) (c .before .before .before .loop-test .taken) (c .if2 .taken))
+
+add-i : tie.Need-add-i Inv-loop μ-loop
+add-i c = omega arith
+
+loop-less : tie.Need-loop-less Inv-loop μ-loop
+loop-less c = omega arith
+
+loop-again : tie.Need-loop-again Inv-loop μ-loop
+loop-again c = head-step (c .before .before .before .before .before .before .args .line .now) (c .before .before .before .before .before .before .args .head .now) (c .before .before .before .before .loop .i) (c .before .before .before .before .loop .inv) (c .before .before .before .loop-test .taken) (c .if2 .left)
+
+returns-3 : tie.Need-returns-3 Inv-loop μ-loop
+returns-3 c = sym (head-end (c .before .before .before .args .line .now) (c .before .before .before .args .head .now) (c .before .loop .i) (c .before .loop .inv) (c .loop-test .left))
+
+pub has-head-spec : {M : Type 1} → statement M
+has-head-spec =
+    tie.close
+    (tie.spec
+    Inv-loop
+    μ-loop
+    returns
+    loop-holds
+    shared-slice-read-if2
+    shared-slice-read-if2-2
+    returns-2
+    add-i
+    loop-less
+    loop-again
+    returns-3)

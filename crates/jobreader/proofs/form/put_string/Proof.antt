@@ -1,0 +1,66 @@
+-- `put_string` meets its contract. The invariant: what is left of the characters is to be written from `end` on. The measure is how many
+-- bytes are left. Assumes nothing.
+use mathlib.Core.Path.{_≡_}
+use Prim.Native.Nat.{_-_}
+use native.Mathlib.Omega.{arith}
+use lib.ListN.{length}
+use Rattle.laws.specs.FormReading.{String-read, string-start, string-end, string-step, string-room, spaced-here}
+use Rattle.jobreader.proofs.form.put_string.Statement.{statement}
+use Rattle.jobreader.proofs.form.put_string.Tie as tie
+
+abbrev Inv-loop : tie.InvT-loop
+Inv-loop line out₀ at end₀ from₀ out end from = String-read line end₀ out₀ from end out
+
+abbrev μ-loop : tie.MeasureT-loop
+μ-loop line out₀ at end₀ from₀ out end from = length line - from
+
+loop-holds : tie.Need-loop-holds Inv-loop μ-loop
+loop-holds c = string-start (c .before .before .args .line .now) (c .before .before .args .at) (c .before .before .args .out .now) (c .before .before .pre .0) (c .before .before .pre .1) (c .before .before .pre .2)
+
+add-loop : tie.Need-add-loop Inv-loop μ-loop
+add-loop c = omega (arith, c .loop .inv .within)
+
+character-requires : tie.Need-character-requires Inv-loop μ-loop
+character-requires c κs = (c .loop-test .taken, spaced-here (c .before .before .before .before .args .line .now) (c .before .before .before .before .args .at) (c .before .before .before .before .args .out .now) (c .before .loop .from) (c .before .loop .end) (c .before .loop .out) (c .before .loop .inv) (c .loop-test .taken))
+
+mul-out : tie.Need-mul-out Inv-loop μ-loop
+mul-out c = omega (arith, string-room (c .before .before .before .before .before .args .line .now) (c .before .before .before .before .before .args .at) (c .before .before .before .before .before .args .out .now) (c .before .before .loop .from) (c .before .before .loop .end) (c .before .before .loop .out) (c .before .before .loop .inv) (c .before .loop-test .taken), c .before .before .loop .inv .writing .long)
+
+slice-write-out : tie.Need-slice-write-out Inv-loop μ-loop
+slice-write-out c = string-room (c .before .before .before .before .before .args .line .now) (c .before .before .before .before .before .args .at) (c .before .before .before .before .before .args .out .now) (c .before .before .loop .from) (c .before .before .loop .end) (c .before .before .loop .out) (c .before .before .loop .inv) (c .before .loop-test .taken)
+
+add-end : tie.Need-add-end Inv-loop μ-loop
+add-end c = omega (arith, string-room (c .before .before .before .before .before .args .line .now) (c .before .before .before .before .before .args .at) (c .before .before .before .before .before .args .out .now) (c .before .before .loop .from) (c .before .before .loop .end) (c .before .before .loop .out) (c .before .before .loop .inv) (c .before .loop-test .taken), c .before .before .loop .inv .writing .long)
+
+add-from : tie.Need-add-from Inv-loop μ-loop
+add-from c = omega arith
+
+loop-less : tie.Need-loop-less Inv-loop μ-loop
+loop-less c = omega arith
+
+loop-again : tie.Need-loop-again Inv-loop μ-loop
+loop-again c = string-step (c .before .before .before .before .before .args .line .now) (c .before .before .before .before .before .args .at) (c .before .before .before .before .before .args .out .now) (c .before .before .loop .from) (c .before .before .loop .end) (c .before .before .loop .out) (c .before .before .loop .inv) (c .before .loop-test .taken) (c .character .result) (c .character .ensures)
+
+same-length : tie.Need-same-length Inv-loop μ-loop
+same-length c = c .before .loop .inv .writing .long
+
+returns : tie.Need-returns Inv-loop μ-loop
+returns c = string-end (c .before .before .before .before .args .line .now) (c .before .before .before .before .args .at) (c .before .before .before .before .args .out .now) (c .before .loop .from) (c .before .loop .end) (c .before .loop .out) (c .before .loop .inv) (c .loop-test .left)
+
+pub put-string-spec : {M : Type 1} → statement M
+put-string-spec =
+    tie.close
+    (tie.spec
+    Inv-loop
+    μ-loop
+    loop-holds
+    add-loop
+    character-requires
+    mul-out
+    slice-write-out
+    add-end
+    add-from
+    loop-less
+    loop-again
+    same-length
+    returns)

@@ -1,0 +1,31 @@
+-- `parts_refusal` meets its contract: each way to a return has met the tests of one law. Assumes nothing.
+use mathlib.Core.Path.{_≡_, sym, _∙_}
+use mathlib.Core.Bool.{true, false}
+use borrow.Author.Needs.{needs}
+use Rattle.spec.specs.Dictionary.{dictionary-refusal}
+use Rattle.laws.specs.JobReading.{dictionary-first, then-finds}
+use Rattle.jobreader.proofs.job.parts_refusal.Statement.{statement}
+use Rattle.jobreader.proofs.job.parts_refusal.Tie as tie
+
+refusal-of-requires : tie.Need-refusal-of-requires
+refusal-of-requires c κs = search needs
+
+returns : tie.Need-returns
+returns c =
+    c .before .refusal-of .ensures
+    ∙ sym (dictionary-first (c .before .before .before .before .before .args .chars .now) (c .before .before .before .before .before .args .words .now) (c .before .before .before .before .before .args .finds .now) (λ (e : dictionary-refusal (c .before .before .before .before .before .args .chars .now) (c .before .before .before .before .before .args .words .now) ≡ 0). c .if1 .taken (c .before .refusal-of .ensures ∙ e)))
+
+some-length-wrong-requires : tie.Need-some-length-wrong-requires
+some-length-wrong-requires c κs = search needs
+
+returns-2 : tie.Need-returns-2
+returns-2 c =
+    sym (then-finds (c .before .before .before .before .before .before .before .args .chars .now) (c .before .before .before .before .before .before .before .args .words .now) (c .before .before .before .before .before .before .before .args .finds .now) true (sym (c .before .before .before .refusal-of .ensures) ∙ c .before .before .if1 .left) (sym (c .before .some-length-wrong .ensures) ∙ c .if2 .taken))
+
+returns-3 : tie.Need-returns-3
+returns-3 c =
+    sym (then-finds (c .before .before .before .before .before .before .before .args .chars .now) (c .before .before .before .before .before .before .before .args .words .now) (c .before .before .before .before .before .before .before .args .finds .now) false (sym (c .before .before .before .refusal-of .ensures) ∙ c .before .before .if1 .left) (sym (c .before .some-length-wrong .ensures) ∙ c .if2 .left))
+
+pub parts-refusal-spec : {M : Type 1} → statement M
+parts-refusal-spec =
+    tie.close (tie.spec refusal-of-requires returns some-length-wrong-requires returns-2 returns-3)

@@ -1,0 +1,48 @@
+-- `line_end` meets its contract. The invariant: there is no LF before i. The measure is what is left of the sheet. Assumes nothing.
+use Prim.Native.Nat.{_-_}
+use native.Mathlib.Omega.{arith}
+use lib.ListN.{length}
+use Rattle.laws.specs.LineReading.{Line-read, line-start, line-step, line-ended, line-unended}
+use Rattle.jobreader.proofs.sheet.line_end.Statement.{statement}
+use Rattle.jobreader.proofs.sheet.line_end.Tie as tie
+
+abbrev Inv-loop : tie.InvT-loop
+Inv-loop sheet at i₀ i = Line-read sheet i₀ i
+
+abbrev μ-loop : tie.MeasureT-loop
+μ-loop sheet at i₀ i = length sheet - i
+
+loop-holds : tie.Need-loop-holds Inv-loop μ-loop
+loop-holds c = line-start (c .args .sheet .now) (c .args .at) (c .pre)
+
+shared-slice-read-if1 : tie.Need-shared-slice-read-if1 Inv-loop μ-loop
+shared-slice-read-if1 c = omega arith
+
+returns : tie.Need-returns Inv-loop μ-loop
+returns c = line-ended (c .before .before .before .before .args .sheet .now) (c .before .before .before .before .args .at) (c .before .before .before .loop .i) (c .before .before .before .loop .inv) (c .before .before .loop-test .taken) (c .if1 .taken)
+
+add-i : tie.Need-add-i Inv-loop μ-loop
+add-i c = omega arith
+
+loop-less : tie.Need-loop-less Inv-loop μ-loop
+loop-less c = omega arith
+
+loop-again : tie.Need-loop-again Inv-loop μ-loop
+loop-again c = line-step (c .before .before .before .before .args .sheet .now) (c .before .before .before .before .args .at) (c .before .before .before .loop .i) (c .before .before .before .loop .inv) (c .before .before .loop-test .taken) (c .if1 .left)
+
+returns-2 : tie.Need-returns-2 Inv-loop μ-loop
+returns-2 c = line-unended (c .before .before .args .sheet .now) (c .before .before .args .at) (c .before .loop .i) (c .before .loop .inv) (c .loop-test .left)
+
+pub line-end-spec : {M : Type 1} → statement M
+line-end-spec =
+    tie.close
+    (tie.spec
+    Inv-loop
+    μ-loop
+    loop-holds
+    shared-slice-read-if1
+    returns
+    add-i
+    loop-less
+    loop-again
+    returns-2)

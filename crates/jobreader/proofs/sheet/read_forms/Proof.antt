@@ -1,0 +1,109 @@
+-- `read_forms` meets its contract. The invariant: the forms before `from` are read, and the next one ends at `end`. The measure is what is
+-- left of the sheet. Assumes nothing.
+use mathlib.Core.Path.{_≡_, sym, _∙_}
+use Prim.Native.Nat.{_+_, _-_, _≤_}
+use native.Mathlib.Omega.{arith}
+use borrow.Author.Needs.{needs}
+use lib.ListN.{length}
+use Rattle.laws.specs.SheetReading.{Forms-read, forms-start, forms-end, forms-step, line-long, line-good, string-short, string-fits, length-fits}
+use Rattle.jobreader.proofs.sheet.read_forms.Statement.{statement}
+use Rattle.jobreader.proofs.sheet.read_forms.Tie as tie
+
+abbrev Inv-loop : tie.InvT-loop
+Inv-loop sheet at head chars₀ used lengths₀ count from₀ filled₀ i₀ end₀ chars lengths from filled i end =
+    (length sheet ≤ 32768) × (length head ≡ 5) × Forms-read head sheet from₀ filled₀ i₀ chars₀ lengths₀ from filled i end chars lengths
+
+abbrev μ-loop : tie.MeasureT-loop
+μ-loop sheet at head chars₀ used lengths₀ count from₀ filled₀ i₀ end₀ chars lengths from filled i end =
+    length sheet - from
+
+form-end-requires : tie.Need-form-end-requires Inv-loop μ-loop
+form-end-requires c κs = (c .before .before .before .before .pre .0 .within, c .before .before .before .before .pre .1)
+
+loop-holds : tie.Need-loop-holds Inv-loop μ-loop
+loop-holds c = (
+  c .before .before .before .before .before .pre .0 .short,
+  c .before .before .before .before .before .pre .1,
+  forms-start (c .before .before .before .before .before .args .head .now) (c .before .before .before .before .before .args .sheet .now) (c .before .before .before .before .before .args .at) (c .before .before .before .before .before .args .used) (c .before .before .before .before .before .args .count) (c .form-end .result) (c .before .before .before .before .before .args .chars .now) (c .before .before .before .before .before .args .lengths .now) (c .before .before .before .before .before .pre .0) (c .form-end .ensures),
+)
+
+sub-put-string : tie.Need-sub-put-string Inv-loop μ-loop
+sub-put-string c = omega (arith, c .before .loop .inv .2 .here .from)
+
+part-put-string-start : tie.Need-part-put-string-start Inv-loop μ-loop
+part-put-string-start c = omega (arith, c .before .loop .inv .2 .here .from)
+
+part-put-string-end : tie.Need-part-put-string-end Inv-loop μ-loop
+part-put-string-end c = omega (arith, c .loop-test .taken)
+
+put-string-requires : tie.Need-put-string-requires Inv-loop μ-loop
+put-string-requires c κs = (
+  omega (arith, line-long (c .before .before .before .before .before .before .before .before .before .args .head .now) (c .before .before .before .before .before .before .before .before .before .args .sheet .now) (c .before .before .before .before .before .before .before .before .before .args .at) (c .before .before .before .before .before .before .before .before .before .args .used) (c .before .before .before .before .before .before .before .before .before .args .count) (c .before .before .before .before .before .before .before .before .before .args .chars .now) (c .before .before .before .before .before .before .before .before .before .args .lengths .now) (c .before .before .before .loop .from) (c .before .before .before .loop .filled) (c .before .before .before .loop .i) (c .before .before .before .loop .end) (c .before .before .before .loop .chars) (c .before .before .before .loop .lengths) (c .before .before .before .loop .inv .2) (c .before .before .loop-test .taken)),
+  line-good (c .before .before .before .before .before .before .before .before .before .args .head .now) (c .before .before .before .before .before .before .before .before .before .args .sheet .now) (c .before .before .before .before .before .before .before .before .before .args .at) (c .before .before .before .before .before .before .before .before .before .args .used) (c .before .before .before .before .before .before .before .before .before .args .count) (c .before .before .before .before .before .before .before .before .before .args .chars .now) (c .before .before .before .before .before .before .before .before .before .args .lengths .now) (c .before .before .before .loop .from) (c .before .before .before .loop .filled) (c .before .before .before .loop .i) (c .before .before .before .loop .end) (c .before .before .before .loop .chars) (c .before .before .before .loop .lengths) (c .before .before .before .loop .inv .2) (c .before .before .loop-test .taken),
+  string-fits (c .before .before .before .before .before .before .before .before .before .args .head .now) (c .before .before .before .before .before .before .before .before .before .args .sheet .now) (c .before .before .before .before .before .before .before .before .before .args .at) (c .before .before .before .before .before .before .before .before .before .args .used) (c .before .before .before .before .before .before .before .before .before .args .count) (c .before .before .before .before .before .before .before .before .before .args .chars .now) (c .before .before .before .before .before .before .before .before .before .args .lengths .now) (c .before .before .before .loop .from) (c .before .before .before .loop .filled) (c .before .before .before .loop .i) (c .before .before .before .loop .end) (c .before .before .before .loop .chars) (c .before .before .before .loop .lengths) (c .before .before .before .loop .inv .2) (c .before .before .loop-test .taken),
+)
+
+sub-lengths : tie.Need-sub-lengths Inv-loop μ-loop
+sub-lengths c = omega (arith, c .before .before .put-string .ensures .ends)
+
+cast-lengths : tie.Need-cast-lengths Inv-loop μ-loop
+cast-lengths c = omega (arith, c .before .before .put-string .ensures .ends, string-short (c .before .before .before .before .before .before .before .before .before .before .before .before .args .head .now) (c .before .before .before .before .before .before .before .before .before .before .before .before .args .sheet .now) (c .before .before .before .before .before .before .before .before .before .before .before .before .args .at) (c .before .before .before .before .before .before .before .before .before .before .before .before .args .used) (c .before .before .before .before .before .before .before .before .before .before .before .before .args .count) (c .before .before .before .before .before .before .before .before .before .before .before .before .args .chars .now) (c .before .before .before .before .before .before .before .before .before .before .before .before .args .lengths .now) (c .before .before .before .before .before .before .loop .from) (c .before .before .before .before .before .before .loop .filled) (c .before .before .before .before .before .before .loop .i) (c .before .before .before .before .before .before .loop .end) (c .before .before .before .before .before .before .loop .chars) (c .before .before .before .before .before .before .loop .lengths) (c .before .before .before .before .before .before .loop .inv .2) (c .before .before .before .before .before .loop-test .taken) (c .before .before .before .before .before .before .loop .inv .0))
+
+mul-lengths : tie.Need-mul-lengths Inv-loop μ-loop
+mul-lengths c = omega (arith, length-fits (c .before .before .before .before .before .before .before .before .before .before .before .before .args .head .now) (c .before .before .before .before .before .before .before .before .before .before .before .before .args .sheet .now) (c .before .before .before .before .before .before .before .before .before .before .before .before .args .at) (c .before .before .before .before .before .before .before .before .before .before .before .before .args .used) (c .before .before .before .before .before .before .before .before .before .before .before .before .args .count) (c .before .before .before .before .before .before .before .before .before .before .before .before .args .chars .now) (c .before .before .before .before .before .before .before .before .before .before .before .before .args .lengths .now) (c .before .before .before .before .before .before .loop .from) (c .before .before .before .before .before .before .loop .filled) (c .before .before .before .before .before .before .loop .i) (c .before .before .before .before .before .before .loop .end) (c .before .before .before .before .before .before .loop .chars) (c .before .before .before .before .before .before .loop .lengths) (c .before .before .before .before .before .before .loop .inv .2) (c .before .before .before .before .before .loop-test .taken), c .before .before .before .before .before .before .loop .inv .2 .lengths-left .long)
+
+slice-write-lengths : tie.Need-slice-write-lengths Inv-loop μ-loop
+slice-write-lengths c = length-fits (c .before .before .before .before .before .before .before .before .before .before .before .before .args .head .now) (c .before .before .before .before .before .before .before .before .before .before .before .before .args .sheet .now) (c .before .before .before .before .before .before .before .before .before .before .before .before .args .at) (c .before .before .before .before .before .before .before .before .before .before .before .before .args .used) (c .before .before .before .before .before .before .before .before .before .before .before .before .args .count) (c .before .before .before .before .before .before .before .before .before .before .before .before .args .chars .now) (c .before .before .before .before .before .before .before .before .before .before .before .before .args .lengths .now) (c .before .before .before .before .before .before .loop .from) (c .before .before .before .before .before .before .loop .filled) (c .before .before .before .before .before .before .loop .i) (c .before .before .before .before .before .before .loop .end) (c .before .before .before .before .before .before .loop .chars) (c .before .before .before .before .before .before .loop .lengths) (c .before .before .before .before .before .before .loop .inv .2) (c .before .before .before .before .before .loop-test .taken)
+
+add-i : tie.Need-add-i Inv-loop μ-loop
+add-i c = omega (arith, length-fits (c .before .before .before .before .before .before .before .before .before .before .before .before .args .head .now) (c .before .before .before .before .before .before .before .before .before .before .before .before .args .sheet .now) (c .before .before .before .before .before .before .before .before .before .before .before .before .args .at) (c .before .before .before .before .before .before .before .before .before .before .before .before .args .used) (c .before .before .before .before .before .before .before .before .before .before .before .before .args .count) (c .before .before .before .before .before .before .before .before .before .before .before .before .args .chars .now) (c .before .before .before .before .before .before .before .before .before .before .before .before .args .lengths .now) (c .before .before .before .before .before .before .loop .from) (c .before .before .before .before .before .before .loop .filled) (c .before .before .before .before .before .before .loop .i) (c .before .before .before .before .before .before .loop .end) (c .before .before .before .before .before .before .loop .chars) (c .before .before .before .before .before .before .loop .lengths) (c .before .before .before .before .before .before .loop .inv .2) (c .before .before .before .before .before .loop-test .taken), c .before .before .before .before .before .before .loop .inv .2 .lengths-left .long)
+
+add-from : tie.Need-add-from Inv-loop μ-loop
+add-from c = omega (arith, c .before .before .before .before .before .before .loop .inv .0, c .before .before .before .before .before .loop-test .taken)
+
+form-end-requires-2 : tie.Need-form-end-requires-2 Inv-loop μ-loop
+form-end-requires-2 c κs = (omega (arith, c .before .before .before .before .before .loop-test .taken), c .before .before .before .before .before .before .loop .inv .1)
+
+loop-less : tie.Need-loop-less Inv-loop μ-loop
+loop-less c = omega (arith, c .before .before .before .before .before .before .loop-test .taken, c .before .before .before .before .before .before .before .loop .inv .2 .here .from)
+
+loop-again : tie.Need-loop-again Inv-loop μ-loop
+loop-again c = (
+  c .before .before .before .before .before .before .before .loop .inv .0,
+  c .before .before .before .before .before .before .before .loop .inv .1,
+  forms-step (c .before .before .before .before .before .before .before .before .before .before .before .before .before .args .head .now) (c .before .before .before .before .before .before .before .before .before .before .before .before .before .args .sheet .now) (c .before .before .before .before .before .before .before .before .before .before .before .before .before .args .at) (c .before .before .before .before .before .before .before .before .before .before .before .before .before .args .used) (c .before .before .before .before .before .before .before .before .before .before .before .before .before .args .count) (c .before .before .before .before .before .before .before .before .before .before .before .before .before .args .chars .now) (c .before .before .before .before .before .before .before .before .before .before .before .before .before .args .lengths .now) (c .before .before .before .before .before .before .before .loop .from) (c .before .before .before .before .before .before .before .loop .filled) (c .before .before .before .before .before .before .before .loop .i) (c .before .before .before .before .before .before .before .loop .end) (c .before .before .before .before .before .before .before .loop .chars) (c .before .before .before .before .before .before .before .loop .lengths) (c .before .before .before .before .before .before .before .loop .inv .2) (c .before .before .before .before .before .before .loop-test .taken) (c .before .before .before .put-string .result) (c .before .before .before .put-string .last .1 .0) (c .before .before .before .put-string .ensures) (c .form-end2 .result) (c .form-end2 .ensures),
+)
+
+same-length : tie.Need-same-length Inv-loop μ-loop
+same-length c = c .before .loop .inv .2 .chars-left .long
+
+same-length-2 : tie.Need-same-length-2 Inv-loop μ-loop
+same-length-2 c = c .before .loop .inv .2 .lengths-left .long
+
+returns : tie.Need-returns Inv-loop μ-loop
+returns c = forms-end (c .before .before .before .before .before .before .before .args .head .now) (c .before .before .before .before .before .before .before .args .sheet .now) (c .before .before .before .before .before .before .before .args .at) (c .before .before .before .before .before .before .before .args .used) (c .before .before .before .before .before .before .before .args .count) (c .before .before .before .before .before .before .before .args .chars .now) (c .before .before .before .before .before .before .before .args .lengths .now) (c .before .loop .from) (c .before .loop .filled) (c .before .loop .i) (c .before .loop .end) (c .before .loop .chars) (c .before .loop .lengths) (c .before .loop .inv .2) (c .loop-test .left)
+
+pub read-forms-spec : {M : Type 1} → statement M
+read-forms-spec =
+    tie.close
+    (tie.spec
+    Inv-loop
+    μ-loop
+    form-end-requires
+    loop-holds
+    sub-put-string
+    part-put-string-start
+    part-put-string-end
+    put-string-requires
+    sub-lengths
+    cast-lengths
+    mul-lengths
+    slice-write-lengths
+    add-i
+    add-from
+    form-end-requires-2
+    loop-less
+    loop-again
+    same-length
+    same-length-2
+    returns)

@@ -1,0 +1,56 @@
+-- `answer_through` meets its contract: the front of the buffer is the answer, and it is handed over. Assumes nothing.
+use mathlib.Core.Path.{sym}
+use borrow.Author.Needs.{needs}
+use lib.ListN.{take}
+use lib.Seq.{length-take-le}
+use Rattle.spec.specs.JobAnswer.{job-answer}
+use Rattle.laws.specs.AcceptedCalls.{In-hand}
+use Rattle.laws.specs.JobAnswering.{written-in-hand, job-says}
+use Rattle.jobsheet.proofs.answer.answer_through.Statement.{statement}
+use Rattle.jobsheet.proofs.answer.answer_through.Tie as tie
+
+-- the answer is the front of the buffer
+answer-in-hand :
+    (c : tie.After-put-answer) → In-hand (job-answer (c .before .before .before .before .before .args .sheet .now)) (c .put-answer .result) (c .put-answer .last .1 .0)
+answer-in-hand c =
+    let a = c .before .before .before .before .before .args in
+    written-in-hand (job-answer (a .sheet .now)) (a .buffer .now) (c .put-answer .result) (c .put-answer .last .1 .0) (c .put-answer .ensures)
+
+put-answer-requires : tie.Need-put-answer-requires
+put-answer-requires c κs = search needs
+
+slice-reshare-prefix-hand-over : tie.Need-slice-reshare-prefix-hand-over
+slice-reshare-prefix-hand-over c = answer-in-hand (c .before .before) .room
+
+slice-aggregate-hand-over : tie.Need-slice-aggregate-hand-over
+slice-aggregate-hand-over c =
+    let put = c .before .before .before .put-answer in sym (length-take-le (put .result) (put .last .1 .0) (answer-in-hand (c .before .before .before) .room))
+
+hand-over-requires : tie.Need-hand-over-requires
+hand-over-requires c κs = search needs
+
+same-length : tie.Need-same-length
+same-length c = search needs
+
+same-length-2 : tie.Need-same-length-2
+same-length-2 c = search needs
+
+returns : tie.Need-returns
+returns c =
+    let a = c .before .before .before .before .before .before .before .before .before .before .before .before .args in
+    let put = c .before .before .before .before .before .before .before .put-answer in
+    let handed = c .before .before .hand-over in
+    job-says (a .sheet .now) (take (put .result) (put .last .1 .0)) (handed .result) (a .output .now) (handed .last .1 .0)
+    (answer-in-hand (c .before .before .before .before .before .before .before) .is) (handed .ensures)
+
+pub answer-through-spec : {M : Type 1} → statement M
+answer-through-spec =
+    tie.close
+    (tie.spec
+    put-answer-requires
+    slice-reshare-prefix-hand-over
+    slice-aggregate-hand-over
+    hand-over-requires
+    same-length
+    same-length-2
+    returns)

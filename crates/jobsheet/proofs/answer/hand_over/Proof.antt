@@ -1,0 +1,28 @@
+-- `hand_over` meets its contract: nothing is written before the bytes are known to fit. Assumes nothing.
+use mathlib.Core.Path.{refl}
+use borrow.Author.Needs.{needs}
+use lib.ListN.{length}
+use Rattle.laws.specs.Sizing.{sized-short}
+use Rattle.laws.specs.JobAnswering.{handed-over}
+use Rattle.jobsheet.proofs.answer.hand_over.Statement.{statement}
+use Rattle.jobsheet.proofs.answer.hand_over.Tie as tie
+
+returns : tie.Need-returns
+returns c =
+    let a = c .before .before .before .args in sized-short (a .bytes .now) (record { refusal = 8; count = 0 }) (a .output .now) (c .if1 .taken) refl refl
+
+put-bytes-requires : tie.Need-put-bytes-requires
+put-bytes-requires c κs = search needs
+
+same-length : tie.Need-same-length
+same-length c = search needs
+
+returns-2 : tie.Need-returns-2
+returns-2 c =
+    let a = c .before .before .before .before .before .before .before .args in
+    let put = c .before .before .put-bytes in
+    handed-over (a .bytes .now) (record { refusal = 0; count = length (a .bytes .now) }) (a .output .now) (put .last .0) (put .result) (c .before .before .before .before .if1 .left) refl refl
+    (put .ensures)
+
+pub hand-over-spec : {M : Type 1} → statement M
+hand-over-spec = tie.close (tie.spec returns put-bytes-requires same-length returns-2)

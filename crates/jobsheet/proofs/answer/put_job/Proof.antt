@@ -1,0 +1,89 @@
+-- `put_job` meets its contract: a refused sheet has its line printed, any other the lines of its parts. Assumes nothing.
+use mathlib.Core.Path.{_≡_, sym, _∙_, subst}
+use mathlib.Core.List.{List}
+use Prim.Native.Nat.{ℕ}
+use native.Mathlib.Omega.{arith}
+use borrow.Author.Needs.{needs}
+use Rattle.basics.specs.Placed.{Wrote}
+use Rattle.spec.specs.JobSheet.{sheet-refusal}
+use Rattle.laws.specs.JobAnswering.{refused-answer, refused-fits}
+use Rattle.laws.specs.JobParts.{parts-there, parts-answer}
+use Rattle.jobsheet.proofs.answer.put_job.Statement.{statement}
+use Rattle.jobsheet.proofs.answer.put_job.Tie as tie
+
+read-job-requires : tie.Need-read-job-requires
+read-job-requires c κs = search needs
+
+cast-put-refused-line : tie.Need-cast-put-refused-line
+cast-put-refused-line c = search needs
+
+put-refused-line-requires : tie.Need-put-refused-line-requires
+put-refused-line-requires c κs =
+    let s = c .before .before .before .before .before .before .before .before .before .before .before .before .before in
+    let read = c .before .before .before .before .before .before .read-job in
+    omega (arith, s .pre .2, refused-fits (s .args .sheet .now) (read .result .refusal) (read .ensures .0) (c .before .if1 .taken))
+
+same-length : tie.Need-same-length
+same-length c = search needs
+
+same-length-2 : tie.Need-same-length-2
+same-length-2 c = search needs
+
+same-length-3 : tie.Need-same-length-3
+same-length-3 c = search needs
+
+returns : tie.Need-returns
+returns c =
+    let a = c .before .before .before .before .before .before .before .before .before .before .before .before .before .before .before .before .args in
+    let read = c .before .before .before .before .before .before .before .before .before .read-job in
+    let put = c .before .before .put-refused-line in
+    subst (λ (ys : List ℕ). Wrote ys 0 (a .out .now) (put .result) (put .last .0))
+    (refused-answer (a .sheet .now) (read .result .refusal) (read .ensures .0) (c .before .before .before .before .if1 .taken))
+    (put .ensures)
+
+put-parts-requires : tie.Need-put-parts-requires
+put-parts-requires c κs =
+    let s = c .before .before .before .before .before .before .before .before .before .before .before .before .before .before .before in
+    let read = c .before .before .before .before .before .before .before .before .read-job in
+    let none : sheet-refusal (s .args .sheet .now) ≡ 0 = sym (read .ensures .0) ∙ c .before .before .before .if1 .left in (
+      parts-there (s .args .sheet .now) (read .result .words) (read .result .dictionary) (read .result .text) (read .result .finds) (read .last .1 .0) (read .last .1 .1 .0)
+          none (read .ensures .1 none),
+      s .pre .2,
+    )
+
+same-length-4 : tie.Need-same-length-4
+same-length-4 c = search needs
+
+same-length-5 : tie.Need-same-length-5
+same-length-5 c = search needs
+
+same-length-6 : tie.Need-same-length-6
+same-length-6 c = search needs
+
+returns-2 : tie.Need-returns-2
+returns-2 c =
+    let a = c .before .before .before .before .before .before .before .before .before .before .before .before .before .before .before .before .before .before .args in
+    let read = c .before .before .before .before .before .before .before .before .before .before .before .read-job in
+    let none : sheet-refusal (a .sheet .now) ≡ 0 = sym (read .ensures .0) ∙ c .before .before .before .before .before .before .if1 .left in
+    let put = c .before .before .put-parts in
+    subst (λ (ys : List ℕ). Wrote ys 0 (a .out .now) (put .result) (put .last .1 .1 .1 .1 .1 .1 .0))
+    (parts-answer (a .sheet .now) (read .result .words) (read .result .dictionary) (read .result .text) (read .result .finds) (read .last .1 .0) (read .last .1 .1 .0)
+    none (read .ensures .1 none))
+    (put .ensures)
+
+pub put-job-spec : {M : Type 1} → statement M
+put-job-spec =
+    tie.close
+    (tie.spec
+    read-job-requires
+    cast-put-refused-line
+    put-refused-line-requires
+    same-length
+    same-length-2
+    same-length-3
+    returns
+    put-parts-requires
+    same-length-4
+    same-length-5
+    same-length-6
+    returns-2)

@@ -1,0 +1,128 @@
+-- `put_finds` meets its contract. The invariant: the first i finds are printed, and `from` is where the string of the next begins. The
+-- measure is how many finds are left. Assumes nothing.
+use mathlib.Core.Path.{_≡_, refl, _∙_}
+use Prim.Native.Nat.{_+_, _-_, _≤_}
+use native.Mathlib.Omega.{arith}
+use lib.ListN.{length, getD}
+use Rattle.spec.specs.Dictionary.{lexicon}
+use Rattle.laws.specs.FindWalk.{Finds-printed, finds-start, finds-end, string-fits, string-is, find-fits, finds-step}
+use Rattle.jobsheet.proofs.finds.put_finds.Statement.{statement}
+use Rattle.jobsheet.proofs.finds.put_finds.Tie as tie
+
+abbrev Inv-loop : tie.InvT-loop
+Inv-loop chars lengths index strings counts found₀ out₀ at end₀ from₀ i₀ found out end from i =
+    (length found ≡ length found₀) × Finds-printed (lexicon chars lengths) index strings counts at out₀ from end i out
+
+abbrev μ-loop : tie.MeasureT-loop
+μ-loop chars lengths index strings counts found₀ out₀ at end₀ from₀ i₀ found out end from i = length counts - i
+
+-- the next string is there
+next-fits :
+    (c : tie.In-loop Inv-loop μ-loop) → let a = c .before .before .before .before .before .before .before .before .before .args in
+    c .before .loop .from + getD (a .counts .now) (c .before .loop .i) 0 ≤ length (a .strings .now)
+next-fits c =
+    let a = c .before .before .before .before .before .before .before .before .before .args in
+    let l = c .before .loop in
+    string-fits (lexicon (a .chars .now) (a .lengths .now)) (a .index .now) (a .strings .now) (a .counts .now) (a .at) (a .out .now) (l .from) (l .end) (l .i) (l .out)
+    (l .inv .1) (c .loop-test .taken)
+
+loop-holds : tie.Need-loop-holds Inv-loop μ-loop
+loop-holds c =
+    let s = c .before .before .before .before .before .before .before in
+    let a = s .args in (
+      refl,
+      finds-start (lexicon (a .chars .now) (a .lengths .now)) (a .index .now) (a .strings .now) (a .counts .now) (a .at) (a .out .now) (s .pre .0 .1 .tested)
+          (s .pre .0 .1 .fits) (s .pre .1),
+    )
+
+mul-next : tie.Need-mul-next Inv-loop μ-loop
+mul-next c = omega (arith, c .before .before .before .before .before .before .before .before .before .pre .0 .1 .few, c .loop-test .taken)
+
+shared-slice-read-next : tie.Need-shared-slice-read-next Inv-loop μ-loop
+shared-slice-read-next c = c .before .loop-test .taken
+
+cast-next : tie.Need-cast-next Inv-loop μ-loop
+cast-next c = omega (arith, c .shared-slice-known6 .given (c .before .before .loop .i))
+
+add-next : tie.Need-add-next Inv-loop μ-loop
+add-next c = omega (arith, c .before .before .before .before .before .before .before .before .before .before .good, next-fits (c .before))
+
+mul-put-find : tie.Need-mul-put-find Inv-loop μ-loop
+mul-put-find c = omega (arith, c .before .before .before .before .before .before .before .before .before .before .good, next-fits (c .before))
+
+sub-put-find : tie.Need-sub-put-find Inv-loop μ-loop
+sub-put-find c = omega arith
+
+part-put-find-start : tie.Need-part-put-find-start Inv-loop μ-loop
+part-put-find-start c = omega (arith, next-fits (c .before))
+
+part-put-find-end : tie.Need-part-put-find-end Inv-loop μ-loop
+part-put-find-end c = omega (arith, next-fits (c .before))
+
+put-find-requires : tie.Need-put-find-requires Inv-loop μ-loop
+put-find-requires c κs =
+    let s = c .before .before .before .before .before .before .before .before .before .before .before .before .before in
+    let a = s .args in
+    let l = c .before .before .before .before .before .loop in
+    let taken = c .before .before .before .before .loop-test .taken in (
+      (
+        s .pre .0 .0,
+        string-is (lexicon (a .chars .now) (a .lengths .now)) (a .index .now) (a .strings .now) (a .counts .now) (a .at) (a .out .now) (l .from) (l .end) (l .i) (l .out)
+            (l .inv .1) taken,
+        omega (arith, s .pre .0 .2, l .inv .0),
+      ),
+      find-fits (lexicon (a .chars .now) (a .lengths .now)) (a .index .now) (a .strings .now) (a .counts .now) (a .at) (a .out .now) (l .from) (l .end) (l .i) (l .out)
+          (l .inv .1) taken,
+    )
+
+add-i : tie.Need-add-i Inv-loop μ-loop
+add-i c = omega (arith, c .before .before .before .before .before .before .before .before .before .before .before .before .before .before .before .before .before .before .pre .0 .1 .few, c .before .before .before .before .before .before .before .before .before .loop-test .taken)
+
+loop-less : tie.Need-loop-less Inv-loop μ-loop
+loop-less c = omega (arith, c .before .before .before .before .before .before .before .before .before .loop-test .taken)
+
+loop-again : tie.Need-loop-again Inv-loop μ-loop
+loop-again c =
+    let a = c .before .before .before .before .before .before .before .before .before .before .before .before .before .before .before .before .before .before .args in
+    let l = c .before .before .before .before .before .before .before .before .before .before .loop in
+    let put = c .before .before .before .before .put-find in (
+      put .kept .1 .1 .1 .1 .0 ∙ l .inv .0,
+      finds-step (lexicon (a .chars .now) (a .lengths .now)) (a .index .now) (a .strings .now) (a .counts .now) (a .at) (a .out .now) (l .from) (l .end) (l .i) (l .out)
+          (l .inv .1) (c .before .before .before .before .before .before .before .before .before .loop-test .taken) (put .result) (put .last .1 .1 .1 .1 .1 .0) (put .ensures),
+    )
+
+same-length : tie.Need-same-length Inv-loop μ-loop
+same-length c = c .before .loop .inv .0
+
+same-length-2 : tie.Need-same-length-2 Inv-loop μ-loop
+same-length-2 c = c .before .loop .inv .1 .writing .long
+
+returns : tie.Need-returns Inv-loop μ-loop
+returns c =
+    let a = c .before .before .before .before .before .before .before .before .before .args in
+    let l = c .before .loop in
+    finds-end (lexicon (a .chars .now) (a .lengths .now)) (a .index .now) (a .strings .now) (a .counts .now) (a .at) (a .out .now) (l .from) (l .end) (l .i) (l .out)
+    (l .inv .1) (c .loop-test .left)
+
+pub put-finds-spec : {M : Type 1} → statement M
+put-finds-spec =
+    tie.close
+    (tie.spec
+    Inv-loop
+    μ-loop
+    loop-holds
+    mul-next
+    shared-slice-read-next
+    cast-next
+    add-next
+    mul-put-find
+    sub-put-find
+    part-put-find-start
+    part-put-find-end
+    put-find-requires
+    add-i
+    loop-less
+    loop-again
+    same-length
+    same-length-2
+    returns)

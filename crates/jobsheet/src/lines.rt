@@ -1,0 +1,76 @@
+// The lines of an accepted job: those of the text's index, then those of the finds. At most 2,000 characters of text have an index
+// of at most 8,002 numbers; these and the found positions are local, so that the buffer for the lines is all that is lent.
+ghost use Prim.Native.Nat.{_≤_};
+ghost use lib.ListN.{length};
+ghost use Rattle.basics.specs.Placed.{Wrote};
+ghost use Rattle.laws.specs.AcceptedCalls.{Usable};
+ghost use Rattle.laws.specs.JobAnswering.{Strings-good, Parts-good, shown, printed-of};
+use crate::finds::put_finds;
+use builder::build::build;
+use printer::print::put_index_lines;
+
+// The lines of an index and of all finds.
+fn put_lines<'a>(
+    chars: &'a [u16],
+    lengths: &[u16],
+    index: &'a [u16],
+    strings: &[u16],
+    counts: &[u16],
+    found: &mut [u16],
+    out: &mut [u8],
+) -> usize
+    requires { ⌜ Usable (now chars) (now lengths) (now index) × Strings-good (now strings) (now counts) × (2000 ≤ length (now found)) × (700000 ≤ length (now out)) ⌝ }
+    ensures { λ r. ⌜ Wrote (shown (now (chars .entry)) (now (lengths .entry)) (now (index .entry)) (now (strings .entry)) (now (counts .entry))) 0 (now (out .entry)) r (now (out .exit)) ⌝ }
+{
+    let end = put_index_lines(out, 0, index);
+    put_finds(chars, lengths, index, strings, counts, found, out, end)
+}
+
+// The same for a text, whose index is built first.
+fn put_built(
+    chars: &[u16],
+    lengths: &[u16],
+    text: &[u16],
+    strings: &[u16],
+    counts: &[u16],
+    index: &mut [u16],
+    work: &mut [u16],
+    found: &mut [u16],
+    out: &mut [u8],
+) -> usize
+    requires { ⌜ Parts-good (now chars) (now lengths) (now text) (now strings) (now counts) ⌝ }
+    requires { ⌜ (8002 ≤ length (now index)) × (16000 ≤ length (now work)) × (2000 ≤ length (now found)) × (700000 ≤ length (now out)) ⌝ }
+    ensures { λ r. ⌜ Wrote (printed-of (now (chars .entry)) (now (lengths .entry)) (now (text .entry)) (now (strings .entry)) (now (counts .entry))) 0 (now (out .entry)) r (now (out .exit)) ⌝ }
+{
+    let built = build(chars, lengths, text, index, work);
+    let count = built.count;
+    put_lines(chars, lengths, &index[..count], strings, counts, found, out)
+}
+
+// The same with slices of its own for the index and the positions.
+pub fn put_printed(
+    chars: &[u16],
+    lengths: &[u16],
+    text: &[u16],
+    strings: &[u16],
+    counts: &[u16],
+    out: &mut [u8],
+) -> usize
+    requires { ⌜ Parts-good (now chars) (now lengths) (now text) (now strings) (now counts) × (700000 ≤ length (now out)) ⌝ }
+    ensures { λ r. ⌜ Wrote (printed-of (now (chars .entry)) (now (lengths .entry)) (now (text .entry)) (now (strings .entry)) (now (counts .entry))) 0 (now (out .entry)) r (now (out .exit)) ⌝ }
+{
+    let mut index = [0u16; 8002];
+    let mut work = [0u16; 16000];
+    let mut found = [0u16; 2000];
+    put_built(
+        chars,
+        lengths,
+        text,
+        strings,
+        counts,
+        &mut index,
+        &mut work,
+        &mut found,
+        out,
+    )
+}

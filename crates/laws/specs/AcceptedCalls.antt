@@ -1,0 +1,102 @@
+-- Calls that have to be accepted: a text's index and a string's positions, in hand at the front of what was lent. Assumes nothing.
+use mathlib.Core.Path.{_≡_, sym, ap, _∙_}
+use mathlib.Core.Bool.{false, _||_}
+use mathlib.Core.List.{List, _++_}
+use Prim.Native.Nat.{ℕ, _+_, _≤_}
+use native.Mathlib.Omega.{arith}
+use lib.Dec.{ltb, eqb}
+use lib.ListN.{length, take, drop, length-append}
+use lib.Seq.{take-at}
+use borrow.Author.Tests.{le-ltb, ne-eqb}
+use Rattle.basics.specs.Bools.{or-none}
+use Rattle.spec.specs.declared.Answer.{Answer}
+use Rattle.spec.specs.Dictionary.{longest-text, lexicon, dictionary-refusal}
+use Rattle.spec.specs.Numbers.{index-of}
+use Rattle.spec.specs.Index.{n-of}
+use Rattle.spec.specs.Search.{find}
+use Rattle.spec.specs.Calls.{string-wrong, output-short, or-else, index-refusal, build-refusal, find-refusal, in-front, Answers, Puts, Build-says, Search-says}
+use Rattle.laws.specs.Facts.{Chars, Good-lexicon}
+use Rattle.laws.specs.Answering.{accepted-yes}
+use Rattle.laws.specs.Slices.{Fits}
+use Rattle.laws.specs.LineWalk.{readable-fits}
+use Rattle.laws.specs.IndexOf.{n-of-index, index-readable}
+use Rattle.laws.specs.IndexRefusal.{accepts-index, index-accepted}
+use Rattle.laws.specs.IndexPrinting.{Whole}
+use Rattle.laws.specs.Sizing.{Is-string}
+use Rattle.laws.specs.Building.{early-none, output-fits, build-late, reached-lexicon}
+use Rattle.laws.specs.Numbers16.{index-short}
+use Rattle.laws.specs.PrintedBounds.{find-few}
+
+-- the result of a call is the front of the slice lent for it
+pub record In-hand (ys : List ℕ) (count : ℕ) (z : List ℕ) : Type 0 where
+  pub room : count ≤ length z
+  pub is : take count z ≡ ys
+
+pub in-hand : (ys : List ℕ) (count : ℕ) (z rest : List ℕ) → count ≡ length ys → z ≡ ys ++ rest → In-hand ys count z
+in-hand ys count z rest e w =
+    record {
+      room = rw (w, length-append ys rest) (omega arith);
+      is = ap (take count) w ∙ take-at ys rest count (sym e);
+    }
+
+pub puts-get : (n : ℕ) (ys : List ℕ) (r : Answer) (o z : List ℕ) → n ≡ 0 → Puts n ys r o z → In-hand ys (r .count) z
+unfolding Puts Answers in-front
+puts-get n ys r o z none puts =
+    in-hand ys (r .count) z (drop (length ys) o) (puts .0 .1 ∙ accepted-yes n (length ys) 0 none)
+    (puts .1 ∙ accepted-yes n (in-front ys o) o none)
+
+-- SEARCH
+
+pub search-accepted :
+    (cs ls xs s : List ℕ) (r : Answer) (o z : List ℕ) → index-refusal cs ls xs ≡ 0 → Is-string s → n-of xs ≤ length o →
+    Search-says cs ls xs s r o z → In-hand (find (lexicon cs ls) xs s) (r .count) z
+unfolding Search-says find-refusal or-else string-wrong output-short
+search-accepted cs ls xs s r o z accepts is room says =
+    puts-get (find-refusal cs ls xs s (length (find (lexicon cs ls) xs s)) (length o)) (find (lexicon cs ls) xs s) r o z none says
+  where
+    none : find-refusal cs ls xs s (length (find (lexicon cs ls) xs s)) (length o) ≡ 0
+    none =
+        let good : (eqb (length s) 0 || ltb 256 (length s)) ≡ false =
+        or-none (ne-eqb (length s) 0 (λ (e : length s ≡ 0). omega (arith, is .some))) (le-ltb 256 (length s) (is .short)) in
+        rw (
+          accepts,
+          good,
+          le-ltb (length o) (length (find (lexicon cs ls) xs s)) (omega (arith, find-few (lexicon cs ls) xs s (is .some))),
+        )
+
+-- BUILDING
+
+-- an index that search and printing take
+pub record Usable (cs ls xs : List ℕ) : Type 0 where
+  pub accepts : index-refusal cs ls xs ≡ 0
+  pub short : n-of xs ≤ 2000
+  pub few : length xs ≤ 8002
+
+pub usable-whole : (cs ls xs : List ℕ) → Usable cs ls xs → Whole xs
+usable-whole cs ls xs u =
+    let fits : Fits xs = readable-fits longest-text (lexicon cs ls) xs (index-accepted cs ls xs (u .accepts) .is-readable) in
+    record { headed = fits .has-header; exact = fits .is-long }
+
+module _ (cs ls ts : List ℕ) (chars : Chars cs) (text : Chars ts) (none : dictionary-refusal cs ls ≡ 0) (short : length ts ≤ 2000) where
+  good : Good-lexicon (lexicon cs ls)
+  good = reached-lexicon cs ls chars none
+
+  pub index-usable : Usable cs ls (index-of (lexicon cs ls) ts)
+  index-usable =
+      record {
+        accepts =
+            sym
+            (accepts-index cs ls (index-of (lexicon cs ls) ts) none (index-readable (lexicon cs ls) good ts text longest-text (omega arith)));
+        short = rw (n-of-index (lexicon cs ls) ts) short;
+        few = omega (arith, index-short (lexicon cs ls) ts good text);
+      }
+
+  pub build-accepted :
+      (r : Answer) (o z w v : List ℕ) → 8002 ≤ length o → 16000 ≤ length w → Build-says cs ls ts r o z w v →
+      In-hand (index-of (lexicon cs ls) ts) (r .count) z
+  unfolding Build-says
+  build-accepted r o z w v room work says =
+      puts-get (build-refusal cs ls ts (length o) (length w)) (index-of (lexicon cs ls) ts) r o z
+      (build-late cs ls ts (length w) (length o) (early-none cs ls ts (length w) none (omega arith) (omega arith))
+      ∙ output-fits (length (index-of (lexicon cs ls) ts)) (length o) (omega (arith, index-usable .few)))
+      (says .0)

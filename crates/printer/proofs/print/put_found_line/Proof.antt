@@ -1,0 +1,63 @@
+-- `put_found_line` meets its contract: a run of three writes. Assumes nothing.
+use lib.ListN.{length}
+use mathlib.Core.List.{_++_}
+use borrow.Author.Needs.{needs}
+use Rattle.basics.specs.Placed.{Writing, writing-start, writing-as, writing-room, writing-step, writing-last}
+use Rattle.spec.specs.JobAnswer.{decimal, found-head, found-line}
+use Rattle.laws.specs.Printing.{listed, found-line-parts}
+use Rattle.printer.proofs.print.put_found_line.Statement.{statement}
+use Rattle.printer.proofs.print.put_found_line.Tie as tie
+
+at-head :
+    (s : tie.Start) →
+    Writing (found-line (s .args .positions .now)) (s .args .at) (s .args .out .now) (found-head ++ (decimal (length (s .args .positions .now)) ++ (listed (s .args .positions .now)))) (s .args .at) (s .args .out .now)
+at-head s = writing-as (found-line-parts (s .args .positions .now)) (writing-start (found-line (s .args .positions .now)) (s .args .at) (s .args .out .now) (s .pre))
+
+at-count :
+    (c : tie.After-put-bytes) → let s = c .before .before .before .before .before in
+    Writing (found-line (s .args .positions .now)) (s .args .at) (s .args .out .now) (decimal (length (s .args .positions .now)) ++ (listed (s .args .positions .now))) (c .put-bytes .result) (c .put-bytes .last .0)
+at-count c =
+    let s = c .before .before .before .before .before in
+    writing-step found-head (decimal (length (s .args .positions .now)) ++ (listed (s .args .positions .now))) (at-head s) (c .put-bytes .ensures)
+
+at-list :
+    (c : tie.After-put-decimal) → let s = c .before .before .before .before .before .before .before .before .before in
+    Writing (found-line (s .args .positions .now)) (s .args .at) (s .args .out .now) (listed (s .args .positions .now)) (c .put-decimal .result) (c .put-decimal .last .0)
+at-list c =
+    let s = c .before .before .before .before .before .before .before .before .before in
+    writing-step (decimal (length (s .args .positions .now))) (listed (s .args .positions .now)) (at-count (c .before .before .before .before)) (c .put-decimal .ensures)
+
+slice-aggregate-put-bytes : tie.Need-slice-aggregate-put-bytes
+slice-aggregate-put-bytes c = search needs
+
+put-bytes-requires : tie.Need-put-bytes-requires
+put-bytes-requires c κs =
+    let s = c .before .before .before .before in
+    writing-room found-head (decimal (length (s .args .positions .now)) ++ (listed (s .args .positions .now))) (at-head s)
+
+put-decimal-requires : tie.Need-put-decimal-requires
+put-decimal-requires c κs =
+    let s = c .before .before .before .before .before .before .before .before in
+    writing-room (decimal (length (s .args .positions .now))) (listed (s .args .positions .now)) (at-count (c .before .before .before))
+
+put-list-requires : tie.Need-put-list-requires
+put-list-requires c κs = at-list (c .before .before .before) .room
+
+same-length : tie.Need-same-length
+same-length c = search needs
+
+returns : tie.Need-returns
+returns c =
+    let s = c .before .before .before .before .before .before .before .before .before .before .before .before .before .before .before in
+    writing-last (listed (s .args .positions .now)) (at-list (c .before .before .before .before .before .before)) (c .before .before .put-list .ensures)
+
+pub put-found-line-spec : {M : Type 1} → statement M
+put-found-line-spec =
+    tie.close
+    (tie.spec
+    slice-aggregate-put-bytes
+    put-bytes-requires
+    put-decimal-requires
+    put-list-requires
+    same-length
+    returns)

@@ -1,0 +1,84 @@
+-- `put_next_positions` meets its contract. The invariant: what is left of the positions is to be written from `end` on. The measure is
+-- how many are left. Assumes nothing.
+use mathlib.Core.List.{_++_}
+use Prim.Native.Nat.{_+_, _-_, _≤_}
+use native.Mathlib.Omega.{arith}
+use borrow.Author.Needs.{needs}
+use lib.ListN.{length, getD, drop}
+use Rattle.basics.specs.Placed.{Writing, writing-start, writing-as, writing-room, writing-step, writing-end}
+use Rattle.spec.specs.JobAnswer.{decimal, gap}
+use Rattle.laws.specs.Printing.{each-spaced, each-next, each-end}
+use Rattle.printer.proofs.print.put_next_positions.Statement.{statement}
+use Rattle.printer.proofs.print.put_next_positions.Tie as tie
+
+abbrev Inv-loop : tie.InvT-loop
+Inv-loop out₀ at positions end₀ i₀ out end i = (i ≤ length positions) × Writing (each-spaced positions) end₀ out₀ (each-spaced (drop i positions)) end out
+
+abbrev μ-loop : tie.MeasureT-loop
+μ-loop out₀ at positions end₀ i₀ out end i = length positions - i
+
+loop-holds : tie.Need-loop-holds Inv-loop μ-loop
+loop-holds c =
+    (omega arith, writing-start (each-spaced (c .before .before .args .positions .now)) (c .before .before .args .at) (c .before .before .args .out .now) (c .before .before .pre))
+
+mul-put-next-decimal : tie.Need-mul-put-next-decimal Inv-loop μ-loop
+mul-put-next-decimal c =
+    search needs
+
+shared-slice-read-put-next-decimal : tie.Need-shared-slice-read-put-next-decimal Inv-loop μ-loop
+shared-slice-read-put-next-decimal c =
+    search needs
+
+cast-put-next-decimal : tie.Need-cast-put-next-decimal Inv-loop μ-loop
+cast-put-next-decimal c =
+    omega (arith, c .shared-slice-known2 .given (c .before .before .before .loop .i))
+
+put-next-decimal-requires : tie.Need-put-next-decimal-requires Inv-loop μ-loop
+put-next-decimal-requires c κs =
+    let ps = c .before .before .before .before .before .before .args .positions .now in
+    let i = c .before .before .before .loop .i in
+    writing-room (gap ++ decimal (getD ps i 0)) (each-spaced (drop (i + 1) ps))
+    (writing-as (each-next ps i (c .before .before .loop-test .taken)) (c .before .before .before .loop .inv .1))
+
+add-i : tie.Need-add-i Inv-loop μ-loop
+add-i c =
+    search needs
+
+loop-less : tie.Need-loop-less Inv-loop μ-loop
+loop-less c =
+    search needs
+
+loop-again : tie.Need-loop-again Inv-loop μ-loop
+loop-again c =
+    let ps = c .before .before .before .before .before .before .before .before .before .args .positions .now in
+    let i = c .before .before .before .before .before .before .loop .i in (
+      omega arith,
+      writing-step (gap ++ decimal (getD ps i 0)) (each-spaced (drop (i + 1) ps))
+          (writing-as (each-next ps i (c .before .before .before .before .before .loop-test .taken)) (c .before .before .before .before .before .before .loop .inv .1))
+          (c .before .before .put-next-decimal .ensures),
+    )
+
+same-length : tie.Need-same-length Inv-loop μ-loop
+same-length c =
+    c .before .loop .inv .1 .long
+
+returns : tie.Need-returns Inv-loop μ-loop
+returns c =
+    writing-end (writing-as (each-end (c .before .before .before .before .args .positions .now) (c .before .loop .i) (c .loop-test .left)) (c .before .loop .inv .1))
+
+pub put-next-positions-spec : {M : Type 1} → statement M
+put-next-positions-spec =
+    tie.close
+    (tie.spec
+    Inv-loop
+    μ-loop
+    loop-holds
+    mul-put-next-decimal
+    shared-slice-read-put-next-decimal
+    cast-put-next-decimal
+    put-next-decimal-requires
+    add-i
+    loop-less
+    loop-again
+    same-length
+    returns)

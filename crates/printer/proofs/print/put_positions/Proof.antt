@@ -1,0 +1,83 @@
+-- `put_positions` meets its contract: nothing, or the first position and then the others. Assumes nothing.
+use mathlib.Core.List.{List, [], _++_}
+use Prim.Native.Nat.{ℕ, _-_, _<_}
+use native.Mathlib.Omega.{arith}
+use borrow.Author.Needs.{needs}
+use lib.ListN.{length, getD, take, drop}
+use Rattle.basics.specs.Placed.{Writing, writing-start, writing-as, writing-room, writing-step, writing-end, writing-last}
+use Rattle.spec.specs.JobAnswer.{decimal, spaced}
+use Rattle.laws.specs.Printing.{each-spaced, spaced-none, spaced-some}
+use Rattle.printer.proofs.print.put_positions.Statement.{statement}
+use Rattle.printer.proofs.print.put_positions.Tie as tie
+
+abbrev others : List ℕ → List ℕ
+others ps = each-spaced (take (length ps - 1) (drop 1 ps))
+
+at-first :
+    (s : tie.Start) → 0 < length (s .args .positions .now) →
+    Writing (spaced (s .args .positions .now)) (s .args .at) (s .args .out .now) (decimal (getD (s .args .positions .now) 0 0) ++ others (s .args .positions .now)) (s .args .at) (s .args .out .now)
+at-first s some =
+    writing-as (spaced-some (s .args .positions .now) some)
+    (writing-start (spaced (s .args .positions .now)) (s .args .at) (s .args .out .now) (s .pre))
+
+at-others :
+    (c : tie.After-put-decimal) → let s = c .before .before .before .before .before .before in
+    Writing (spaced (s .args .positions .now)) (s .args .at) (s .args .out .now) (others (s .args .positions .now)) (c .put-decimal .result) (c .put-decimal .last .0)
+at-others c =
+    let s = c .before .before .before .before .before .before in
+    writing-step (decimal (getD (s .args .positions .now) 0 0)) (others (s .args .positions .now)) (at-first s (omega arith)) (c .put-decimal .ensures)
+
+returns : tie.Need-returns
+returns c =
+    let s = c .before .before .before in
+    writing-end
+    (writing-as (spaced-none (s .args .positions .now) (c .if1 .taken))
+    (writing-start (spaced (s .args .positions .now)) (s .args .at) (s .args .out .now) (s .pre)))
+
+shared-slice-read-put-decimal : tie.Need-shared-slice-read-put-decimal
+shared-slice-read-put-decimal c = search needs
+
+cast-put-decimal : tie.Need-cast-put-decimal
+cast-put-decimal c =
+    omega (arith, c .shared-slice-known2 .given 0)
+
+put-decimal-requires : tie.Need-put-decimal-requires
+put-decimal-requires c κs =
+    let s = c .before .before .before .before .before in
+    writing-room (decimal (getD (s .args .positions .now) 0 0)) (others (s .args .positions .now)) (at-first s (omega arith))
+
+sub-put-next-positions : tie.Need-sub-put-next-positions
+sub-put-next-positions c = search needs
+
+part-put-next-positions-start : tie.Need-part-put-next-positions-start
+part-put-next-positions-start c = search needs
+
+part-put-next-positions-end : tie.Need-part-put-next-positions-end
+part-put-next-positions-end c = search needs
+
+put-next-positions-requires : tie.Need-put-next-positions-requires
+put-next-positions-requires c κs =
+    at-others (c .before .before .before .before) .room
+
+same-length : tie.Need-same-length
+same-length c = search needs
+
+returns-2 : tie.Need-returns-2
+returns-2 c =
+    let s = c .before .before .before .before .before .before .before .before .before .before .before .before .before in
+    writing-last (others (s .args .positions .now)) (at-others (c .before .before .before .before .before .before .before)) (c .before .before .put-next-positions .ensures)
+
+pub put-positions-spec : {M : Type 1} → statement M
+put-positions-spec =
+    tie.close
+    (tie.spec
+    returns
+    shared-slice-read-put-decimal
+    cast-put-decimal
+    put-decimal-requires
+    sub-put-next-positions
+    part-put-next-positions-start
+    part-put-next-positions-end
+    put-next-positions-requires
+    same-length
+    returns-2)

@@ -1,0 +1,2 @@
+// Printing the lines of an answer.
+pub mod print;
