@@ -1,8 +1,3 @@
-// Search of an index without its text, and the cut-down index for one string.
-mod bearing;
-pub mod cut;
-mod cutting;
-mod directory;
+// Search of an index without its text.
 mod finding;
-mod reaching;
 pub mod search;

@@ -12,13 +12,13 @@ ghost use Rattle.spec.specs.Calls.{Search-says};
 ghost use Rattle.laws.specs.Tables.{Can-read, Opened};
 ghost use Rattle.laws.specs.Sizing.{Is-string};
 ghost use Rattle.laws.specs.Searching.{Window-says};
-use crate::directory::fill_lists;
-use crate::directory::fill_words;
 use crate::finding::count_found;
 use crate::finding::write_found;
-use crate::reaching::raise_firsts;
-use crate::reaching::raise_stages;
+use directory::tables::fill_lists;
+use directory::tables::fill_words;
 use postings::readability::refusal_of;
+use reaching::firsts::raise_firsts;
+use reaching::stages::raise_stages;
 use spec::Answer;
 
 // Searches the starts of a cleared window.

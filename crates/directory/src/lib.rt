@@ -1,0 +1,3 @@
+// The directory of an index by line: tables of starts, and the key and positions of a line.
+pub mod lines;
+pub mod tables;
