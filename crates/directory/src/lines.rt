@@ -2,11 +2,11 @@
 //
 // A lone character is spelt by its number in the directory itself.
 ghost use mathlib.Core.Path.{_≡_};
-ghost use Prim.Native.Nat.{_<_};
-ghost use lib.ListN.{length, take, drop};
+ghost use Prim.Native.Nat.{_+_, _*_, _<_};
+ghost use lib.ListN.{length, getD, take, drop};
 ghost use Rattle.spec.specs.Dictionary.{lexicon};
 ghost use Rattle.spec.specs.Words.{spells};
-ghost use Rattle.spec.specs.Index.{keys-of, count-at, key-at};
+ghost use Rattle.spec.specs.Index.{keys-of, value-at, count-at, key-at};
 ghost use Rattle.laws.specs.Slices.{Fits};
 ghost use Rattle.laws.specs.Opened.{list-start};
 ghost use Rattle.laws.specs.Tables.{Can-read, Word-starts, List-starts};
@@ -32,6 +32,15 @@ pub fn key_of<'a>(
         let end = 2 + 3 * line + 2;
         &index[start..end]
     }
+}
+
+// How many characters the word of a line has.
+pub fn word_length(lengths: &[u16], index: &[u16], line: usize) -> usize
+    requires { ⌜ (2 + 3 * line + 2 < length (now index)) × (value-at (now index) line < length (now lengths)) ⌝ }
+    ensures { λ r. ⌜ r ≡ getD (now (lengths .entry)) (value-at (now (index .entry)) line) 0 ⌝ }
+{
+    let word = index[2 + 3 * line + 1] as usize;
+    lengths[word] as usize
 }
 
 // The positions of a line.

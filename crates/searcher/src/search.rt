@@ -17,8 +17,7 @@ use crate::finding::write_found;
 use directory::tables::fill_lists;
 use directory::tables::fill_words;
 use postings::readability::refusal_of;
-use reaching::firsts::raise_firsts;
-use reaching::stages::raise_stages;
+use reaching::window::raise_window;
 use spec::Answer;
 
 // Searches the starts of a cleared window.
@@ -36,18 +35,7 @@ fn search_window<'a>(
     requires { ⌜ Opened (now chars) (now lengths) (now index) (now words) (now lists) × Is-string (now string) × (first + length (now reach) ≤ 65536) × (now reach ≡ replicate (length (now reach)) 0) ⌝ }
     ensures { λ r. ⌜ Window-says (lexicon (now (chars .entry)) (now (lengths .entry))) (now (index .entry)) (now (string .entry)) (length (now (reach .entry))) first r (now (output .entry)) (now (output .exit)) ⌝ }
 {
-    let begun = raise_firsts(chars, lengths, index, words, lists, string, first, reach, 0);
-    let most = raise_stages(
-        chars,
-        lengths,
-        index,
-        words,
-        lists,
-        string,
-        first,
-        reach,
-        begun,
-    );
+    let most = raise_window(chars, lengths, index, words, lists, string, first, reach);
     let long = string.len();
     if most < long {
         return Answer {

@@ -3,7 +3,7 @@ use Prim.Native.Nat.{_-_}
 use native.Mathlib.Omega.{arith}
 use borrow.Author.Needs.{needs}
 use lib.ListN.{length}
-use Rattle.laws.specs.Raising.{Backing, backing-start, backing-step, backing-end}
+use Rattle.laws.specs.Raising.{Backing, backing-start, backing-step, backing-pass, backing-end}
 use Rattle.reaching.proofs.firsts.raise_back.Statement.{statement}
 use Rattle.reaching.proofs.firsts.raise_back.Tie as tie
 
@@ -18,26 +18,45 @@ loop-holds : tie.Need-loop-holds Inv-loop μ-loop
 loop-holds c =
     let s = c .before .before .before .before in
     backing-start (s .args .string .now) (s .args .key .now) (s .args .first) (s .args .places .now) (s .args .reach .now) (s .args .most)
-    (s .pre .2)
-
-raise-key-requires : tie.Need-raise-key-requires Inv-loop μ-loop
-raise-key-requires c κs =
-    let s = c .before .before .before .before .before .before .before in
-    (record { shared = omega arith; end-small = omega (arith, s .pre .0); first-small = s .pre .1 }, c .before .before .loop .inv .way .bounded)
+    (s .pre .3)
 
 add-i : tie.Need-add-i Inv-loop μ-loop
 add-i c = search needs
 
+mul-if1 : tie.Need-mul-if1 Inv-loop μ-loop
+mul-if1 c = search needs
+
+shared-slice-read-if1 : tie.Need-shared-slice-read-if1 Inv-loop μ-loop
+shared-slice-read-if1 c = c .before .loop-test .taken
+
+shared-slice-read-if1-2 : tie.Need-shared-slice-read-if1-2 Inv-loop μ-loop
+shared-slice-read-if1-2 c = c .before .before .before .before .before .before .before .before .pre .1
+
+raise-key-requires : tie.Need-raise-key-requires Inv-loop μ-loop
+raise-key-requires c κs =
+    let s = c .before .before .before .before .before .before .before .before .before .before in
+    (record { shared = omega (arith, c .before .before .before .before .loop-test .taken); end-small = omega (arith, s .pre .0); first-small = s .pre .2 }, c .before .before .before .before .before .loop .inv .way .bounded)
+
 loop-less : tie.Need-loop-less Inv-loop μ-loop
-loop-less c = search needs
+loop-less c = omega (arith, c .before .before .before .before .before .before .before .loop-test .taken)
 
 loop-again : tie.Need-loop-again Inv-loop μ-loop
 loop-again c =
-    let a = c .before .before .before .before .before .before .before .before .before .before .args in
-    let l = c .before .before .before .before .before .loop in
+    let a = c .before .before .before .before .before .before .before .before .before .before .before .before .before .args in
+    let l = c .before .before .before .before .before .before .before .before .loop in
     backing-step (a .string .now) (a .key .now) (a .first) (a .places .now) (a .reach .now) (l .reach) (l .top) (l .i) (l .inv)
-    (c .before .before .before .before .loop-test .taken) (c .before .before .raise-key .last .1 .1 .1 .1 .1 .1 .0) (c .before .before .raise-key .result)
+    (c .before .before .before .before .before .before .before .loop-test .taken) (c .before .before .raise-key .last .1 .1 .1 .1 .1 .1 .0) (c .before .before .raise-key .result)
     (c .before .before .raise-key .kept .1 .1 .1 .1 .1 .1 .0) (c .before .before .raise-key .ensures)
+
+loop-less-2 : tie.Need-loop-less-2 Inv-loop μ-loop
+loop-less-2 c = omega (arith, c .before .before .before .loop-test .taken)
+
+loop-again-2 : tie.Need-loop-again-2 Inv-loop μ-loop
+loop-again-2 c =
+    let a = c .before .before .before .before .before .before .before .before .before .args in
+    let l = c .before .before .before .before .loop in
+    backing-pass (a .string .now) (a .key .now) (a .first) (a .places .now) (a .reach .now) (l .reach) (l .top) (l .i) (l .inv)
+    (c .before .before .before .loop-test .taken) (c .if1 .left)
 
 same-length : tie.Need-same-length Inv-loop μ-loop
 same-length c = c .before .loop .inv .way .long
@@ -56,9 +75,14 @@ raise-back-spec =
     Inv-loop
     μ-loop
     loop-holds
-    raise-key-requires
     add-i
+    mul-if1
+    shared-slice-read-if1
+    shared-slice-read-if1-2
+    raise-key-requires
     loop-less
     loop-again
+    loop-less-2
+    loop-again-2
     same-length
     returns)

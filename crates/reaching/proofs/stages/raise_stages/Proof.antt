@@ -11,17 +11,17 @@ use Rattle.reaching.proofs.stages.raise_stages.Statement.{statement}
 use Rattle.reaching.proofs.stages.raise_stages.Tie as tie
 
 abbrev Inv-loop : tie.InvT-loop
-Inv-loop chars lengths index words lists string first reach₀ most top₀ key-start₀ reach top key-start =
+Inv-loop chars lengths index words lists string ends first reach₀ most top₀ key-start₀ reach top key-start =
     Stages (lexicon chars lengths) (lines-in index) string first reach₀ reach top key-start
 
 abbrev μ-loop : tie.MeasureT-loop
-μ-loop chars lengths index words lists string first reach₀ most top₀ key-start₀ reach top key-start = length string - key-start
+μ-loop chars lengths index words lists string ends first reach₀ most top₀ key-start₀ reach top key-start = length string - key-start
 
 loop-holds : tie.Need-loop-holds Inv-loop μ-loop
 loop-holds c =
     let s = c .before .before .before .before .before .before .before in
     let a = s .args in
-    stages-start (lexicon (a .chars .now) (a .lengths .now)) (lines-in (a .index .now)) (a .string .now) (a .first) (a .reach .now) (a .most) (s .pre .1) (s .pre .4)
+    stages-start (lexicon (a .chars .now) (a .lengths .now)) (lines-in (a .index .now)) (a .string .now) (a .first) (a .reach .now) (a .most) (s .pre .2) (s .pre .5)
 
 same-length : tie.Need-same-length Inv-loop μ-loop
 same-length c = c .before .before .loop .inv .way .long
@@ -35,7 +35,7 @@ returns c =
 raise-stage-requires : tie.Need-raise-stage-requires Inv-loop μ-loop
 raise-stage-requires c κs =
     let s = c .before .before .before .before .before .before .before .before .before .before .before in
-    (s .pre .0, omega (arith, s .pre .2), s .pre .3, c .before .before .before .loop .inv .way .bounded)
+    (s .pre .0, s .pre .1, c .before .before .loop-test .taken, s .pre .3, s .pre .4, c .before .before .before .loop .inv .way .bounded)
 
 add-key-start : tie.Need-add-key-start Inv-loop μ-loop
 add-key-start c = search needs
@@ -48,8 +48,8 @@ loop-again c =
     let a = c .before .before .before .before .before .before .before .before .before .before .before .before .before .before .args in
     let l = c .before .before .before .before .before .before .loop in
     stages-step (lexicon (a .chars .now) (a .lengths .now)) (lines-in (a .index .now)) (a .string .now) (a .first) (a .reach .now) (l .reach) (l .top) (l .key-start) (l .inv)
-    (c .before .before .before .before .before .loop-test .taken) (c .before .before .raise-stage .last .1 .1 .1 .1 .1 .1 .1 .1 .0) (c .before .before .raise-stage .result)
-    (c .before .before .raise-stage .kept .1 .1 .1 .1 .1 .1 .1 .1 .0) (c .before .before .raise-stage .ensures)
+    (c .before .before .before .before .before .loop-test .taken) (c .before .before .raise-stage .last .1 .1 .1 .1 .1 .1 .1 .1 .1 .0) (c .before .before .raise-stage .result)
+    (c .before .before .raise-stage .kept .1 .1 .1 .1 .1 .1 .1 .1 .1 .0) (c .before .before .raise-stage .ensures)
 
 same-length-2 : tie.Need-same-length-2 Inv-loop μ-loop
 same-length-2 c = c .before .loop .inv .way .long

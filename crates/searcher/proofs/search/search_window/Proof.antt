@@ -8,26 +8,21 @@ use borrow.Author.Needs.{needs}
 use Rattle.searcher.proofs.search.search_window.Statement.{statement}
 use Rattle.searcher.proofs.search.search_window.Tie as tie
 
-raise-firsts-requires : tie.Need-raise-firsts-requires
-raise-firsts-requires c κs =
+raise-window-requires : tie.Need-raise-window-requires
+raise-window-requires c κs =
     let s = c .before .before .before .before .before .before .before .before .before in
-    (s .pre .0, omega (arith, s .pre .2), cleared-within (length (s .args .reach .now)) (s .args .reach .now) (s .pre .3))
-
-raise-stages-requires : tie.Need-raise-stages-requires
-raise-stages-requires c κs = search needs
+    (s .pre .0, s .pre .1 .some, s .pre .1 .short, omega (arith, s .pre .2), cleared-within (length (s .args .reach .now)) (s .args .reach .now) (s .pre .3))
 
 same-length : tie.Need-same-length
 same-length c = search needs
 
 returns : tie.Need-returns
 returns c =
-    let s = c .before .before .before .before .before .before .before .before .before .before .before .before .before .before .before .before .before in
+    let s = c .before .before .before .before .before .before .before .before .before .before .before .before .before in
     let a = s .args in
-    let firsts = c .before .before .before .before .before .before .before .raise-firsts in
-    let stages = c .before .before .before .raise-stages in
+    let window = c .before .before .before .raise-window in
     says-none (lexicon (a .chars .now) (a .lengths .now)) (a .index .now) (a .string .now) (length (a .reach .now)) (a .first)
-    (a .output .now) (firsts .last .1 .1 .1 .1 .1 .1 .1 .0) (stages .last .1 .1 .1 .1 .1 .1 .1 .0) (firsts .result) (stages .result)
-    (a .reach .now) (s .pre .3) (firsts .ensures) (stages .ensures) (c .if1 .taken) (record { refusal = 0; count = 0 }) refl refl
+    (a .output .now) (window .last .1 .1 .1 .1 .1 .1 .1 .0) (window .result) (a .reach .now) (s .pre .3) (window .ensures) (c .if1 .taken) (record { refusal = 0; count = 0 }) refl refl
 
 count-found-requires : tie.Need-count-found-requires
 count-found-requires c κs = search needs
@@ -37,26 +32,22 @@ same-length-2 c = search needs
 
 returns-2 : tie.Need-returns-2
 returns-2 c =
-    let s = c .before .before .before .before .before .before .before .before .before .before .before .before .before .before .before .before .before .before .before .before in
+    let s = c .before .before .before .before .before .before .before .before .before .before .before .before .before .before .before .before in
     let a = s .args in
-    let firsts = c .before .before .before .before .before .before .before .before .before .before .raise-firsts in
-    let stages = c .before .before .before .before .before .before .raise-stages in
+    let window = c .before .before .before .before .before .before .raise-window in
     says-short (lexicon (a .chars .now) (a .lengths .now)) (a .index .now) (a .string .now) (length (a .reach .now)) (a .first)
-    (a .output .now) (firsts .last .1 .1 .1 .1 .1 .1 .1 .0) (stages .last .1 .1 .1 .1 .1 .1 .1 .0) (firsts .result) (stages .result)
-    (a .reach .now) (s .pre .3) (firsts .ensures) (stages .ensures)
+    (a .output .now) (window .last .1 .1 .1 .1 .1 .1 .1 .0) (window .result) (a .reach .now) (s .pre .3) (window .ensures)
     (c .before .count-found .result) (c .before .count-found .ensures) (c .if2 .taken) (record { refusal = 8; count = 0 }) refl refl
 
 write-found-requires : tie.Need-write-found-requires
 write-found-requires c κs =
-    let s = c .before .before .before .before .before .before .before .before .before .before .before .before .before .before .before .before .before .before .before .before .before .before in
+    let s = c .before .before .before .before .before .before .before .before .before .before .before .before .before .before .before .before .before .before in
     let a = s .args in
-    let firsts = c .before .before .before .before .before .before .before .before .before .before .before .before .raise-firsts in
-    let stages = c .before .before .before .before .before .before .before .before .raise-stages in (
+    let window = c .before .before .before .before .before .before .before .before .raise-window in (
       count-is (lexicon (a .chars .now) (a .lengths .now)) (a .index .now) (a .string .now) (length (a .reach .now)) (a .first)
-          (a .output .now) (firsts .last .1 .1 .1 .1 .1 .1 .1 .0) (stages .last .1 .1 .1 .1 .1 .1 .1 .0) (firsts .result) (stages .result)
-          (a .reach .now) (s .pre .3) (firsts .ensures) (stages .ensures) (c .before .before .before .count-found .result) (c .before .before .before .count-found .ensures),
+          (a .output .now) (window .last .1 .1 .1 .1 .1 .1 .1 .0) (window .result) (a .reach .now) (s .pre .3) (window .ensures) (c .before .before .before .count-found .result) (c .before .before .before .count-found .ensures),
       c .before .before .if2 .left,
-      omega (arith, s .pre .2, firsts .kept .1 .1 .1 .1 .1 .1 .1 .0, stages .kept .1 .1 .1 .1 .1 .1 .1 .0),
+      omega (arith, s .pre .2, window .kept .1 .1 .1 .1 .1 .1 .1 .0),
     )
 
 same-length-3 : tie.Need-same-length-3
@@ -67,13 +58,11 @@ same-length-4 c = search needs
 
 returns-3 : tie.Need-returns-3
 returns-3 c =
-    let s = c .before .before .before .before .before .before .before .before .before .before .before .before .before .before .before .before .before .before .before .before .before .before .before .before .before in
+    let s = c .before .before .before .before .before .before .before .before .before .before .before .before .before .before .before .before .before .before .before .before .before in
     let a = s .args in
-    let firsts = c .before .before .before .before .before .before .before .before .before .before .before .before .before .before .before .raise-firsts in
-    let stages = c .before .before .before .before .before .before .before .before .before .before .before .raise-stages in
+    let window = c .before .before .before .before .before .before .before .before .before .before .before .raise-window in
     says-found (lexicon (a .chars .now) (a .lengths .now)) (a .index .now) (a .string .now) (length (a .reach .now)) (a .first)
-    (a .output .now) (firsts .last .1 .1 .1 .1 .1 .1 .1 .0) (stages .last .1 .1 .1 .1 .1 .1 .1 .0) (firsts .result) (stages .result)
-    (a .reach .now) (s .pre .3) (firsts .ensures) (stages .ensures)
+    (a .output .now) (window .last .1 .1 .1 .1 .1 .1 .1 .0) (window .result) (a .reach .now) (s .pre .3) (window .ensures)
     (c .before .before .before .before .before .before .count-found .result) (c .before .before .before .before .before .before .count-found .ensures) (c .before .before .before .before .before .if2 .left) (c .before .before .write-found .last .1 .1 .1 .1 .0)
     (c .before .before .write-found .ensures) (record { refusal = 0; count = c .before .before .before .before .before .before .count-found .result }) refl refl
 
@@ -81,8 +70,7 @@ pub search-window-spec : {M : Type 1} → statement M
 search-window-spec =
     tie.close
     (tie.spec
-    raise-firsts-requires
-    raise-stages-requires
+    raise-window-requires
     same-length
     returns
     count-found-requires
