@@ -100,6 +100,10 @@ pub mod Marking
 pub mod Opened
 pub mod Tables
 pub mod Raising
+pub mod Halving
+pub mod Ranging
+pub mod Narrowing
+pub mod WordLines
 pub mod Finding
 pub mod Sizing
 pub mod Searching

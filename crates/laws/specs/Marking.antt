@@ -13,6 +13,10 @@ pub record Offset-fits (long i o q : ℕ) : Type 0 where
   pub end-small : o + long ≤ 65535
   pub first-small : q ≤ 65536
 
+-- a key of an index, which starts within the string
+pub offset-fits : (long o q : ℕ) → long ≤ 32 → o ≤ 256 → q ≤ 65536 → Offset-fits long 0 o q
+offset-fits long o q short start first = record { shared = omega arith; end-small = omega arith; first-small = first }
+
 -- after j of the positions bs, with the window at rs and no reach above top
 pub record Marking (bs : List ℕ) (l i o q : ℕ) (old : List ℕ) (most : ℕ) (rs : List ℕ) (top j : ℕ) : Type 0 where
   pub within : j ≤ length bs

@@ -14,7 +14,7 @@ use Rattle.spec.specs.Index.{header, n-of, keys-of, kind-at, value-at, count-at
 use Rattle.laws.specs.Facts.{Good-line, entries-at, flat}
 use Rattle.laws.specs.Keys.{spells-lone}
 use Rattle.laws.specs.FlatOrder.{rise-least}
-use Rattle.laws.specs.Lexicon.{Is-admitted, admitted-get, admitted-lexicon}
+use Rattle.laws.specs.Lexicon.{Is-admitted, admitted-get, admitted-lexicon, admitted-ascend}
 use Rattle.laws.specs.WordTable.{start-of, Started}
 use Rattle.laws.specs.Readable.{readable-get}
 use Rattle.laws.specs.LineWalk.{readable-fits}
@@ -42,6 +42,7 @@ module _ (cs ls starts : List ℕ) (started : Started cs ls starts) where
         few-chars = facts .small;
         sum = facts .sum;
         lexicon-good = admitted-lexicon cs ls (started .dictionary);
+        words-rise = admitted-ascend cs ls (started .dictionary);
         fits = readable-fits longest-text (lexicon cs ls) xs can;
         lines = readable-get longest-text (lexicon cs ls) xs can .lines;
         n-small = readable-get longest-text (lexicon cs ls) xs can .length-allowed;

@@ -36,16 +36,14 @@ module _ (lex : Lexicon) (xs s : List ℕ) (n q : ℕ) (o : List ℕ) where
   found : List ℕ
   found = found-from n q lex (lines-in xs) s
 
-  module _ (first rs : List ℕ) (top most : ℕ) (old : List ℕ) (clear : old ≡ replicate n 0)
-      (begun : Reaches (first-all lex (lines-in xs) s q old) first top)
-      (done : Reaches (stages-all (length s - 1) 1 lex (lines-in xs) s q first) rs most) where
+  module _ (rs : List ℕ) (most : ℕ) (old : List ℕ) (clear : old ≡ replicate n 0)
+      (done : Reaches (stages-all (length s - 1) 1 lex (lines-in xs) s q (first-all lex (lines-in xs) s q old)) rs most) where
     in-window : found-in (length s) q rs ≡ found
     unfolding found
     in-window =
         ap (found-in (length s) q)
         (done .is
-        ∙ ap (λ (l : List ℕ). stages-all (length s - 1) 1 lex (lines-in xs) s q l)
-        (begun .is ∙ ap (λ (l : List ℕ). first-all lex (lines-in xs) s q l) clear))
+        ∙ ap (λ (l : List ℕ). stages-all (length s - 1) 1 lex (lines-in xs) s q (first-all lex (lines-in xs) s q l)) clear)
         ∙ window-found lex (lines-in xs) s q n
 
     -- no start passes the string

@@ -10,14 +10,14 @@ use lib.ListN.{length, getD, take, drop, set, length-set}
 use lib.Seq.{drop-nil, drop-cons, getD-set-same, getD-set-other}
 use Rattle.basics.specs.Bools.{and-left, le-or-lt}
 use Rattle.basics.specs.Member.{In}
-use Rattle.spec.specs.Dictionary.{longest-text, lexicon, total}
+use Rattle.spec.specs.Dictionary.{longest-text, lexicon, total, ascend}
 use Rattle.spec.specs.Words.{key, spells}
 use Rattle.spec.specs.Numbers.{Line, line}
 use Rattle.spec.specs.Index.{header, n-of, keys-of, kind-at, value-at, count-at, key-at, counts-from, lines-in, kinds-good, keys-ascend, lines-good, lengths-fit, readable}
 use Rattle.spec.specs.Calls.{index-refusal}
 use Rattle.laws.specs.Facts.{Good-lexicon, Is-key, Good-line, Good-lines}
 use Rattle.laws.specs.Keys.{Is-word-key, Is-lone-key, key-kinds, spells-word, spells-lone, spells-short, spells-some}
-use Rattle.laws.specs.Lexicon.{Is-admitted, length-words, admitted-lexicon}
+use Rattle.laws.specs.Lexicon.{Is-admitted, length-words, admitted-lexicon, admitted-ascend}
 use Rattle.laws.specs.WordCode.{Small}
 use Rattle.laws.specs.KeyTests.{no-refusal, dictionary-read}
 use Rattle.laws.specs.IndexRefusal.{Accepted, index-accepted}
@@ -31,6 +31,7 @@ pub record Can-read (cs ls xs : List ℕ) : Type 0 where
   pub few-chars : length cs ≤ 65535
   pub sum : total ls ≡ length cs
   pub lexicon-good : Good-lexicon (lexicon cs ls)
+  pub words-rise : ascend (lexicon cs ls .words) ≡ true
   pub fits : Fits xs
   pub lines : Good-lines (lexicon cs ls) (n-of xs) (lines-in xs)
   pub n-small : n-of xs ≤ 65535
@@ -48,7 +49,7 @@ pub record List-starts (xs : List ℕ) (n : ℕ) (ts : List ℕ) : Type 0 where
   pub room : keys-of xs ≤ length ts
   pub at : (i : ℕ) → i < n → getD ts i 0 ≡ counts-from i 0 xs
 
-in-front-of : (xs : List Line) (i : ℕ) (l : Line) (more : List Line) → drop i xs ≡ l ∷ more → In l xs
+pub in-front-of : (xs : List Line) (i : ℕ) (l : Line) (more : List Line) → drop i xs ≡ l ∷ more → In l xs
 in-front-of [] i l more e = absurd (omega (arith, sym (ap length (drop-nil i)) ∙ ap length e))
 in-front-of (x ∷ xs) zero l more e = inl (sym (ap (λ (ys : List Line). getD ys 0 l) e))
 in-front-of (x ∷ xs) (suc i) l more e = inr (in-front-of xs i l more e)
@@ -107,6 +108,9 @@ module _ (cs ls xs : List ℕ) (can : Can-read cs ls xs) (i : ℕ) (below : i < 
 
   pub key-short : length (spells (lexicon cs ls) (key-at xs i)) ≤ 32
   key-short = spells-short (lexicon cs ls) (can .lexicon-good) (key-at xs i) key-is
+
+  pub spelt-short : (k : List ℕ) → k ≡ spells (lexicon cs ls) (key-at xs i) → length k ≤ 32
+  spelt-short k e = rw e key-short
 
 -- FILLING THE TABLES
 
@@ -194,6 +198,7 @@ can-read cs ls xs small-chars small none =
       few-chars = admitted .small;
       sum = admitted .sum;
       lexicon-good = admitted-lexicon cs ls (no-refusal cs ls small-chars (ok .no-refusal));
+      words-rise = admitted-ascend cs ls (no-refusal cs ls small-chars (ok .no-refusal));
       fits = lengths-fit-get xs (and-left (lengths-fit xs) (leb (n-of xs) longest-text) front);
       lines = readable-get longest-text (lexicon cs ls) xs (ok .is-readable) .lines;
       n-small = omega (arith, small 0);

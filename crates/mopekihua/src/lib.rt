@@ -85,7 +85,7 @@ pub extern "C" fn mopekihua_cut<'a>(
 ) -> Answer
     ensures { λ r. ⌜ Cut-says (now (chars .entry)) (now (lengths .entry)) (now (index .entry)) (now (string .entry)) r (now (output .entry)) (now (output .exit)) ⌝ }
 {
-    searcher::cut::cut_index(chars, lengths, index, string, output)
+    cutter::cut::cut_index(chars, lengths, index, string, output)
 }
 
 // Tallies an index by word length. Refusals 1, 2, 3, 5, with 32 zeros; accepted it answers the number of entries, and under l - 1

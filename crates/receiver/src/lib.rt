@@ -1,5 +1,4 @@
 // Reception of a delivered index, and recovery of its text.
-pub mod accepting;
 pub mod receive;
 pub mod recover;
 pub mod text;

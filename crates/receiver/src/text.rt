@@ -20,7 +20,7 @@ ghost use Rattle.laws.specs.Noted.{Noted, accepts};
 ghost use Rattle.laws.specs.NoteWalk.{Can-note};
 ghost use Rattle.laws.specs.Receiving.{delivery-refusal};
 ghost use Rattle.laws.specs.ReceivedText.{Tried};
-use crate::accepting::accepts;
+use accepting::noted::accepts;
 use matching::table::hang_words;
 use painting::noting::note_lines;
 use painting::painting::paint_entries;

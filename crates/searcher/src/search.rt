@@ -1,70 +1,21 @@
 // Search of an index without its text.
 //
-// The starts of a window are searched together: the first stage and the later ones raise how far the string laid at each start is
-// covered, and the starts that are covered to its end are found. Nothing is written before they are counted. A local array is
-// cleared when it is made, so each of the two that grow with the index comes in three sizes.
+// The starts of one window are searched together. A local array is cleared when it is made, so each of the two that grow with the
+// index comes in three sizes.
 ghost use mathlib.Core.Path.{_≡_};
 ghost use Prim.Native.Nat.{suc, _+_, _-_, _≤_};
 ghost use lib.ListN.{length, replicate};
 ghost use Rattle.spec.specs.Dictionary.{lexicon};
 ghost use Rattle.spec.specs.Index.{keys-of};
 ghost use Rattle.spec.specs.Calls.{Search-says};
-ghost use Rattle.laws.specs.Tables.{Can-read, Opened};
+ghost use Rattle.laws.specs.Tables.{Can-read};
 ghost use Rattle.laws.specs.Sizing.{Is-string};
 ghost use Rattle.laws.specs.Searching.{Window-says};
-use crate::directory::fill_lists;
-use crate::directory::fill_words;
-use crate::finding::count_found;
-use crate::finding::write_found;
-use crate::reaching::raise_firsts;
-use crate::reaching::raise_stages;
+use directory::tables::fill_lists;
+use directory::tables::fill_words;
+use finding::window::search_window;
 use reading::readability::refusal_of;
 use spec::Answer;
-
-// Searches the starts of a cleared window.
-fn search_window<'a>(
-    chars: &'a [u16],
-    lengths: &[u16],
-    index: &'a [u16],
-    words: &[u16],
-    lists: &[u32],
-    string: &[u16],
-    first: usize,
-    reach: &mut [u16],
-    output: &mut [u16],
-) -> Answer
-    requires { ⌜ Opened (now chars) (now lengths) (now index) (now words) (now lists) × Is-string (now string) × (first + length (now reach) ≤ 65536) × (now reach ≡ replicate (length (now reach)) 0) ⌝ }
-    ensures { λ r. ⌜ Window-says (lexicon (now (chars .entry)) (now (lengths .entry))) (now (index .entry)) (now (string .entry)) (length (now (reach .entry))) first r (now (output .entry)) (now (output .exit)) ⌝ }
-{
-    let begun = raise_firsts(chars, lengths, index, words, lists, string, first, reach, 0);
-    let most = raise_stages(
-        chars,
-        lengths,
-        index,
-        words,
-        lists,
-        string,
-        first,
-        reach,
-        begun,
-    );
-    let long = string.len();
-    if most < long {
-        return Answer {
-            refusal: 0,
-            count: 0,
-        };
-    }
-    let count = count_found(reach, long);
-    if output.len() < count {
-        return Answer {
-            refusal: 8,
-            count: 0,
-        };
-    }
-    write_found(reach, long, first, count, output);
-    Answer { refusal: 0, count }
-}
 
 // Searches all starts, of which there are `starts`, with a table for the lines and a cleared window lent.
 fn search_lent<'a>(

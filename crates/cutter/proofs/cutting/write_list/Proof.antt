@@ -1,0 +1,77 @@
+-- `write_list` meets its contract. The invariant: i numbers are written. The measure is how many are left. Assumes nothing.
+use Prim.Native.Nat.{_-_}
+use native.Mathlib.Omega.{arith}
+use borrow.Author.Needs.{needs}
+use lib.ListN.{length}
+use Rattle.laws.specs.Cutting.{Copying, copying-start, copying-room, copying-step, copying-end}
+use Rattle.cutter.proofs.cutting.write_list.Statement.{statement}
+use Rattle.cutter.proofs.cutting.write_list.Tie as tie
+
+abbrev Inv-loop : tie.InvT-loop
+Inv-loop places from output₀ i₀ output i =
+    Copying places from output₀ output i
+
+abbrev μ-loop : tie.MeasureT-loop
+μ-loop places from output₀ i₀ output i = length places - i
+
+loop-holds : tie.Need-loop-holds Inv-loop μ-loop
+loop-holds c = copying-start (c .args .places .now) (c .args .from) (c .args .output .now) (c .pre)
+
+mul-output : tie.Need-mul-output Inv-loop μ-loop
+mul-output c = search needs
+
+shared-slice-read-output : tie.Need-shared-slice-read-output Inv-loop μ-loop
+shared-slice-read-output c = search needs
+
+add-output : tie.Need-add-output Inv-loop μ-loop
+add-output c =
+    let s = c .before .before .before in
+    omega (arith, s .pre, s .good)
+
+mul-output-2 : tie.Need-mul-output-2 Inv-loop μ-loop
+mul-output-2 c = search needs
+
+slice-write-output : tie.Need-slice-write-output Inv-loop μ-loop
+slice-write-output c =
+    let a = c .before .before .before .args in
+    let l = c .before .before .loop in
+    copying-room (a .places .now) (a .from) (a .output .now) (l .output) (l .i) (l .inv) (c .before .loop-test .taken)
+
+add-i : tie.Need-add-i Inv-loop μ-loop
+add-i c = search needs
+
+loop-less : tie.Need-loop-less Inv-loop μ-loop
+loop-less c = search needs
+
+loop-again : tie.Need-loop-again Inv-loop μ-loop
+loop-again c =
+    let a = c .before .before .before .args in
+    let l = c .before .before .loop in
+    copying-step (a .places .now) (a .from) (a .output .now) (l .output) (l .i) (l .inv) (c .before .loop-test .taken)
+
+same-length : tie.Need-same-length Inv-loop μ-loop
+same-length c = c .before .loop .inv .way .long
+
+returns : tie.Need-returns Inv-loop μ-loop
+returns c =
+    let a = c .before .before .args in
+    let l = c .before .loop in
+    copying-end (a .places .now) (a .from) (a .output .now) (l .output) (l .i) (l .inv) (c .loop-test .left)
+
+pub write-list-spec : {M : Type 1} → statement M
+write-list-spec =
+    tie.close
+    (tie.spec
+    Inv-loop
+    μ-loop
+    loop-holds
+    mul-output
+    shared-slice-read-output
+    add-output
+    mul-output-2
+    slice-write-output
+    add-i
+    loop-less
+    loop-again
+    same-length
+    returns)

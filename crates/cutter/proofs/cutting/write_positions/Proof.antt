@@ -1,0 +1,179 @@
+-- `write_positions` meets its contract. The invariant: the positions of the lines before `line` are written. The measure is how many
+-- lines are left. Assumes nothing.
+use Prim.Native.Nat.{_+_, _*_, _-_}
+use native.Mathlib.Omega.{arith}
+use borrow.Author.Needs.{needs}
+use Rattle.spec.specs.Dictionary.{lexicon}
+use Rattle.spec.specs.Index.{keys-of}
+use Rattle.laws.specs.Judging.{judged-get, judged-none}
+use Rattle.laws.specs.Cutting.{Placing, placing-start, placing-there, placing-counted, placing-room, placing-step, placing-pass, placing-end}
+use Rattle.cutter.proofs.cutting.write_positions.Statement.{statement}
+use Rattle.cutter.proofs.cutting.write_positions.Tie as tie
+
+abbrev Inv-loop : tie.InvT-loop
+Inv-loop chars lengths index string flags from output₀ count start₀ at₀ line₀ output start at line =
+    Placing (lexicon chars lengths) index string from output₀ output start at line
+
+abbrev μ-loop : tie.MeasureT-loop
+μ-loop chars lengths index string flags from output₀ count start₀ at₀ line₀ output start at line = count - line
+
+shared-slice-read-count : tie.Need-shared-slice-read-count Inv-loop μ-loop
+shared-slice-read-count c = omega (arith, c .before .before .before .before .before .before .before .pre .0 .has-header)
+
+cast-count : tie.Need-cast-count Inv-loop μ-loop
+cast-count c = omega (arith, c .shared-slice-known6 .given 1)
+
+mul-start : tie.Need-mul-start Inv-loop μ-loop
+mul-start c = omega (arith, c .shared-slice-known6 .given 1)
+
+add-start : tie.Need-add-start Inv-loop μ-loop
+add-start c = omega (arith, c .shared-slice-known6 .given 1)
+
+loop-holds : tie.Need-loop-holds Inv-loop μ-loop
+loop-holds c =
+    let s = c .before .before .before .before .before .before .before in
+    let a = s .args in
+    placing-start (lexicon (a .chars .now) (a .lengths .now)) (a .index .now) (a .string .now) (a .from) (a .output .now) (s .pre .2)
+
+mul-end : tie.Need-mul-end Inv-loop μ-loop
+mul-end c = omega (arith, c .before .before .shared-slice-known6 .given 1)
+
+add-end : tie.Need-add-end Inv-loop μ-loop
+add-end c = omega (arith, c .before .before .shared-slice-known6 .given 1)
+
+add-end-2 : tie.Need-add-end-2 Inv-loop μ-loop
+add-end-2 c = omega (arith, c .before .before .shared-slice-known6 .given 1)
+
+mul-end-2 : tie.Need-mul-end-2 Inv-loop μ-loop
+mul-end-2 c = omega (arith, c .before .before .shared-slice-known6 .given 1)
+
+shared-slice-read-end : tie.Need-shared-slice-read-end Inv-loop μ-loop
+shared-slice-read-end c =
+    let s = c .before .before .before .before .before .before .before .before .before .before in
+    let a = s .args in
+    let l = c .before .before .loop in
+    omega (arith, s .pre .0 .has-directory)
+
+cast-end : tie.Need-cast-end Inv-loop μ-loop
+cast-end c = omega (arith, c .shared-slice-known7 .given (2 + 3 * c .before .before .loop .line + 2))
+
+add-end-3 : tie.Need-add-end-3 Inv-loop μ-loop
+add-end-3 c =
+    let s = c .before .before .before .before .before .before .before .before .before .before in
+    let a = s .args in
+    let l = c .before .before .loop in
+    omega (arith, s .good, placing-there (lexicon (a .chars .now) (a .lengths .now)) (a .index .now) (a .string .now) (a .from) (a .output .now) (l .output) (l .start) (l .at) (l .line) (l .inv) (c .before .loop-test .taken) (s .pre .0))
+
+add-line : tie.Need-add-line Inv-loop μ-loop
+add-line c = omega (arith, c .before .before .before .shared-slice-known6 .given 1)
+
+shared-slice-read-if1 : tie.Need-shared-slice-read-if1 Inv-loop μ-loop
+shared-slice-read-if1 c =
+    let s = c .before .before .before .before .before .before .before .before .before .before .before in
+    let a = s .args in
+    let l = c .before .before .before .loop in
+    omega (arith, s .pre .1 .room)
+
+mul-write-list : tie.Need-mul-write-list Inv-loop μ-loop
+mul-write-list c =
+    let s = c .before .before .before .before .before .before .before .before .before .before .before .before in
+    let a = s .args in
+    let l = c .before .before .before .before .loop in
+    omega (arith, s .good, placing-there (lexicon (a .chars .now) (a .lengths .now)) (a .index .now) (a .string .now) (a .from) (a .output .now) (l .output) (l .start) (l .at) (l .line) (l .inv) (c .before .before .before .loop-test .taken) (s .pre .0))
+
+sub-write-list : tie.Need-sub-write-list Inv-loop μ-loop
+sub-write-list c = omega arith
+
+part-write-list-start : tie.Need-part-write-list-start Inv-loop μ-loop
+part-write-list-start c = search needs
+
+part-write-list-end : tie.Need-part-write-list-end Inv-loop μ-loop
+part-write-list-end c =
+    let s = c .before .before .before .before .before .before .before .before .before .before .before .before in
+    let a = s .args in
+    let l = c .before .before .before .before .loop in
+    placing-there (lexicon (a .chars .now) (a .lengths .now)) (a .index .now) (a .string .now) (a .from) (a .output .now) (l .output) (l .start) (l .at) (l .line) (l .inv) (c .before .before .before .loop-test .taken) (s .pre .0)
+
+write-list-requires : tie.Need-write-list-requires Inv-loop μ-loop
+write-list-requires c κs =
+    let s = c .before .before .before .before .before .before .before .before .before .before .before .before .before .before in
+    let a = s .args in
+    let l = c .before .before .before .before .before .before .loop in
+    placing-room (lexicon (a .chars .now) (a .lengths .now)) (a .index .now) (a .string .now) (a .from) (a .output .now) (l .output) (l .start) (l .at) (l .line) (l .inv) (c .before .before .before .before .before .loop-test .taken) (s .pre .0) (judged-get (lexicon (a .chars .now) (a .lengths .now)) (a .index .now) (a .string .now) (keys-of (a .index .now)) (a .flags .now) (s .pre .1) (l .line) (c .before .before .before .before .before .loop-test .taken) (c .before .before .if1 .taken))
+
+sub-at : tie.Need-sub-at Inv-loop μ-loop
+sub-at c = omega arith
+
+add-at : tie.Need-add-at Inv-loop μ-loop
+add-at c =
+    let s = c .before .before .before .before .before .before .before .before .before .before .before .before .before .before .before .before .before in
+    let a = s .args in
+    let l = c .before .before .before .before .before .before .before .before .before .loop in
+    omega (arith, s .good, l .inv .way .long, placing-room (lexicon (a .chars .now) (a .lengths .now)) (a .index .now) (a .string .now) (a .from) (a .output .now) (l .output) (l .start) (l .at) (l .line) (l .inv) (c .before .before .before .before .before .before .before .before .loop-test .taken) (s .pre .0) (judged-get (lexicon (a .chars .now) (a .lengths .now)) (a .index .now) (a .string .now) (keys-of (a .index .now)) (a .flags .now) (s .pre .1) (l .line) (c .before .before .before .before .before .before .before .before .loop-test .taken) (c .before .before .before .before .before .if1 .taken)), placing-counted (lexicon (a .chars .now) (a .lengths .now)) (a .index .now) (a .string .now) (a .from) (a .output .now) (l .output) (l .start) (l .at) (l .line) (l .inv) (c .before .before .before .before .before .before .before .before .loop-test .taken) (s .pre .0))
+
+loop-less : tie.Need-loop-less Inv-loop μ-loop
+loop-less c = search needs
+
+loop-again : tie.Need-loop-again Inv-loop μ-loop
+loop-again c =
+    let s = c .before .before .before .before .before .before .before .before .before .before .before .before .before .before .before .before .before in
+    let a = s .args in
+    let l = c .before .before .before .before .before .before .before .before .before .loop in
+    placing-step (lexicon (a .chars .now) (a .lengths .now)) (a .index .now) (a .string .now) (a .from) (a .output .now) (l .output) (l .start) (l .at) (l .line) (l .inv) (c .before .before .before .before .before .before .before .before .loop-test .taken) (s .pre .0)
+    (judged-get (lexicon (a .chars .now) (a .lengths .now)) (a .index .now) (a .string .now) (keys-of (a .index .now)) (a .flags .now) (s .pre .1) (l .line) (c .before .before .before .before .before .before .before .before .loop-test .taken) (c .before .before .before .before .before .if1 .taken))
+    (c .before .before .write-list .last .1 .1 .0) (c .before .before .write-list .ensures)
+
+loop-less-2 : tie.Need-loop-less-2 Inv-loop μ-loop
+loop-less-2 c = search needs
+
+loop-again-2 : tie.Need-loop-again-2 Inv-loop μ-loop
+loop-again-2 c =
+    let s = c .before .before .before .before .before .before .before .before .before .before .before .before in
+    let a = s .args in
+    let l = c .before .before .before .before .loop in
+    placing-pass (lexicon (a .chars .now) (a .lengths .now)) (a .index .now) (a .string .now) (a .from) (a .output .now) (l .output) (l .start) (l .at) (l .line) (l .inv) (c .before .before .before .loop-test .taken) (s .pre .0)
+    (judged-none (lexicon (a .chars .now) (a .lengths .now)) (a .index .now) (a .string .now) (keys-of (a .index .now)) (a .flags .now) (s .pre .1) (l .line) (c .before .before .before .loop-test .taken) (c .if1 .left))
+
+same-length : tie.Need-same-length Inv-loop μ-loop
+same-length c = c .before .loop .inv .way .long
+
+returns : tie.Need-returns Inv-loop μ-loop
+returns c =
+    let s = c .before .before .before .before .before .before .before .before .before in
+    let a = s .args in
+    let l = c .before .loop in
+    placing-end (lexicon (a .chars .now) (a .lengths .now)) (a .index .now) (a .string .now) (a .from) (a .output .now) (l .output) (l .start) (l .at) (l .line) (l .inv) (c .loop-test .left)
+
+pub write-positions-spec : {M : Type 1} → statement M
+write-positions-spec =
+    tie.close
+    (tie.spec
+    Inv-loop
+    μ-loop
+    shared-slice-read-count
+    cast-count
+    mul-start
+    add-start
+    loop-holds
+    mul-end
+    add-end
+    add-end-2
+    mul-end-2
+    shared-slice-read-end
+    cast-end
+    add-end-3
+    add-line
+    shared-slice-read-if1
+    mul-write-list
+    sub-write-list
+    part-write-list-start
+    part-write-list-end
+    write-list-requires
+    sub-at
+    add-at
+    loop-less
+    loop-again
+    loop-less-2
+    loop-again-2
+    same-length
+    returns)

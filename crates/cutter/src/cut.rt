@@ -1,0 +1,156 @@
+// The cut-down index for one string, as a call: refusals, sizes, and what is written.
+ghost use mathlib.Core.Path.{_≡_};
+ghost use Prim.Native.Nat.{_≤_};
+ghost use lib.ListN.{length};
+ghost use Rattle.spec.specs.Dictionary.{lexicon};
+ghost use Rattle.spec.specs.Index.{keys-of};
+ghost use Rattle.spec.specs.Cut.{cut-down};
+ghost use Rattle.spec.specs.Calls.{Cut-says};
+ghost use Rattle.laws.specs.Tables.{Can-read};
+ghost use Rattle.laws.specs.Sizing.{Is-string, Sized};
+use crate::bearing::note_chars;
+use crate::cutting::judge;
+use crate::cutting::write_cut;
+use directory::tables::fill_words;
+use reading::readability::refusal_of;
+use spec::Answer;
+
+// Cuts the index down, with a table of characters and a flag for each line lent.
+fn cut_lent<'a>(
+    chars: &'a [u16],
+    lengths: &[u16],
+    index: &'a [u16],
+    string: &[u16],
+    seen: &mut [u8],
+    flags: &mut [u8],
+    output: &mut [u16],
+) -> Answer
+    requires { ⌜ Can-read (now chars) (now lengths) (now index) × Is-string (now string) × (65536 ≤ length (now seen)) × (keys-of (now index) ≤ length (now flags)) ⌝ }
+    ensures { λ r. ⌜ Sized (cut-down (lexicon (now (chars .entry)) (now (lengths .entry))) (now (index .entry)) (now (string .entry))) r (now (output .entry)) (now (output .exit)) ⌝ }
+{
+    let mut words = [0u16; 4096];
+    fill_words(lengths, &mut words);
+    note_chars(string, seen);
+    let size = judge(chars, lengths, index, &words, string, seen, flags);
+    let count = 2 + 3 * size.keys + size.entries;
+    if output.len() < count {
+        return Answer {
+            refusal: 8,
+            count: 0,
+        };
+    }
+    write_cut(chars, lengths, index, string, flags, size, output);
+    Answer { refusal: 0, count }
+}
+
+// With a table of every character.
+fn cut_flagged<'a>(
+    chars: &'a [u16],
+    lengths: &[u16],
+    index: &'a [u16],
+    string: &[u16],
+    flags: &mut [u8],
+    output: &mut [u16],
+) -> Answer
+    requires { ⌜ Can-read (now chars) (now lengths) (now index) × Is-string (now string) × (keys-of (now index) ≤ length (now flags)) ⌝ }
+    ensures { λ r. ⌜ Sized (cut-down (lexicon (now (chars .entry)) (now (lengths .entry))) (now (index .entry)) (now (string .entry))) r (now (output .entry)) (now (output .exit)) ⌝ }
+{
+    let mut seen = [0u8; 65536];
+    cut_lent(chars, lengths, index, string, &mut seen, flags, output)
+}
+
+// With flags for 1,024 lines.
+fn cut_few_lines<'a>(
+    chars: &'a [u16],
+    lengths: &[u16],
+    index: &'a [u16],
+    string: &[u16],
+    output: &mut [u16],
+) -> Answer
+    requires { ⌜ Can-read (now chars) (now lengths) (now index) × Is-string (now string) × (keys-of (now index) ≤ 1024) ⌝ }
+    ensures { λ r. ⌜ Sized (cut-down (lexicon (now (chars .entry)) (now (lengths .entry))) (now (index .entry)) (now (string .entry))) r (now (output .entry)) (now (output .exit)) ⌝ }
+{
+    let mut flags = [0u8; 1024];
+    cut_flagged(chars, lengths, index, string, &mut flags, output)
+}
+
+// With flags for 8,192 lines.
+fn cut_some_lines<'a>(
+    chars: &'a [u16],
+    lengths: &[u16],
+    index: &'a [u16],
+    string: &[u16],
+    output: &mut [u16],
+) -> Answer
+    requires { ⌜ Can-read (now chars) (now lengths) (now index) × Is-string (now string) × (keys-of (now index) ≤ 8192) ⌝ }
+    ensures { λ r. ⌜ Sized (cut-down (lexicon (now (chars .entry)) (now (lengths .entry))) (now (index .entry)) (now (string .entry))) r (now (output .entry)) (now (output .exit)) ⌝ }
+{
+    let mut flags = [0u8; 8192];
+    cut_flagged(chars, lengths, index, string, &mut flags, output)
+}
+
+// With flags for 65,536 lines.
+fn cut_many_lines<'a>(
+    chars: &'a [u16],
+    lengths: &[u16],
+    index: &'a [u16],
+    string: &[u16],
+    output: &mut [u16],
+) -> Answer
+    requires { ⌜ Can-read (now chars) (now lengths) (now index) × Is-string (now string) × (keys-of (now index) ≤ 65535) ⌝ }
+    ensures { λ r. ⌜ Sized (cut-down (lexicon (now (chars .entry)) (now (lengths .entry))) (now (index .entry)) (now (string .entry))) r (now (output .entry)) (now (output .exit)) ⌝ }
+{
+    let mut flags = [0u8; 65536];
+    cut_flagged(chars, lengths, index, string, &mut flags, output)
+}
+
+// With flags for lines enough.
+fn cut_lines<'a>(
+    chars: &'a [u16],
+    lengths: &[u16],
+    index: &'a [u16],
+    string: &[u16],
+    output: &mut [u16],
+) -> Answer
+    requires { ⌜ Can-read (now chars) (now lengths) (now index) × Is-string (now string) × (keys-of (now index) ≤ 65535) ⌝ }
+    ensures { λ r. ⌜ Sized (cut-down (lexicon (now (chars .entry)) (now (lengths .entry))) (now (index .entry)) (now (string .entry))) r (now (output .entry)) (now (output .exit)) ⌝ }
+{
+    let keys = index[1] as usize;
+    if keys <= 1024 {
+        return cut_few_lines(chars, lengths, index, string, output);
+    }
+    if keys <= 8192 {
+        return cut_some_lines(chars, lengths, index, string, output);
+    }
+    cut_many_lines(chars, lengths, index, string, output)
+}
+
+// Writes the cut-down index for a string, and answers how many numbers it has, or the refusal.
+pub fn cut_index<'a>(
+    chars: &'a [u16],
+    lengths: &[u16],
+    index: &'a [u16],
+    string: &[u16],
+    output: &mut [u16],
+) -> Answer
+    ensures { λ r. ⌜ Cut-says (now (chars .entry)) (now (lengths .entry)) (now (index .entry)) (now (string .entry)) r (now (output .entry)) (now (output .exit)) ⌝ }
+{
+    let refusal = refusal_of(chars, lengths, index);
+    if refusal != 0 {
+        return Answer { refusal, count: 0 };
+    }
+    let long = string.len();
+    if long == 0 {
+        return Answer {
+            refusal: 6,
+            count: 0,
+        };
+    }
+    if 256 < long {
+        return Answer {
+            refusal: 6,
+            count: 0,
+        };
+    }
+    cut_lines(chars, lengths, index, string, output)
+}

@@ -1,0 +1,150 @@
+// The cut-down index for one string: the same n, and the keys that bear on the string with all their positions.
+//
+// One walk over the directory judges each key and sizes the result, so that nothing is written before 8 is tested. Two short walks
+// then write the directory lines and the positions of those that bear.
+ghost use mathlib.Core.Path.{_≡_};
+ghost use mathlib.Core.List.{[], _∷_, _++_};
+ghost use Prim.Native.Nat.{_+_, _*_, _≤_, _<_};
+ghost use lib.ListN.{length, take};
+ghost use Rattle.spec.specs.Dictionary.{Lexicon, lexicon};
+ghost use Rattle.spec.specs.Numbers.{directory, positions};
+ghost use Rattle.spec.specs.Index.{keys-of, lines-in};
+ghost use Rattle.spec.specs.Cut.{bearing, cut-down};
+ghost use Rattle.spec.specs.Calls.{in-front};
+ghost use Rattle.laws.specs.Slices.{Fits};
+ghost use Rattle.laws.specs.Tables.{Can-read, Word-starts};
+ghost use Rattle.laws.specs.Sizing.{Is-string};
+ghost use Rattle.basics.specs.Writing.{over};
+ghost use Rattle.laws.specs.Bearing.{Noted};
+ghost use Rattle.laws.specs.Judging.{Judged, Is-size};
+use crate::bearing::bears;
+use directory::lines::key_of;
+
+// How many keys bear on a string, and how many positions they have.
+pub struct Size {
+    pub keys: usize,
+    pub entries: usize,
+}
+
+// Judges each line, 1 where its key bears on the string, and sizes the cut-down index.
+pub fn judge<'a>(
+    chars: &'a [u16],
+    lengths: &[u16],
+    index: &'a [u16],
+    words: &[u16],
+    string: &[u16],
+    seen: &[u8],
+    flags: &mut [u8],
+) -> Size
+    requires { ⌜ Can-read (now chars) (now lengths) (now index) × Word-starts (now lengths) (length (now lengths)) (now words) × Is-string (now string) × Noted (now string) (length (now string)) (now seen) × (keys-of (now index) ≤ length (now flags)) ⌝ }
+    ensures { λ r. ⌜ Judged (lexicon (now (chars .entry)) (now (lengths .entry))) (now (index .entry)) (now (string .entry)) (keys-of (now (index .entry))) (now (flags .exit)) × Is-size (lexicon (now (chars .entry)) (now (lengths .entry))) (now (index .entry)) (now (string .entry)) (r .keys) (r .entries) ⌝ }
+{
+    let count = index[1] as usize;
+    let mut keys = 0;
+    let mut entries = 0;
+    let mut line = 0;
+    while line < count {
+        let key = key_of(chars, lengths, index, words, line);
+        let places = index[2 + 3 * line + 2] as usize;
+        let at = line;
+        line += 1;
+        if bears(key, string, seen) {
+            flags[at] = 1;
+            keys += 1;
+            entries += places;
+        } else {
+            flags[at] = 0;
+        }
+    }
+    Size { keys, entries }
+}
+
+// Writes the directory lines that are flagged, from `from` on.
+pub fn write_directory(
+    chars: &[u16],
+    lengths: &[u16],
+    index: &[u16],
+    string: &[u16],
+    flags: &[u8],
+    from: usize,
+    output: &mut [u16],
+)
+    requires { ⌜ Fits (now index) × Judged (lexicon (now chars) (now lengths)) (now index) (now string) (keys-of (now index)) (now flags) × (from + length (directory (bearing (lexicon (now chars) (now lengths)) (now string) (lines-in (now index)))) ≤ length (now output)) ⌝ }
+    ensures { λ r. ⌜ now (output .exit) ≡ over (take from (now (output .entry)) ++ directory (bearing (lexicon (now (chars .entry)) (now (lengths .entry))) (now (string .entry)) (lines-in (now (index .entry))))) (now (output .entry)) ⌝ }
+{
+    let count = index[1] as usize;
+    let mut at = from;
+    let mut line = 0;
+    while line < count {
+        let here = line;
+        line += 1;
+        if flags[here] != 0 {
+            output[at] = index[2 + 3 * here];
+            output[at + 1] = index[2 + 3 * here + 1];
+            output[at + 2] = index[2 + 3 * here + 2];
+            at += 3;
+        }
+    }
+}
+
+// Writes a list from `from` on.
+fn write_list(places: &[u16], from: usize, output: &mut [u16])
+    requires { ⌜ from + length (now places) ≤ length (now output) ⌝ }
+    ensures { λ r. ⌜ now (output .exit) ≡ over (take from (now (output .entry)) ++ now (places .entry)) (now (output .entry)) ⌝ }
+{
+    let mut i = 0;
+    while i < places.len() {
+        output[from + i] = places[i];
+        i += 1;
+    }
+}
+
+// Writes the positions of the lines that are flagged, from `from` on.
+pub fn write_positions(
+    chars: &[u16],
+    lengths: &[u16],
+    index: &[u16],
+    string: &[u16],
+    flags: &[u8],
+    from: usize,
+    output: &mut [u16],
+)
+    requires { ⌜ Fits (now index) × Judged (lexicon (now chars) (now lengths)) (now index) (now string) (keys-of (now index)) (now flags) × (from + length (positions (bearing (lexicon (now chars) (now lengths)) (now string) (lines-in (now index)))) ≤ length (now output)) ⌝ }
+    ensures { λ r. ⌜ now (output .exit) ≡ over (take from (now (output .entry)) ++ positions (bearing (lexicon (now (chars .entry)) (now (lengths .entry))) (now (string .entry)) (lines-in (now (index .entry))))) (now (output .entry)) ⌝ }
+{
+    let count = index[1] as usize;
+    let mut start = 2 + 3 * count;
+    let mut at = from;
+    let mut line = 0;
+    while line < count {
+        let here = line;
+        let begin = start;
+        let end = begin + index[2 + 3 * here + 2] as usize;
+        start = end;
+        line += 1;
+        if flags[here] != 0 {
+            write_list(&index[begin..end], at, output);
+            at += end - begin;
+        }
+    }
+}
+
+// Writes the cut-down index, which has been sized, to the front of the output.
+pub fn write_cut(
+    chars: &[u16],
+    lengths: &[u16],
+    index: &[u16],
+    string: &[u16],
+    flags: &[u8],
+    size: Size,
+    output: &mut [u16],
+)
+    requires { ⌜ Fits (now index) × Judged (lexicon (now chars) (now lengths)) (now index) (now string) (keys-of (now index)) (now flags) × Is-size (lexicon (now chars) (now lengths)) (now index) (now string) (size .keys) (size .entries) × (length (cut-down (lexicon (now chars) (now lengths)) (now index) (now string)) ≤ length (now output)) ⌝ }
+    ensures { λ r. ⌜ now (output .exit) ≡ in-front (cut-down (lexicon (now (chars .entry)) (now (lengths .entry))) (now (index .entry)) (now (string .entry))) (now (output .entry)) ⌝ }
+{
+    let keys = size.keys;
+    output[0] = index[0];
+    output[1] = keys as u16;
+    write_directory(chars, lengths, index, string, flags, 2, output);
+    write_positions(chars, lengths, index, string, flags, 2 + 3 * keys, output);
+}

@@ -1,0 +1,90 @@
+// Where in the directory the keys lie that have a character at a depth: binary search.
+//
+// Lines of words come first, and their words ascend; those that share their first characters are neighbours, and the next ones do
+// not fall. The lone characters after them ascend by value.
+ghost use Prim.Native.Nat.{_+_, _*_, _≤_};
+ghost use lib.ListN.{length};
+ghost use Rattle.spec.specs.Index.{keys-of};
+ghost use Rattle.laws.specs.Slices.{Fits};
+ghost use Rattle.laws.specs.Halving.{Rising, Cut};
+ghost use Rattle.laws.specs.Narrowing.{number-at};
+ghost use Rattle.laws.specs.WordLines.{Word-column, word-char};
+
+// Lines `from` to `to` - 1.
+pub struct Range {
+    pub from: usize,
+    pub to: usize,
+}
+
+// The first of the lines `low` to `high` - 1 whose number at `field` is not below `least`.
+pub fn first_line(index: &[u16], low: usize, high: usize, field: usize, least: usize) -> usize
+    requires { ⌜ (2 + 3 * high ≤ length (now index)) × (field ≤ 2) × Rising (number-at (now index) field) low high ⌝ }
+    ensures { λ r. ⌜ Cut (number-at (now (index .entry)) field) low high least r ⌝ }
+{
+    let mut a = low;
+    let mut b = high;
+    while a < b {
+        let middle = a + (b - a) / 2;
+        if (index[2 + 3 * middle + field] as usize) < least {
+            a = middle + 1;
+        } else {
+            b = middle;
+        }
+    }
+    a
+}
+
+// How many lines are those of words: the first whose kind is not 0.
+pub fn words_end(index: &[u16]) -> usize
+    requires { ⌜ Fits (now index) × Rising (number-at (now index) 0) 0 (keys-of (now index)) ⌝ }
+    ensures { λ r. ⌜ Cut (number-at (now (index .entry)) 0) 0 (keys-of (now (index .entry))) 1 r ⌝ }
+{
+    first_line(index, 0, index[1] as usize, 0, 1)
+}
+
+// The first of the lines `low` to `high` - 1 whose word's character at `depth` is not below `least`.
+fn first_word(
+    chars: &[u16],
+    index: &[u16],
+    words: &[u16],
+    low: usize,
+    high: usize,
+    depth: usize,
+    least: usize,
+) -> usize
+    requires { ⌜ Word-column (now chars) (now index) (now words) low high depth ⌝ }
+    ensures { λ r. ⌜ Cut (word-char (now (chars .entry)) (now (index .entry)) (now (words .entry)) depth) low high least r ⌝ }
+{
+    let mut a = low;
+    let mut b = high;
+    while a < b {
+        let middle = a + (b - a) / 2;
+        let word = index[2 + 3 * middle + 1] as usize;
+        let at = words[word] as usize + depth;
+        if (chars[at] as usize) < least {
+            a = middle + 1;
+        } else {
+            b = middle;
+        }
+    }
+    a
+}
+
+// The lines among `low` to `high` - 1 whose word has this character at `depth`.
+pub fn narrow(
+    chars: &[u16],
+    index: &[u16],
+    words: &[u16],
+    low: usize,
+    high: usize,
+    depth: usize,
+    character: u16,
+) -> Range
+    requires { ⌜ Word-column (now chars) (now index) (now words) low high depth ⌝ }
+    ensures { λ r. ⌜ Cut (word-char (now (chars .entry)) (now (index .entry)) (now (words .entry)) depth) low high character (r .from) × Cut (word-char (now (chars .entry)) (now (index .entry)) (now (words .entry)) depth) (r .from) high (character + 1) (r .to) ⌝ }
+{
+    let least = character as usize;
+    let from = first_word(chars, index, words, low, high, depth, least);
+    let to = first_word(chars, index, words, from, high, depth, least + 1);
+    Range { from, to }
+}

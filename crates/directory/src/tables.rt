@@ -1,0 +1,38 @@
+// Two tables of starts, each filled by one walk, so that any word and any line's positions are at hand.
+//
+// A word's characters start where the lengths before it add up to, and a line's positions where the counts before it do.
+ghost use Prim.Native.Nat.{_≤_};
+ghost use lib.ListN.{length};
+ghost use Rattle.spec.specs.Dictionary.{total};
+ghost use Rattle.spec.specs.Index.{keys-of};
+ghost use Rattle.laws.specs.Slices.{Fits};
+ghost use Rattle.laws.specs.Tables.{Word-starts, List-starts};
+
+// Where each word's characters start.
+pub fn fill_words(lengths: &[u16], words: &mut [u16])
+    requires { ⌜ (total (now lengths) ≤ 65535) × (length (now lengths) ≤ length (now words)) ⌝ }
+    ensures { λ r. ⌜ Word-starts (now (lengths .entry)) (length (now (lengths .entry))) (now (words .exit)) ⌝ }
+{
+    let mut at: usize = 0;
+    let mut i = 0;
+    while i < lengths.len() {
+        words[i] = at as u16;
+        at += lengths[i] as usize;
+        i += 1;
+    }
+}
+
+// Where each line's positions start, counted from the end of the directory.
+pub fn fill_lists(index: &[u16], lists: &mut [u32])
+    requires { ⌜ Fits (now index) × (keys-of (now index) ≤ length (now lists)) ⌝ }
+    ensures { λ r. ⌜ List-starts (now (index .entry)) (keys-of (now (index .entry))) (now (lists .exit)) ⌝ }
+{
+    let keys = index[1] as usize;
+    let mut at: usize = 0;
+    let mut i = 0;
+    while i < keys {
+        lists[i] = at as u32;
+        at += index[2 + 3 * i + 2] as usize;
+        i += 1;
+    }
+}

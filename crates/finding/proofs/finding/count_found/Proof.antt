@@ -1,0 +1,85 @@
+-- `count_found` meets its contract. The invariant: of the first i reaches, `count` pass. The measure is how many are left. Assumes
+-- nothing.
+use lib.Dec.{leb}
+use mathlib.Core.Path.{_≡_, refl}
+use mathlib.Core.Bool.{Bool, true, false, cond}
+use Prim.Native.Nat.{_-_, _≤_}
+use mir.Val.{boolByte}
+use native.Mathlib.Omega.{arith}
+use borrow.Author.Needs.{needs}
+use lib.ListN.{length, getD}
+use Rattle.laws.specs.Finding.{Counting, counting-start, counting-step, counting-end}
+use Rattle.finding.proofs.finding.count_found.Statement.{statement}
+use Rattle.finding.proofs.finding.count_found.Tie as tie
+
+abbrev Inv-loop : tie.InvT-loop
+Inv-loop reach long count₀ i₀ count i =
+    Counting long reach count i
+
+abbrev μ-loop : tie.MeasureT-loop
+μ-loop reach long count₀ i₀ count i = length reach - i
+
+bit-of : (b : Bool) → boolByte b ≡ cond b 1 0
+bit-of true = refl
+bit-of false = refl
+
+bit-small : (b : Bool) → boolByte b ≤ 1
+bit-small true = omega arith
+bit-small false = omega arith
+
+loop-holds : tie.Need-loop-holds Inv-loop μ-loop
+loop-holds c = counting-start (c .args .long) (c .args .reach .now)
+
+mul-count : tie.Need-mul-count Inv-loop μ-loop
+mul-count c = search needs
+
+shared-slice-read-count : tie.Need-shared-slice-read-count Inv-loop μ-loop
+shared-slice-read-count c = search needs
+
+cast-count : tie.Need-cast-count Inv-loop μ-loop
+cast-count c = omega (arith, c .shared-slice-known .given (c .before .before .loop .i))
+
+cast-count-2 : tie.Need-cast-count-2 Inv-loop μ-loop
+cast-count-2 c = tt
+
+add-count : tie.Need-add-count Inv-loop μ-loop
+add-count c =
+    let a = c .before .before .before .args in
+    let l = c .before .before .loop in
+    omega (arith, l .inv .few, bit-small (leb (a .long) (getD (a .reach .now) (l .i) 0)))
+
+add-i : tie.Need-add-i Inv-loop μ-loop
+add-i c = search needs
+
+loop-less : tie.Need-loop-less Inv-loop μ-loop
+loop-less c = search needs
+
+loop-again : tie.Need-loop-again Inv-loop μ-loop
+loop-again c =
+    let a = c .before .before .before .args in
+    let l = c .before .before .loop in
+    rw (bit-of (leb (a .long) (getD (a .reach .now) (l .i) 0)))
+    (counting-step (a .long) (a .reach .now) (l .count) (l .i) (l .inv) (c .before .loop-test .taken))
+
+returns : tie.Need-returns Inv-loop μ-loop
+returns c =
+    let a = c .before .before .args in
+    let l = c .before .loop in
+    counting-end (a .long) (a .reach .now) (l .count) (l .i) (l .inv) (c .loop-test .left)
+
+pub count-found-spec : {M : Type 1} → statement M
+count-found-spec =
+    tie.close
+    (tie.spec
+    Inv-loop
+    μ-loop
+    loop-holds
+    mul-count
+    shared-slice-read-count
+    cast-count
+    cast-count-2
+    add-count
+    add-i
+    loop-less
+    loop-again
+    returns)

@@ -1,0 +1,3 @@
+// A window of starts, searched: what is found in it is counted, then written.
+mod finding;
+pub mod window;

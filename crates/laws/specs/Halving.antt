@@ -1,0 +1,69 @@
+-- Binary search: the first number from which on a function that does not fall is at least c. Assumes nothing.
+use Prim.Native.Nat.{ℕ, _+_, _≤_, _<_}
+use native.Mathlib.Omega.{arith}
+
+-- f does not fall from lo to hi − 1
+pub record Rising (f : ℕ → ℕ) (lo hi : ℕ) : Type 0 where
+  pub order : lo ≤ hi
+  pub rises : (i j : ℕ) → lo ≤ i → i ≤ j → j < hi → f i ≤ f j
+
+-- r is the first of these at which f is not below c
+pub record Cut (f : ℕ → ℕ) (lo hi c r : ℕ) : Type 0 where
+  pub from : lo ≤ r
+  pub to : r ≤ hi
+  pub below : (i : ℕ) → lo ≤ i → i < r → f i < c
+  pub above : (i : ℕ) → r ≤ i → i < hi → c ≤ f i
+
+-- it is not before a and not after b
+pub record Halved (f : ℕ → ℕ) (lo hi c a b : ℕ) : Type 0 where
+  pub from : lo ≤ a
+  pub order : a ≤ b
+  pub to : b ≤ hi
+  pub below : (i : ℕ) → lo ≤ i → i < a → f i < c
+  pub above : (i : ℕ) → b ≤ i → i < hi → c ≤ f i
+
+module _ (f : ℕ → ℕ) (lo hi : ℕ) (h : Rising f lo hi) where
+  pub rising-part : (a b : ℕ) → lo ≤ a → a ≤ b → b ≤ hi → Rising f a b
+  rising-part a b l m r = record { order = m; rises = λ i j p q s. h .rises i j (omega arith) q (omega arith) }
+
+  module _ (c : ℕ) where
+    pub halved-start : Halved f lo hi c lo hi
+    halved-start =
+        record {
+          from = omega arith;
+          order = h .order;
+          to = omega arith;
+          below = λ i l r. absurd (omega arith);
+          above = λ i l r. absurd (omega arith);
+        }
+
+    module _ (a b : ℕ) (s : Halved f lo hi c a b) where
+      pub halved-end : b ≤ a → Cut f lo hi c a
+      halved-end done =
+          record {
+            from = s .from;
+            to = omega (arith, s .order, s .to);
+            below = s .below;
+            above = λ i l r. s .above i (omega (arith, s .order)) r;
+          }
+
+      module _ (m : ℕ) (l : a ≤ m) (r : m < b) where
+        pub halved-up : f m < c → Halved f lo hi c (m + 1) b
+        halved-up q =
+            record {
+              from = omega (arith, s .from);
+              order = omega arith;
+              to = s .to;
+              below = λ i x y. omega (arith, h .rises i m x (omega arith) (omega (arith, s .to)));
+              above = s .above;
+            }
+
+        pub halved-down : c ≤ f m → Halved f lo hi c a m
+        halved-down q =
+            record {
+              from = s .from;
+              order = l;
+              to = omega (arith, s .to);
+              below = s .below;
+              above = λ i x y. omega (arith, h .rises m i (omega (arith, s .from)) x y);
+            }

@@ -1,0 +1,98 @@
+-- `raise_lone` meets its contract: the line of the character, or none. Assumes nothing.
+use mathlib.Core.Path.{refl}
+use native.Mathlib.Omega.{arith}
+use lib.ListN.{getD}
+use Rattle.laws.specs.Narrowing.{lone-rise, lone-found, lone-none}
+use borrow.Author.Needs.{needs}
+use Rattle.reaching.proofs.lines.raise_lone.Statement.{statement}
+use Rattle.reaching.proofs.lines.raise_lone.Tie as tie
+
+shared-slice-read-keys : tie.Need-shared-slice-read-keys
+shared-slice-read-keys c = search needs
+
+cast-keys : tie.Need-cast-keys
+cast-keys c = search needs
+
+mul-character : tie.Need-mul-character
+mul-character c = search needs
+
+shared-slice-read-character : tie.Need-shared-slice-read-character
+shared-slice-read-character c = search needs
+
+cast-first-line : tie.Need-cast-first-line
+cast-first-line c = omega (arith, c .shared-slice-known8 .given (c .before .before .before .before .before .before .before .before .before .args .key-start))
+
+first-line-requires : tie.Need-first-line-requires
+first-line-requires c κs =
+    let s = c .before .before .before .before .before .before .before .before .before in
+    (s .pre .0 .can .fits .has-directory, omega arith, lone-rise (s .args .chars .now) (s .args .lengths .now) (s .args .index .now) (s .pre .0 .can) (s .args .ends) (s .pre .1))
+
+mul-if2 : tie.Need-mul-if2
+mul-if2 c = search needs
+
+add-if2 : tie.Need-add-if2
+add-if2 c = search needs
+
+add-if2-2 : tie.Need-add-if2-2
+add-if2-2 c = search needs
+
+mul-if2-2 : tie.Need-mul-if2-2
+mul-if2-2 c = search needs
+
+shared-slice-read-if2 : tie.Need-shared-slice-read-if2
+shared-slice-read-if2 c = search needs
+
+add-raise-lines : tie.Need-add-raise-lines
+add-raise-lines c = search needs
+
+raise-lines-requires : tie.Need-raise-lines-requires
+raise-lines-requires c κs = search needs
+
+same-length : tie.Need-same-length
+same-length c = search needs
+
+returns : tie.Need-returns
+returns c =
+    let s = c .before .before .before .before .before .before .before .before .before .before .before .before .before .before .before .before .before in
+    let a = s .args in
+    lone-found (a .chars .now) (a .lengths .now) (a .index .now) (s .pre .0 .can) (a .ends) (s .pre .1) (a .string .now) (a .key-start)
+    (getD (a .string .now) (a .key-start) 0) refl (a .first) (c .before .before .before .before .before .before .before .first-line .result) (c .before .before .before .before .before .before .before .first-line .ensures) (c .before .before .before .before .before .before .if1 .taken) (c .before .before .before .before .if2 .taken)
+    (a .reach .now) (c .before .before .raise-lines .last .1 .1 .1 .1 .1 .1 .1 .1 .1 .1 .0) (c .before .before .raise-lines .result) (c .before .before .raise-lines .ensures)
+
+returns-2 : tie.Need-returns-2
+returns-2 c =
+    let s = c .before .before .before .before .before .before .before .before .before .before .before .before .before in
+    let a = s .args in
+    lone-none (a .chars .now) (a .lengths .now) (a .index .now) (s .pre .0 .can) (a .ends) (s .pre .1) (a .string .now) (a .key-start)
+    (getD (a .string .now) (a .key-start) 0) refl (a .first) (c .before .before .before .first-line .result) (c .before .before .before .first-line .ensures) (λ some. c .if2 .left)
+    (a .reach .now) (a .most) (s .pre .5)
+
+returns-3 : tie.Need-returns-3
+returns-3 c =
+    let s = c .before .before .before .before .before .before .before .before .before .before .before in
+    let a = s .args in
+    lone-none (a .chars .now) (a .lengths .now) (a .index .now) (s .pre .0 .can) (a .ends) (s .pre .1) (a .string .now) (a .key-start)
+    (getD (a .string .now) (a .key-start) 0) refl (a .first) (c .before .first-line .result) (c .before .first-line .ensures) (λ some e. omega (arith, c .if1 .left))
+    (a .reach .now) (a .most) (s .pre .5)
+
+pub raise-lone-spec : {M : Type 1} → statement M
+raise-lone-spec =
+    tie.close
+    (tie.spec
+    shared-slice-read-keys
+    cast-keys
+    mul-character
+    shared-slice-read-character
+    cast-first-line
+    first-line-requires
+    mul-if2
+    add-if2
+    add-if2-2
+    mul-if2-2
+    shared-slice-read-if2
+    add-raise-lines
+    raise-lines-requires
+    same-length
+    returns
+    returns-2
+    returns-3)

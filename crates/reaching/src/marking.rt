@@ -1,0 +1,84 @@
+// One key at one offset against the string: each start of a window at which an entry of the key then lies is raised.
+//
+// The offset is two natural starts, one of them 0. An entry that starts within what is reached raises the reach to its end.
+ghost use mathlib.Core.Path.{_≡_};
+ghost use Prim.Native.Nat.{max};
+ghost use lib.ListN.{length};
+ghost use Rattle.laws.specs.Window.{Within, Reaches};
+ghost use Rattle.laws.specs.WindowSearch.{places-all, key-all};
+ghost use Rattle.laws.specs.Marking.{Offset-fits};
+use postings::agreement::agrees_from_starts;
+
+// The greater of two numbers.
+fn greater(a: usize, b: usize) -> usize
+    ensures { λ r. ⌜ r ≡ max a b ⌝ }
+{
+    if a < b { b } else { a }
+}
+
+// Raises the reach of each start of the window at which an entry of these positions lies at the offset. Answers how far any start
+// then reaches.
+fn mark(
+    places: &[u16],
+    long: usize,
+    string_start: usize,
+    key_start: usize,
+    first: usize,
+    reach: &mut [u16],
+    most: usize,
+) -> usize
+    requires { ⌜ Offset-fits long «string_start» «key_start» first × Within most (now reach) ⌝ }
+    ensures { λ r. ⌜ Reaches (places-all «string_start» «key_start» long first (now (places .entry)) (now (reach .entry))) (now (reach .exit)) r ⌝ }
+{
+    let end = key_start + long - string_start;
+    let peak = greater(most, end);
+    let from = first + key_start;
+    let mut top = most;
+    let mut i = 0;
+    while i < places.len() {
+        let at = places[i] as usize + string_start;
+        i += 1;
+        if from <= at {
+            let p = at - from;
+            if p < reach.len() {
+                let reached = reach[p] as usize;
+                if key_start <= reached {
+                    if reached < end {
+                        reach[p] = end as u16;
+                        top = peak;
+                    }
+                }
+            }
+        }
+    }
+    top
+}
+
+// The same for one key at one offset, if it agrees with the string there.
+pub fn raise_key(
+    key: &[u16],
+    string: &[u16],
+    places: &[u16],
+    string_start: usize,
+    key_start: usize,
+    first: usize,
+    reach: &mut [u16],
+    most: usize,
+) -> usize
+    requires { ⌜ Offset-fits (length (now key)) «string_start» «key_start» first × Within most (now reach) ⌝ }
+    ensures { λ r. ⌜ Reaches (key-all «string_start» «key_start» (now (string .entry)) (now (key .entry)) first (now (places .entry)) (now (reach .entry))) (now (reach .exit)) r ⌝ }
+{
+    if agrees_from_starts(key, string, string_start, key_start) {
+        mark(
+            places,
+            key.len(),
+            string_start,
+            key_start,
+            first,
+            reach,
+            most,
+        )
+    } else {
+        most
+    }
+}
