@@ -5,10 +5,9 @@
 ghost use Prim.Native.Nat.{_≤_};
 ghost use lib.ListN.{length};
 ghost use Rattle.basics.specs.Placed.{Wrote};
-ghost use Rattle.spec.specs.JobAnswer.{job-answer};
+ghost use Rattle.spec.specs.JobAnswer.{job-answer, Job-says};
 ghost use Rattle.laws.specs.Sizing.{Sized};
 ghost use Rattle.laws.specs.JobParts.{Parts-there, printed-there};
-ghost use Rattle.spec.specs.JobAnswer.{Job-says};
 use crate::lines::put_printed;
 use jobreader::job::read_job;
 use printer::print::put_bytes;
