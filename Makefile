@@ -1,7 +1,7 @@
 # What a reader types, and the steps that the gate (.ci/run) is made of.
 
 .DEFAULT_GOAL := help
-.PHONY: run test bench lib fmt clean help check check-fmt check-c check-rust examples need-rt
+.PHONY: run test bench lib lookup fmt clean help check check-fmt check-c check-rust examples need-rt
 .NOTPARALLEL:
 
 # A failed step of a pipeline fails its recipe.
@@ -12,18 +12,24 @@ CC ?= cc
 CFLAGS := -std=c11 -Wall -Wextra -Werror -pedantic -O2
 CXXFLAGS := -std=c++11 -Wall -Wextra -Werror -pedantic
 
-# Everything is built under target/, whatever the environment says, and the
-# Rust crate links the library that is built here.
+# Everything is built under target/, whatever the environment says. The Rust
+# crate links the library that is built here, and its tests run the program.
 export CARGO_TARGET_DIR := $(CURDIR)/target/rust
 export CARGO_NET_OFFLINE := true
 export MOPEKIHUA_LIB_DIR := $(CURDIR)/target/staticlib
+export MOPEKIHUA_LOOKUP := $(CURDIR)/target/bin/lookup
 CARGO := cd rust && cargo
 
 # A program in C each, with the output that it must print beside it.
 EXAMPLES := $(patsubst examples/%.c,%,$(wildcard examples/*.c))
 
-## run: prove the library, and run the C examples on it
-run: examples
+# The job sheet that the program is tried on, and its answer, stand in the program's crate.
+SHEET := crates/lookup/stdin
+
+## run: prove the program and the library, answer a job sheet, and run the C examples
+run: lookup examples
+	@echo '== a job sheet'; cat $(SHEET)
+	@echo '== what lookup prints for it'; target/bin/lookup <$(SHEET)
 	@for example in $(EXAMPLES); do echo "== $$example"; target/examples/$$example; done
 
 ## test: the whole gate
@@ -37,6 +43,10 @@ bench: lib
 ## lib: prove the library and write target/staticlib/libmopekihua.a
 lib: need-rt
 	rt staticlib mopekihua
+
+## lookup: prove the program and write target/bin/lookup
+lookup: need-rt
+	rt check lookup
 
 ## fmt: put every source file into its layout
 fmt: need-rt
@@ -76,7 +86,7 @@ check-c: examples
 	  echo 'skipped: $(CC) does not compile C++, so the header is only checked as C'; \
 	fi
 
-check-rust: lib
+check-rust: lib lookup
 	@if cargo clippy --version >/dev/null 2>&1; then \
 	  set -x; $(CARGO) clippy --locked --release --all-targets -- -D warnings; \
 	else \

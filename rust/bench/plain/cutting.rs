@@ -3,7 +3,7 @@
 //! then the directory and the positions of those that bear.
 
 use super::Query;
-use super::searching::agree;
+use super::searching::{agree, word_starts};
 
 pub fn cut(query: Query, output: &mut [u16]) -> Result<usize, u32> {
     query.admit()?;
@@ -57,14 +57,11 @@ fn judge(query: &Query, directory: &[u16], flags: &mut [bool]) -> (usize, usize)
     } = *query;
     let seen = Seen::new(string);
     let (mut keys, mut entries) = (0, 0);
-    let (mut number, mut start) = (0, 0);
+    let starts = word_starts(lengths);
     for (flag, line) in flags.iter_mut().zip(directory.chunks_exact(3)) {
         *flag = if line[0] == 0 {
-            // Words and lines ascend together.
-            while number < usize::from(line[1]) {
-                start += usize::from(lengths[number]);
-                number += 1;
-            }
+            let number = usize::from(line[1]);
+            let start = usize::from(starts[number]);
             let word = &chars[start..start + usize::from(lengths[number])];
             begins_before(word, string) || seen.has(word[0]) && begins_within(word, string)
         } else {

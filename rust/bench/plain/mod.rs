@@ -7,7 +7,6 @@ pub mod cutting;
 pub mod matching;
 pub mod reading;
 pub mod reception;
-pub mod scanning;
 pub mod searching;
 
 pub use reading::Query;

@@ -144,17 +144,12 @@ impl<'a> Directory<'a> {
         let mut directory = Directory {
             chars,
             lengths,
-            starts: [0; 4096],
+            starts: word_starts(lengths),
             lines,
             positions,
             words: 0,
             pages: [0; 65_536 / PAGE],
         };
-        let mut start = 0;
-        for (place, &length) in directory.starts.iter_mut().zip(lengths) {
-            *place = start;
-            start = start.wrapping_add(length);
-        }
         let mut sum = 0;
         for (page, lines) in directory.pages.iter_mut().zip(lines.chunks(3 * PAGE)) {
             *page = sum;
@@ -215,6 +210,17 @@ impl<'a> Directory<'a> {
             visit(line, 1);
         }
     }
+}
+
+/// Where the characters of each word start.
+pub fn word_starts(lengths: &[u16]) -> [u16; 4096] {
+    let mut starts = [0; 4096];
+    let mut start: u16 = 0;
+    for (place, &length) in starts.iter_mut().zip(lengths) {
+        *place = start;
+        start = start.wrapping_add(length);
+    }
+    starts
 }
 
 /// The first line from `low` to `high` that is not below; those below come first.

@@ -60,7 +60,6 @@ impl Operation {
         (low, high): (usize, usize),
         ordinary: Option<f64>,
     ) -> f64 {
-        let Case { chars, lengths, .. } = case;
         let searches = case.searches(low, high);
         let indexes = case.indexes();
         // At most n positions are found, and a cut-down index is no longer than
@@ -77,22 +76,25 @@ impl Operation {
             },
         };
         let cost = row.print(
-            |Search { text, string }, room| {
-                (self.proved)(chars, lengths, &indexes[*text], string, &mut room.output)
+            |search, room| {
+                let query = query(case, &indexes, search);
+                let (index, string) = (query.index, query.string);
+                (self.proved)(query.chars, query.lengths, index, string, &mut room.output)
                     .map_err(Refusal::number)
             },
-            |Search { text, string }, room| {
-                let index = &indexes[*text];
-                let query = Query {
-                    chars,
-                    lengths,
-                    index,
-                    string,
-                };
-                (self.plain)(query, &mut room.output)
-            },
+            |search, room| (self.plain)(query(case, &indexes, search), &mut room.output),
         );
         (self.beside)(case, &searches);
         cost
+    }
+}
+
+/// What a search is handed.
+fn query<'a>(case: &'a Case, indexes: &'a [Vec<u16>], search: &'a Search) -> Query<'a> {
+    Query {
+        chars: &case.chars,
+        lengths: &case.lengths,
+        index: &indexes[search.text],
+        string: &search.string,
     }
 }

@@ -1,12 +1,12 @@
-//! Reception and recovery at each of their limits. Every answer is written out
-//! from the definition, and is also the one that the oracle gives.
+//! Which indexes are received, and the texts that are recovered. Every answer is
+//! written out from the definition, and is also the one that the oracle gives.
 
 use mopekihua::Refusal;
 
 use crate::support::building::Room;
 use crate::support::dictionary::Dictionary;
 use crate::support::oracle::{Key, Line, numbers};
-use crate::support::reception::{assert_receives, recover};
+use crate::support::reception::recover;
 use crate::support::text::spelt;
 
 /// The index of abcdab with the words ab, abc and bcd.
@@ -257,132 +257,4 @@ fn more_than_65535_entries() {
         &numbers(65_535, &lines[..1]),
         &[97; 65_535],
     );
-}
-
-#[test]
-fn work_of_8n_is_enough_and_one_less_is_not() {
-    for n in [1, 2, 3, 60, 8191, 8192, 65_535] {
-        let all: Vec<u16> = (1..=n).collect();
-        let n = usize::from(n);
-        let index = numbers(n as u16, &[(Key::Lone(98), all)]);
-        let text = vec![98; n];
-        for work in [8 * n, 8 * n + 1] {
-            assert_receives(&a(), &index, Room { output: n, work }, Ok(&text));
-        }
-        for work in [8 * n - 1, 8 * n - 8, 2 * n, n, 1, 0] {
-            if work < 8 * n {
-                assert_receives(&a(), &index, Room { output: n, work }, Err(7));
-            }
-        }
-    }
-}
-
-#[test]
-fn an_output_one_short_is_refused_and_untouched() {
-    for (index, text) in [(ABCDAB, "abcdab"), (&[1, 1, 1, 98, 1, 1], "b")] {
-        let text = spelt(text);
-        let n = text.len();
-        let received = recover(&a(), index, exact(n));
-        assert_eq!(received, Ok(text));
-        for output in 0..n {
-            let room = Room { output, ..exact(n) };
-            refuses(&a(), index, room, 8);
-        }
-    }
-}
-
-/// The work slice is cleared over its whole length, also past 8n and also where
-/// the dictionary or the index is refused; `recover` looks at that.
-#[test]
-fn every_answer_clears_a_long_work_slice() {
-    let room = Room {
-        output: 20,
-        work: 1000,
-    };
-    for (dictionary, refused) in Dictionary::good_and_refused() {
-        let answer = recover(&dictionary, ABCDAB, room);
-        assert_eq!(answer.err(), refused);
-    }
-    refuses(&a(), &ABCDAB[1..], room, 5);
-    refuses(&a(), &[126, 1, 1, 97, 1, 1], room, 7);
-    refuses(&a(), &[125, 1, 1, 97, 1, 1], room, 9);
-    refuses(&a(), ABCDAB, Room { output: 5, ..room }, 8);
-}
-
-/// What the work slice holds before the call is not part of the index. Here two
-/// entries start together and none where the work slice holds the text and the
-/// number of a line, wherever the library may keep them.
-#[test]
-fn work_that_holds_what_the_index_lacks() {
-    let none = Dictionary::default();
-    let lone = numbers(2, &[(Key::Lone(97), vec![1]), (Key::Lone(98), vec![1])]);
-    let words = Dictionary::spelt("ab cd");
-    let double = numbers(4, &[(Key::Word(0), vec![1]), (Key::Word(1), vec![1])]);
-    for note in [0, 1, 2, 98, 4097] {
-        for text in ["aa", "ab", "ba", "bb"] {
-            refuses_whatever_work_holds(&none, &lone, &spelt(text), &[note, note]);
-        }
-        for text in ["abab", "abcd", "cdab", "cdcd"] {
-            refuses_whatever_work_holds(&words, &double, &spelt(text), &[note, 0, note, 0]);
-        }
-    }
-}
-
-/// No text has the index, with a work slice of eight parts of which each holds
-/// this text or these numbers.
-#[track_caller]
-fn refuses_whatever_work_holds(
-    dictionary: &Dictionary,
-    index: &[u16],
-    text: &[u16],
-    notes: &[u16],
-) {
-    let Dictionary { chars, lengths } = dictionary;
-    for pattern in 0..1 << 8 {
-        let part = |place| {
-            if pattern >> place & 1 == 1 {
-                text
-            } else {
-                notes
-            }
-        };
-        let held = (0..8).map(part).collect::<Vec<_>>().concat();
-        let mut work = held.clone();
-        let received = mopekihua::receive_with(chars, lengths, index, &mut work);
-        assert_eq!(received, Err(Refusal::NoText), "{held:?}");
-        assert!(work.iter().all(|&number| number == 0));
-        let mut work = held.clone();
-        let mut output = vec![7; text.len()];
-        let recovered = mopekihua::recover_into(chars, lengths, index, &mut output, &mut work);
-        assert_eq!(recovered, Err(Refusal::NoText), "{held:?}");
-        assert!(work.iter().all(|&number| number == 0));
-        assert!(output.iter().all(|&number| number == 7));
-    }
-}
-
-/// Dictionaries, indexes and room that meet each number, put together in all
-/// ways: the lowest number is answered, and 8 only where a text has the index.
-#[test]
-fn the_lowest_number_is_answered() {
-    let uncovered: &[u16] = &[6, 1, 0, 0, 1, 5];
-    let indexes = [
-        (ABCDAB, None, None),
-        (&ABCDAB[..13], Some(5), None),
-        (uncovered, None, Some(9)),
-    ];
-    for (dictionary, refused_dictionary) in &Dictionary::good_and_refused() {
-        for (index, unreadable, no_text) in indexes {
-            for (work, refused_work) in [(48, None), (47, Some(7)), (0, Some(7))] {
-                for (output, refused_output) in [(6, None), (5, Some(8)), (0, Some(8))] {
-                    let expected = refused_dictionary
-                        .or(unreadable)
-                        .or(refused_work)
-                        .or(no_text)
-                        .or(refused_output);
-                    let answer = recover(dictionary, index, Room { output, work });
-                    assert_eq!(answer.err(), expected);
-                }
-            }
-        }
-    }
 }
