@@ -2,8 +2,10 @@
 
 mod admission;
 mod building;
+mod characters;
 mod cutting;
 mod damaged_reception;
+mod owned;
 mod random_admission;
 mod random_building;
 mod random_cutting;
