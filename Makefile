@@ -1,7 +1,7 @@
 # What a reader types, and the steps that the gate (.ci/run) is made of.
 
 .DEFAULT_GOAL := help
-.PHONY: run test bench lib lookup fmt clean help check check-fmt check-c check-rust examples need-rt
+.PHONY: run test bench soak lib lookup fmt clean help check check-fmt check-c check-rust examples need-rt
 .NOTPARALLEL:
 
 # A failed step of a pipeline fails its recipe.
@@ -39,6 +39,12 @@ test:
 ## bench: prove the library, and time it beside the same algorithms in plain Rust
 bench: lib
 	$(CARGO) bench --locked --bench speed
+
+## soak: prove the library, and compare a million random calls with the definitions
+soak: lib
+	export MOPEKIHUA_SOAK="$${MOPEKIHUA_SOAK:-1000000}"; \
+	export MOPEKIHUA_SOAK_SEED="$${MOPEKIHUA_SOAK_SEED:-$$(date +%s)}"; \
+	$(CARGO) test --locked --release --test soak
 
 ## lib: prove the library and write target/staticlib/libmopekihua.a
 lib: need-rt

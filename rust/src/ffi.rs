@@ -7,9 +7,9 @@ use crate::{Refusal, Tally};
 #[repr(C)]
 pub(crate) struct Answer {
     /// 0 where the call was accepted.
-    refusal: u32,
+    pub(crate) refusal: u32,
     /// 0 beside a refusal.
-    count: usize,
+    pub(crate) count: usize,
 }
 
 impl Answer {
@@ -23,11 +23,11 @@ impl Answer {
 #[repr(C)]
 pub(crate) struct TallyAnswer {
     /// 0 where the call was accepted.
-    refusal: u32,
+    pub(crate) refusal: u32,
     /// 0 beside a refusal.
-    count: usize,
+    pub(crate) count: usize,
     /// All 0 beside a refusal.
-    by_length: [u64; 32],
+    pub(crate) by_length: [u64; 32],
 }
 
 impl TallyAnswer {

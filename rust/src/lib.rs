@@ -1,14 +1,37 @@
 //! A safe face over Mopekihua, a full-text index whose functions are proved
 //! to answer what their definitions say.
 //!
-//! The functions here hand lent slices to the static library
-//! `libmopekihua.a` and type its answers. They copy nothing, and only those
-//! that answer a `Vec` allocate.
+//! ```
+//! use mopekihua::{Dictionary, Index, Query, string_of};
+//!
+//! let dictionary = Dictionary::new(["図", "図面", "平面図", "面図"])?;
+//! let index = Index::build(&dictionary, "平面図面の図")?;
+//!
+//! // The text is not needed to search, and can be recovered.
+//! assert_eq!(index.search(&Query::new("面")?), [2, 4]);
+//! assert_eq!(string_of(&index.recover())?, "平面図面の図");
+//! # Ok::<(), mopekihua::Error>(())
+//! ```
+//!
+//! There are two ways to call the static library `libmopekihua.a`:
+//!
+//! - types that own what they hold: a [`Dictionary`] that is admitted, an
+//!   [`Index`] that some text has, a [`ReadableIndex`] that some text may have,
+//!   a [`Query`] of a length that is searched for. What could be refused is
+//!   refused when such a value is made; searching it is not;
+//! - functions over lent slices, one for each operation of the library: they
+//!   copy nothing, and only those that answer a `Vec` allocate.
+//!
+//! # Characters
+//!
+//! A character is a 16-bit number; no number has a special meaning. Strings are
+//! taken too ([`Characters`], [`characters_of`], [`string_of`]), if each of their
+//! characters has a 16-bit number, as nearly all Japanese ones do: one above
+//! U+FFFF is a [`CharacterError`]. Positions count characters, the first is 1.
 //!
 //! # Dictionaries
 //!
-//! A character is a 16-bit number; no number has a special meaning. A
-//! dictionary has up to 4,096 words of 1 to 32 characters, 65,535 characters
+//! A dictionary has up to 4,096 words of 1 to 32 characters, 65,535 characters
 //! in all at most. It is lent as all characters run together and a list of
 //! lengths, and its words ascend strictly, compared character by character, a
 //! proper prefix first. [`admit`] says whether that holds.
@@ -63,9 +86,9 @@
 //! answer is the one that the definition gives, and the call ends. Not checked
 //! by the prover: that this crate declares the C functions as the library has
 //! them, the few lines that turn slices into pointers and numbers into
-//! [`Refusal`], and the compilers and the linker. The tests of this crate run
-//! the library through these declarations and compare it with a plain reading
-//! of the definitions in Rust.
+//! [`Refusal`], the types that own what they hold, and the compilers and the
+//! linker. The tests of this crate run the library through these declarations
+//! and types, and compare it with a plain reading of the definitions in Rust.
 //!
 //! # Building
 //!
@@ -76,16 +99,28 @@
 #![deny(missing_docs, unsafe_op_in_unsafe_fn)]
 
 mod building;
+mod characters;
 mod cutting;
+mod dictionary;
+mod error;
 mod ffi;
+mod index;
 mod output;
+mod query;
+mod readable;
 mod reception;
 mod refusal;
 mod searching;
 mod tally;
 
 pub use building::{build, build_into, index_bound, work_needed};
+pub use characters::{CharacterError, Characters, characters_of, string_of};
 pub use cutting::{cut, cut_into};
+pub use dictionary::Dictionary;
+pub use error::Error;
+pub use index::Index;
+pub use query::Query;
+pub use readable::{Key, Line, ReadableIndex};
 pub use reception::{receive, receive_with, recover, recover_into};
 pub use refusal::Refusal;
 pub use searching::{search, search_into};

@@ -12,6 +12,15 @@ pub struct Tally {
     pub count: usize,
 }
 
+impl Tally {
+    /// The entries of this many characters; 0 where none can have as many.
+    pub fn of_length(&self, length: usize) -> u64 {
+        let place = length.checked_sub(1);
+        let count = place.and_then(|place| self.by_length.get(place));
+        count.copied().unwrap_or(0)
+    }
+}
+
 /// Counts the entries of an index by the length of what they spell.
 ///
 /// `chars` and `lengths` are a dictionary as for [`admit`](crate::admit). The

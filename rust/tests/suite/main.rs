@@ -2,9 +2,11 @@
 
 mod admission;
 mod building;
+mod characters;
 mod cutting;
 mod damaged_reception;
 mod lookup;
+mod owned;
 mod random_admission;
 mod random_building;
 mod random_cutting;

@@ -2,9 +2,8 @@
 //! which refusal comes first. Every answer is written out from the definition,
 //! and is also the one that the oracle gives.
 
-use mopekihua::Refusal;
-
 use crate::support::building::Room;
+use crate::support::call::{Written, assert_call};
 use crate::support::dictionary::Dictionary;
 use crate::support::oracle::{Key, numbers};
 use crate::support::reception::{assert_receives, recover};
@@ -101,7 +100,7 @@ fn refuses_whatever_work_holds(
     text: &[u16],
     notes: &[u16],
 ) {
-    let Dictionary { chars, lengths } = dictionary;
+    let read = [&dictionary.chars[..], &dictionary.lengths, index];
     for pattern in 0..1 << 8 {
         let part = |place| {
             if pattern >> place & 1 == 1 {
@@ -111,16 +110,20 @@ fn refuses_whatever_work_holds(
             }
         };
         let held = (0..8).map(part).collect::<Vec<_>>().concat();
-        let mut work = held.clone();
-        let received = mopekihua::receive_with(chars, lengths, index, &mut work);
-        assert_eq!(received, Err(Refusal::NoText), "{held:?}");
-        assert!(work.iter().all(|&number| number == 0));
-        let mut work = held.clone();
-        let mut output = vec![7; text.len()];
-        let recovered = mopekihua::recover_into(chars, lengths, index, &mut output, &mut work);
-        assert_eq!(recovered, Err(Refusal::NoText), "{held:?}");
-        assert!(work.iter().all(|&number| number == 0));
-        assert!(output.iter().all(|&number| number == 7));
+        assert_call(
+            read,
+            [Written::Used(&held)],
+            Err(9),
+            |[chars, lengths, index], [work]| mopekihua::receive_with(chars, lengths, index, work),
+        );
+        assert_call(
+            read,
+            [Written::Output(text.len(), &[]), Written::Used(&held)],
+            Err(9),
+            |[chars, lengths, index], [output, work]| {
+                mopekihua::recover_into(chars, lengths, index, output, work)
+            },
+        );
     }
 }
 

@@ -1,0 +1,73 @@
+//! The seven operations.
+
+/// An operation of the library.
+#[derive(Clone, Copy, Debug, PartialEq, Eq)]
+pub enum Operation {
+    Admit,
+    Build,
+    Tally,
+    Receive,
+    Recover,
+    Search,
+    Cut,
+}
+
+/// What a call may be lent wrongly.
+#[derive(Clone, Copy, Debug, PartialEq, Eq)]
+pub enum Part {
+    Dictionary,
+    Text,
+    Index,
+    String,
+    Work,
+    Output,
+}
+
+impl Operation {
+    pub const ALL: [Operation; 7] = [
+        Operation::Admit,
+        Operation::Build,
+        Operation::Tally,
+        Operation::Receive,
+        Operation::Recover,
+        Operation::Search,
+        Operation::Cut,
+    ];
+
+    pub fn name(self) -> &'static str {
+        match self {
+            Operation::Admit => "admit",
+            Operation::Build => "build",
+            Operation::Tally => "tally",
+            Operation::Receive => "receive",
+            Operation::Recover => "recover",
+            Operation::Search => "search",
+            Operation::Cut => "cut",
+        }
+    }
+
+    /// What it is lent.
+    pub fn parts(self) -> &'static [Part] {
+        use Part::{Dictionary, Index, Output, String, Text, Work};
+        match self {
+            Operation::Admit => &[Dictionary],
+            Operation::Build => &[Dictionary, Text, Work, Output],
+            Operation::Tally => &[Dictionary, Index],
+            Operation::Receive => &[Dictionary, Index, Work],
+            Operation::Recover => &[Dictionary, Index, Work, Output],
+            Operation::Search | Operation::Cut => &[Dictionary, Index, String, Output],
+        }
+    }
+
+    /// The numbers that it refuses with.
+    pub fn refusals(self) -> &'static [u32] {
+        match self {
+            Operation::Admit => &[1, 2, 3],
+            Operation::Build => &[1, 2, 3, 4, 7, 8],
+            Operation::Tally => &[1, 2, 3, 5],
+            Operation::Receive => &[1, 2, 3, 5, 7, 9],
+            Operation::Recover => &[1, 2, 3, 5, 7, 8, 9],
+            Operation::Search | Operation::Cut => &[1, 2, 3, 5, 6, 8],
+        }
+    }
+}
