@@ -5,8 +5,9 @@
 // offset.
 ghost use mathlib.Core.Path.{_≡_};
 ghost use mathlib.Core.Bool.{true, false};
-ghost use Prim.Native.Nat.{ℕ, _≤_, _<_};
+ghost use Prim.Native.Nat.{ℕ, _+_, _≤_, _<_};
 ghost use lib.ListN.{length, getD};
+ghost use Rattle.spec.specs.Search.{agrees};
 ghost use Rattle.spec.specs.Cut.{bears};
 ghost use Rattle.laws.specs.Bearing.{Noted};
 use postings::agreement::agrees_from_starts;
@@ -38,6 +39,24 @@ fn has_char(string: &[u16], character: u16) -> bool
     false
 }
 
+// Whether the key laid at `i` agrees with the string laid at `last`, the last place of a key laid at 0. The first characters that lie on
+// one another nearly always tell that it does not.
+fn agrees_laid(key: &[u16], string: &[u16], last: usize, i: usize) -> bool
+    requires { ⌜ (length (now key) ≡ last + 1) × (1 ≤ length (now string)) × (i < last + length (now string)) ⌝ }
+    ensures { λ r. ⌜ r ≡ agrees (now (string .entry)) last (now (key .entry)) i ⌝ }
+{
+    if i < last {
+        if key[last - i] != string[0] {
+            return false;
+        }
+    } else {
+        if string[i - last] != key[0] {
+            return false;
+        }
+    }
+    agrees_from_starts(key, string, last, i)
+}
+
 // Whether a key agrees with the string at some offset.
 fn agrees_somewhere(key: &[u16], string: &[u16]) -> bool
     requires { ⌜ (1 ≤ length (now key)) × (length (now key) ≤ 32) × (1 ≤ length (now string)) × (length (now string) ≤ 256) ⌝ }
@@ -47,7 +66,7 @@ fn agrees_somewhere(key: &[u16], string: &[u16]) -> bool
     let offsets = key.len() + string.len() - 1;
     let mut i = 0;
     while i < offsets {
-        if agrees_from_starts(key, string, last, i) {
+        if agrees_laid(key, string, last, i) {
             return true;
         }
         i += 1;

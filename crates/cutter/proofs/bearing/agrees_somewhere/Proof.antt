@@ -2,6 +2,7 @@
 -- nothing.
 use mathlib.Core.Path.{sym, _∙_}
 use Prim.Native.Nat.{_-_}
+use native.Mathlib.Omega.{arith}
 use borrow.Author.Needs.{needs}
 use Rattle.laws.specs.Bearing.{Walking, walking-start, walking-end, walking-found, walking-on}
 use Rattle.cutter.proofs.bearing.agrees_somewhere.Statement.{statement}
@@ -26,15 +27,15 @@ sub-offsets c = search needs
 loop-holds : tie.Need-loop-holds Inv-loop μ-loop
 loop-holds c = walking-start (c .before .before .args .key .now) (c .before .before .args .string .now) (c .before .before .pre .0) (c .before .before .pre .2)
 
-agrees-from-starts-requires : tie.Need-agrees-from-starts-requires Inv-loop μ-loop
-agrees-from-starts-requires c κs = tt
+agrees-laid-requires : tie.Need-agrees-laid-requires Inv-loop μ-loop
+agrees-laid-requires c κs = (omega arith, omega arith, omega arith)
 
 returns : tie.Need-returns Inv-loop μ-loop
 returns c =
     let s = c .before .before .before .before .before .before in
     let l = c .before .before .before .loop in
     walking-found (s .args .key .now) (s .args .string .now) (l .i) (l .inv) (c .before .before .loop-test .taken)
-    (sym (c .before .agrees-from-starts .ensures) ∙ c .if1 .taken)
+    (sym (c .before .agrees-laid .ensures) ∙ c .if1 .taken)
 
 add-i : tie.Need-add-i Inv-loop μ-loop
 add-i c = search needs
@@ -47,7 +48,7 @@ loop-again c =
     let s = c .before .before .before .before .before .before in
     let l = c .before .before .before .loop in
     walking-on (s .args .key .now) (s .args .string .now) (l .i) (l .inv) (c .before .before .loop-test .taken)
-    (sym (c .before .agrees-from-starts .ensures) ∙ c .if1 .left)
+    (sym (c .before .agrees-laid .ensures) ∙ c .if1 .left)
 
 returns-2 : tie.Need-returns-2 Inv-loop μ-loop
 returns-2 c =
@@ -65,7 +66,7 @@ agrees-somewhere-spec =
     add-offsets
     sub-offsets
     loop-holds
-    agrees-from-starts-requires
+    agrees-laid-requires
     returns
     add-i
     loop-less
