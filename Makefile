@@ -1,7 +1,7 @@
 # What a reader types, and the steps that the gate (.ci/run) is made of.
 
 .DEFAULT_GOAL := help
-.PHONY: run test bench soak lib lookup fmt clean help check check-fmt check-c check-rust examples need-rt
+.PHONY: run test bench soak fuzz lib lookup fmt clean help check check-fmt check-c check-fuzz check-rust examples need-rt
 .NOTPARALLEL:
 
 # A failed step of a pipeline fails its recipe.
@@ -46,6 +46,10 @@ soak: lib
 	export MOPEKIHUA_SOAK_SEED="$${MOPEKIHUA_SOAK_SEED:-$$(date +%s)}"; \
 	$(CARGO) test --locked --release --test soak
 
+## fuzz: prove the library, and fuzz its C functions for MOPEKIHUA_FUZZ_SECONDS, 1200 if not set
+fuzz: lib
+	fuzz/run -max_total_time="$${MOPEKIHUA_FUZZ_SECONDS:-1200}"
+
 ## lib: prove the library and write target/staticlib/libmopekihua.a
 lib: need-rt
 	rt staticlib mopekihua
@@ -68,7 +72,7 @@ help:
 	@sed -n 's/^## /  make /p' Makefile
 
 # The gate after `rt ci`.
-check: check-fmt check-c check-rust
+check: check-fmt check-c check-fuzz check-rust
 
 examples: $(EXAMPLES:%=target/examples/%)
 
@@ -91,6 +95,10 @@ check-c: examples
 	else \
 	  echo 'skipped: $(CC) does not compile C++, so the header is only checked as C'; \
 	fi
+
+# The inputs that fuzzing starts from, and a few others.
+check-fuzz: lib
+	fuzz/run -runs=2000 -seed=1
 
 check-rust: lib lookup
 	@if cargo clippy --version >/dev/null 2>&1; then \

@@ -22,6 +22,19 @@
 extern "C" {
 #endif
 
+/* What is accepted at most; each bound is itself accepted. */
+#define MOPEKIHUA_MOST_WORDS 4096
+#define MOPEKIHUA_MOST_DICTIONARY_CHARACTERS 65535
+#define MOPEKIHUA_LONGEST_WORD 32
+#define MOPEKIHUA_LONGEST_TEXT 65535
+#define MOPEKIHUA_LONGEST_STRING 256
+
+/* The length of the work slice that a text of n characters asks for. */
+#define MOPEKIHUA_WORK_NEEDED(n) (8 * (size_t)(n))
+
+/* The most numbers that the index of a text of n characters has. */
+#define MOPEKIHUA_INDEX_BOUND(n) (2 + 4 * (size_t)(n))
+
 /*
  * Why an operation declines. Where several numbers apply, the lowest is
  * answered; an operation tests only what it is handed.

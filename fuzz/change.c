@@ -1,0 +1,69 @@
+#include "change.h"
+
+#include <string.h>
+
+/* A line of the directory, and where its positions begin. */
+typedef struct {
+    uint16_t *count;
+    size_t start;
+} line;
+
+/* The line with this number; there is one, and each list lies in the index. */
+static line line_at(uint16_t *index, size_t number)
+{
+    line found = {index + 4 + 3 * number, 2 + 3 * (size_t)index[1]};
+
+    for (size_t i = 0; i < number; i++)
+        found.start += index[4 + 3 * i];
+    return found;
+}
+
+/* Whether keys, counts and length fit together. */
+static int is_whole(const uint16_t *index, size_t len)
+{
+    if (len < 2 || index[1] == 0 || len < 2 + 3 * (size_t)index[1])
+        return 0;
+    size_t end = 2 + 3 * (size_t)index[1];
+    for (size_t i = 0; i < index[1]; i++)
+        end += index[4 + 3 * i];
+    return end == len;
+}
+
+/* One more position under a key, where it belongs. */
+static size_t insert(uint16_t *index, size_t len, line line, uint16_t position)
+{
+    size_t at = line.start, end = line.start + *line.count;
+
+    while (at < end && index[at] < position)
+        at++;
+    if ((at < end && index[at] == position) || *line.count == UINT16_MAX)
+        return len;
+    memmove(index + at + 1, index + at, (len - at) * sizeof *index);
+    index[at] = position;
+    ++*line.count;
+    return len + 1;
+}
+
+/* One position less under a key, unless it has only one. */
+static size_t remove_one(uint16_t *index, size_t len, line line, uint16_t number)
+{
+    if (*line.count < 2)
+        return len;
+    size_t at = line.start + number % *line.count;
+    memmove(index + at, index + at + 1, (len - at - 1) * sizeof *index);
+    --*line.count;
+    return len - 1;
+}
+
+size_t change_index(uint16_t *index, size_t len, change change)
+{
+    if (change.kind != ADD && is_whole(index, len)) {
+        line line = line_at(index, change.place % index[1]);
+        if (change.kind == REMOVE)
+            return remove_one(index, len, line, change.number);
+        uint16_t n = index[0] == 0 ? 1 : index[0];
+        return insert(index, len, line, 1 + change.number % n);
+    }
+    index[change.place % len] += change.number;
+    return len;
+}

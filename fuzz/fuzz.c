@@ -1,0 +1,260 @@
+/*
+ * A libFuzzer target over the C functions: dictionaries, texts, indexes and
+ * strings out of any bytes, lent to every operation, and each answer held to
+ * what the others say. Beside what call() holds every call to:
+ *
+ * - a refusal comes exactly where the table has it, in its order, but that the
+ *   tally says which indexes are readable;
+ * - the index of a text is received, the text is recovered from it, and the
+ *   positions found are those at which the string stands in the text;
+ * - an index is received exactly if it is built from the text that it shows;
+ * - the cut-down index finds what the index finds, and the tally adds up.
+ */
+#include <string.h>
+
+#include "call.h"
+#include "input.h"
+#include "lend.h"
+
+enum {
+    MOST_WORDS = MOPEKIHUA_MOST_WORDS,
+    LONGEST_TEXT = MOPEKIHUA_LONGEST_TEXT,
+    LONGEST_STRING = MOPEKIHUA_LONGEST_STRING
+};
+
+#define LONGEST_INDEX (MOPEKIHUA_INDEX_BOUND(LONGEST_TEXT) + MOST_CHANGES)
+
+/* Texts longer than this are handed only to the operation asked for. */
+#define SHORT_TEXT 4096
+
+/* Results of calls, each as long as it can be. */
+static uint16_t built[LONGEST_INDEX], delivered[LONGEST_INDEX];
+static uint16_t result[LONGEST_INDEX], other[LONGEST_INDEX];
+static uint16_t shown[LONGEST_TEXT];
+
+/* The loan with another part. */
+static loan with(loan lent, enum part part, const uint16_t *numbers, size_t len)
+{
+    lent.parts[part] = (slice){numbers, len};
+    return lent;
+}
+
+/* The n that the work slice goes by. */
+static size_t stated_length(enum operation operation, const loan *lent)
+{
+    if (operation == BUILD)
+        return lent->parts[TEXT].len;
+    return lent->parts[INDEX].len > 0 ? lent->parts[INDEX].numbers[0] : 0;
+}
+
+/* A call with as much work space and output as it can ask for. */
+static answer ample(enum operation operation, loan lent, uint16_t *written)
+{
+    size_t n = stated_length(operation, &lent);
+
+    lent.parts[WORK].len = takes_work(operation) ? MOPEKIHUA_WORK_NEEDED(n) : 0;
+    if (operation == BUILD)
+        lent.parts[OUTPUT].len = n > LONGEST_TEXT ? 0 : MOPEKIHUA_INDEX_BOUND(n);
+    else if (operation == CUT)
+        lent.parts[OUTPUT].len = lent.parts[INDEX].len;
+    else
+        lent.parts[OUTPUT].len = takes_output(operation) ? n : 0;
+    return call(operation, &lent, written);
+}
+
+/* Whether this slice holds these numbers. */
+static int holds(slice lent, const uint16_t *numbers, size_t len)
+{
+    return lent.len == len &&
+           (len == 0 || memcmp(lent.numbers, numbers, len * sizeof *numbers) == 0);
+}
+
+/* Whether the string stands at this position of the text. */
+static int stands(slice text, slice string, size_t position)
+{
+    return position >= 1 && position + string.len <= text.len + 1 &&
+           memcmp(text.numbers + position - 1, string.numbers,
+                  string.len * sizeof *text.numbers) == 0;
+}
+
+/* The index of a text: received, and the same text is recovered and searched. */
+static void check_index_of(const loan *lent)
+{
+    slice text = lent->parts[TEXT], string = lent->parts[STRING];
+    answer received = ample(RECEIVE, *lent, result);
+    require(received.refusal == 0 && received.count == text.len,
+            "the index of a text is not received");
+    answer recovered = ample(RECOVER, *lent, result);
+    require(recovered.refusal == 0 && holds(text, result, recovered.count),
+            "another text is recovered");
+    if (string.len == 0 || string.len > LONGEST_STRING)
+        return;
+    answer found = ample(SEARCH, *lent, result);
+    require(found.refusal == 0, "a search is refused");
+    size_t listed = 0;
+    for (size_t p = 1; p <= text.len; p++) {
+        int is_listed = listed < found.count && result[listed] == p;
+        require(is_listed == stands(text, string, p),
+                "a position is found where the string does not stand, or none "
+                "where it does");
+        listed += is_listed;
+    }
+    require(listed == found.count, "positions past the text, or not in order");
+}
+
+/* Puts the text that the entries of a readable index show into shown. */
+static void show(const loan *lent)
+{
+    slice index = lent->parts[INDEX], lengths = lent->parts[LENGTHS];
+    size_t keys = index.numbers[1];
+    const uint16_t *position = index.numbers + 2 + 3 * keys;
+    static size_t starts[MOST_WORDS + 1];
+
+    for (size_t i = 0; i < lengths.len; i++)
+        starts[i + 1] = starts[i] + lengths.numbers[i];
+    memset(shown, 0, sizeof shown);
+    for (size_t i = 0; i < keys; i++) {
+        const uint16_t *line = index.numbers + 2 + 3 * i;
+        const uint16_t *spelt = line + 1;
+        size_t len = 1;
+        if (line[0] == 0) {
+            spelt = lent->parts[CHARS].numbers + starts[line[1]];
+            len = lengths.numbers[line[1]];
+        }
+        for (size_t j = 0; j < line[2]; j++, position++)
+            memcpy(shown + *position - 1, spelt, len * sizeof *spelt);
+    }
+}
+
+/* Whether the index is that of the text that it shows. */
+static int is_of_shown(const loan *lent)
+{
+    show(lent);
+    loan again = with(*lent, TEXT, shown, lent->parts[INDEX].numbers[0]);
+    answer rebuilt = ample(BUILD, again, other);
+    return holds(lent->parts[INDEX], other, rebuilt.count);
+}
+
+/* A readable index, whether a text has it or not. */
+static void check_readable(const loan *lent)
+{
+    slice index = lent->parts[INDEX], string = lent->parts[STRING];
+    answer tallied = ample(TALLY, *lent, result);
+    uint64_t sum = 0;
+
+    for (size_t i = 0; i < 32; i++)
+        sum += tallied.by_length[i];
+    require(tallied.count == sum &&
+                sum == index.len - 2 - 3 * (size_t)index.numbers[1],
+            "the tally does not add up to M");
+    if (string.len == 0 || string.len > LONGEST_STRING)
+        return;
+    answer less = ample(CUT, *lent, other);
+    require(less.refusal == 0 && less.count >= 2 && other[0] == index.numbers[0],
+            "an index is not cut down");
+    answer found = ample(SEARCH, *lent, result);
+    for (size_t i = 0; i < found.count; i++)
+        require(result[i] > (i == 0 ? 0 : result[i - 1]) &&
+                    result[i] + string.len <= (size_t)index.numbers[0] + 1,
+                "positions do not ascend within the text");
+    static uint16_t again[LONGEST_TEXT];
+    loan cut = with(*lent, INDEX, other, less.count);
+    answer found_again = ample(SEARCH, cut, again);
+    require(found_again.refusal == 0 &&
+                holds((slice){result, found.count}, again, found_again.count),
+            "the cut-down index finds other positions");
+}
+
+/*
+ * The lowest number of the table that applies where work space and output are
+ * ample. The tally says whether the index is readable.
+ */
+static uint32_t lowest(enum operation operation, const loan *lent)
+{
+    size_t string_len = lent->parts[STRING].len;
+    uint32_t dictionary = dictionary_refusal(lent);
+
+    if (operation == ADMIT || dictionary != 0)
+        return dictionary;
+    if (operation == BUILD)
+        return lent->parts[TEXT].len > LONGEST_TEXT ? 4 : 0;
+    uint32_t index = ample(TALLY, *lent, result).refusal;
+    if (operation == TALLY || index != 0)
+        return index;
+    if (operation == SEARCH || operation == CUT)
+        return string_len == 0 || string_len > LONGEST_STRING ? 6 : 0;
+    return is_of_shown(lent) ? 0 : 9;
+}
+
+/* What an accepted call counts, where that is not what it writes. */
+static int counts_right(enum operation operation, const loan *lent, answer given)
+{
+    if (operation == ADMIT)
+        return given.count == lent->parts[LENGTHS].len;
+    if (operation == RECEIVE || operation == RECOVER)
+        return given.count == stated_length(operation, lent);
+    return 1;
+}
+
+/* The operation asked for, with ample room and with as much as is asked for. */
+static void check_asked(const input *in, loan lent)
+{
+    enum operation operation = in->operation;
+    size_t work_needed = MOPEKIHUA_WORK_NEEDED(stated_length(operation, &lent));
+    uint32_t expected = lowest(operation, &lent);
+    answer whole = ample(operation, lent, result);
+
+    require(whole.refusal == expected, "another refusal than the lowest");
+    require(whole.refusal != 0 || counts_right(operation, &lent, whole),
+            "another count");
+    if (takes_work(operation)) {
+        lent.parts[WORK].len = room_for(in->work, work_needed);
+        if (lent.parts[WORK].len < work_needed && (expected == 0 || expected > 7))
+            expected = 7;
+    }
+    if (takes_output(operation)) {
+        lent.parts[OUTPUT].len = room_for(in->output, whole.count);
+        if (lent.parts[OUTPUT].len < whole.count && expected == 0)
+            expected = 8;
+    }
+    answer asked = call(operation, &lent, other);
+    require(asked.refusal == expected, "another refusal for this room");
+    if (expected == 0)
+        require(asked.count == whole.count &&
+                    (!takes_output(operation) ||
+                     holds((slice){result, whole.count}, other, asked.count)),
+                "another result for this room");
+}
+
+/* The built index with the changes that are asked for. */
+static slice changed(const input *in, slice index)
+{
+    size_t len = index.len;
+
+    memcpy(delivered, index.numbers, len * sizeof *delivered);
+    for (size_t i = 0; i < in->changes; i++)
+        len = change_index(delivered, len, in->change[i]);
+    return (slice){delivered, len};
+}
+
+int LLVMFuzzerTestOneInput(const uint8_t *bytes, size_t len)
+{
+    const input *in = read_input(bytes, len);
+    loan lent = in->lent;
+    size_t text_len = lent.parts[TEXT].len;
+    int admitted = dictionary_refusal(&lent) == 0;
+
+    if (admitted && !in->delivered && text_len <= LONGEST_TEXT) {
+        answer index = ample(BUILD, lent, built);
+        require(index.refusal == 0 && index.count >= 2 && built[0] == text_len,
+                "a text is not indexed");
+        lent.parts[INDEX] = (slice){built, index.count};
+        if (text_len <= SHORT_TEXT)
+            check_index_of(&lent);
+        lent.parts[INDEX] = changed(in, lent.parts[INDEX]);
+    }
+    if (text_len <= SHORT_TEXT && ample(TALLY, lent, result).refusal == 0)
+        check_readable(&lent);
+    check_asked(in, lent);
+    return 0;
+}
