@@ -17,7 +17,7 @@ ghost use Rattle.laws.specs.Sizing.{Is-string};
 ghost use Rattle.basics.specs.Writing.{over};
 ghost use Rattle.laws.specs.Bearing.{Noted};
 ghost use Rattle.laws.specs.Judging.{Judged, Is-size};
-use crate::bearing::bears;
+use bearing::bearing::bears;
 use directory::lines::key_of;
 
 // How many keys bear on a string, and how many positions they have.

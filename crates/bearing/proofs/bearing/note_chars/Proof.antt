@@ -5,8 +5,8 @@ use native.Mathlib.Omega.{arith}
 use borrow.Author.Needs.{needs}
 use lib.ListN.{length, getD, length-set}
 use Rattle.laws.specs.Bearing.{Noted, noted-none, noted-next, noted-all}
-use Rattle.cutter.proofs.bearing.note_chars.Statement.{statement}
-use Rattle.cutter.proofs.bearing.note_chars.Tie as tie
+use Rattle.bearing.proofs.bearing.note_chars.Statement.{statement}
+use Rattle.bearing.proofs.bearing.note_chars.Tie as tie
 
 abbrev Inv-loop : tie.InvT-loop
 Inv-loop string seen₀ i₀ seen i =

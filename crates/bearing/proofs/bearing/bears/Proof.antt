@@ -3,8 +3,8 @@ use native.Mathlib.Omega.{arith}
 use borrow.Author.Tests.{not-true}
 use Rattle.laws.specs.Bearing.{bears-unnoted}
 use borrow.Author.Needs.{needs}
-use Rattle.cutter.proofs.bearing.bears.Statement.{statement}
-use Rattle.cutter.proofs.bearing.bears.Tie as tie
+use Rattle.bearing.proofs.bearing.bears.Statement.{statement}
+use Rattle.bearing.proofs.bearing.bears.Tie as tie
 
 shared-slice-read-first : tie.Need-shared-slice-read-first
 shared-slice-read-first c = search needs

@@ -5,11 +5,10 @@
 // offset.
 ghost use mathlib.Core.Path.{_≡_};
 ghost use mathlib.Core.Bool.{true, false};
-ghost use Prim.Native.Nat.{ℕ, _+_, _≤_, _<_};
+ghost use Prim.Native.Nat.{ℕ, _≤_, _<_};
 ghost use lib.ListN.{length, getD};
-ghost use Rattle.spec.specs.Search.{agrees};
 ghost use Rattle.spec.specs.Cut.{bears};
-ghost use Rattle.laws.specs.Bearing.{Noted};
+ghost use Rattle.laws.specs.Bearing.{Walking, Noted};
 use postings::agreement::agrees_from_starts;
 
 // Notes each character of the string in the table.
@@ -39,39 +38,44 @@ fn has_char(string: &[u16], character: u16) -> bool
     false
 }
 
-// Whether the key laid at `i` agrees with the string laid at `last`, the last place of a key laid at 0. The first characters that lie on
-// one another nearly always tell that it does not.
-fn agrees_laid(key: &[u16], string: &[u16], last: usize, i: usize) -> bool
-    requires { ⌜ (length (now key) ≡ last + 1) × (1 ≤ length (now string)) × (i < last + length (now string)) ⌝ }
-    ensures { λ r. ⌜ r ≡ agrees (now (string .entry)) last (now (key .entry)) i ⌝ }
+// Whether a key bears on the string, where it agrees at no offset at which it does not start after the string's front.
+fn agrees_within(key: &[u16], string: &[u16]) -> bool
+    requires { ⌜ (1 ≤ length (now key)) × (length (now key) ≤ 32) × (1 ≤ length (now string)) × (length (now string) ≤ 256) × Walking (now key) (now string) (length (now key)) ⌝ }
+    ensures { λ r. ⌜ r ≡ bears (now (key .entry)) (now (string .entry)) ⌝ }
 {
-    if i < last {
-        if key[last - i] != string[0] {
-            return false;
-        }
-    } else {
-        if string[i - last] != key[0] {
-            return false;
+    let last = key.len() - 1;
+    let first = key[0];
+    let mut i = 1;
+    while i < string.len() {
+        let at = i;
+        i += 1;
+        if string[at] == first {
+            if agrees_from_starts(key, string, last, last + at) {
+                return true;
+            }
         }
     }
-    agrees_from_starts(key, string, last, i)
+    false
 }
 
-// Whether a key agrees with the string at some offset.
+// Whether a key agrees with the string at some offset. It is laid only where the first characters that lie on one another are equal.
 fn agrees_somewhere(key: &[u16], string: &[u16]) -> bool
     requires { ⌜ (1 ≤ length (now key)) × (length (now key) ≤ 32) × (1 ≤ length (now string)) × (length (now string) ≤ 256) ⌝ }
     ensures { λ r. ⌜ r ≡ bears (now (key .entry)) (now (string .entry)) ⌝ }
 {
     let last = key.len() - 1;
-    let offsets = key.len() + string.len() - 1;
+    let front = string[0];
     let mut i = 0;
-    while i < offsets {
-        if agrees_laid(key, string, last, i) {
-            return true;
-        }
+    while i < key.len() {
+        let at = i;
         i += 1;
+        if key[last - at] == front {
+            if agrees_from_starts(key, string, last, at) {
+                return true;
+            }
+        }
     }
-    false
+    agrees_within(key, string)
 }
 
 // Whether a key bears on the string whose characters are noted.

@@ -7,8 +7,8 @@ use borrow.Author.Count.{below-more}
 use borrow.Author.Needs.{needs}
 use lib.ListN.{length, getD}
 use Rattle.basics.specs.Bools.{clash}
-use Rattle.cutter.proofs.bearing.has_char.Statement.{statement}
-use Rattle.cutter.proofs.bearing.has_char.Tie as tie
+use Rattle.bearing.proofs.bearing.has_char.Statement.{statement}
+use Rattle.bearing.proofs.bearing.has_char.Tie as tie
 
 abbrev Inv-loop : tie.InvT-loop
 Inv-loop string character i₀ i =

@@ -1,0 +1,2 @@
+// Whether a key bears on a string.
+pub mod bearing;
