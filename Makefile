@@ -36,9 +36,10 @@ run: lookup examples
 test:
 	@.ci/run
 
-## bench: prove the library, and time it beside the same algorithms in plain Rust
+## bench: prove the library, and time it beside the same algorithms in plain Rust, and SQLite
 bench: lib
 	$(CARGO) bench --locked --bench speed
+	$(CARGO) bench --locked --bench sqlite
 
 ## soak: prove the library, and compare a million random calls with the definitions
 soak: lib
