@@ -38,6 +38,21 @@ fn has_char(string: &[u16], character: u16) -> bool
     false
 }
 
+// The first place from `from` on at which the string has a character, or its length.
+fn next_place(string: &[u16], character: u16, from: usize) -> usize
+    requires { ⌜ from ≤ length (now string) ⌝ }
+    ensures { λ r. ⌜ (from ≤ r) × (r ≤ length (now (string .entry))) × ((j : ℕ) → j < r → from ≤ j → getD (now (string .entry)) j 0 ≡ character → ⊥) ⌝ }
+{
+    let mut i = from;
+    while i < string.len() {
+        if string[i] == character {
+            return i;
+        }
+        i += 1;
+    }
+    i
+}
+
 // Whether a key bears on the string, where it agrees at no offset at which it does not start after the string's front.
 fn agrees_within(key: &[u16], string: &[u16]) -> bool
     requires { ⌜ (1 ≤ length (now key)) × (length (now key) ≤ 32) × (1 ≤ length (now string)) × (length (now string) ≤ 256) × Walking (now key) (now string) (length (now key)) ⌝ }
@@ -45,15 +60,12 @@ fn agrees_within(key: &[u16], string: &[u16]) -> bool
 {
     let last = key.len() - 1;
     let first = key[0];
-    let mut i = 1;
+    let mut i = next_place(string, first, 1);
     while i < string.len() {
-        let at = i;
-        i += 1;
-        if string[at] == first {
-            if agrees_from_starts(key, string, last, last + at) {
-                return true;
-            }
+        if agrees_from_starts(key, string, last, last + i) {
+            return true;
         }
+        i = next_place(string, first, i + 1);
     }
     false
 }
