@@ -12,7 +12,7 @@ use std::fmt::Debug;
 use std::hint::black_box;
 
 use crate::adversary::{self, Adversary};
-use crate::race::{print_row, race};
+use crate::race::{Race, print_row, race};
 use crate::sheets::{Case, Sheets};
 
 /// Prints the rows of an operation on whole sheets: each size, then the
@@ -48,13 +48,23 @@ struct Row<'a, I> {
 }
 
 impl<I> Row<'_, I> {
-    /// Prints the row, and answers the cost of a character in nanoseconds. Both
-    /// programs accept every input, answer the same and write the same.
+    /// Prints the row, and answers the cost of a character in nanoseconds.
     fn print<T: Debug + PartialEq>(
         self,
         proved: impl Fn(&I, &mut Room) -> Result<T, u32>,
         plain: impl Fn(&I, &mut Room) -> Result<T, u32>,
     ) -> f64 {
+        let chars = self.chars as f64;
+        self.print_times(proved, plain).proved / chars
+    }
+
+    /// Prints the row, and answers its times. Both programs accept every input,
+    /// answer the same and write the same.
+    fn print_times<T: Debug + PartialEq>(
+        self,
+        proved: impl Fn(&I, &mut Room) -> Result<T, u32>,
+        plain: impl Fn(&I, &mut Room) -> Result<T, u32>,
+    ) -> Race {
         let name = self.name;
         let mut plain_room = self.room.clone();
         let mut room = self.room;
@@ -84,6 +94,6 @@ impl<I> Row<'_, I> {
             self.chars,
             self.ordinary,
         );
-        times.proved / self.chars as f64
+        times
     }
 }

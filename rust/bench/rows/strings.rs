@@ -1,13 +1,16 @@
-//! The rows of an operation on an index and a string, with admission and
-//! readability: the whole call. Strings are cut from the texts; over the
+//! The rows of an operation on an index and a string: the whole call with
+//! admission and readability, and what it takes beyond these. Strings are cut from the texts; over the
 //! adversarial ones they are of 256 characters, and for some of them short ones
 //! too.
+
+use std::hint::black_box;
 
 use mopekihua::Refusal;
 
 use super::{Room, Row};
 use crate::adversary::{self, Adversary};
 use crate::plain::Query;
+use crate::race::{Race, print_row, race};
 use crate::sheets::{Case, Search, Sheets};
 
 /// An operation of the library.
@@ -75,7 +78,8 @@ impl Operation {
                 work: Vec::new(),
             },
         };
-        let cost = row.print(
+        let chars = row.chars;
+        let whole = row.print_times(
             |search, room| {
                 let query = query(case, &indexes, search);
                 let (index, string) = (query.index, query.string);
@@ -84,8 +88,58 @@ impl Operation {
             },
             |search, room| (self.plain)(query(case, &indexes, search), &mut room.output),
         );
+        if ordinary.is_none() {
+            self.print_tested(case, &indexes, &searches, chars, whole);
+        }
         (self.beside)(case, &searches);
-        cost
+        whole.proved / chars as f64
+    }
+
+    /// Prints what the calls take beyond their tests of dictionary and index:
+    /// the time of the same calls with an empty string, which end after these,
+    /// is taken off.
+    fn print_tested(
+        &self,
+        case: &Case,
+        indexes: &[Vec<u16>],
+        searches: &[Search],
+        chars: usize,
+        whole: Race,
+    ) {
+        let tests = race(
+            || {
+                for search in black_box(searches) {
+                    let Query {
+                        chars,
+                        lengths,
+                        index,
+                        ..
+                    } = query(case, indexes, search);
+                    let answer = (self.proved)(chars, lengths, index, &[], &mut []);
+                    assert_eq!(black_box(answer), Err(Refusal::StringLengthWrong));
+                }
+            },
+            || {
+                for search in black_box(searches) {
+                    let query = Query {
+                        string: &[],
+                        ..query(case, indexes, search)
+                    };
+                    assert_eq!(black_box((self.plain)(query, &mut [])), Err(6));
+                }
+            },
+        );
+        let rest = Race {
+            proved: whole.proved - tests.proved,
+            plain: whole.plain - tests.plain,
+        };
+        print_row(
+            "    index already tested",
+            rest,
+            searches.len(),
+            chars,
+            None,
+        );
     }
 }
 
