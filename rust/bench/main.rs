@@ -29,6 +29,7 @@ type Print = fn(&Sheets);
 const OPERATIONS: &[(&str, Print)] = &[
     ("admission", rows::admission::print),
     ("build", rows::building::print),
+    ("readability", rows::tally::print_readability),
     ("tally", rows::tally::print),
     ("receive", rows::reception::print_receive),
     ("recover", rows::reception::print_recover),

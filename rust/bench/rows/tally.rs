@@ -1,29 +1,55 @@
-//! Readability and the tally, with admission: the whole call. The indexes are
-//! those of the sheets, and of the adversarial texts.
+//! Readability and the tally, with admission. The indexes are those of the
+//! sheets, and of the adversarial texts.
+
+use mopekihua::Refusal;
 
 use super::{Room, Row, print_sheets};
 use crate::plain;
 use crate::sheets::{Case, Sheets};
 
-pub fn print(sheets: &Sheets) {
-    print_sheets(sheets, print_case);
+/// Readability has no call of its own: a search for an empty string ends after
+/// the tests of dictionary and index.
+pub fn print_readability(sheets: &Sheets) {
+    print_sheets(sheets, |name, case, ordinary| {
+        let Case { chars, lengths, .. } = case;
+        row(name, case, &case.indexes(), ordinary).print(
+            |index, _| {
+                let answer = mopekihua::search_into(chars, lengths, index, &[], &mut []);
+                match answer {
+                    Err(Refusal::StringLengthWrong) => Ok(()),
+                    other => other.map(drop).map_err(Refusal::number),
+                }
+            },
+            |index, _| plain::reading::admit_index(chars, lengths, index),
+        )
+    });
 }
 
-fn print_case(name: &str, case: &Case, ordinary: Option<f64>) -> f64 {
-    let Case { chars, lengths, .. } = case;
-    let row = Row {
+pub fn print(sheets: &Sheets) {
+    print_sheets(sheets, |name, case, ordinary| {
+        let Case { chars, lengths, .. } = case;
+        row(name, case, &case.indexes(), ordinary).print(
+            |index, _| {
+                mopekihua::tally(chars, lengths, index)
+                    .map(|tally| (tally.by_length, tally.count))
+                    .map_err(Refusal::number)
+            },
+            |index, _| plain::reading::tally(chars, lengths, index),
+        )
+    });
+}
+
+fn row<'a>(
+    name: &'a str,
+    case: &Case,
+    inputs: &'a [Vec<u16>],
+    ordinary: Option<f64>,
+) -> Row<'a, Vec<u16>> {
+    Row {
         name,
-        inputs: &case.indexes(),
+        inputs,
         chars: case.chars_in_texts(),
         ordinary,
         room: Room::default(),
-    };
-    row.print(
-        |index, _| {
-            mopekihua::tally(chars, lengths, index)
-                .map(|tally| (tally.by_length, tally.count))
-                .map_err(mopekihua::Refusal::number)
-        },
-        |index, _| plain::reading::tally(chars, lengths, index),
-    )
+    }
 }
