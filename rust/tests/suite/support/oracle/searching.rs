@@ -49,7 +49,7 @@ fn is_found(laid: usize, string: &[u16], entries: &[(usize, Vec<u16>)]) -> bool 
 
 /// The positions at which a string stands in a text.
 pub fn places_in_text(text: &[u16], string: &[u16]) -> Vec<u16> {
-    let windows = text.windows(string.len()).zip(1..);
+    let windows = text.windows(string.len()).zip(1..=u16::MAX);
     windows
         .filter(|(window, _)| *window == string)
         .map(|(_, position)| position)
