@@ -7,6 +7,8 @@ use Prim.Native.Nat.{ℕ, suc, _+_, _-_, _≤_, _<_}
 use native.Mathlib.Omega.{arith}
 use lib.ListN.{length, getD}
 use Rattle.spec.specs.Dictionary.{lexicon, ascend}
+use Rattle.laws.specs.Halving.{Rising}
+use Rattle.laws.specs.Halving as halving
 use Rattle.laws.specs.Lexicon.{admitted-ascend}
 use Rattle.laws.specs.WordTable.{word, start-of, Started, many-words, word-long, word-short, word-room, word-char}
 use Rattle.laws.specs.WordRuns.{Last-standing, Narrowed, Cut-at, narrow-hit, narrow-longer, narrow-rises, narrow-stop, narrow-step}
@@ -22,32 +24,21 @@ pub record Column (cs ss : List ℕ) (lo hi d : ℕ) : Type 0 where
   pub rises : (i j : ℕ) → lo ≤ i → i ≤ j → j < hi → column cs ss d i ≤ column cs ss d j
 
 -- r is the first of them that is not below c
-pub record Cut (cs ss : List ℕ) (lo hi d c r : ℕ) : Type 0 where
-  pub from : lo ≤ r
-  pub to : r ≤ hi
-  pub below : (i : ℕ) → lo ≤ i → i < r → column cs ss d i < c
-  pub above : (i : ℕ) → r ≤ i → i < hi → c ≤ column cs ss d i
+abbrev pub Cut : (cs ss : List ℕ) (lo hi d c r : ℕ) → Type 0
+Cut cs ss lo hi d c r = halving.Cut (column cs ss d) lo hi c r
 
 -- BINARY SEARCH
 
 -- it is not before a and not after b
-pub record Halved (cs ss : List ℕ) (lo hi d c a b : ℕ) : Type 0 where
-  pub from : lo ≤ a
-  pub order : a ≤ b
-  pub to : b ≤ hi
-  pub below : (i : ℕ) → lo ≤ i → i < a → column cs ss d i < c
-  pub above : (i : ℕ) → b ≤ i → i < hi → c ≤ column cs ss d i
+abbrev pub Halved : (cs ss : List ℕ) (lo hi d c a b : ℕ) → Type 0
+Halved cs ss lo hi d c a b = halving.Halved (column cs ss d) lo hi c a b
 
 module _ (cs ss : List ℕ) (lo hi d c : ℕ) (h : Column cs ss lo hi d) where
+  rising : Rising (column cs ss d) lo hi
+  rising = record { order = h .order; rises = h .rises }
+
   pub halved-start : Halved cs ss lo hi d c lo hi
-  halved-start =
-      record {
-        from = omega arith;
-        order = h .order;
-        to = omega arith;
-        below = λ i a b. absurd (omega arith);
-        above = λ i a b. absurd (omega arith);
-      }
+  halved-start = halving.halved-start (column cs ss d) lo hi rising c
 
   -- the first is not below c already
   pub cut-first : lo < hi → c ≤ column cs ss d lo → Cut cs ss lo hi d c lo
@@ -71,34 +62,14 @@ module _ (cs ss : List ℕ) (lo hi d c : ℕ) (h : Column cs ss lo hi d) where
 
   module _ (a b : ℕ) (s : Halved cs ss lo hi d c a b) where
     pub halved-end : b ≤ a → Cut cs ss lo hi d c a
-    halved-end done =
-        record {
-          from = s .from;
-          to = omega (arith, s .order, s .to);
-          below = s .below;
-          above = λ i l r. s .above i (omega (arith, s .order)) r;
-        }
+    halved-end = halving.halved-end (column cs ss d) lo hi rising c a b s
 
     module _ (m : ℕ) (l : a ≤ m) (r : m < b) where
       pub halved-up : column cs ss d m < c → Halved cs ss lo hi d c (m + 1) b
-      halved-up q =
-          record {
-            from = omega (arith, s .from);
-            order = omega arith;
-            to = s .to;
-            below = λ i x y. omega (arith, h .rises i m x (omega arith) (omega (arith, s .to)));
-            above = s .above;
-          }
+      halved-up = halving.halved-up (column cs ss d) lo hi rising c a b s m l r
 
       pub halved-down : c ≤ column cs ss d m → Halved cs ss lo hi d c a m
-      halved-down q =
-          record {
-            from = s .from;
-            order = l;
-            to = omega (arith, s .to);
-            below = s .below;
-            above = λ i x y. omega (arith, h .rises m i (omega (arith, s .from)) x y);
-          }
+      halved-down = halving.halved-down (column cs ss d) lo hi rising c a b s m l r
 
 -- a part of the run has its column
 pub column-part : (cs ss : List ℕ) (lo hi d r : ℕ) → Column cs ss lo hi d → lo ≤ r → r ≤ hi → Column cs ss r hi d

@@ -1,11 +1,11 @@
 -- The pass over one position list: each entry at the offset raises the reach of its start. Assumes nothing.
-use mathlib.Core.Path.{_≡_, refl, sym}
+use mathlib.Core.Path.{_≡_, refl, sym, ap, _∙_}
 use mathlib.Core.List.{List}
 use Prim.Native.Nat.{ℕ, _+_, _-_, _≤_, _<_, max}
 use native.Mathlib.Omega.{arith}
 use lib.ListN.{length, getD, drop, set, length-set}
 use Rattle.laws.specs.Window.{Within, within-more, within-set, Reaches, Midway, midway-start, midway-step, midway-end}
-use Rattle.laws.specs.WindowSearch.{raise-all, places-all, raise-before, raise-after, raise-far, raise-less, raise-here, places-none, places-next}
+use Rattle.laws.specs.WindowSearch.{raise-all, places-all, raise-before, raise-after, raise-far, raise-near, places-none, places-next}
 
 -- a key of this length shares a place with the string at the offset, and the numbers that the pass computes are small
 pub record Offset-fits (long i o q : ℕ) : Type 0 where
@@ -34,17 +34,21 @@ module _ (bs : List ℕ) (l i o q : ℕ) (old : List ℕ) (most : ℕ) (rs : Lis
       midway-end (places-all i o l q (drop j bs)) (places-all i o l q bs old) old rs top (h .way) (places-none i o l q bs j past rs)
 
   module _ (some : j < length bs) where
-    -- the jth position changes nothing
-    pass : raise-all i o l q (getD bs j 0) rs ≡ rs → Marking bs l i o q old most rs top (j + 1)
-    pass same =
+    step :
+        (now : List ℕ) (peak : ℕ) → length now ≡ length rs → Reaches (raise-all i o l q (getD bs j 0) rs) now peak →
+        peak ≤ max most (o + l - i) → Marking bs l i o q old most now peak (j + 1)
+    step now peak kept r small =
         record {
           within = omega arith;
           way =
               midway-step (places-all i o l q (drop j bs)) (places-all i o l q (drop (j + 1) bs)) (places-all i o l q bs old) old rs
-              rs top top (raise-all i o l q (getD bs j 0) rs) (h .way) (places-next i o l q bs j some rs) refl
-              (record { is = sym same; bounded = h .way .bounded });
-          top-small = h .top-small;
+              now top peak (raise-all i o l q (getD bs j 0) rs) (h .way) (places-next i o l q bs j some rs) kept r;
+          top-small = small;
         }
+
+    -- the jth position changes nothing
+    pass : raise-all i o l q (getD bs j 0) rs ≡ rs → Marking bs l i o q old most rs top (j + 1)
+    pass same = step rs top refl (record { is = sym same; bounded = h .way .bounded }) (h .top-small)
 
     pub marking-before : getD bs j 0 + i < q + o → Marking bs l i o q old most rs top (j + 1)
     marking-before early = pass (raise-before i o l q (getD bs j 0) rs early)
@@ -57,27 +61,17 @@ module _ (bs : List ℕ) (l i o q : ℕ) (old : List ℕ) (most : ℕ) (rs : Lis
         pub marking-far : getD rs (getD bs j 0 + i - (q + o)) 0 < o → Marking bs l i o q old most rs top (j + 1)
         marking-far far = pass (raise-far i o l q (getD bs j 0) rs lo inside far)
 
-        module _ (near : o ≤ getD rs (getD bs j 0 + i - (q + o)) 0) where
-          pub marking-less :
-              o + l - i ≤ getD rs (getD bs j 0 + i - (q + o)) 0 → Marking bs l i o q old most rs top (j + 1)
-          marking-less less = pass (raise-less i o l q (getD bs j 0) rs lo inside near less)
-
-          pub marking-raised :
-              getD rs (getD bs j 0 + i - (q + o)) 0 < o + l - i → (peak : ℕ) → peak ≡ max most (o + l - i) →
-              Marking bs l i o q old most (set rs (getD bs j 0 + i - (q + o)) (o + l - i)) peak (j + 1)
-          marking-raised gain peak is =
-              record {
-                within = omega arith;
-                way =
-                    midway-step (places-all i o l q (drop j bs)) (places-all i o l q (drop (j + 1) bs))
-                    (places-all i o l q bs old) old rs (set rs (getD bs j 0 + i - (q + o)) (o + l - i)) top peak
-                    (raise-all i o l q (getD bs j 0) rs) (h .way) (places-next i o l q bs j some rs)
-                    (length-set rs (getD bs j 0 + i - (q + o)) (o + l - i))
-                    (record {
-                      is = sym (raise-here i o l q (getD bs j 0) rs lo inside near gain);
-                      bounded =
-                          within-set peak rs (getD bs j 0 + i - (q + o)) (o + l - i) (omega arith)
-                          (within-more top peak rs (omega (arith, h .top-small)) (h .way .bounded));
-                    });
-                top-small = omega arith;
-              }
+        pub marking-near :
+            o ≤ getD rs (getD bs j 0 + i - (q + o)) 0 → (next peak : ℕ) →
+            next ≡ max (getD rs (getD bs j 0 + i - (q + o)) 0) (o + l - i) → peak ≡ max most (o + l - i) →
+            Marking bs l i o q old most (set rs (getD bs j 0 + i - (q + o)) next) peak (j + 1)
+        marking-near near next peak is greatest =
+            step (set rs (getD bs j 0 + i - (q + o)) next) peak (length-set rs (getD bs j 0 + i - (q + o)) next)
+            (record {
+              is = ap (set rs (getD bs j 0 + i - (q + o))) is ∙ sym (raise-near i o l q (getD bs j 0) rs lo inside near);
+              bounded =
+                  within-set peak rs (getD bs j 0 + i - (q + o)) next
+                  (omega (arith, h .top-small, h .way .bounded (getD bs j 0 + i - (q + o)) inside))
+                  (within-more top peak rs (omega (arith, h .top-small)) (h .way .bounded));
+            })
+            (omega arith)

@@ -1,7 +1,7 @@
 -- The directory lines of an accepted index in order: words first, then lone characters, each part rising; and which of the lone
 -- characters can agree at an offset. Assumes nothing.
-use mathlib.Core.Path.{_≡_, refl, sym, ap, _∙_}
-use mathlib.Core.Bool.{true, false}
+use mathlib.Core.Path.{_≡_, sym, ap, _∙_}
+use mathlib.Core.Bool.{true}
 use mathlib.Core.Logic.{_⊎_, ⊎-elim}
 use mathlib.Core.List.{List, [], _∷_}
 use Prim.Native.Nat.{ℕ, zero, suc, _+_, _*_, _≤_, _<_}
@@ -10,7 +10,6 @@ use native.Mathlib.Omega.{arith}
 use lib.ListN.{length, getD, drop}
 use lib.Seq.{drop-nil}
 use Rattle.basics.specs.Bools.{false-put, le-or-lt}
-use Rattle.basics.specs.Member.{In}
 use Rattle.spec.specs.Dictionary.{lexicon, word-before}
 use Rattle.spec.specs.Words.{key, spells}
 use Rattle.spec.specs.Numbers.{Line, line, key-before}
@@ -26,7 +25,7 @@ use Rattle.laws.specs.Opened.{line-of, lines-next}
 use Rattle.laws.specs.Tables.{Can-read, key-is, word-below, in-front-of}
 use Rattle.laws.specs.Halving.{Rising, Cut}
 use Rattle.laws.specs.Window.{Within, Reaches}
-use Rattle.laws.specs.Ranging.{run, run-skip, run-still, Still, stage-at, stage-apart}
+use Rattle.laws.specs.Ranging.{run, run-one, run-skip, run-still, Still, stage-at, stage-apart}
 
 -- KEYS RISE
 
@@ -147,12 +146,13 @@ module _ (cs ls xs : List ℕ) (can : Can-read cs ls xs) where
         -- the character has a line, and that alone can agree
         pub lone-found :
             r < keys-of xs → value-at xs r ≡ c → (old now : List ℕ) (most : ℕ) →
-            Reaches (run (stage-at o (lexicon cs ls) xs s q) r (r + 1) old) now most →
+            Reaches (stage-at o (lexicon cs ls) xs s q r old) now most →
             Reaches (run (stage-at o (lexicon cs ls) xs s q) w (keys-of xs) old) now most
         lone-found some e old now most done =
             record {
               is =
                   done .is
+                  ∙ sym (run-one (stage-at o (lexicon cs ls) xs s q) r old)
                   ∙ sym
                   (run-skip (stage-at o (lexicon cs ls) xs s q) w r (r + 1) (keys-of xs) (cut .from) (omega arith) (omega arith) before
                   after old);

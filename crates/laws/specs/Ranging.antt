@@ -108,12 +108,6 @@ module _ (f : ℕ → List ℕ → List ℕ) (a b : ℕ) (old : List ℕ) where
     left-step some now most kept r =
         midway-step (run f lo hi) (run f (lo + 1) hi) (run f a b old) old rs now top most (f lo rs) h (run-next f lo hi some rs) kept r
 
-    pub left-front :
-        lo < hi → (now : List ℕ) (most : ℕ) → length now ≡ length rs → Reaches (run f lo (lo + 1) rs) now most →
-        Left f a b old now most (lo + 1) hi
-    left-front some now most kept r =
-        left-step some now most kept (record { is = r .is ∙ run-one f lo rs; bounded = r .bounded })
-
     -- those at both ends passed over
     pub left-narrow : (r t : ℕ) → lo ≤ r → r ≤ t → t ≤ hi → Still f lo r → Still f t hi → Left f a b old rs top r t
     left-narrow r t p q s front back =

@@ -41,8 +41,8 @@ stage-all o lex ls s q = raised (λ p r. reach-stage o lex ls s p r) q
 unfoldable pub stages-all : (left o : ℕ) → Lexicon → List Line → (string : List ℕ) → (first : ℕ) → (reaches : List ℕ) → List ℕ
 stages-all n o lex ls s q = raised (λ p r. reach-stages n o lex ls s p r) q
 
--- ONE POSITION b OF A KEY'S LIST: it is a start's own at most once, and is passed over where it is no start of the window, where
--- that start is not reached so far, or where nothing is gained
+-- ONE POSITION b OF A KEY'S LIST: it is a start's own at most once, and is passed over where it is no start of the window, or where
+-- that start is not reached so far
 
 module _ (i o l q b : ℕ) (rs : List ℕ) where
   elsewhere : (j : ℕ) → (b + i ≡ q + j + o → ⊥) → raise i o l (q + j) b (getD rs j 0) ≡ getD rs j 0
@@ -60,35 +60,28 @@ module _ (i o l q b : ℕ) (rs : List ℕ) where
       raised-same (λ p r. raise i o l p b r) q rs (λ j w. elsewhere j (λ (e : b + i ≡ q + j + o). omega arith))
 
   module _ (lo : q + o ≤ b + i) (within : b + i - (q + o) < length rs) where
-    place : ℕ
-    place = b + i - (q + o)
-
     -- at its own start
-    here : (v : ℕ) → cond (leb o (getD rs place 0)) (max (getD rs place 0) ((o + l) - i)) (getD rs place 0) ≡ v →
-        raise-all i o l q b rs ≡ set rs place v
-    unfolding raise-all raise place
+    here :
+        (v : ℕ) →
+        cond (leb o (getD rs (b + i - (q + o)) 0)) (max (getD rs (b + i - (q + o)) 0) ((o + l) - i)) (getD rs (b + i - (q + o)) 0) ≡ v →
+        raise-all i o l q b rs ≡ set rs (b + i - (q + o)) v
+    unfolding raise-all raise
     here v e =
         raised-one (λ p r. raise i o l p b r) q rs (b + i - (q + o)) v within
         (rw (eq-eqb (b + i) (q + (b + i - (q + o)) + o) (omega arith)) e)
         (λ j w other. elsewhere j (λ (z : b + i ≡ q + j + o). other (omega arith)))
 
+    -- which is not reached so far
     pub raise-far : getD rs (b + i - (q + o)) 0 < o → raise-all i o l q b rs ≡ rs
-    unfolding place
     raise-far far =
         here (getD rs (b + i - (q + o)) 0) (rw (lt-leb o (getD rs (b + i - (q + o)) 0) far)) ∙ set-getD rs (b + i - (q + o)) 0
 
-    pub raise-less : o ≤ getD rs (b + i - (q + o)) 0 → (o + l) - i ≤ getD rs (b + i - (q + o)) 0 → raise-all i o l q b rs ≡ rs
-    unfolding place
-    raise-less near gained =
-        here (getD rs (b + i - (q + o)) 0) (rw (le-leb o (getD rs (b + i - (q + o)) 0) near) (omega arith))
-        ∙ set-getD rs (b + i - (q + o)) 0
-
-    pub raise-here :
-        o ≤ getD rs (b + i - (q + o)) 0 → getD rs (b + i - (q + o)) 0 < (o + l) - i →
-        raise-all i o l q b rs ≡ set rs (b + i - (q + o)) ((o + l) - i)
-    unfolding place
-    raise-here near gain =
-        here ((o + l) - i) (rw (le-leb o (getD rs (b + i - (q + o)) 0) near) (omega arith))
+    -- or is
+    pub raise-near :
+        o ≤ getD rs (b + i - (q + o)) 0 →
+        raise-all i o l q b rs ≡ set rs (b + i - (q + o)) (max (getD rs (b + i - (q + o)) 0) ((o + l) - i))
+    raise-near near =
+        here (max (getD rs (b + i - (q + o)) 0) ((o + l) - i)) (rw (le-leb o (getD rs (b + i - (q + o)) 0) near))
 
 -- THE POSITIONS OF A KEY, from the jth on
 

@@ -1,17 +1,17 @@
 -- Lines of words narrowed character by character to those that share what the string has from an offset on: the others do not agree
 -- there. Assumes nothing.
-use mathlib.Core.Path.{_≡_, refl, sym, ap, _∙_}
-use mathlib.Core.Bool.{true, false}
+use mathlib.Core.Path.{_≡_, sym, ap, _∙_}
+use mathlib.Core.Bool.{false}
 use mathlib.Core.Logic.{⊎-elim}
-use mathlib.Core.List.{List, [], _∷_}
-use Prim.Native.Nat.{ℕ, suc, _+_, _*_, _-_, _≤_, _<_}
+use mathlib.Core.List.{List}
+use Prim.Native.Nat.{ℕ, _+_, _*_, _-_, _≤_, _<_}
 use native.Mathlib.Omega.{arith}
 use lib.ListN.{length, getD, take, drop, length-drop}
 use lib.Seq.{getD-take, getD-drop, length-take-le}
 use Rattle.basics.specs.Bools.{false-put, le-or-lt}
 use Rattle.spec.specs.Dictionary.{lexicon}
 use Rattle.spec.specs.Words.{spells}
-use Rattle.spec.specs.Index.{header, keys-of, kind-at, value-at, key-at}
+use Rattle.spec.specs.Index.{header, keys-of, value-at, key-at}
 use Rattle.spec.specs.Search.{agrees}
 use Rattle.laws.specs.Agree.{Agree, agrees-get}
 use Rattle.laws.specs.WordRuns.{prefix-not-before, next-rises}

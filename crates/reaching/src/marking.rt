@@ -43,10 +43,8 @@ fn mark(
             if p < reach.len() {
                 let reached = reach[p] as usize;
                 if key_start <= reached {
-                    if reached < end {
-                        reach[p] = end as u16;
-                        top = peak;
-                    }
+                    reach[p] = greater(reached, end) as u16;
+                    top = peak;
                 }
             }
         }

@@ -2,8 +2,8 @@
 use mathlib.Core.Path.{refl}
 use native.Mathlib.Omega.{arith}
 use lib.ListN.{getD}
-use Rattle.laws.specs.Narrowing.{lone-rise, lone-found, lone-none}
 use borrow.Author.Needs.{needs}
+use Rattle.laws.specs.Narrowing.{lone-rise, lone-found, lone-none}
 use Rattle.reaching.proofs.lines.raise_lone.Statement.{statement}
 use Rattle.reaching.proofs.lines.raise_lone.Tie as tie
 
@@ -42,11 +42,10 @@ mul-if2-2 c = search needs
 shared-slice-read-if2 : tie.Need-shared-slice-read-if2
 shared-slice-read-if2 c = search needs
 
-add-raise-lines : tie.Need-add-raise-lines
-add-raise-lines c = search needs
-
-raise-lines-requires : tie.Need-raise-lines-requires
-raise-lines-requires c κs = search needs
+raise-line-requires : tie.Need-raise-line-requires
+raise-line-requires c κs =
+    let s = c .before .before .before .before .before .before .before .before .before .before .before .before .before .before in
+    (s .pre .0, omega (arith, s .pre .2, s .pre .3), c .before .before .before .if1 .taken, s .pre .4, s .pre .5)
 
 same-length : tie.Need-same-length
 same-length c = search needs
@@ -57,7 +56,7 @@ returns c =
     let a = s .args in
     lone-found (a .chars .now) (a .lengths .now) (a .index .now) (s .pre .0 .can) (a .ends) (s .pre .1) (a .string .now) (a .key-start)
     (getD (a .string .now) (a .key-start) 0) refl (a .first) (c .before .before .before .before .before .before .before .first-line .result) (c .before .before .before .before .before .before .before .first-line .ensures) (c .before .before .before .before .before .before .if1 .taken) (c .before .before .before .before .if2 .taken)
-    (a .reach .now) (c .before .before .raise-lines .last .1 .1 .1 .1 .1 .1 .1 .1 .1 .1 .0) (c .before .before .raise-lines .result) (c .before .before .raise-lines .ensures)
+    (a .reach .now) (c .before .before .raise-line .last .1 .1 .1 .1 .1 .1 .1 .1 .1 .0) (c .before .before .raise-line .result) (c .before .before .raise-line .ensures)
 
 returns-2 : tie.Need-returns-2
 returns-2 c =
@@ -90,8 +89,7 @@ raise-lone-spec =
     add-if2-2
     mul-if2-2
     shared-slice-read-if2
-    add-raise-lines
-    raise-lines-requires
+    raise-line-requires
     same-length
     returns
     returns-2

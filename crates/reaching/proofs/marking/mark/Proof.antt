@@ -4,7 +4,7 @@ use Prim.Native.Nat.{_+_, _-_}
 use native.Mathlib.Omega.{arith}
 use borrow.Author.Needs.{needs}
 use lib.ListN.{length, getD}
-use Rattle.laws.specs.Marking.{Marking, marking-start, marking-end, marking-before, marking-after, marking-far, marking-less, marking-raised}
+use Rattle.laws.specs.Marking.{Marking, marking-start, marking-end, marking-before, marking-after, marking-far, marking-near}
 use Rattle.reaching.proofs.marking.mark.Statement.{statement}
 use Rattle.reaching.proofs.marking.mark.Tie as tie
 
@@ -29,9 +29,9 @@ add-from c = search needs
 
 loop-holds : tie.Need-loop-holds Inv-loop μ-loop
 loop-holds c =
-    let a = c .before .before .before .args in
-    marking-start (a .places .now) (a .long) (a .string-start) (a .key-start) (a .first) (a .reach .now) (a .most)
-    (c .before .before .before .pre .1)
+    let s = c .before .before .before in
+    let a = s .args in
+    marking-start (a .places .now) (a .long) (a .string-start) (a .key-start) (a .first) (a .reach .now) (a .most) (s .pre .1)
 
 mul-at : tie.Need-mul-at Inv-loop μ-loop
 mul-at c = search needs
@@ -52,7 +52,7 @@ mul-reached : tie.Need-mul-reached Inv-loop μ-loop
 mul-reached c = search needs
 
 slice-read-reached : tie.Need-slice-read-reached Inv-loop μ-loop
-slice-read-reached c = search needs
+slice-read-reached c = c .before .if2 .taken
 
 cast-reached : tie.Need-cast-reached Inv-loop μ-loop
 cast-reached c =
@@ -60,14 +60,20 @@ cast-reached c =
     let l = c .before .before .before .before .before .loop in
     omega (arith, c .slice-known2 .given (getD (a .places .now) (l .i) 0 + a .string-start - (a .first + a .key-start)))
 
+greater-requires-2 : tie.Need-greater-requires-2 Inv-loop μ-loop
+greater-requires-2 c κs = search needs
+
 cast-reach : tie.Need-cast-reach Inv-loop μ-loop
-cast-reach c = search needs
+cast-reach c =
+    let a = c .before .before .before .before .before .before .before .before .before .before .before .args in
+    let l = c .before .before .before .before .before .before .before .loop in
+    omega (arith, c .greater2 .ensures, c .before .before .before .before .before .before .before .before .before .before .before .pre .0 .end-small, c .before .before .slice-known2 .given (getD (a .places .now) (l .i) 0 + a .string-start - (a .first + a .key-start)))
 
 mul-reach : tie.Need-mul-reach Inv-loop μ-loop
 mul-reach c = search needs
 
 slice-write-reach : tie.Need-slice-write-reach Inv-loop μ-loop
-slice-write-reach c = search needs
+slice-write-reach c = c .before .before .before .if2 .taken
 
 loop-less : tie.Need-loop-less Inv-loop μ-loop
 loop-less c = search needs
@@ -76,48 +82,35 @@ loop-again : tie.Need-loop-again Inv-loop μ-loop
 loop-again c =
     let a = c .before .before .before .before .before .before .before .before .before .before .before .args in
     let l = c .before .before .before .before .before .before .before .loop in
-    marking-raised (a .places .now) (a .long) (a .string-start) (a .key-start) (a .first) (a .reach .now) (a .most) (l .reach) (l .top) (l .i)
-    (l .inv) (c .before .before .before .before .before .before .loop-test .taken) (c .before .before .before .before .if1 .taken) (c .before .before .before .if2 .taken) (c .before .if3 .taken) (c .if4 .taken) (c .before .before .before .before .before .before .before .before .greater .result) (c .before .before .before .before .before .before .before .before .greater .ensures)
+    marking-near (a .places .now) (a .long) (a .string-start) (a .key-start) (a .first) (a .reach .now) (a .most) (l .reach) (l .top) (l .i) (l .inv) (c .before .before .before .before .before .before .loop-test .taken) (c .before .before .before .before .if1 .taken) (c .before .before .before .if2 .taken) (omega (arith, c .before .if3 .taken))
+    (c .greater2 .result) (c .before .before .before .before .before .before .before .before .greater .result) (c .greater2 .ensures) (c .before .before .before .before .before .before .before .before .greater .ensures)
 
 loop-less-2 : tie.Need-loop-less-2 Inv-loop μ-loop
 loop-less-2 c = search needs
 
 loop-again-2 : tie.Need-loop-again-2 Inv-loop μ-loop
 loop-again-2 c =
-    let a = c .before .before .before .before .before .before .before .before .before .before .before .args in
-    let l = c .before .before .before .before .before .before .before .loop in
-    marking-less (a .places .now) (a .long) (a .string-start) (a .key-start) (a .first) (a .reach .now) (a .most) (l .reach) (l .top) (l .i)
-    (l .inv) (c .before .before .before .before .before .before .loop-test .taken) (c .before .before .before .before .if1 .taken) (c .before .before .before .if2 .taken) (c .before .if3 .taken) (c .if4 .left)
+    let a = c .before .before .before .before .before .before .before .before .before .before .args in
+    let l = c .before .before .before .before .before .before .loop in
+    marking-far (a .places .now) (a .long) (a .string-start) (a .key-start) (a .first) (a .reach .now) (a .most) (l .reach) (l .top) (l .i) (l .inv) (c .before .before .before .before .before .loop-test .taken) (c .before .before .before .if1 .taken) (c .before .before .if2 .taken) (omega (arith, c .if3 .left))
 
 loop-less-3 : tie.Need-loop-less-3 Inv-loop μ-loop
 loop-less-3 c = search needs
 
 loop-again-3 : tie.Need-loop-again-3 Inv-loop μ-loop
 loop-again-3 c =
-    let a = c .before .before .before .before .before .before .before .before .before .before .args in
-    let l = c .before .before .before .before .before .before .loop in
-    marking-far (a .places .now) (a .long) (a .string-start) (a .key-start) (a .first) (a .reach .now) (a .most) (l .reach) (l .top) (l .i)
-    (l .inv) (c .before .before .before .before .before .loop-test .taken) (c .before .before .before .if1 .taken) (c .before .before .if2 .taken) (c .if3 .left)
+    let a = c .before .before .before .before .before .before .before .before .args in
+    let l = c .before .before .before .before .loop in
+    marking-after (a .places .now) (a .long) (a .string-start) (a .key-start) (a .first) (a .reach .now) (a .most) (l .reach) (l .top) (l .i) (l .inv) (c .before .before .before .loop-test .taken) (c .before .if1 .taken) (c .if2 .left)
 
 loop-less-4 : tie.Need-loop-less-4 Inv-loop μ-loop
 loop-less-4 c = search needs
 
 loop-again-4 : tie.Need-loop-again-4 Inv-loop μ-loop
 loop-again-4 c =
-    let a = c .before .before .before .before .before .before .before .before .args in
-    let l = c .before .before .before .before .loop in
-    marking-after (a .places .now) (a .long) (a .string-start) (a .key-start) (a .first) (a .reach .now) (a .most) (l .reach) (l .top) (l .i)
-    (l .inv) (c .before .before .before .loop-test .taken) (c .before .if1 .taken) (c .if2 .left)
-
-loop-less-5 : tie.Need-loop-less-5 Inv-loop μ-loop
-loop-less-5 c = search needs
-
-loop-again-5 : tie.Need-loop-again-5 Inv-loop μ-loop
-loop-again-5 c =
     let a = c .before .before .before .before .before .before .before .args in
     let l = c .before .before .before .loop in
-    marking-before (a .places .now) (a .long) (a .string-start) (a .key-start) (a .first) (a .reach .now) (a .most) (l .reach) (l .top) (l .i)
-    (l .inv) (c .before .before .loop-test .taken) (c .if1 .left)
+    marking-before (a .places .now) (a .long) (a .string-start) (a .key-start) (a .first) (a .reach .now) (a .most) (l .reach) (l .top) (l .i) (l .inv) (c .before .before .loop-test .taken) (c .if1 .left)
 
 same-length : tie.Need-same-length Inv-loop μ-loop
 same-length c = c .before .loop .inv .way .long
@@ -126,8 +119,7 @@ returns : tie.Need-returns Inv-loop μ-loop
 returns c =
     let a = c .before .before .before .before .before .args in
     let l = c .before .loop in
-    marking-end (a .places .now) (a .long) (a .string-start) (a .key-start) (a .first) (a .reach .now) (a .most) (l .reach) (l .top) (l .i)
-    (l .inv) (c .loop-test .left)
+    marking-end (a .places .now) (a .long) (a .string-start) (a .key-start) (a .first) (a .reach .now) (a .most) (l .reach) (l .top) (l .i) (l .inv) (c .loop-test .left)
 
 pub mark-spec : {M : Type 1} → statement M
 mark-spec =
@@ -148,6 +140,7 @@ mark-spec =
     mul-reached
     slice-read-reached
     cast-reached
+    greater-requires-2
     cast-reach
     mul-reach
     slice-write-reach
@@ -159,7 +152,5 @@ mark-spec =
     loop-again-3
     loop-less-4
     loop-again-4
-    loop-less-5
-    loop-again-5
     same-length
     returns)

@@ -1,7 +1,6 @@
 -- `raise_stages` meets its contract. The invariant: the stages before `key_start` are done. The measure is how many are left.
 -- Assumes nothing.
 use Prim.Native.Nat.{_-_}
-use native.Mathlib.Omega.{arith}
 use borrow.Author.Needs.{needs}
 use lib.ListN.{length}
 use Rattle.spec.specs.Dictionary.{lexicon}
