@@ -61,9 +61,9 @@ impl Case {
         searches
     }
 
-    /// The number of characters in all texts.
-    pub fn chars_in_texts(&self) -> usize {
-        self.texts.iter().map(Vec::len).sum()
+    /// The length of the longest text.
+    pub fn longest(&self) -> usize {
+        self.texts.iter().map(Vec::len).max().unwrap_or(0)
     }
 }
 

@@ -1,9 +1,10 @@
-//! The cut-down index: a table of the string's characters tells of nearly every
-//! key that it does not bear on the string, the others are laid at each offset;
-//! then the directory and the positions of those that bear.
+//! The cut-down index: words that begin before the string are laid over its
+//! front, keys that begin within it are found in the directory; then the
+//! directory and the positions of those that bear.
 
 use super::Query;
-use super::searching::{agree, word_starts};
+use super::directory::Lines;
+use super::searching::agree;
 
 pub fn cut(query: Query, output: &mut [u16]) -> Result<usize, u32> {
     query.admit()?;
@@ -49,56 +50,23 @@ fn cut_flagged(query: Query, flags: &mut [bool], output: &mut [u16]) -> Result<u
 /// Flags each line whose key bears on the string, and answers how many these are
 /// and how many positions they have.
 fn judge(query: &Query, directory: &[u16], flags: &mut [bool]) -> (usize, usize) {
-    let Query {
-        chars,
-        lengths,
-        string,
-        ..
-    } = *query;
-    let seen = Seen::new(string);
+    let string = query.string;
+    let lines = Lines::new(query.chars, query.lengths, directory);
+    for (line, flag) in flags[..lines.words].iter_mut().enumerate() {
+        *flag = begins_before(lines.word(line), string);
+    }
+    for offset in 0..string.len() {
+        lines.each_that_starts(&string[offset..], |line, _| flags[line] = true);
+    }
     let (mut keys, mut entries) = (0, 0);
-    let starts = word_starts(lengths);
-    for (flag, line) in flags.iter_mut().zip(directory.chunks_exact(3)) {
-        *flag = if line[0] == 0 {
-            let number = usize::from(line[1]);
-            let start = usize::from(starts[number]);
-            let word = &chars[start..start + usize::from(lengths[number])];
-            begins_before(word, string) || seen.has(word[0]) && begins_within(word, string)
-        } else {
-            seen.has(line[1])
-        };
+    for (flag, line) in flags.iter().zip(directory.chunks_exact(3)) {
         keys += usize::from(*flag);
         entries += if *flag { usize::from(line[2]) } else { 0 };
     }
     (keys, entries)
 }
 
-/// Which characters the string has, one bit each.
-struct Seen([u64; 1_024]);
-
-impl Seen {
-    fn new(string: &[u16]) -> Seen {
-        let mut seen = Seen([0; 1_024]);
-        for &character in string {
-            seen.0[usize::from(character / 64)] |= 1 << (character % 64);
-        }
-        seen
-    }
-
-    fn has(&self, character: u16) -> bool {
-        self.0[usize::from(character / 64)] >> (character % 64) & 1 == 1
-    }
-}
-
-/// Whether the word agrees with the string at its front or before it.
+/// Whether the word agrees with the string and begins before it.
 fn begins_before(word: &[u16], string: &[u16]) -> bool {
-    (0..word.len()).any(|back| word[back] == string[0] && agree(&word[back..], string))
-}
-
-/// Whether the word agrees with the string after its front.
-fn begins_within(word: &[u16], string: &[u16]) -> bool {
-    let offsets = 1..string.len();
-    offsets
-        .filter(|&offset| string[offset] == word[0])
-        .any(|offset| agree(word, &string[offset..]))
+    (1..word.len()).any(|back| word[back] == string[0] && agree(&word[back..], string))
 }

@@ -4,7 +4,9 @@
 pub mod admission;
 pub mod building;
 pub mod cutting;
+pub mod directory;
 pub mod matching;
+pub mod painted;
 pub mod reading;
 pub mod reception;
 pub mod searching;

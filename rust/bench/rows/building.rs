@@ -10,17 +10,8 @@ pub fn print(sheets: &Sheets) {
 
 fn print_case(name: &str, case: &Case, ordinary: Option<f64>) -> f64 {
     let Case { chars, lengths, .. } = case;
-    let longest = case.texts.iter().map(Vec::len).max().unwrap_or(0);
-    let row = Row {
-        name,
-        inputs: &case.texts,
-        chars: case.chars_in_texts(),
-        ordinary,
-        room: Room {
-            output: vec![0; mopekihua::index_bound(longest)],
-            work: vec![0; mopekihua::work_needed(longest)],
-        },
-    };
+    let room = Room::new(mopekihua::index_bound(case.longest()), case);
+    let row = Row::of_sheets(name, case, &case.texts, ordinary, room);
     // Each sheet is lent the work space that it asks for, and no more.
     row.print(
         |text, Room { output, work }| {

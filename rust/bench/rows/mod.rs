@@ -35,6 +35,17 @@ struct Room {
     work: Vec<u16>,
 }
 
+impl Room {
+    /// An output of so many numbers, and the work space that the longest sheet
+    /// asks for.
+    fn new(output: usize, case: &Case) -> Room {
+        Room {
+            output: vec![0; output],
+            work: vec![0; mopekihua::work_needed(case.longest())],
+        }
+    }
+}
+
 /// A row to be timed.
 struct Row<'a, I> {
     name: &'a str,
@@ -47,33 +58,31 @@ struct Row<'a, I> {
     room: Room,
 }
 
-impl<I> Row<'_, I> {
+impl<'a, I> Row<'a, I> {
+    /// A row over all sheets of a case.
+    fn of_sheets(
+        name: &'a str,
+        case: &Case,
+        inputs: &'a [I],
+        ordinary: Option<f64>,
+        room: Room,
+    ) -> Row<'a, I> {
+        Row {
+            name,
+            inputs,
+            chars: case.texts.iter().map(Vec::len).sum(),
+            ordinary,
+            room,
+        }
+    }
+
     /// Prints the row, and answers the cost of a character in nanoseconds.
     fn print<T: Debug + PartialEq>(
         self,
         proved: impl Fn(&I, &mut Room) -> Result<T, u32>,
         plain: impl Fn(&I, &mut Room) -> Result<T, u32>,
     ) -> f64 {
-        let chars = self.chars as f64;
-        self.print_times(proved, plain).proved / chars
-    }
-
-    /// Prints the row, and answers its times. Both programs accept every input,
-    /// answer the same and write the same.
-    fn print_times<T: Debug + PartialEq>(
-        self,
-        proved: impl Fn(&I, &mut Room) -> Result<T, u32>,
-        plain: impl Fn(&I, &mut Room) -> Result<T, u32>,
-    ) -> Race {
-        let name = self.name;
-        let mut plain_room = self.room.clone();
-        let mut room = self.room;
-        for input in self.inputs {
-            let answer = proved(input, &mut room);
-            assert!(answer.is_ok(), "{name}");
-            assert_eq!(answer, plain(input, &mut plain_room), "{name}");
-            assert!(room == plain_room, "{name}");
-        }
+        let (mut room, mut plain_room) = self.compare(&proved, &plain);
         let times = race(
             || {
                 for input in black_box(self.inputs) {
@@ -86,14 +95,31 @@ impl<I> Row<'_, I> {
                 }
             },
         );
-        let calls = self.inputs.len();
-        print_row(
-            &format!("  {name}"),
-            times,
-            calls,
-            self.chars,
-            self.ordinary,
-        );
-        times
+        self.print_times(times);
+        times.proved / self.chars as f64
+    }
+
+    /// Sees that both programs accept every input, answer the same and write the
+    /// same. Answers a room for each.
+    fn compare<T: Debug + PartialEq>(
+        &self,
+        proved: impl Fn(&I, &mut Room) -> Result<T, u32>,
+        plain: impl Fn(&I, &mut Room) -> Result<T, u32>,
+    ) -> (Room, Room) {
+        let name = self.name;
+        let mut room = self.room.clone();
+        let mut plain_room = self.room.clone();
+        for input in self.inputs {
+            let answer = proved(input, &mut room);
+            assert!(answer.is_ok(), "{name}");
+            assert_eq!(answer, plain(input, &mut plain_room), "{name}");
+            assert!(room == plain_room, "{name}");
+        }
+        (room, plain_room)
+    }
+
+    fn print_times(&self, times: Race) {
+        let name = format!("  {}", self.name);
+        print_row(&name, times, self.inputs.len(), self.chars, self.ordinary);
     }
 }

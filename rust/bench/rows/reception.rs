@@ -10,7 +10,14 @@ use crate::sheets::{Case, Sheets};
 pub fn print_receive(sheets: &Sheets) {
     print_sheets(sheets, |name, case, ordinary| {
         let Case { chars, lengths, .. } = case;
-        row(name, case, &case.indexes(), ordinary).print(
+        Row::of_sheets(
+            name,
+            case,
+            &case.indexes(),
+            ordinary,
+            Room::new(case.longest(), case),
+        )
+        .print(
             |index, room| {
                 let work = work_for(index, &mut room.work);
                 mopekihua::receive_with(chars, lengths, index, work).map_err(Refusal::number)
@@ -26,7 +33,14 @@ pub fn print_receive(sheets: &Sheets) {
 pub fn print_recover(sheets: &Sheets) {
     print_sheets(sheets, |name, case, ordinary| {
         let Case { chars, lengths, .. } = case;
-        row(name, case, &case.indexes(), ordinary).print(
+        Row::of_sheets(
+            name,
+            case,
+            &case.indexes(),
+            ordinary,
+            Room::new(case.longest(), case),
+        )
+        .print(
             |index, Room { output, work }| {
                 let work = work_for(index, work);
                 mopekihua::recover_into(chars, lengths, index, output, work)
@@ -38,25 +52,6 @@ pub fn print_recover(sheets: &Sheets) {
             },
         )
     });
-}
-
-fn row<'a>(
-    name: &'a str,
-    case: &Case,
-    indexes: &'a [Vec<u16>],
-    ordinary: Option<f64>,
-) -> Row<'a, Vec<u16>> {
-    let longest = case.texts.iter().map(Vec::len).max().unwrap_or(0);
-    Row {
-        name,
-        inputs: indexes,
-        chars: case.chars_in_texts(),
-        ordinary,
-        room: Room {
-            output: vec![0; longest],
-            work: vec![0; mopekihua::work_needed(longest)],
-        },
-    }
 }
 
 /// The work space that the index asks for, and no more.

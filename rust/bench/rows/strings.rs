@@ -1,7 +1,7 @@
 //! The rows of an operation on an index and a string: the whole call with
-//! admission and readability, and what it takes beyond these. Strings are cut from the texts; over the
-//! adversarial ones they are of 256 characters, and for some of them short ones
-//! too.
+//! admission and readability, and what it takes beyond these. Strings are cut
+//! from the texts; over the adversarial ones they are of 256 characters, and for
+//! some of them short ones too.
 
 use std::hint::black_box;
 
@@ -10,7 +10,7 @@ use mopekihua::Refusal;
 use super::{Room, Row};
 use crate::adversary::{self, Adversary};
 use crate::plain::Query;
-use crate::race::{Race, print_row, race};
+use crate::race::{Race, best_of, print_row};
 use crate::sheets::{Case, Search, Sheets};
 
 /// An operation of the library.
@@ -78,68 +78,70 @@ impl Operation {
                 work: Vec::new(),
             },
         };
-        let chars = row.chars;
-        let whole = row.print_times(
-            |search, room| {
-                let query = query(case, &indexes, search);
-                let (index, string) = (query.index, query.string);
-                (self.proved)(query.chars, query.lengths, index, string, &mut room.output)
-                    .map_err(Refusal::number)
+        let proved = |search: &Search, room: &mut Room| {
+            let query = query(case, &indexes, search);
+            let (index, string) = (query.index, query.string);
+            (self.proved)(query.chars, query.lengths, index, string, &mut room.output)
+                .map_err(Refusal::number)
+        };
+        let plain = |search: &Search, room: &mut Room| {
+            (self.plain)(query(case, &indexes, search), &mut room.output)
+        };
+        let (mut room, mut plain_room) = row.compare(proved, plain);
+        let [whole, plain_whole, tests, plain_tests] = best_of([
+            &mut || {
+                for search in black_box(&searches) {
+                    let _ = black_box(proved(search, &mut room));
+                }
             },
-            |search, room| (self.plain)(query(case, &indexes, search), &mut room.output),
-        );
+            &mut || {
+                for search in black_box(&searches) {
+                    let _ = black_box(plain(search, &mut plain_room));
+                }
+            },
+            &mut || self.test(case, &indexes, &searches),
+            &mut || self.test_plainly(case, &indexes, &searches),
+        ]);
+        row.print_times(Race {
+            proved: whole,
+            plain: plain_whole,
+        });
         if ordinary.is_none() {
-            self.print_tested(case, &indexes, &searches, chars, whole);
+            let rest = Race {
+                proved: whole - tests,
+                plain: plain_whole - plain_tests,
+            };
+            let name = "    index already tested";
+            print_row(name, rest, searches.len(), row.chars, None);
         }
         (self.beside)(case, &searches);
-        whole.proved / chars as f64
+        whole / row.chars as f64
     }
 
-    /// Prints what the calls take beyond their tests of dictionary and index:
-    /// the time of the same calls with an empty string, which end after these,
-    /// is taken off.
-    fn print_tested(
-        &self,
-        case: &Case,
-        indexes: &[Vec<u16>],
-        searches: &[Search],
-        chars: usize,
-        whole: Race,
-    ) {
-        let tests = race(
-            || {
-                for search in black_box(searches) {
-                    let Query {
-                        chars,
-                        lengths,
-                        index,
-                        ..
-                    } = query(case, indexes, search);
-                    let answer = (self.proved)(chars, lengths, index, &[], &mut []);
-                    assert_eq!(black_box(answer), Err(Refusal::StringLengthWrong));
-                }
-            },
-            || {
-                for search in black_box(searches) {
-                    let query = Query {
-                        string: &[],
-                        ..query(case, indexes, search)
-                    };
-                    assert_eq!(black_box((self.plain)(query, &mut [])), Err(6));
-                }
-            },
-        );
-        let rest = Race {
-            proved: whole.proved - tests.proved,
-            plain: whole.plain - tests.plain,
-        };
-        print_row(
-            "    index already tested",
-            rest,
-            searches.len(),
-            chars,
-            None,
-        );
+    /// The same calls with an empty string, which end after the tests of
+    /// dictionary and index.
+    fn test(&self, case: &Case, indexes: &[Vec<u16>], searches: &[Search]) {
+        for search in black_box(searches) {
+            let Query {
+                chars,
+                lengths,
+                index,
+                ..
+            } = query(case, indexes, search);
+            let answer = (self.proved)(chars, lengths, index, &[], &mut []);
+            assert_eq!(black_box(answer), Err(Refusal::StringLengthWrong));
+        }
+    }
+
+    /// The same in plain Rust.
+    fn test_plainly(&self, case: &Case, indexes: &[Vec<u16>], searches: &[Search]) {
+        for search in black_box(searches) {
+            let query = Query {
+                string: &[],
+                ..query(case, indexes, search)
+            };
+            assert_eq!(black_box((self.plain)(query, &mut [])), Err(6));
+        }
     }
 }
 

@@ -12,7 +12,7 @@ use crate::sheets::{Case, Sheets};
 pub fn print_readability(sheets: &Sheets) {
     print_sheets(sheets, |name, case, ordinary| {
         let Case { chars, lengths, .. } = case;
-        row(name, case, &case.indexes(), ordinary).print(
+        Row::of_sheets(name, case, &case.indexes(), ordinary, Room::default()).print(
             |index, _| {
                 let answer = mopekihua::search_into(chars, lengths, index, &[], &mut []);
                 match answer {
@@ -28,7 +28,7 @@ pub fn print_readability(sheets: &Sheets) {
 pub fn print(sheets: &Sheets) {
     print_sheets(sheets, |name, case, ordinary| {
         let Case { chars, lengths, .. } = case;
-        row(name, case, &case.indexes(), ordinary).print(
+        Row::of_sheets(name, case, &case.indexes(), ordinary, Room::default()).print(
             |index, _| {
                 mopekihua::tally(chars, lengths, index)
                     .map(|tally| (tally.by_length, tally.count))
@@ -37,19 +37,4 @@ pub fn print(sheets: &Sheets) {
             |index, _| plain::reading::tally(chars, lengths, index),
         )
     });
-}
-
-fn row<'a>(
-    name: &'a str,
-    case: &Case,
-    inputs: &'a [Vec<u16>],
-    ordinary: Option<f64>,
-) -> Row<'a, Vec<u16>> {
-    Row {
-        name,
-        inputs,
-        chars: case.chars_in_texts(),
-        ordinary,
-        room: Room::default(),
-    }
 }
