@@ -55,12 +55,7 @@ pub fn search_into(
 ///
 /// # Errors
 ///
-/// The first that applies:
-///
-/// - those of [`admit`](crate::admit);
-/// - [`Refusal::IndexNotReadable`]: the index is not
-///   [readable](crate#indexes) with this dictionary;
-/// - [`Refusal::StringLengthWrong`]: the string is empty or longer than 256.
+/// Those of [`search_into`], but for an output too short.
 ///
 /// # Examples
 ///

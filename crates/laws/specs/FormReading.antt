@@ -1,19 +1,17 @@
 -- Reading one form: its head, its characters, its end. Assumes nothing.
 use mathlib.Core.Path.{_≡_, refl, sym, ap, _∙_}
-use mathlib.Core.Bool.{Bool, true, false, _&&_, cond}
-use mathlib.Core.List.{List, [], _∷_, _++_}
-use mathlib.Core.Logic.{_⊎_, inl, inr, ⊎-elim}
-use Prim.Native.Nat.{ℕ, zero, suc, _+_, _*_, _-_, _≤_, _<_}
-use native.Mathlib.Numerals.{add-one}
+use mathlib.Core.Bool.{Bool, true, false, _&&_}
+use mathlib.Core.List.{List, [], _∷_}
+use Prim.Native.Nat.{ℕ, suc, _+_, _*_, _≤_, _<_}
 use native.Mathlib.Omega.{arith}
-use lib.Dec.{ltb, leb, eqb}
+use lib.Dec.{eqb}
 use lib.ListN.{length, getD, take, drop, set, length-take, length-drop, drop-of-length-le}
-use lib.Seq.{drop-cons, getD-take, getD-drop, length-take-le}
-use borrow.Author.Tests.{lt-ltb, le-ltb, le-leb, lt-leb, leb-true, ltb-true, ltb-false, eq-eqb, ne-eqb, eqb-true}
-use Rattle.basics.specs.Bools.{clash, true-or-false, false-put, and-put, and-left, and-right, le-or-lt}
+use lib.Seq.{getD-take, length-take-le}
+use borrow.Author.Tests.{eq-eqb, ne-eqb}
+use Rattle.basics.specs.Bools.{clash, false-put, and-left, and-right}
 use Rattle.basics.specs.Placed.{Wrote, Writing, writing-start, writing-as, writing-one, writing-end}
 use Rattle.spec.specs.Words.{same}
-use Rattle.spec.specs.JobSheet.{closing, space, no-digit, head-length, digit, is-digit, character, is-spaced, ends-well, characters, is-form, string-in}
+use Rattle.spec.specs.JobSheet.{closing, head-length, character, is-spaced, ends-well, characters, is-form, string-in}
 use Rattle.basics.specs.PlacedCopies.{drop-next}
 
 -- THE HEAD

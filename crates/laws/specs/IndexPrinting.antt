@@ -1,16 +1,15 @@
 -- The walk over an index's directory that prints a line for each key. Assumes nothing.
-use mathlib.Core.Path.{_≡_, refl, sym, ap, _∙_}
-use mathlib.Core.List.{List, [], _∷_, _++_}
-use Prim.Native.Nat.{ℕ, zero, suc, _+_, _*_, _-_, _≤_, _<_}
+use mathlib.Core.Path.{_≡_, sym, ap, _∙_}
+use mathlib.Core.List.{List, [], _++_}
+use Prim.Native.Nat.{ℕ, suc, _+_, _*_, _-_, _≤_, _<_}
 use native.Mathlib.Nat.{sub-zero}
 use native.Mathlib.Numerals.{add-one}
 use native.Mathlib.Omega.{arith}
 use lib.ListN.{length, take, drop}
 use lib.Seq.{drop-drop}
 use Rattle.basics.specs.Placed.{Wrote, Writing, writing-start, writing-as, writing-room, writing-step, writing-end}
-use Rattle.spec.specs.Words.{key}
-use Rattle.spec.specs.Numbers.{Line, line}
-use Rattle.spec.specs.Index.{header, n-of, keys-of, kind-at, value-at, count-at, key-at, counts-from, entries-of, lines-from, lines-in}
+use Rattle.spec.specs.Numbers.{line}
+use Rattle.spec.specs.Index.{header, n-of, keys-of, count-at, key-at, counts-from, entries-of, lines-from, lines-in}
 use Rattle.spec.specs.JobAnswer.{index-line, key-line, key-lines, index-lines}
 
 -- the numbers are header, directory and positions, as those of every readable index

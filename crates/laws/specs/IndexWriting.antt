@@ -1,7 +1,7 @@
 -- Header, directory and positions written one after the other are the numbers of an index. Assumes nothing.
 use mathlib.Core.Path.{_≡_, refl, ap, _∙_}
 use mathlib.Core.List.{List, [], _∷_, _++_}
-use Prim.Native.Nat.{ℕ, _+_, _*_, _-_, _≤_}
+use Prim.Native.Nat.{ℕ, _+_, _*_, _≤_}
 use native.Mathlib.Omega.{arith}
 use lib.ListN.{length, take, drop, set, length-append, length-drop}
 use Rattle.basics.specs.Writing.{over, Writing, starts, writes, appends, lent-tail, tail-back, lent-tail-is, tail-written}

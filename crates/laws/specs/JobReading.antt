@@ -1,15 +1,15 @@
 -- The refusal of a sheet, and where the parts of one that is not refused stand in the slices. Assumes nothing.
 use mathlib.Core.Path.{_≡_, refl, sym, ap, _∙_}
-use mathlib.Core.Bool.{Bool, true, false, _&&_, _||_, not, cond}
+use mathlib.Core.Bool.{Bool, true, false, _&&_, _||_, cond}
 use mathlib.Core.List.{List, [], _∷_, _++_, append-assoc}
-use Prim.Native.Nat.{ℕ, zero, suc, _+_, _*_, _-_, _≤_, _<_}
+use Prim.Native.Nat.{ℕ, _+_, _≤_, _<_}
 use native.Mathlib.Nat.{zero-add}
 use native.Mathlib.Omega.{arith}
 use lib.Dec.{ltb, leb, eqb}
 use lib.ListN.{length, getD, take, drop, length-append, drop-of-length-le}
 use lib.Seq.{take-at, drop-at, drop-drop}
 use borrow.Author.Tests.{lt-ltb, le-ltb, eq-eqb, ne-eqb, leb-true, eqb-true}
-use Rattle.basics.specs.Bools.{and-left, and-right, or-left, or-right, clash}
+use Rattle.basics.specs.Bools.{and-left, and-right, or-left, or-right}
 use Rattle.basics.specs.Placed.{placed}
 use Rattle.spec.specs.Dictionary.{dictionary-refusal, words-from}
 use Rattle.spec.specs.Calls.{string-wrong, or-else}

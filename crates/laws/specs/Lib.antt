@@ -75,6 +75,7 @@ pub mod Building
 pub mod AgreeWalk
 pub mod Shorter
 pub mod Offset32
+pub mod KeyNumbers
 pub mod LineWalk
 pub mod LineSteps
 pub mod KeyTests

@@ -8,7 +8,8 @@ use lib.ListN.{drop}
 use Rattle.spec.specs.Dictionary.{Lexicon}
 use Rattle.spec.specs.Words.{key, is-word}
 use Rattle.spec.specs.Index.{n-of, keys-of, kind-at, value-at, count-at, key-at}
-use Rattle.laws.specs.LineWalk.{key-code, places-good, line-fits, walk-good}
+use Rattle.laws.specs.KeyNumbers.{key-code}
+use Rattle.laws.specs.LineWalk.{places-good, line-fits, walk-good}
 use Rattle.laws.specs.LineSteps.{Lines-read, lines-step, lines-stop}
 use Rattle.laws.specs.KeyTests.{lone-low, lone-word, lone-fits, kind-other}
 

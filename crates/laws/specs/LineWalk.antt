@@ -1,75 +1,21 @@
 -- The model of readability: one walk over the directory, with the positions of each line. Assumes nothing.
-use mathlib.Core.Path.{_≡_, refl, sym, ap, _∙_}
+use mathlib.Core.Path.{_≡_, refl, sym, _∙_}
 use mathlib.Core.Bool.{Bool, true, false, _&&_}
-use mathlib.Core.Logic.{_⊎_, inl, inr, ⊎-elim}
-use mathlib.Core.List.{List, [], _∷_}
+use mathlib.Core.List.{List, []}
 use Prim.Native.Nat.{ℕ, zero, suc, _+_, _*_, _≤_, _<_}
 use native.Mathlib.Omega.{arith}
 use lib.Dec.{leb, eqb}
 use lib.ListN.{length, take, drop, length-drop}
 use lib.Seq.{length-take-le}
 use borrow.Author.Tests.{le-leb, leb-true, eq-eqb, eqb-true}
-use Rattle.basics.specs.Bools.{iff-eq, false-put, and-put, and-left, and-right, le-or-lt}
+use Rattle.basics.specs.Bools.{iff-eq, false-put, and-put, and-left, and-right}
 use Rattle.spec.specs.Dictionary.{Lexicon}
 use Rattle.spec.specs.Words.{Key, key, spells}
-use Rattle.spec.specs.Numbers.{key-before, Line, line}
+use Rattle.spec.specs.Numbers.{Line, line}
 use Rattle.spec.specs.Index.{header, n-of, keys-of, kind-at, count-at, key-at, counts-from, entries-of, lines-from, lines-in, kinds-good, key-good, keys-ascend, rise-from, last-of, line-good, lines-good, lengths-fit, readable}
 use Rattle.laws.specs.WordCode.{Small}
-use Rattle.laws.specs.KeyOrder.{key-before-get, key-before-put}
+use Rattle.laws.specs.KeyNumbers.{key-code, codes-ascend, codes-all, small-lines}
 use Rattle.laws.specs.Slices.{Fits, lengths-fit-get}
-
--- A KEY AS ONE NUMBER
-
-abbrev pub key-code : Key → ℕ
-key-code k = k .kind * 65536 + k .value
-
--- keys in order are their numbers in order
-before-code : (a b : Key) → a .value < 65536 → b .value < 65536 → leb (suc (key-code a)) (key-code b) ≡ key-before a b
-before-code a b sa sb =
-    iff-eq (leb (suc (key-code a)) (key-code b)) (key-before a b)
-    (λ t. key-before-put a b (order (leb-true (suc (key-code a)) (key-code b) t)))
-    (λ t. le-leb (suc (key-code a)) (key-code b) (code (key-before-get a b t)))
-  where
-    order : key-code a < key-code b → (a .kind < b .kind) ⊎ ((a .kind ≡ b .kind) × (a .value < b .value))
-    order h =
-        ⊎-elim
-        (λ (p : b .kind ≤ a .kind). let e : a .kind ≡ b .kind = omega arith in inr (e, omega arith))
-        (λ (p : a .kind < b .kind). inl p)
-        (le-or-lt (b .kind) (a .kind))
-
-    code : (a .kind < b .kind) ⊎ ((a .kind ≡ b .kind) × (a .value < b .value)) → key-code a < key-code b
-    code (inl h) = omega arith
-    code (inr h) = omega arith
-
--- the codes ascend strictly, from `least`
-unfoldable codes-ascend : (least : ℕ) → List Line → Bool
-codes-ascend a [] = true
-codes-ascend a (l ∷ ls) = leb a (key-code (l .key-of)) && codes-ascend (suc (key-code (l .key-of))) ls
-
-abbrev Small-values : List Line → Type 0
-Small-values [] = Unit
-Small-values (l ∷ ls) = (l .key-of .value < 65536) × Small-values ls
-
-codes-keys :
-    (a : ℕ) (l : Line) (ls : List Line) → Small-values (l ∷ ls) →
-    codes-ascend a (l ∷ ls) ≡ (leb a (key-code (l .key-of)) && keys-ascend (l ∷ ls))
-unfolding codes-ascend keys-ascend
-codes-keys a l [] s = refl
-codes-keys a l (m ∷ ls) s =
-    ap (λ (b : Bool). leb a (key-code (l .key-of)) && b)
-    (codes-keys (suc (key-code (l .key-of))) m ls (s .1)
-    ∙ ap (λ (b : Bool). b && keys-ascend (m ∷ ls)) (before-code (l .key-of) (m .key-of) (s .0) (s .1 .0)))
-
-codes-all : (ls : List Line) → Small-values ls → codes-ascend 0 ls ≡ keys-ascend ls
-unfolding codes-ascend keys-ascend
-codes-all [] s = refl
-codes-all (l ∷ ls) s =
-    codes-keys 0 l ls s ∙ ap (λ (b : Bool). b && keys-ascend (l ∷ ls)) (le-leb 0 (key-code (l .key-of)) (omega arith))
-
-small-lines : (k i : ℕ) (xs ps : List ℕ) → Small xs → Small-values (lines-from k i xs ps)
-unfolding lines-from line key
-small-lines zero i xs ps s = tt
-small-lines (suc k) i xs ps s = (omega (arith, s (header + 3 * i + 1)), small-lines k (suc i) xs (drop (count-at xs i) ps) s)
 
 -- ONE LINE
 

@@ -1,6 +1,5 @@
 -- The marks of a text, put together under their key codes, are the lines of its index. Assumes nothing.
 use mathlib.Core.Path.{_≡_, refl, sym, ap, _∙_, subst}
-use mathlib.Core.Bool.{Bool, true, false, cond}
 use mathlib.Core.Logic.{_⊎_, inl, inr, ⊎-elim}
 use mathlib.Core.List.{List, [], _∷_}
 use Prim.Native.Nat.{ℕ, zero, suc, _+_, _-_, _≤_, _<_}
@@ -8,15 +7,14 @@ use native.Mathlib.Omega.{arith}
 use lib.ListN.{length, getD}
 use borrow.Author.Tests.{eq-eqb, ne-eqb, eqb-true}
 use Rattle.basics.specs.Member.{In, in-append-left, in-append-right, in-append-get, in-getD}
-use Rattle.basics.specs.Steps.{those-from, those-from-get, those-from-put}
+use Rattle.basics.specs.Steps.{those-from-get, those-from-put}
 use Rattle.spec.specs.Dictionary.{Lexicon}
-use Rattle.spec.specs.Words.{Key, key, spells, Entry, entry, entries}
+use Rattle.spec.specs.Words.{Key, key, spells, Entry, entry}
 use Rattle.spec.specs.Numbers.{Line, line, numbers, index-of}
-use Rattle.spec.specs.Index.{lines-in}
-use Rattle.laws.specs.Facts.{Chars, Good-lexicon, Is-entry, Sound-entry, Sound, flat, Rise, Good-line, Good-lines}
+use Rattle.laws.specs.Facts.{Chars, Good-lexicon, Sound-entry, flat, Rise, Good-line, Good-lines}
 use Rattle.laws.specs.Keys.{spells-word, spells-lone}
 use Rattle.laws.specs.Sound.{entries-sound}
-use Rattle.laws.specs.Longest.{make-index, make-index-get, make-index-put}
+use Rattle.laws.specs.Longest.{make-index, make-index-get}
 use Rattle.laws.specs.Marks.{marked, marked-from, Marks}
 use Rattle.laws.specs.Flat.{posting, flat-get, flat-put}
 use Rattle.laws.specs.Places.{those-from-rise}

@@ -1,15 +1,11 @@
 -- The statements of `Models`: the scan builds the index, and the reach is the cover. Assumes nothing.
-use mathlib.Core.Path.{_≡_, refl, sym, ap, _∙_}
-use mathlib.Core.Bool.{cond}
+use mathlib.Core.Path.{_≡_, refl, _∙_}
 use mathlib.Core.List.{List}
 use Prim.Native.Nat.{ℕ, zero, suc, _+_, _≤_}
 use native.Mathlib.Omega.{arith}
-use lib.Dec.{ltb}
 use lib.ListN.{length}
-use Rattle.basics.specs.Member.{In}
-use Rattle.spec.specs.Dictionary.{Lexicon, is-text, lexicon, admitted}
-use Rattle.spec.specs.Words.{Entry, entries}
-use Rattle.spec.specs.Numbers.{sorted, lines-of, numbers}
+use Rattle.spec.specs.Dictionary.{Lexicon, lexicon}
+use Rattle.spec.specs.Words.{Entry}
 use Rattle.spec.specs.Models.{scan, Longest-entry, Scan-builds, Greedy-cover}
 use Rattle.laws.specs.Facts.{Chars, Good-lexicon}
 use Rattle.laws.specs.Chars.{is-text-get}

@@ -1,18 +1,16 @@
 -- What the printing functions go by: each printed thing in the parts in which it is written. Assumes nothing.
-use mathlib.Core.Path.{_≡_, refl, sym, ap, _∙_}
-use mathlib.Core.Bool.{Bool, true, false, cond}
+use mathlib.Core.Path.{_≡_, refl, sym, ap}
 use mathlib.Core.List.{List, [], _∷_, _++_, append-assoc, append-nil}
-use mathlib.Core.Logic.{_⊎_, inl, inr, ⊎-elim}
-use Prim.Native.Nat.{ℕ, zero, suc, _+_, _*_, _-_, _/_, _%_, _≤_, _<_}
+use mathlib.Core.Logic.{⊎-elim}
+use Prim.Native.Nat.{ℕ, zero, suc, _+_, _-_, _/_, _%_, _≤_, _<_}
 use native.Mathlib.Omega.{arith}
-use lib.Dec.{ltb, eqb}
 use lib.ListN.{length, getD, take, drop, drop-of-length-le}
 use lib.Seq.{take-all}
 use borrow.Author.Tests.{lt-ltb, le-ltb, eq-eqb, ne-eqb}
 use Rattle.basics.specs.Bools.{le-or-lt}
 use Rattle.basics.specs.PlacedCopies.{drop-next}
 use Rattle.spec.specs.Words.{Key, key}
-use Rattle.spec.specs.Numbers.{Line, line}
+use Rattle.spec.specs.Numbers.{line}
 use Rattle.spec.specs.JobAnswer.{decimal-within, decimal, digit-byte, hexadecimal, index-head, key-word-head, key-lone-head, found-head, refused-head, gap, opening-list, ending, ending-list, spaced, index-line, found-line, refused-line, key-name, key-line}
 
 -- DECIMAL NUMBERS

@@ -5,14 +5,14 @@ use mathlib.Core.Bool.{Bool, true, false, cond}
 use mathlib.Core.List.{List, [], _∷_}
 use Prim.Native.Nat.{ℕ, zero, suc, _+_, _-_, _<_, max}
 use native.Mathlib.Omega.{arith}
-use lib.Dec.{leb, eqb}
+use lib.Dec.{eqb}
 use lib.ListN.{length}
 use borrow.Author.Tests.{lt-leb}
 use Rattle.spec.specs.Dictionary.{Lexicon}
 use Rattle.spec.specs.Words.{spells}
 use Rattle.spec.specs.Numbers.{Line}
 use Rattle.spec.specs.Search.{agrees}
-use Rattle.spec.specs.Models.{raise, reach-places, reach-key, reach-back, reach-first, reach-stage, reach-stages, reach}
+use Rattle.spec.specs.Models.{raise, reach-places, reach-key, reach-stage, reach-stages}
 
 -- WHERE NOTHING IS RAISED
 

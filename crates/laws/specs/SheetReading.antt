@@ -1,11 +1,10 @@
 -- Reading the forms of a sheet one after the other into two slices: all characters run together, and the lengths. Assumes nothing.
 use mathlib.Core.Path.{_≡_, refl, sym, ap, _∙_}
-use mathlib.Core.Bool.{Bool, true, false, _&&_, _||_, cond}
+use mathlib.Core.Bool.{true}
 use mathlib.Core.List.{List, [], _∷_, _++_}
-use Prim.Native.Nat.{ℕ, zero, suc, _+_, _*_, _-_, _≤_, _<_}
+use Prim.Native.Nat.{ℕ, _+_, _*_, _-_, _≤_, _<_}
 use native.Mathlib.Omega.{arith}
-use lib.Dec.{ltb, leb, eqb}
-use lib.ListN.{length, getD, take, drop, set, length-append}
+use lib.ListN.{length, drop, set}
 use Rattle.basics.specs.Placed.{Wrote, Writing, writing-start, writing-as, writing-room, writing-step, writing-one, writing-end}
 use Rattle.laws.specs.WordCode.{part, length-part}
 use Rattle.spec.specs.JobSheet.{ends-well, string-in, lines, forms, after, run-together, lengths-of}

@@ -4,9 +4,8 @@
 // are prefixes of each other, so the first one met is the longest. Ordinary chains have a word or two; a chain of many words is
 // left after a few of them, and the words before are narrowed down by binary search. A word that would end no later than the last
 // registered one is not compared at all. A word of one character is looked up only where the place is not covered.
-ghost use mathlib.Core.Path.{_≡_};
 ghost use Prim.Native.Nat.{_+_, _≤_, _<_};
-ghost use lib.ListN.{length, getD};
+ghost use lib.ListN.{length};
 ghost use Rattle.spec.specs.Dictionary.{lexicon};
 ghost use Rattle.laws.specs.WordTable.{Started, Tables, word};
 ghost use Rattle.laws.specs.WordChains.{Same-run, Stands-after, Pair-found, Single-found};
@@ -24,17 +23,17 @@ pub struct Found {
 // How many words of a chain are compared before the rest is narrowed down.
 const BUDGET: usize = 4;
 
-// Whether `count` characters from `at` equal those of the text from `from`.
+// Whether `count` characters from `at` equal those of the text from `from`, the last one first: words of one chain begin alike.
 fn same_run(chars: &[u16], at: usize, text: &[u16], from: usize, count: usize) -> bool
     requires { ⌜ (at + count ≤ length (now chars)) × (from + count ≤ length (now text)) ⌝ }
     ensures { λ r. ⌜ Same-run (now (chars .entry)) at (now (text .entry)) from count r ⌝ }
 {
-    let mut i = 0;
-    while i < count {
+    let mut i = count;
+    while 0 < i {
+        i -= 1;
         if chars[at + i] != text[from + i] {
             return false;
         }
-        i += 1;
     }
     true
 }

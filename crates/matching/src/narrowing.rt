@@ -3,7 +3,6 @@
 //
 // Its cost is bounded by the longest word times the logarithm of k, however many words begin alike. Where the first or the last
 // word of a run has the text's character already, which is so nearly always after the first few, that end is not searched.
-ghost use mathlib.Core.Path.{_≡_};
 ghost use Prim.Native.Nat.{_+_, _≤_, _<_};
 ghost use lib.ListN.{length};
 ghost use Rattle.spec.specs.Dictionary.{lexicon};

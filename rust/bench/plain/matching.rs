@@ -85,7 +85,11 @@ impl<'a> MatchTable<'a> {
 
     fn stands(&self, number: usize, here: &[u16]) -> bool {
         let word = self.word(number);
-        word.len() <= here.len() && word.iter().zip(here).all(|(x, y)| x == y)
+        let Some(here) = here.get(..word.len()) else {
+            return false;
+        };
+        // The last character first: words of one chain begin alike.
+        word.iter().zip(here).rev().all(|(x, y)| x == y)
     }
 
     /// The word of this one character + 1, or 0.

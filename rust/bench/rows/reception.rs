@@ -7,48 +7,33 @@ use super::{Room, Row, print_sheets};
 use crate::plain;
 use crate::sheets::{Case, Sheets};
 
+/// An operation on a dictionary and an index, with an output and work space
+/// lent. Reception leaves the output alone.
+type Call<R> = fn(&[u16], &[u16], &[u16], &mut [u16], &mut [u16]) -> Result<usize, R>;
+
 pub fn print_receive(sheets: &Sheets) {
-    print_sheets(sheets, |name, case, ordinary| {
-        let Case { chars, lengths, .. } = case;
-        Row::of_sheets(
-            name,
-            case,
-            &case.indexes(),
-            ordinary,
-            Room::new(case.longest(), case),
-        )
-        .print(
-            |index, room| {
-                let work = work_for(index, &mut room.work);
-                mopekihua::receive_with(chars, lengths, index, work).map_err(Refusal::number)
-            },
-            |index, room| {
-                let work = work_for(index, &mut room.work);
-                plain::reception::receive(chars, lengths, index, work)
-            },
-        )
-    });
+    print(
+        sheets,
+        |chars, lengths, index, _, work| mopekihua::receive_with(chars, lengths, index, work),
+        |chars, lengths, index, _, work| plain::reception::receive(chars, lengths, index, work),
+    );
 }
 
 pub fn print_recover(sheets: &Sheets) {
+    print(sheets, mopekihua::recover_into, plain::reception::recover);
+}
+
+fn print(sheets: &Sheets, proved: Call<Refusal>, plain: Call<u32>) {
     print_sheets(sheets, |name, case, ordinary| {
         let Case { chars, lengths, .. } = case;
-        Row::of_sheets(
-            name,
-            case,
-            &case.indexes(),
-            ordinary,
-            Room::new(case.longest(), case),
-        )
-        .print(
+        let room = Room::new(case.longest(), case);
+        Row::of_sheets(name, case, &case.indexes(), ordinary, room).print(
             |index, Room { output, work }| {
                 let work = work_for(index, work);
-                mopekihua::recover_into(chars, lengths, index, output, work)
-                    .map_err(Refusal::number)
+                proved(chars, lengths, index, output, work).map_err(Refusal::number)
             },
             |index, Room { output, work }| {
-                let work = work_for(index, work);
-                plain::reception::recover(chars, lengths, index, output, work)
+                plain(chars, lengths, index, output, work_for(index, work))
             },
         )
     });

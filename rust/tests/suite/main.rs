@@ -5,6 +5,7 @@ mod building;
 mod characters;
 mod cutting;
 mod damaged_reception;
+mod dense_searching;
 mod lookup;
 mod owned;
 mod random_admission;

@@ -1,14 +1,12 @@
 -- `ends_well` meets its contract. The invariant: what is left of the line ends well if it does. The measure is how many bytes are left.
 -- Assumes nothing.
-use mathlib.Core.Path.{_≡_, refl, sym, ap, _∙_}
-use mathlib.Core.Bool.{_&&_}
-use Prim.Native.Nat.{_+_, _-_, _≤_}
+use mathlib.Core.Path.{_≡_, refl, sym, _∙_}
+use Prim.Native.Nat.{_-_, _≤_}
 use native.Mathlib.Omega.{arith}
-use borrow.Author.Needs.{needs}
 use borrow.Author.Tests.{not-true, not-false}
-use lib.ListN.{length, getD, drop}
+use lib.ListN.{length, drop}
 use Rattle.spec.specs.JobSheet.{ends-well}
-use Rattle.laws.specs.FormReading.{spaced-at, ends-next, ends-other, ends-last}
+use Rattle.laws.specs.FormReading.{ends-next, ends-other, ends-last}
 use Rattle.jobreader.proofs.form.ends_well.Statement.{statement}
 use Rattle.jobreader.proofs.form.ends_well.Tie as tie
 

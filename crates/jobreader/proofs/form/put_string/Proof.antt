@@ -1,6 +1,5 @@
 -- `put_string` meets its contract. The invariant: what is left of the characters is to be written from `end` on. The measure is how many
 -- bytes are left. Assumes nothing.
-use mathlib.Core.Path.{_≡_}
 use Prim.Native.Nat.{_-_}
 use native.Mathlib.Omega.{arith}
 use lib.ListN.{length}

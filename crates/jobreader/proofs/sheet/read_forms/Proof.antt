@@ -1,9 +1,8 @@
 -- `read_forms` meets its contract. The invariant: the forms before `from` are read, and the next one ends at `end`. The measure is what is
 -- left of the sheet. Assumes nothing.
-use mathlib.Core.Path.{_≡_, sym, _∙_}
-use Prim.Native.Nat.{_+_, _-_, _≤_}
+use mathlib.Core.Path.{_≡_}
+use Prim.Native.Nat.{_-_, _≤_}
 use native.Mathlib.Omega.{arith}
-use borrow.Author.Needs.{needs}
 use lib.ListN.{length}
 use Rattle.laws.specs.SheetReading.{Forms-read, forms-start, forms-end, forms-step, line-long, line-good, string-short, string-fits, length-fits}
 use Rattle.jobreader.proofs.sheet.read_forms.Statement.{statement}

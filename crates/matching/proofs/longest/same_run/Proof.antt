@@ -1,23 +1,26 @@
--- `same_run` meets its contract. The invariant: the characters read so far are the same. The measure is how many are left. Assumes
+-- `same_run` meets its contract. The invariant: the characters from i on are the same. The measure is how many come before. Assumes
 -- nothing.
 use mathlib.Core.Path.{_≡_, refl}
+use mathlib.Core.Logic.{⊎-elim}
 use Prim.Native.Nat.{ℕ, _+_, _-_, _≤_, _<_}
 use native.Mathlib.Omega.{arith}
 use lib.ListN.{getD}
 use borrow.Author.Needs.{needs}
-use borrow.Author.Count.{below-more}
-use Rattle.basics.specs.Bools.{clash}
+use Rattle.basics.specs.Bools.{clash, le-or-lt}
 use Rattle.matching.proofs.longest.same_run.Statement.{statement}
 use Rattle.matching.proofs.longest.same_run.Tie as tie
 
 abbrev Inv-loop : tie.InvT-loop
-Inv-loop chars at text from count i₀ i = (i ≤ count) × ((j : ℕ) → j < i → getD chars (at + j) 0 ≡ getD text (from + j) 0)
+Inv-loop chars at text from count i₀ i = (i ≤ count) × ((j : ℕ) → j < count → i ≤ j → getD chars (at + j) 0 ≡ getD text (from + j) 0)
 
 abbrev μ-loop : tie.MeasureT-loop
-μ-loop chars at text from count i₀ i = count - i
+μ-loop chars at text from count i₀ i = i
 
 loop-holds : tie.Need-loop-holds Inv-loop μ-loop
-loop-holds c = (omega arith, λ j l. absurd (omega arith))
+loop-holds c = (omega arith, λ j l b. absurd (omega arith))
+
+sub-i : tie.Need-sub-i Inv-loop μ-loop
+sub-i c = search needs
 
 add-if1 : tie.Need-add-if1 Inv-loop μ-loop
 add-if1 c = search needs
@@ -39,25 +42,32 @@ shared-slice-read-if1-2 c = search needs
 
 returns : tie.Need-returns Inv-loop μ-loop
 returns c =
-    let start = c .before .before .before .before .before in
     record {
       yes = λ t. clash t refl;
-      no = λ f same. c .if1 .taken (same (c .before .before .before .before .loop .i) (c .before .before .before .loop-test .taken));
+      no =
+          λ f same.
+          c .if1 .taken
+          (same (c .before .before .before .before .loop .i - 1) (omega (arith, c .before .before .before .before .loop .inv .0)));
     }
-
-add-i : tie.Need-add-i Inv-loop μ-loop
-add-i c = search needs
 
 loop-less : tie.Need-loop-less Inv-loop μ-loop
 loop-less c = omega arith
 
 loop-again : tie.Need-loop-again Inv-loop μ-loop
-loop-again c = (omega arith, below-more _ _ (c .before .before .before .before .loop .inv .1) (c .if1 .left))
+loop-again c = (
+      omega arith,
+      λ j l b.
+      ⊎-elim (λ (h : c .before .before .before .before .loop .i ≤ j). c .before .before .before .before .loop .inv .1 j l h)
+      (λ (h : j < c .before .before .before .before .loop .i).
+      let e : j ≡ c .before .before .before .before .loop .i - 1 = omega arith in
+      rw e (c .if1 .left))
+      (le-or-lt (c .before .before .before .before .loop .i) j),
+    )
 
 returns-2 : tie.Need-returns-2 Inv-loop μ-loop
 returns-2 c =
     record {
-      yes = λ t j l. c .before .loop .inv .1 j (omega arith);
+      yes = λ t j l. c .before .loop .inv .1 j l (omega arith);
       no = λ f. clash refl f;
     }
 
@@ -68,6 +78,7 @@ same-run-spec =
     Inv-loop
     μ-loop
     loop-holds
+    sub-i
     add-if1
     mul-if1
     shared-slice-read-if1
@@ -75,7 +86,6 @@ same-run-spec =
     mul-if1-2
     shared-slice-read-if1-2
     returns
-    add-i
     loop-less
     loop-again
     returns-2)

@@ -1,11 +1,9 @@
 -- `put_key_lines` meets its contract. The invariant: the first i lines are printed, and `place` is where the positions of the next begin.
 -- The measure is how many lines are left. Assumes nothing.
 use mathlib.Core.Path.{_≡_, refl}
-use Prim.Native.Nat.{_+_, _*_, _-_, _≤_, _<_}
+use Prim.Native.Nat.{_+_, _*_, _-_}
 use native.Mathlib.Omega.{arith}
-use borrow.Author.Needs.{needs}
-use lib.ListN.{length}
-use Rattle.spec.specs.Index.{keys-of, count-at}
+use Rattle.spec.specs.Index.{keys-of}
 use Rattle.laws.specs.IndexPrinting.{Whole, Keys-printed, keys-start, keys-end, keys-step, places-fit, line-fits}
 use Rattle.printer.proofs.print.put_key_lines.Statement.{statement}
 use Rattle.printer.proofs.print.put_key_lines.Tie as tie

@@ -4,7 +4,6 @@ use mathlib.Core.Path.{sym, _∙_}
 use Prim.Native.Nat.{_+_, _*_, _-_, _≤_}
 use native.Mathlib.Omega.{arith}
 use borrow.Author.Tests.{not-true, not-false}
-use lib.ListN.{length}
 use Rattle.spec.specs.Dictionary.{lexicon}
 use Rattle.laws.specs.LineSteps.{Lines-read, lines-start, lines-end, lines-raise}
 use Rattle.laws.specs.LineKinds.{word-stop, word-step}

@@ -2,7 +2,7 @@
 -- may follow. The measure is how many lines are left. Assumes nothing.
 use mathlib.Core.Path.{sym, _∙_}
 use borrow.Author.Tests.{not-true, not-false}
-use lib.ListN.{length, getD}
+use lib.ListN.{getD}
 use Rattle.laws.specs.LineKinds.{other-stop, low-stop, listed-stop, lone-stop, lone-step}
 use Prim.Native.Nat.{_+_, _*_, _-_}
 use native.Mathlib.Omega.{arith}

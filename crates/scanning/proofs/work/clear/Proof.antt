@@ -1,7 +1,7 @@
 -- `clear` meets its contract. The invariant: i zeros, and the rest as it was. The measure is what is left. Assumes nothing.
 use mathlib.Core.Path.{_≡_, ap, _∙_}
 use mathlib.Core.List.{List, _++_, append-nil}
-use Prim.Native.Nat.{ℕ, _+_, _-_, _≤_, _<_}
+use Prim.Native.Nat.{ℕ, _-_, _≤_, _<_}
 use native.Mathlib.Omega.{arith}
 use lib.ListN.{length, drop, replicate, drop-of-length-le, length-set}
 use borrow.Author.Fill.{fill-none, fill-more}
