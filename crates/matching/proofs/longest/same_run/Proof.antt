@@ -55,14 +55,14 @@ loop-less c = omega arith
 
 loop-again : tie.Need-loop-again Inv-loop μ-loop
 loop-again c = (
-      omega arith,
-      λ j l b.
+  omega arith,
+  λ j l b.
       ⊎-elim (λ (h : c .before .before .before .before .loop .i ≤ j). c .before .before .before .before .loop .inv .1 j l h)
       (λ (h : j < c .before .before .before .before .loop .i).
       let e : j ≡ c .before .before .before .before .loop .i - 1 = omega arith in
       rw e (c .if1 .left))
       (le-or-lt (c .before .before .before .before .loop .i) j),
-    )
+)
 
 returns-2 : tie.Need-returns-2 Inv-loop μ-loop
 returns-2 c =
