@@ -45,6 +45,20 @@ fn indexes_of_texts() {
 }
 
 #[test]
+fn words_that_share_their_first_characters() {
+    let mut random = Random::seeded(43);
+    for _ in 0..40 {
+        let subject = Subject::crowded(&mut random, 400);
+        let delivery = Delivery::of_text(&subject);
+        for most in [3, 40, 256] {
+            let start = random.place(subject.text.len());
+            let long = random.within(1, most).min(subject.text.len() - start);
+            try_out(&delivery, &subject.text[start..start + long]);
+        }
+    }
+}
+
+#[test]
 fn readable_indexes_of_no_text() {
     let mut random = Random::seeded(42);
     for _ in 0..2_000 {
