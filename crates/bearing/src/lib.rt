@@ -1,2 +1,4 @@
-// Whether a key bears on a string.
+// Which directory lines have keys that bear on a string.
 pub mod bearing;
+mod before;
+mod within;

@@ -1,37 +1,36 @@
 // The cut-down index for one string, as a call: refusals, sizes, and what is written.
 ghost use mathlib.Core.Path.{_≡_};
 ghost use Prim.Native.Nat.{_≤_};
-ghost use lib.ListN.{length};
+ghost use lib.ListN.{length, replicate};
 ghost use Rattle.spec.specs.Dictionary.{lexicon};
 ghost use Rattle.spec.specs.Index.{keys-of};
 ghost use Rattle.spec.specs.Cut.{cut-down};
 ghost use Rattle.spec.specs.Calls.{Cut-says};
 ghost use Rattle.laws.specs.Tables.{Can-read};
 ghost use Rattle.laws.specs.Sizing.{Is-string, Sized};
-use crate::cutting::judge;
+use crate::cutting::size_flagged;
 use crate::cutting::write_cut;
-use bearing::bearing::note_chars;
+use bearing::bearing::flag_bearing;
 use directory::tables::fill_words;
 use reading::readability::refusal_of;
 use spec::Answer;
 
-// Cuts the index down, with a table of characters and a flag for each line lent.
+// Cuts the index down, with a cleared flag for each line lent.
 fn cut_lent<'a>(
     chars: &'a [u16],
     lengths: &[u16],
     index: &'a [u16],
     string: &[u16],
-    seen: &mut [u8],
     flags: &mut [u8],
     output: &mut [u16],
 ) -> Answer
-    requires { ⌜ Can-read (now chars) (now lengths) (now index) × Is-string (now string) × (65536 ≤ length (now seen)) × (keys-of (now index) ≤ length (now flags)) ⌝ }
+    requires { ⌜ Can-read (now chars) (now lengths) (now index) × Is-string (now string) × (keys-of (now index) ≤ length (now flags)) × (now flags ≡ replicate (length (now flags)) 0) ⌝ }
     ensures { λ r. ⌜ Sized (cut-down (lexicon (now (chars .entry)) (now (lengths .entry))) (now (index .entry)) (now (string .entry))) r (now (output .entry)) (now (output .exit)) ⌝ }
 {
     let mut words = [0u16; 4096];
     fill_words(lengths, &mut words);
-    note_chars(string, seen);
-    let size = judge(chars, lengths, index, &words, string, seen, flags);
+    flag_bearing(chars, lengths, index, &words, string, flags);
+    let size = size_flagged(chars, lengths, index, string, flags);
     let count = 2 + 3 * size.keys + size.entries;
     if output.len() < count {
         return Answer {
@@ -41,22 +40,6 @@ fn cut_lent<'a>(
     }
     write_cut(chars, lengths, index, string, flags, size, output);
     Answer { refusal: 0, count }
-}
-
-// With a table of every character.
-fn cut_flagged<'a>(
-    chars: &'a [u16],
-    lengths: &[u16],
-    index: &'a [u16],
-    string: &[u16],
-    flags: &mut [u8],
-    output: &mut [u16],
-) -> Answer
-    requires { ⌜ Can-read (now chars) (now lengths) (now index) × Is-string (now string) × (keys-of (now index) ≤ length (now flags)) ⌝ }
-    ensures { λ r. ⌜ Sized (cut-down (lexicon (now (chars .entry)) (now (lengths .entry))) (now (index .entry)) (now (string .entry))) r (now (output .entry)) (now (output .exit)) ⌝ }
-{
-    let mut seen = [0u8; 65536];
-    cut_lent(chars, lengths, index, string, &mut seen, flags, output)
 }
 
 // With flags for 1,024 lines.
@@ -71,7 +54,7 @@ fn cut_few_lines<'a>(
     ensures { λ r. ⌜ Sized (cut-down (lexicon (now (chars .entry)) (now (lengths .entry))) (now (index .entry)) (now (string .entry))) r (now (output .entry)) (now (output .exit)) ⌝ }
 {
     let mut flags = [0u8; 1024];
-    cut_flagged(chars, lengths, index, string, &mut flags, output)
+    cut_lent(chars, lengths, index, string, &mut flags, output)
 }
 
 // With flags for 8,192 lines.
@@ -86,7 +69,7 @@ fn cut_some_lines<'a>(
     ensures { λ r. ⌜ Sized (cut-down (lexicon (now (chars .entry)) (now (lengths .entry))) (now (index .entry)) (now (string .entry))) r (now (output .entry)) (now (output .exit)) ⌝ }
 {
     let mut flags = [0u8; 8192];
-    cut_flagged(chars, lengths, index, string, &mut flags, output)
+    cut_lent(chars, lengths, index, string, &mut flags, output)
 }
 
 // With flags for 65,536 lines.
@@ -101,7 +84,7 @@ fn cut_many_lines<'a>(
     ensures { λ r. ⌜ Sized (cut-down (lexicon (now (chars .entry)) (now (lengths .entry))) (now (index .entry)) (now (string .entry))) r (now (output .entry)) (now (output .exit)) ⌝ }
 {
     let mut flags = [0u8; 65536];
-    cut_flagged(chars, lengths, index, string, &mut flags, output)
+    cut_lent(chars, lengths, index, string, &mut flags, output)
 }
 
 // With flags for lines enough.

@@ -1,24 +1,19 @@
 // The cut-down index for one string: the same n, and the keys that bear on the string with all their positions.
 //
-// One walk over the directory judges each key and sizes the result, so that nothing is written before 8 is tested. Two short walks
-// then write the directory lines and the positions of those that bear.
+// The lines whose keys bear are flagged already. One walk over the flags sizes the result, so that nothing is written before 8 is
+// tested. Two short walks then write the directory lines and the positions of those that bear.
 ghost use mathlib.Core.Path.{_≡_};
-ghost use mathlib.Core.List.{[], _∷_, _++_};
+ghost use mathlib.Core.List.{_++_};
 ghost use Prim.Native.Nat.{_+_, _*_, _≤_, _<_};
 ghost use lib.ListN.{length, take};
-ghost use Rattle.spec.specs.Dictionary.{Lexicon, lexicon};
+ghost use Rattle.spec.specs.Dictionary.{lexicon};
 ghost use Rattle.spec.specs.Numbers.{directory, positions};
 ghost use Rattle.spec.specs.Index.{keys-of, lines-in};
 ghost use Rattle.spec.specs.Cut.{bearing, cut-down};
 ghost use Rattle.spec.specs.Calls.{in-front};
 ghost use Rattle.laws.specs.Slices.{Fits};
-ghost use Rattle.laws.specs.Tables.{Can-read, Word-starts};
-ghost use Rattle.laws.specs.Sizing.{Is-string};
 ghost use Rattle.basics.specs.Writing.{over};
-ghost use Rattle.laws.specs.Bearing.{Noted};
 ghost use Rattle.laws.specs.Judging.{Judged, Is-size};
-use bearing::bearing::bears;
-use directory::lines::key_of;
 
 // How many keys bear on a string, and how many positions they have.
 pub struct Size {
@@ -26,34 +21,27 @@ pub struct Size {
     pub entries: usize,
 }
 
-// Judges each line, 1 where its key bears on the string, and sizes the cut-down index.
-pub fn judge<'a>(
-    chars: &'a [u16],
+// How many lines are flagged, and how many positions they have.
+pub fn size_flagged(
+    chars: &[u16],
     lengths: &[u16],
-    index: &'a [u16],
-    words: &[u16],
+    index: &[u16],
     string: &[u16],
-    seen: &[u8],
-    flags: &mut [u8],
+    flags: &[u8],
 ) -> Size
-    requires { ⌜ Can-read (now chars) (now lengths) (now index) × Word-starts (now lengths) (length (now lengths)) (now words) × Is-string (now string) × Noted (now string) (length (now string)) (now seen) × (keys-of (now index) ≤ length (now flags)) ⌝ }
-    ensures { λ r. ⌜ Judged (lexicon (now (chars .entry)) (now (lengths .entry))) (now (index .entry)) (now (string .entry)) (keys-of (now (index .entry))) (now (flags .exit)) × Is-size (lexicon (now (chars .entry)) (now (lengths .entry))) (now (index .entry)) (now (string .entry)) (r .keys) (r .entries) ⌝ }
+    requires { ⌜ Fits (now index) × Judged (lexicon (now chars) (now lengths)) (now index) (now string) (keys-of (now index)) (now flags) ⌝ }
+    ensures { λ r. ⌜ Is-size (lexicon (now (chars .entry)) (now (lengths .entry))) (now (index .entry)) (now (string .entry)) (r .keys) (r .entries) ⌝ }
 {
     let count = index[1] as usize;
     let mut keys = 0;
     let mut entries = 0;
     let mut line = 0;
     while line < count {
-        let key = key_of(chars, lengths, index, words, line);
-        let places = index[2 + 3 * line + 2] as usize;
-        let at = line;
+        let here = line;
         line += 1;
-        if bears(key, string, seen) {
-            flags[at] = 1;
+        if flags[here] != 0 {
             keys += 1;
-            entries += places;
-        } else {
-            flags[at] = 0;
+            entries += index[2 + 3 * here + 2] as usize;
         }
     }
     Size { keys, entries }

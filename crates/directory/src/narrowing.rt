@@ -2,9 +2,10 @@
 //
 // Lines of words come first, and their words ascend; those that share their first characters are neighbours, and the next ones do
 // not fall. The lone characters after them ascend by value.
-ghost use Prim.Native.Nat.{_+_, _*_, _≤_};
-ghost use lib.ListN.{length};
-ghost use Rattle.spec.specs.Index.{keys-of};
+ghost use mathlib.Core.Path.{_≡_};
+ghost use Prim.Native.Nat.{_+_, _*_, _≤_, _<_};
+ghost use lib.ListN.{length, getD};
+ghost use Rattle.spec.specs.Index.{keys-of, value-at};
 ghost use Rattle.laws.specs.Slices.{Fits};
 ghost use Rattle.laws.specs.Halving.{Rising, Cut};
 ghost use Rattle.laws.specs.Narrowing.{number-at};
@@ -42,6 +43,16 @@ pub fn words_end(index: &[u16]) -> usize
     first_line(index, 0, index[1] as usize, 0, 1)
 }
 
+// The character at `depth` of the word of a line.
+fn char_at(chars: &[u16], index: &[u16], words: &[u16], line: usize, depth: usize) -> u16
+    requires { ⌜ (2 + 3 * line + 2 < length (now index)) × (value-at (now index) line < length (now words)) × (getD (now words) (value-at (now index) line) 0 + depth < length (now chars)) ⌝ }
+    ensures { λ r. ⌜ r ≡ word-char (now (chars .entry)) (now (index .entry)) (now (words .entry)) depth line ⌝ }
+{
+    let word = index[2 + 3 * line + 1] as usize;
+    let at = words[word] as usize + depth;
+    chars[at]
+}
+
 // The first of the lines `low` to `high` - 1 whose word's character at `depth` is not below `least`.
 fn first_word(
     chars: &[u16],
@@ -59,9 +70,7 @@ fn first_word(
     let mut b = high;
     while a < b {
         let middle = a + (b - a) / 2;
-        let word = index[2 + 3 * middle + 1] as usize;
-        let at = words[word] as usize + depth;
-        if (chars[at] as usize) < least {
+        if (char_at(chars, index, words, middle, depth) as usize) < least {
             a = middle + 1;
         } else {
             b = middle;
@@ -70,7 +79,7 @@ fn first_word(
     a
 }
 
-// The lines among `low` to `high` - 1 whose word has this character at `depth`.
+// The lines among `low` to `high` - 1 whose word has this character at `depth`: all of them where the first and the last have it.
 pub fn narrow(
     chars: &[u16],
     index: &[u16],
@@ -83,6 +92,16 @@ pub fn narrow(
     requires { ⌜ Word-column (now chars) (now index) (now words) low high depth ⌝ }
     ensures { λ r. ⌜ Cut (word-char (now (chars .entry)) (now (index .entry)) (now (words .entry)) depth) low high character (r .from) × Cut (word-char (now (chars .entry)) (now (index .entry)) (now (words .entry)) depth) (r .from) high (character + 1) (r .to) ⌝ }
 {
+    if low < high {
+        if char_at(chars, index, words, low, depth) == character {
+            if char_at(chars, index, words, high - 1, depth) == character {
+                return Range {
+                    from: low,
+                    to: high,
+                };
+            }
+        }
+    }
     let least = character as usize;
     let from = first_word(chars, index, words, low, high, depth, least);
     let to = first_word(chars, index, words, from, high, depth, least + 1);

@@ -27,6 +27,16 @@ module _ (s : List ℕ) (a : ℕ) (e : List ℕ) (b : ℕ) where
   pub agrees-key-first : b ≤ a → agrees e 0 s (a - b) ≡ agrees s a e b
   agrees-key-first h = agrees-swap e 0 s (a - b) ∙ agrees-move s (a - b) e 0 a b (omega arith)
 
+-- a key that starts first, and has another character where the string starts
+pub key-starts-apart : (i : ℕ) (s k : List ℕ) → i < length k → (getD k i 0 ≡ getD s 0 0 → ⊥) → agrees s i k 0 ≡ false
+key-starts-apart i s k some other =
+    false-put (agrees s i k 0)
+    (λ t.
+    let h = agrees-get s i k 0 t in
+    let y : i - i ≡ 0 = omega arith in
+    let z : i - 0 ≡ i = omega arith in
+    other (sym (rw (y, z) at (h .equal i (omega arith) (omega arith) (omega arith) (omega arith)))))
+
 -- THE SHARED PLACES, the second string at `at` of the first
 
 module _ (s e : List ℕ) (at : ℕ) where

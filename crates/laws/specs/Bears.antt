@@ -8,10 +8,9 @@ use native.Mathlib.Omega.{arith}
 use lib.ListN.{length}
 use Rattle.basics.specs.Bools.{iff-eq, or-left, or-right, or-get, le-or-lt}
 use Rattle.basics.specs.Steps.{any-from, any-from-get, any-from-put}
-use Rattle.spec.specs.Search.{agrees, offset, agrees-at}
+use Rattle.spec.specs.Search.{agrees}
 use Rattle.spec.specs.Cut.{lies-in, joins, bears}
 use Rattle.laws.specs.Agree.{Agree, agrees-get, agrees-put, agree-sym, agree-move}
-use Rattle.laws.specs.Offset.{agrees-offset}
 use Rattle.laws.specs.Parts.{lies-in-get, lies-in-put, joins-get, joins-put, stand-agree, agree-stand, join-agree, agree-join}
 
 module _ (k s : List ℕ) where
@@ -95,17 +94,3 @@ module _ (k s : List ℕ) where
           let some = sym (bears-by-offsets-any (length k + length s - 1) 0) ∙ t in
           let at = any-from-get (length k + length s - 1) 0 agrees-from some in
           bears-put k s (length k - 1) (at .0) (agrees-get s (length k - 1) k (at .0) (at .3))
-
-  -- the walk at i: its last step is done, or it looks at offset i − (|k| − 1) and goes on
-  pub bears-by-offsets-end : (i : ℕ) → length k + length s - 1 ≤ i → bears-by-offsets (length k + length s - 1 - i) i k s ≡ false
-  unfolding bears-by-offsets
-  bears-by-offsets-end i h = let z : length k + length s - 1 - i ≡ 0 = omega arith in rw z
-
-  pub bears-by-offsets-step :
-      (i : ℕ) → i < length k + length s - 1 →
-      bears-by-offsets (length k + length s - 1 - i) i k s
-      ≡ (agrees-at k s (offset i (length k - 1)) || bears-by-offsets (length k + length s - 1 - suc i) (suc i) k s)
-  unfolding bears-by-offsets
-  bears-by-offsets-step i h =
-      let z : length k + length s - 1 - i ≡ suc (length k + length s - 1 - suc i) = omega arith in
-      rw (z, ← agrees-offset s (length k - 1) k i)

@@ -42,23 +42,11 @@ module _ (cs ss : List ℕ) (lo hi d c : ℕ) (h : Column cs ss lo hi d) where
 
   -- the first is not below c already
   pub cut-first : lo < hi → c ≤ column cs ss d lo → Cut cs ss lo hi d c lo
-  cut-first some l =
-      record {
-        from = omega arith;
-        to = h .order;
-        below = λ i a b. absurd (omega arith);
-        above = λ i a b. omega (arith, h .rises lo i (omega arith) a b);
-      }
+  cut-first = halving.cut-first (column cs ss d) lo hi rising c
 
   -- the last is still below c
   pub cut-last : lo < hi → column cs ss d (hi - 1) < c → Cut cs ss lo hi d c hi
-  cut-last some l =
-      record {
-        from = h .order;
-        to = omega arith;
-        below = λ i a b. omega (arith, h .rises i (hi - 1) a (omega arith) (omega arith));
-        above = λ i a b. absurd (omega arith);
-      }
+  cut-last = halving.cut-last (column cs ss d) lo hi rising c
 
   module _ (a b : ℕ) (s : Halved cs ss lo hi d c a b) where
     pub halved-end : b ≤ a → Cut cs ss lo hi d c a

@@ -1,5 +1,5 @@
 -- Binary search: the first number from which on a function that does not fall is at least c. Assumes nothing.
-use Prim.Native.Nat.{ℕ, _+_, _≤_, _<_}
+use Prim.Native.Nat.{ℕ, _+_, _-_, _≤_, _<_}
 use native.Mathlib.Omega.{arith}
 
 -- f does not fall from lo to hi − 1
@@ -27,6 +27,26 @@ module _ (f : ℕ → ℕ) (lo hi : ℕ) (h : Rising f lo hi) where
   rising-part a b l m r = record { order = m; rises = λ i j p q s. h .rises i j (omega arith) q (omega arith) }
 
   module _ (c : ℕ) where
+    -- the first is not below c already
+    pub cut-first : lo < hi → c ≤ f lo → Cut f lo hi c lo
+    cut-first some l =
+        record {
+          from = omega arith;
+          to = h .order;
+          below = λ i a b. absurd (omega arith);
+          above = λ i a b. omega (arith, h .rises lo i (omega arith) a b);
+        }
+
+    -- the last is still below c
+    pub cut-last : lo < hi → f (hi - 1) < c → Cut f lo hi c hi
+    cut-last some l =
+        record {
+          from = h .order;
+          to = omega arith;
+          below = λ i a b. omega (arith, h .rises i (hi - 1) a (omega arith) (omega arith));
+          above = λ i a b. absurd (omega arith);
+        }
+
     pub halved-start : Halved f lo hi c lo hi
     halved-start =
         record {

@@ -1,13 +1,11 @@
--- The walk that judges each key and sizes the cut-down index. Assumes nothing.
+-- The lines whose keys bear on a string, judged by flags, and the walk that sizes the cut-down index. Assumes nothing.
 use mathlib.Core.Path.{_≡_, refl, ap, _∙_}
 use mathlib.Core.Bool.{Bool, true, false, cond}
 use mathlib.Core.List.{List, [], _∷_}
-use Prim.Native.Nat.{ℕ, _+_, _*_, _-_, _≤_, _<_}
+use Prim.Native.Nat.{ℕ, _+_, _*_, _≤_, _<_}
 use native.Mathlib.Omega.{arith}
-use lib.Dec.{eqb}
-use lib.ListN.{length, getD, take, drop, set, length-set, length-append, length-drop}
-use lib.Seq.{getD-set-same, getD-set-other, length-take-le}
-use borrow.Author.Tests.{eqb-true, eqb-false}
+use lib.ListN.{length, getD, take, drop, length-append, length-drop}
+use lib.Seq.{length-take-le}
 use Rattle.spec.specs.Dictionary.{Lexicon}
 use Rattle.spec.specs.Words.{spells}
 use Rattle.spec.specs.Numbers.{Line, line, positions}
@@ -67,77 +65,58 @@ module _ (lex : Lexicon) (xs s : List ℕ) where
       by-test true e = let one : getD fs i 0 ≡ 1 = h .at i b ∙ rw e in absurd (omega arith)
       by-test false e = refl
 
-  -- the first i lines are judged, of which so many bear, with so many entries
-  pub record Judging (old fs : List ℕ) (keys entries i : ℕ) : Type 0 where
+  -- THE SIZE
+
+  -- of the first i lines so many bear, with so many entries
+  pub record Counting (keys entries i : ℕ) : Type 0 where
     pub within : i ≤ keys-of xs
-    pub judged : Judged i fs
-    pub long : length fs ≡ length old
     pub keys-left : keys + length (bearing-from i) ≡ length (bearing-from 0)
     pub entries-left : entries + length (positions (bearing-from i)) ≡ length (positions (bearing-from 0))
     pub keys-few : keys ≤ i
     pub entries-few : entries ≤ 65535 * i
 
-  pub judging-start : (fs : List ℕ) → keys-of xs ≤ length fs → Judging fs fs 0 0 0
-  judging-start fs room =
+  pub counting-start : Counting 0 0 0
+  counting-start =
       record {
         within = omega arith;
-        judged = record { room = room; at = λ i b. absurd (omega arith) };
-        long = refl;
         keys-left = omega arith;
         entries-left = omega arith;
         keys-few = omega arith;
         entries-few = omega arith;
       }
 
-  module _ (old fs : List ℕ) (keys entries i : ℕ) (h : Judging old fs keys entries i) where
-    module _ (below : i < keys-of xs) where
-      judged-next : (v : ℕ) → v ≡ cond (verdict i) 1 0 → Judged (i + 1) (set fs i v)
-      judged-next v e =
-          record { room = omega (arith, h .judged .room, length-set fs i v); at = λ j b. at j b (eqb j i) refl }
-        where
-          at : (j : ℕ) → j < i + 1 → (t : Bool) → eqb j i ≡ t → getD (set fs i v) j 0 ≡ cond (verdict j) 1 0
-          at j b true t =
-              let z : j ≡ i = eqb-true j i t in
-              rw z (getD-set-same fs i v 0 (omega (arith, h .judged .room)) ∙ e)
-          at j b false t =
-              let other : j ≡ i → ⊥ = eqb-false j i t in
-              getD-set-other fs i j v 0 other ∙ h .judged .at j (omega (arith, other))
+  module _ (keys entries i : ℕ) (h : Counting keys entries i) (below : i < keys-of xs) where
+    pub counting-bears :
+        verdict i ≡ true → count-at xs i ≤ 65535 → Fits xs → Counting (keys + 1) (entries + count-at xs i) (i + 1)
+    unfolding positions line
+    counting-bears t small fits =
+        record {
+          within = omega arith;
+          keys-left = omega (arith, h .keys-left, ap length kept);
+          entries-left =
+              omega (
+                arith,
+                h .entries-left,
+                ap (λ (l : List Line). length (positions l)) kept,
+                length-append (take (count-at xs i) (drop (list-start xs i) xs)) (positions (bearing-from (i + 1))),
+                places-length i below fits,
+              );
+          keys-few = omega (arith, h .keys-few);
+          entries-few = omega (arith, h .entries-few);
+        }
+      where
+        kept : bearing-from i ≡ line-of xs i ∷ bearing-from (i + 1)
+        kept = bearing-kept i below t
 
-      pub judging-bears :
-          verdict i ≡ true → count-at xs i ≤ 65535 → Fits xs → Judging old (set fs i 1) (keys + 1) (entries + count-at xs i) (i + 1)
-      unfolding positions line
-      judging-bears t small fits =
-          record {
-            within = omega arith;
-            judged = judged-next 1 (rw t);
-            long = length-set fs i 1 ∙ h .long;
-            keys-left = omega (arith, h .keys-left, ap length kept);
-            entries-left =
-                omega (
-                  arith,
-                  h .entries-left,
-                  ap (λ (l : List Line). length (positions l)) kept,
-                  length-append (take (count-at xs i) (drop (list-start xs i) xs)) (positions (bearing-from (i + 1))),
-                  places-length i below fits,
-                );
-            keys-few = omega (arith, h .keys-few);
-            entries-few = omega (arith, h .entries-few);
-          }
-        where
-          kept : bearing-from i ≡ line-of xs i ∷ bearing-from (i + 1)
-          kept = bearing-kept i below t
-
-      pub judging-passes : verdict i ≡ false → Judging old (set fs i 0) keys entries (i + 1)
-      judging-passes f =
-          record {
-            within = omega arith;
-            judged = judged-next 0 (rw f);
-            long = length-set fs i 0 ∙ h .long;
-            keys-left = rw (bearing-left i below f) at (h .keys-left);
-            entries-left = rw (bearing-left i below f) at (h .entries-left);
-            keys-few = omega (arith, h .keys-few);
-            entries-few = omega (arith, h .entries-few);
-          }
+    pub counting-passes : verdict i ≡ false → Counting keys entries (i + 1)
+    counting-passes f =
+        record {
+          within = omega arith;
+          keys-left = rw (bearing-left i below f) at (h .keys-left);
+          entries-left = rw (bearing-left i below f) at (h .entries-left);
+          keys-few = omega (arith, h .keys-few);
+          entries-few = omega (arith, h .entries-few);
+        }
 
 -- the keys that bear and their positions
 pub record Is-size (lex : Lexicon) (xs s : List ℕ) (keys entries : ℕ) : Type 0 where
@@ -146,18 +125,15 @@ pub record Is-size (lex : Lexicon) (xs s : List ℕ) (keys entries : ℕ) : Type
   pub keys-small : keys ≤ 65535
   pub entries-small : entries ≤ 65535 * 65535
 
-pub judging-end :
-    (lex : Lexicon) (xs s old fs : List ℕ) (keys entries i : ℕ) → Judging lex xs s old fs keys entries i → keys-of xs ≤ i →
-    keys-of xs ≤ 65535 → Judged lex xs s (keys-of xs) fs × Is-size lex xs s keys entries
+pub counting-end :
+    (lex : Lexicon) (xs s : List ℕ) (keys entries i : ℕ) → Counting lex xs s keys entries i → keys-of xs ≤ i → keys-of xs ≤ 65535 →
+    Is-size lex xs s keys entries
 unfolding positions
-judging-end lex xs s old fs keys entries i h past few =
-    let e : i ≡ keys-of xs = omega (arith, h .within) in
-    let none : bearing-from lex xs s i ≡ [] = bearing-done lex xs s i past in (
-      rw e at (h .judged),
-      record {
-        keys-are = omega (arith, h .keys-left, ap length none);
-        entries-are = omega (arith, h .entries-left, ap (λ (l : List Line). length (positions l)) none);
-        keys-small = omega (arith, h .keys-few);
-        entries-small = omega (arith, h .entries-few);
-      },
-    )
+counting-end lex xs s keys entries i h past few =
+    let none : bearing-from lex xs s i ≡ [] = bearing-done lex xs s i past in
+    record {
+      keys-are = omega (arith, h .keys-left, ap length none);
+      entries-are = omega (arith, h .entries-left, ap (λ (l : List Line). length (positions l)) none);
+      keys-small = omega (arith, h .within, h .keys-few);
+      entries-small = omega (arith, h .within, h .entries-few);
+    }

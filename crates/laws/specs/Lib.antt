@@ -108,8 +108,9 @@ pub mod WordLines
 pub mod Finding
 pub mod Sizing
 pub mod Searching
-pub mod Bearing
 pub mod Judging
+pub mod Flagging
+pub mod FlagWalks
 pub mod Cutting
 pub mod Reflects
 pub mod RefusalRows

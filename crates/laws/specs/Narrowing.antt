@@ -1,7 +1,7 @@
 -- The directory lines of an accepted index in order: words first, then lone characters, each part rising; and which of the lone
 -- characters can agree at an offset. Assumes nothing.
 use mathlib.Core.Path.{_≡_, sym, ap, _∙_}
-use mathlib.Core.Bool.{true}
+use mathlib.Core.Bool.{true, false}
 use mathlib.Core.Logic.{_⊎_, ⊎-elim}
 use mathlib.Core.List.{List, [], _∷_}
 use Prim.Native.Nat.{ℕ, zero, suc, _+_, _*_, _≤_, _<_}
@@ -9,7 +9,7 @@ use native.Mathlib.Nat.{add-zero}
 use native.Mathlib.Omega.{arith}
 use lib.ListN.{length, getD, drop}
 use lib.Seq.{drop-nil}
-use Rattle.basics.specs.Bools.{false-put, le-or-lt}
+use Rattle.basics.specs.Bools.{clash, false-put, le-or-lt}
 use Rattle.spec.specs.Dictionary.{lexicon, word-before}
 use Rattle.spec.specs.Words.{key, spells}
 use Rattle.spec.specs.Numbers.{Line, line, key-before}
@@ -21,6 +21,7 @@ use Rattle.laws.specs.KeyOrder.{Key-before, key-before-get}
 use Rattle.laws.specs.Lexicon.{length-words}
 use Rattle.laws.specs.WordOrder.{ascend-get}
 use Rattle.laws.specs.Agree.{agrees-get, agree-first}
+use Rattle.laws.specs.AgreeWalk.{together}
 use Rattle.laws.specs.Opened.{line-of, lines-next}
 use Rattle.laws.specs.Tables.{Can-read, key-is, word-below, in-front-of}
 use Rattle.laws.specs.Halving.{Rising, Cut}
@@ -128,68 +129,88 @@ module _ (cs ls xs : List ℕ) (can : Can-read cs ls xs) where
     pub lone-single : (i : ℕ) → w ≤ i → i < keys-of xs → length (spells (lexicon cs ls) (key-at xs i)) ≡ 1
     lone-single i a b = ap length (lone-is i a b)
 
-    module _ (s : List ℕ) (o c : ℕ) (is : c ≡ getD s o 0) (q : ℕ) where
+    module _ (s : List ℕ) (o c : ℕ) (is : c ≡ getD s o 0) where
       -- another character does not agree
       lone-apart :
-          (i : ℕ) → w ≤ i → i < keys-of xs → (value-at xs i ≡ c → ⊥) → (rs : List ℕ) → stage-at o (lexicon cs ls) xs s q i rs ≡ rs
+          (i : ℕ) → w ≤ i → i < keys-of xs → (value-at xs i ≡ c → ⊥) → agrees s 0 (spells (lexicon cs ls) (key-at xs i)) o ≡ false
       lone-apart i a b other =
-          stage-apart (lexicon cs ls) xs s q o i
-          (rw (lone-is i a b)
+          rw (lone-is i a b)
           (false-put (agrees s 0 (value-at xs i ∷ []) o)
-          (λ t.
-          other (sym (agree-first s (value-at xs i ∷ []) o (agrees-get s 0 (value-at xs i ∷ []) o t)) ∙ sym is))))
+          (λ t. other (sym (agree-first s (value-at xs i ∷ []) o (agrees-get s 0 (value-at xs i ∷ []) o t)) ∙ sym is)))
+
+      -- the character itself does
+      pub lone-agrees :
+          (i : ℕ) → w ≤ i → i < keys-of xs → value-at xs i ≡ c → o < length s → agrees s 0 (spells (lexicon cs ls) (key-at xs i)) o ≡ true
+      lone-agrees i a b e below =
+          rw (lone-is i a b)
+          (sym (together s (value-at xs i ∷ []) o 1 below (λ z. omega arith) (omega arith) (λ j l. same j l)))
+        where
+          same : (j : ℕ) → j < 1 → getD s (o + j) 0 ≡ getD (value-at xs i ∷ []) j 0
+          same j l =
+              let z : j ≡ 0 = omega arith in
+              let y : o + 0 ≡ o = omega arith in
+              rw z (rw y (sym (e ∙ is)))
 
       module _ (r : ℕ) (cut : Cut (number-at xs 1) w (keys-of xs) c r) where
-        before : Still (stage-at o (lexicon cs ls) xs s q) w r
-        before i a b = lone-apart i a (omega (arith, cut .to)) (λ e. omega (arith, cut .below i a b))
+        -- of all lines only the one found can agree
+        pub lone-others :
+            (i : ℕ) → w ≤ i → i < keys-of xs → (i ≡ r → ⊥) → agrees s 0 (spells (lexicon cs ls) (key-at xs i)) o ≡ false
+        lone-others i a b other =
+            lone-apart i a b
+            (λ e.
+            ⊎-elim
+            (λ (l : r ≤ i).
+            omega (
+              arith,
+              other,
+              cut .above r (omega arith) (omega arith),
+              values-before r i (omega (arith, other)) b (split .lone r (cut .from) (omega arith) ∙ sym (split .lone i a b)),
+            ))
+            (λ (l : i < r). omega (arith, cut .below i a l)) (le-or-lt r i))
 
-        -- the character has a line, and that alone can agree
-        pub lone-found :
-            r < keys-of xs → value-at xs r ≡ c → (old now : List ℕ) (most : ℕ) →
-            Reaches (stage-at o (lexicon cs ls) xs s q r old) now most →
-            Reaches (run (stage-at o (lexicon cs ls) xs s q) w (keys-of xs) old) now most
-        lone-found some e old now most done =
-            record {
-              is =
-                  done .is
-                  ∙ sym (run-one (stage-at o (lexicon cs ls) xs s q) r old)
-                  ∙ sym
-                  (run-skip (stage-at o (lexicon cs ls) xs s q) w r (r + 1) (keys-of xs) (cut .from) (omega arith) (omega arith) before
-                  after old);
-              bounded = done .bounded;
-            }
-          where
-            after : Still (stage-at o (lexicon cs ls) xs s q) (r + 1) (keys-of xs)
-            after i a b =
-                lone-apart i (omega (arith, cut .from)) b
-                (λ z.
-                omega (
-                  arith,
-                  values-before r i (omega arith) b (split .lone r (cut .from) some ∙ sym (split .lone i (omega (arith, cut .from)) b)),
-                ))
+        -- and not where it has another character
+        pub lone-all :
+            (r < keys-of xs → value-at xs r ≡ c → ⊥) → (i : ℕ) → w ≤ i → i < keys-of xs →
+            agrees s 0 (spells (lexicon cs ls) (key-at xs i)) o ≡ false
+        lone-all other i a b =
+            false-put (agrees s 0 (spells (lexicon cs ls) (key-at xs i)) o)
+            (λ t. clash t (lone-others i a b (λ e. clash t (lone-apart i a b (λ z. other (omega arith) (ap (value-at xs) (sym e) ∙ z))))))
 
-        -- or it has none
-        pub lone-none :
-            (r < keys-of xs → value-at xs r ≡ c → ⊥) → (old : List ℕ) (most : ℕ) → Within most old →
-            Reaches (run (stage-at o (lexicon cs ls) xs s q) w (keys-of xs) old) old most
-        lone-none other old most within =
-            record {
-              is = sym (run-still (stage-at o (lexicon cs ls) xs s q) w (keys-of xs) all old);
-              bounded = within;
-            }
-          where
-            past : (i : ℕ) → r ≤ i → i < keys-of xs → value-at xs i ≡ c → ⊥
-            past i l b e =
-                ⊎-elim (λ (p : i ≤ r). let z : r ≡ i = omega arith in other (omega arith) (ap (value-at xs) z ∙ e))
-                (λ (p : r < i).
-                omega (
-                  arith,
-                  cut .above r (omega arith) (omega arith),
-                  values-before r i p b (split .lone r (cut .from) (omega arith) ∙ sym (split .lone i (omega (arith, cut .from)) b)),
-                ))
-                (le-or-lt i r)
+        module _ (q : ℕ) where
+          step : ℕ → List ℕ → List ℕ
+          step = stage-at o (lexicon cs ls) xs s q
 
-            all : Still (stage-at o (lexicon cs ls) xs s q) w (keys-of xs)
-            all i a b =
-                lone-apart i a b
-                (λ e. ⊎-elim (λ (l : r ≤ i). past i l b e) (λ (l : i < r). omega (arith, cut .below i a l)) (le-or-lt r i))
+          -- the character has a line, and that alone can agree
+          pub lone-found :
+              r < keys-of xs → (old now : List ℕ) (most : ℕ) → Reaches (stage-at o (lexicon cs ls) xs s q r old) now most →
+              Reaches (run (stage-at o (lexicon cs ls) xs s q) w (keys-of xs) old) now most
+          unfolding step
+          lone-found some old now most done =
+              record {
+                is =
+                    done .is
+                    ∙ sym (run-one step r old)
+                    ∙ sym (run-skip step w r (r + 1) (keys-of xs) (cut .from) (omega arith) (omega arith) before after old);
+                bounded = done .bounded;
+              }
+            where
+              before : Still step w r
+              before i a b =
+                  stage-apart (lexicon cs ls) xs s q o i (lone-others i a (omega (arith, cut .to)) (λ e. omega arith))
+
+              after : Still step (r + 1) (keys-of xs)
+              after i a b =
+                  stage-apart (lexicon cs ls) xs s q o i (lone-others i (omega (arith, cut .from)) b (λ e. omega arith))
+
+          -- or it has none
+          pub lone-none :
+              (r < keys-of xs → value-at xs r ≡ c → ⊥) → (old : List ℕ) (most : ℕ) → Within most old →
+              Reaches (run (stage-at o (lexicon cs ls) xs s q) w (keys-of xs) old) old most
+          lone-none other old most within =
+              record {
+                is =
+                    sym
+                    (run-still (stage-at o (lexicon cs ls) xs s q) w (keys-of xs)
+                    (λ i a b. stage-apart (lexicon cs ls) xs s q o i (lone-all other i a b)) old);
+                bounded = within;
+              }

@@ -6,11 +6,10 @@ use Prim.Native.Nat.{ℕ, _+_, _-_, _≤_, _<_}
 use native.Mathlib.Nat.{sub-zero}
 use native.Mathlib.Omega.{arith}
 use lib.ListN.{length, getD}
-use Rattle.basics.specs.Bools.{false-put}
 use Rattle.spec.specs.Dictionary.{Lexicon}
 use Rattle.spec.specs.Numbers.{Line}
 use Rattle.spec.specs.Search.{agrees}
-use Rattle.laws.specs.Agree.{agrees-get}
+use Rattle.laws.specs.AgreeWalk.{key-starts-apart}
 use Rattle.laws.specs.Window.{Within, Reaches, Midway, midway-start, midway-step, midway-end}
 use Rattle.laws.specs.WindowSearch.{places-all, key-all, back-all, first-all, stage-all, stages-all, key-apart, key-agrees, back-none, back-next, stages-none, stages-next, stages-stop}
 
@@ -26,15 +25,6 @@ module _ (i o : ℕ) (s k : List ℕ) (q : ℕ) (bs old : List ℕ) where
   raises-all t rs most r = record { is = r .is ∙ sym (key-agrees i o s k q bs old t); bounded = r .bounded }
 
 -- ONE KEY AT THE OFFSETS FROM 0 DOWN
-
-key-starts-apart : (i : ℕ) (s k : List ℕ) → i < length k → (getD k i 0 ≡ getD s 0 0 → ⊥) → agrees s i k 0 ≡ false
-key-starts-apart i s k some other =
-    false-put (agrees s i k 0)
-    (λ t.
-    let h = agrees-get s i k 0 t in
-    let y : i - i ≡ 0 = omega arith in
-    let z : i - 0 ≡ i = omega arith in
-    other (sym (rw (y, z) at (h .equal i (omega arith) (omega arith) (omega arith) (omega arith)))))
 
 -- i offsets are done
 pub record Backing (s k : List ℕ) (q : ℕ) (bs old rs : List ℕ) (top i : ℕ) : Type 0 where

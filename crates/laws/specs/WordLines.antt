@@ -1,8 +1,8 @@
 -- Lines of words narrowed character by character to those that share what the string has from an offset on: the others do not agree
 -- there. Assumes nothing.
 use mathlib.Core.Path.{_≡_, sym, ap, _∙_}
-use mathlib.Core.Bool.{false}
-use mathlib.Core.Logic.{⊎-elim}
+use mathlib.Core.Bool.{true, false}
+use mathlib.Core.Logic.{_⊎_, ⊎-elim}
 use mathlib.Core.List.{List}
 use Prim.Native.Nat.{ℕ, _+_, _*_, _-_, _≤_, _<_}
 use native.Mathlib.Omega.{arith}
@@ -14,8 +14,9 @@ use Rattle.spec.specs.Words.{spells}
 use Rattle.spec.specs.Index.{header, keys-of, value-at, key-at}
 use Rattle.spec.specs.Search.{agrees}
 use Rattle.laws.specs.Agree.{Agree, agrees-get}
+use Rattle.laws.specs.AgreeWalk.{together}
 use Rattle.laws.specs.WordRuns.{prefix-not-before, next-rises}
-use Rattle.laws.specs.Tables.{Can-read, Word-starts, line-room, word-below, word-room, word-spelt, key-short}
+use Rattle.laws.specs.Tables.{Can-read, Word-starts, line-room, word-below, word-room, word-spelt, key-short, key-some}
 use Rattle.laws.specs.Halving.{Rising, Cut, rising-part}
 use Rattle.laws.specs.Ranging.{Still, stage-at, stage-apart}
 use Rattle.laws.specs.Narrowing.{Split, word-lines-rise}
@@ -114,6 +115,18 @@ module _
         (drop (getD ws (value-at xs i) 0) cs) j 0 (omega (arith, shared-long)))
         ∙ ap (λ (k : List ℕ). getD k j 0) spelt
 
+  -- those that have no more to share, or where the string has no more, agree
+  pub sharing-agrees :
+      o < length s → (i : ℕ) → lo ≤ i → i < hi → (length s ≤ o + d) ⊎ (getD ls (value-at xs i) 0 ≡ d) →
+      agrees s 0 (spells (lexicon cs ls) (key-at xs i)) o ≡ true
+  sharing-agrees below i a b done =
+      sym
+      (together s (word-of i) o d below
+      (λ (z : length (word-of i) ≡ 0). omega (arith, key-some cs ls xs can i (shared-line i a b)))
+      (⊎-elim (λ (p : length s ≤ o + d). omega arith)
+      (λ (p : getD ls (value-at xs i) 0 ≡ d). omega (arith, shared-long i a b)) done)
+      (λ j l. sym (h .share i j a b l)))
+
   -- where the first has more than d characters, so have all
   module _ (some : lo < hi) (more : getD ls (value-at xs lo) 0 ≡ d → ⊥) where
     longer : (i : ℕ) → lo ≤ i → i < hi → d < length (word-of i)
@@ -201,13 +214,15 @@ module _
           ∙ sym (agree-deep s (word-of i) o d (agrees-get s 0 (word-of i) o t) (longer i a b) below)
           ∙ sym is))
 
+      pub apart-front : (i : ℕ) → lo ≤ i → i < from → agrees s 0 (spells (lexicon cs ls) (key-at xs i)) o ≡ false
+      apart-front i a b = apart i a (omega (arith, low .to)) (λ e. omega (arith, low .below i a b))
+
+      pub apart-back : (i : ℕ) → to ≤ i → i < hi → agrees s 0 (spells (lexicon cs ls) (key-at xs i)) o ≡ false
+      apart-back i a b = apart i (omega (arith, low .from, high .from)) b (λ e. omega (arith, high .above i a b))
+
       module _ (q : ℕ) where
         pub still-front : Still (stage-at o (lexicon cs ls) xs s q) lo from
-        still-front i a b =
-            stage-apart (lexicon cs ls) xs s q o i
-            (apart i a (omega (arith, low .to)) (λ e. omega (arith, low .below i a b)))
+        still-front i a b = stage-apart (lexicon cs ls) xs s q o i (apart-front i a b)
 
         pub still-back : Still (stage-at o (lexicon cs ls) xs s q) to hi
-        still-back i a b =
-            stage-apart (lexicon cs ls) xs s q o i
-            (apart i (omega (arith, low .from, high .from)) b (λ e. omega (arith, high .above i a b)))
+        still-back i a b = stage-apart (lexicon cs ls) xs s q o i (apart-back i a b)

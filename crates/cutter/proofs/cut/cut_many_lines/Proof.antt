@@ -1,18 +1,18 @@
--- `cut_many_lines` meets its contract: the flags are enough for every line. Assumes nothing.
+-- `cut_many_lines` meets its contract: the flags are cleared, and enough for every line. Assumes nothing.
 use native.Mathlib.Omega.{arith}
-use Rattle.spec.specs.Index.{keys-of}
-use Rattle.laws.specs.Searching.{cleared-room}
 use borrow.Author.Needs.{needs}
+use Rattle.spec.specs.Index.{keys-of}
+use Rattle.laws.specs.Searching.{cleared-room, cleared-whole}
 use Rattle.cutter.proofs.cut.cut_many_lines.Statement.{statement}
 use Rattle.cutter.proofs.cut.cut_many_lines.Tie as tie
 
-slice-aggregate-cut-flagged : tie.Need-slice-aggregate-cut-flagged
-slice-aggregate-cut-flagged c = search needs
+slice-aggregate-cut-lent : tie.Need-slice-aggregate-cut-lent
+slice-aggregate-cut-lent c = search needs
 
-cut-flagged-requires : tie.Need-cut-flagged-requires
-cut-flagged-requires c κs =
+cut-lent-requires : tie.Need-cut-lent-requires
+cut-lent-requires c κs =
     let s = c .before .before .before .before .before .before .before in
-    (s .pre .0, s .pre .1, cleared-room 65536 (keys-of (s .args .index .now)) (omega (arith, s .pre .2)))
+    (s .pre .0, s .pre .1, cleared-room 65536 (keys-of (s .args .index .now)) (omega (arith, s .pre .2)), cleared-whole 65536)
 
 same-length : tie.Need-same-length
 same-length c = search needs
@@ -22,4 +22,4 @@ returns c = search needs
 
 pub cut-many-lines-spec : {M : Type 1} → statement M
 cut-many-lines-spec =
-    tie.close (tie.spec slice-aggregate-cut-flagged cut-flagged-requires same-length returns)
+    tie.close (tie.spec slice-aggregate-cut-lent cut-lent-requires same-length returns)

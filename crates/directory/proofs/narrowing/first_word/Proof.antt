@@ -1,8 +1,7 @@
 -- `first_word` meets its contract. The invariant: the line is not before a and not after b. The measure is how many lie between.
 -- Assumes nothing.
-use Prim.Native.Nat.{_/_, _+_, _*_, _-_}
+use Prim.Native.Nat.{ℕ, _/_, _+_, _-_, _≤_, _<_}
 use native.Mathlib.Omega.{arith}
-use lib.ListN.{getD}
 use borrow.Author.Needs.{needs}
 use Rattle.laws.specs.Halving.{Halved, halved-start, halved-up, halved-down, halved-end}
 use Rattle.laws.specs.WordLines.{word-char}
@@ -15,78 +14,68 @@ Inv-loop chars index words low high depth least a₀ b₀ a b = Halved (word-cha
 abbrev μ-loop : tie.MeasureT-loop
 μ-loop chars index words low high depth least a₀ b₀ a b = b - a
 
+-- the line in the middle
+abbrev middle : tie.In-loop Inv-loop μ-loop → ℕ
+middle c = c .before .loop .a + (c .before .loop .b - c .before .loop .a) / 2
+
+after-low : (c : tie.In-loop Inv-loop μ-loop) → c .before .before .before .before .before .args .low ≤ middle c
+after-low c = omega (arith, c .before .loop .inv .from)
+
+before-high : (c : tie.In-loop Inv-loop μ-loop) → middle c < c .before .before .before .before .before .args .high
+before-high c = omega (arith, c .before .loop .inv .to)
+
 loop-holds : tie.Need-loop-holds Inv-loop μ-loop
-loop-holds c = halved-start (word-char (c .args .chars .now) (c .args .index .now) (c .args .words .now) (c .args .depth)) (c .args .low) (c .args .high) (c .pre .rising) (c .args .least)
+loop-holds c =
+    let s = c .before .before .before in
+    let a = s .args in
+    halved-start (word-char (a .chars .now) (a .index .now) (a .words .now) (a .depth)) (a .low) (a .high) (s .pre .rising) (a .least)
 
 sub-middle : tie.Need-sub-middle Inv-loop μ-loop
 sub-middle c = search needs
 
 add-middle : tie.Need-add-middle Inv-loop μ-loop
-add-middle c = omega (arith, c .before .before .pre .line (c .before .loop .a + (c .before .loop .b - c .before .loop .a) / 2) (omega (arith, c .before .loop .inv .from)) (omega (arith, c .before .loop .inv .to)))
+add-middle c = omega (arith, c .before .before .before .before .before .pre .line (middle c) (after-low c) (before-high c))
 
-mul-word : tie.Need-mul-word Inv-loop μ-loop
-mul-word c = omega (arith, c .before .before .pre .line (c .before .loop .a + (c .before .loop .b - c .before .loop .a) / 2) (omega (arith, c .before .loop .inv .from)) (omega (arith, c .before .loop .inv .to)))
-
-add-word : tie.Need-add-word Inv-loop μ-loop
-add-word c = omega (arith, c .before .before .pre .line (c .before .loop .a + (c .before .loop .b - c .before .loop .a) / 2) (omega (arith, c .before .loop .inv .from)) (omega (arith, c .before .loop .inv .to)))
-
-add-word-2 : tie.Need-add-word-2 Inv-loop μ-loop
-add-word-2 c = omega (arith, c .before .before .pre .line (c .before .loop .a + (c .before .loop .b - c .before .loop .a) / 2) (omega (arith, c .before .loop .inv .from)) (omega (arith, c .before .loop .inv .to)))
-
-mul-word-2 : tie.Need-mul-word-2 Inv-loop μ-loop
-mul-word-2 c = omega (arith, c .before .before .pre .line (c .before .loop .a + (c .before .loop .b - c .before .loop .a) / 2) (omega (arith, c .before .loop .inv .from)) (omega (arith, c .before .loop .inv .to)))
-
-shared-slice-read-word : tie.Need-shared-slice-read-word Inv-loop μ-loop
-shared-slice-read-word c = omega (arith, c .before .before .before .pre .line (c .before .before .loop .a + (c .before .before .loop .b - c .before .before .loop .a) / 2) (omega (arith, c .before .before .loop .inv .from)) (omega (arith, c .before .before .loop .inv .to)))
-
-cast-word : tie.Need-cast-word Inv-loop μ-loop
-cast-word c = omega (arith, c .shared-slice-known .given (2 + 3 * (c .before .before .loop .a + (c .before .before .loop .b - c .before .before .loop .a) / 2) + 1))
-
-mul-at : tie.Need-mul-at Inv-loop μ-loop
-mul-at c = omega (arith, c .shared-slice-known .given (2 + 3 * (c .before .before .loop .a + (c .before .before .loop .b - c .before .before .loop .a) / 2) + 1))
-
-shared-slice-read-at : tie.Need-shared-slice-read-at Inv-loop μ-loop
-shared-slice-read-at c = c .before .before .before .before .pre .word (c .before .before .before .loop .a + (c .before .before .before .loop .b - c .before .before .before .loop .a) / 2) (omega (arith, c .before .before .before .loop .inv .from)) (omega (arith, c .before .before .before .loop .inv .to))
-
-cast-at : tie.Need-cast-at Inv-loop μ-loop
-cast-at c = omega (arith, c .before .before .before .before .pre .room (c .before .before .before .loop .a + (c .before .before .before .loop .b - c .before .before .before .loop .a) / 2) (omega (arith, c .before .before .before .loop .inv .from)) (omega (arith, c .before .before .before .loop .inv .to)))
-
-add-at : tie.Need-add-at Inv-loop μ-loop
-add-at c = omega (arith, c .before .before .before .before .pre .room (c .before .before .before .loop .a + (c .before .before .before .loop .b - c .before .before .before .loop .a) / 2) (omega (arith, c .before .before .before .loop .inv .from)) (omega (arith, c .before .before .before .loop .inv .to)))
-
-mul-if1 : tie.Need-mul-if1 Inv-loop μ-loop
-mul-if1 c = omega (arith, c .before .before .before .before .pre .room (c .before .before .before .loop .a + (c .before .before .before .loop .b - c .before .before .before .loop .a) / 2) (omega (arith, c .before .before .before .loop .inv .from)) (omega (arith, c .before .before .before .loop .inv .to)))
-
-shared-slice-read-if1 : tie.Need-shared-slice-read-if1 Inv-loop μ-loop
-shared-slice-read-if1 c = c .before .before .before .before .before .pre .room (c .before .before .before .before .loop .a + (c .before .before .before .before .loop .b - c .before .before .before .before .loop .a) / 2) (omega (arith, c .before .before .before .before .loop .inv .from)) (omega (arith, c .before .before .before .before .loop .inv .to))
+char-at-requires : tie.Need-char-at-requires Inv-loop μ-loop
+char-at-requires c κs =
+    let p = c .before .before .before .before .before .pre in
+    (p .line (middle c) (after-low c) (before-high c), p .word (middle c) (after-low c) (before-high c), p .room (middle c) (after-low c) (before-high c))
 
 cast-if1 : tie.Need-cast-if1 Inv-loop μ-loop
-cast-if1 c =
-    let a = c .before .before .before .before .before .args in
-    omega (arith, c .shared-slice-known3 .given (getD (a .words .now) (getD (a .index .now) (2 + 3 * (c .before .before .before .before .loop .a + (c .before .before .before .before .loop .b - c .before .before .before .before .loop .a) / 2) + 1) 0) 0 + a .depth))
+cast-if1 c = omega (arith, c .char-at .ok)
 
 add-a : tie.Need-add-a Inv-loop μ-loop
-add-a c = omega (arith, c .before .before .before .before .before .before .pre .line (c .before .before .before .before .before .loop .a + (c .before .before .before .before .before .loop .b - c .before .before .before .before .before .loop .a) / 2) (omega (arith, c .before .before .before .before .before .loop .inv .from)) (omega (arith, c .before .before .before .before .before .loop .inv .to)))
+add-a c =
+    let i = c .before .before in
+    omega (arith, c .before .before .before .before .before .before .before .pre .line (middle i) (after-low i) (before-high i))
 
 loop-less : tie.Need-loop-less Inv-loop μ-loop
-loop-less c = omega arith
+loop-less c = search needs
 
 loop-again : tie.Need-loop-again Inv-loop μ-loop
 loop-again c =
-    halved-up (word-char (c .before .before .before .before .before .before .args .chars .now) (c .before .before .before .before .before .before .args .index .now) (c .before .before .before .before .before .before .args .words .now) (c .before .before .before .before .before .before .args .depth)) (c .before .before .before .before .before .before .args .low) (c .before .before .before .before .before .before .args .high) (c .before .before .before .before .before .before .pre .rising) (c .before .before .before .before .before .before .args .least)
-    (c .before .before .before .before .before .loop .a) (c .before .before .before .before .before .loop .b) (c .before .before .before .before .before .loop .inv) (c .before .before .before .before .before .loop .a + (c .before .before .before .before .before .loop .b - c .before .before .before .before .before .loop .a) / 2) (omega arith) (omega arith) (c .if1 .taken)
+    let s = c .before .before .before .before .before .before .before in
+    let a = s .args in
+    let l = c .before .before .before .loop in
+    halved-up (word-char (a .chars .now) (a .index .now) (a .words .now) (a .depth)) (a .low) (a .high) (s .pre .rising) (a .least) (l .a) (l .b) (l .inv) (middle (c .before .before)) (omega arith) (omega arith)
+    (omega (arith, c .before .char-at .ensures, c .if1 .taken))
 
 loop-less-2 : tie.Need-loop-less-2 Inv-loop μ-loop
-loop-less-2 c = omega arith
+loop-less-2 c = search needs
 
 loop-again-2 : tie.Need-loop-again-2 Inv-loop μ-loop
 loop-again-2 c =
-    halved-down (word-char (c .before .before .before .before .before .before .args .chars .now) (c .before .before .before .before .before .before .args .index .now) (c .before .before .before .before .before .before .args .words .now) (c .before .before .before .before .before .before .args .depth)) (c .before .before .before .before .before .before .args .low) (c .before .before .before .before .before .before .args .high) (c .before .before .before .before .before .before .pre .rising) (c .before .before .before .before .before .before .args .least)
-    (c .before .before .before .before .before .loop .a) (c .before .before .before .before .before .loop .b) (c .before .before .before .before .before .loop .inv) (c .before .before .before .before .before .loop .a + (c .before .before .before .before .before .loop .b - c .before .before .before .before .before .loop .a) / 2) (omega arith) (omega arith) (c .if1 .left)
+    let s = c .before .before .before .before .before .before .before in
+    let a = s .args in
+    let l = c .before .before .before .loop in
+    halved-down (word-char (a .chars .now) (a .index .now) (a .words .now) (a .depth)) (a .low) (a .high) (s .pre .rising) (a .least) (l .a) (l .b) (l .inv) (middle (c .before .before)) (omega arith) (omega arith)
+    (omega (arith, c .before .char-at .ensures, c .if1 .left))
 
 returns : tie.Need-returns Inv-loop μ-loop
 returns c =
-    halved-end (word-char (c .before .before .args .chars .now) (c .before .before .args .index .now) (c .before .before .args .words .now) (c .before .before .args .depth)) (c .before .before .args .low) (c .before .before .args .high) (c .before .before .pre .rising) (c .before .before .args .least) (c .before .loop .a) (c .before .loop .b) (c .before .loop .inv) (c .loop-test .left)
+    let s = c .before .before .before .before .before in
+    let a = s .args in
+    halved-end (word-char (a .chars .now) (a .index .now) (a .words .now) (a .depth)) (a .low) (a .high) (s .pre .rising) (a .least) (c .before .loop .a) (c .before .loop .b) (c .before .loop .inv) (c .loop-test .left)
 
 pub first-word-spec : {M : Type 1} → statement M
 first-word-spec =
@@ -97,18 +86,7 @@ first-word-spec =
     loop-holds
     sub-middle
     add-middle
-    mul-word
-    add-word
-    add-word-2
-    mul-word-2
-    shared-slice-read-word
-    cast-word
-    mul-at
-    shared-slice-read-at
-    cast-at
-    add-at
-    mul-if1
-    shared-slice-read-if1
+    char-at-requires
     cast-if1
     add-a
     loop-less

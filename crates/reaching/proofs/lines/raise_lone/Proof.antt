@@ -55,7 +55,7 @@ returns c =
     let s = c .before .before .before .before .before .before .before .before .before .before .before .before .before .before .before .before .before in
     let a = s .args in
     lone-found (a .chars .now) (a .lengths .now) (a .index .now) (s .pre .0 .can) (a .ends) (s .pre .1) (a .string .now) (a .key-start)
-    (getD (a .string .now) (a .key-start) 0) refl (a .first) (c .before .before .before .before .before .before .before .first-line .result) (c .before .before .before .before .before .before .before .first-line .ensures) (c .before .before .before .before .before .before .if1 .taken) (c .before .before .before .before .if2 .taken)
+    (getD (a .string .now) (a .key-start) 0) refl (c .before .before .before .before .before .before .before .first-line .result) (c .before .before .before .before .before .before .before .first-line .ensures) (a .first) (c .before .before .before .before .before .before .if1 .taken)
     (a .reach .now) (c .before .before .raise-line .last .1 .1 .1 .1 .1 .1 .1 .1 .1 .0) (c .before .before .raise-line .result) (c .before .before .raise-line .ensures)
 
 returns-2 : tie.Need-returns-2
@@ -63,7 +63,7 @@ returns-2 c =
     let s = c .before .before .before .before .before .before .before .before .before .before .before .before .before in
     let a = s .args in
     lone-none (a .chars .now) (a .lengths .now) (a .index .now) (s .pre .0 .can) (a .ends) (s .pre .1) (a .string .now) (a .key-start)
-    (getD (a .string .now) (a .key-start) 0) refl (a .first) (c .before .before .before .first-line .result) (c .before .before .before .first-line .ensures) (λ some. c .if2 .left)
+    (getD (a .string .now) (a .key-start) 0) refl (c .before .before .before .first-line .result) (c .before .before .before .first-line .ensures) (a .first) (λ some. c .if2 .left)
     (a .reach .now) (a .most) (s .pre .5)
 
 returns-3 : tie.Need-returns-3
@@ -71,7 +71,7 @@ returns-3 c =
     let s = c .before .before .before .before .before .before .before .before .before .before .before in
     let a = s .args in
     lone-none (a .chars .now) (a .lengths .now) (a .index .now) (s .pre .0 .can) (a .ends) (s .pre .1) (a .string .now) (a .key-start)
-    (getD (a .string .now) (a .key-start) 0) refl (a .first) (c .before .first-line .result) (c .before .first-line .ensures) (λ some e. omega (arith, c .if1 .left))
+    (getD (a .string .now) (a .key-start) 0) refl (c .before .first-line .result) (c .before .first-line .ensures) (a .first) (λ some e. omega (arith, c .if1 .left))
     (a .reach .now) (a .most) (s .pre .5)
 
 pub raise-lone-spec : {M : Type 1} → statement M

@@ -1,0 +1,88 @@
+-- `begins_before` meets its contract. The invariant: the key does not agree where the string starts at one of its places before i.
+-- The measure is how many are left. Assumes nothing.
+use mathlib.Core.Path.{refl, sym, _∙_}
+use Prim.Native.Nat.{_-_}
+use borrow.Author.Needs.{needs}
+use lib.ListN.{length}
+use Rattle.basics.specs.Bools.{clash}
+use Rattle.laws.specs.Agree.{agrees-get}
+use Rattle.laws.specs.AgreeWalk.{key-starts-apart}
+use Rattle.laws.specs.Bears.{bears-put}
+use Rattle.laws.specs.FlagWalks.{Apart-before, before-start, before-next, before-end}
+use Rattle.bearing.proofs.before.begins_before.Statement.{statement}
+use Rattle.bearing.proofs.before.begins_before.Tie as tie
+
+abbrev Inv-loop : tie.InvT-loop
+Inv-loop key string front i₀ i = Apart-before key string i
+
+abbrev μ-loop : tie.MeasureT-loop
+μ-loop key string front i₀ i = length key - i
+
+shared-slice-read-front : tie.Need-shared-slice-read-front Inv-loop μ-loop
+shared-slice-read-front c = search needs
+
+loop-holds : tie.Need-loop-holds Inv-loop μ-loop
+loop-holds c = before-start (c .before .before .before .args .key .now) (c .before .before .before .args .string .now)
+
+add-i : tie.Need-add-i Inv-loop μ-loop
+add-i c = search needs
+
+mul-if1 : tie.Need-mul-if1 Inv-loop μ-loop
+mul-if1 c = search needs
+
+shared-slice-read-if1 : tie.Need-shared-slice-read-if1 Inv-loop μ-loop
+shared-slice-read-if1 c = search needs
+
+agrees-from-starts-requires : tie.Need-agrees-from-starts-requires Inv-loop μ-loop
+agrees-from-starts-requires c κs = tt
+
+returns : tie.Need-returns Inv-loop μ-loop
+returns c =
+    let a = c .before .before .before .before .before .before .before .before .before .args in
+    let i = c .before .before .before .before .before .loop .i in (
+      λ t. bears-put (a .key .now) (a .string .now) i 0 (agrees-get (a .string .now) i (a .key .now) 0 (sym (c .before .agrees-from-starts .ensures) ∙ c .if2 .taken)),
+      λ f. clash refl f,
+    )
+
+loop-less : tie.Need-loop-less Inv-loop μ-loop
+loop-less c = search needs
+
+loop-again : tie.Need-loop-again Inv-loop μ-loop
+loop-again c =
+    let a = c .before .before .before .before .before .before .before .before .before .args in
+    let l = c .before .before .before .before .before .loop in
+    before-next (a .key .now) (a .string .now) (l .i) (l .inv) (sym (c .before .agrees-from-starts .ensures) ∙ c .if2 .left)
+
+loop-less-2 : tie.Need-loop-less-2 Inv-loop μ-loop
+loop-less-2 c = search needs
+
+loop-again-2 : tie.Need-loop-again-2 Inv-loop μ-loop
+loop-again-2 c =
+    let a = c .before .before .before .before .before .before .before .args in
+    let l = c .before .before .before .loop in
+    before-next (a .key .now) (a .string .now) (l .i) (l .inv) (key-starts-apart (l .i) (a .string .now) (a .key .now) (c .before .before .loop-test .taken) (c .if1 .left))
+
+returns-2 : tie.Need-returns-2 Inv-loop μ-loop
+returns-2 c =
+    let a = c .before .before .before .before .before .args in
+    let l = c .before .loop in
+    (λ t. clash t refl, λ f. before-end (a .key .now) (a .string .now) (l .i) (l .inv) (c .loop-test .left))
+
+pub begins-before-spec : {M : Type 1} → statement M
+begins-before-spec =
+    tie.close
+    (tie.spec
+    Inv-loop
+    μ-loop
+    shared-slice-read-front
+    loop-holds
+    add-i
+    mul-if1
+    shared-slice-read-if1
+    agrees-from-starts-requires
+    returns
+    loop-less
+    loop-again
+    loop-less-2
+    loop-again-2
+    returns-2)

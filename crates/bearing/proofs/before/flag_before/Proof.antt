@@ -1,0 +1,97 @@
+-- `flag_before` meets its contract. The invariant: the lines before `line` are done. The measure is how many are left. Assumes nothing.
+use mathlib.Core.Path.{_≡_, sym, ap, _∙_, subst}
+use mathlib.Core.List.{List}
+use Prim.Native.Nat.{ℕ, _-_, _≤_}
+use native.Mathlib.Omega.{arith}
+use Rattle.spec.specs.Dictionary.{lexicon}
+use Rattle.spec.specs.Search.{agrees}
+use Rattle.spec.specs.Cut.{bears}
+use Rattle.laws.specs.FlagWalks.{Backs, backs-start, backs-pass, backs-next}
+use Rattle.bearing.proofs.before.flag_before.Statement.{statement}
+use Rattle.bearing.proofs.before.flag_before.Tie as tie
+
+abbrev Inv-loop : tie.InvT-loop
+Inv-loop chars lengths index words string ends flags₀ line₀ flags line =
+    (line ≤ ends) × Backs (lexicon chars lengths) index string flags₀ flags line
+
+abbrev μ-loop : tie.MeasureT-loop
+μ-loop chars lengths index words string ends flags₀ line₀ flags line = ends - line
+
+loop-holds : tie.Need-loop-holds Inv-loop μ-loop
+loop-holds c =
+    let s = c .before .before .before .before .before .before in
+    let a = s .args in
+    (omega arith, backs-start (lexicon (a .chars .now) (a .lengths .now)) (a .index .now) (a .string .now) (a .flags .now) (s .pre .4))
+
+key-of-requires : tie.Need-key-of-requires Inv-loop μ-loop
+key-of-requires c κs =
+    let s = c .before .before .before .before .before .before .before .before in
+    (s .pre .0, s .pre .1, omega (arith, c .loop-test .taken, s .pre .3))
+
+add-line : tie.Need-add-line Inv-loop μ-loop
+add-line c =
+    let s = c .before .before .before .before .before .before .before .before .before in
+    omega (arith, c .before .loop-test .taken, s .pre .3, s .pre .0 .keys-small)
+
+begins-before-requires : tie.Need-begins-before-requires Inv-loop μ-loop
+begins-before-requires c κs = c .before .before .before .before .before .before .before .before .before .pre .2
+
+slice-write-flags : tie.Need-slice-write-flags Inv-loop μ-loop
+slice-write-flags c =
+    let s = c .before .before .before .before .before .before .before .before .before .before .before in
+    omega (arith, c .before .before .before .loop-test .taken, s .pre .3, c .before .before .before .before .loop .inv .1 .way .flags .room)
+
+loop-less : tie.Need-loop-less Inv-loop μ-loop
+loop-less c = omega (arith, c .before .before .before .loop-test .taken)
+
+loop-again : tie.Need-loop-again Inv-loop μ-loop
+loop-again c =
+    let s = c .before .before .before .before .before .before .before .before .before .before .before in
+    let a = s .args in
+    let l = c .before .before .before .before .loop in (
+      omega (arith, c .before .before .before .loop-test .taken),
+      backs-next (lexicon (a .chars .now) (a .lengths .now)) (a .index .now) (a .string .now) (a .flags .now) (l .flags) (l .line) (l .inv .1) (omega (arith, c .before .before .before .loop-test .taken, s .pre .3))
+          (ap (λ (k : List ℕ). bears k (a .string .now)) (sym (c .before .before .key-of .ensures)) ∙ c .before .begins-before .ensures .0 (c .if1 .taken)),
+    )
+
+loop-less-2 : tie.Need-loop-less-2 Inv-loop μ-loop
+loop-less-2 c = omega (arith, c .before .before .before .loop-test .taken)
+
+loop-again-2 : tie.Need-loop-again-2 Inv-loop μ-loop
+loop-again-2 c =
+    let s = c .before .before .before .before .before .before .before .before .before .before .before in
+    let a = s .args in
+    let l = c .before .before .before .before .loop in (
+      omega (arith, c .before .before .before .loop-test .taken),
+      backs-pass (lexicon (a .chars .now) (a .lengths .now)) (a .index .now) (a .string .now) (a .flags .now) (l .flags) (l .line) (l .inv .1)
+          (λ p some. ap (λ (k : List ℕ). agrees (a .string .now) p k 0) (sym (c .before .before .key-of .ensures)) ∙ c .before .begins-before .ensures .1 (c .if1 .left) p some),
+    )
+
+same-length : tie.Need-same-length Inv-loop μ-loop
+same-length c = c .before .loop .inv .1 .way .long
+
+returns : tie.Need-returns Inv-loop μ-loop
+returns c =
+    let s = c .before .before .before .before .before .before .before .before in
+    let a = s .args in
+    let l = c .before .loop in
+    let e : l .line ≡ a .ends = omega (arith, l .inv .0, c .loop-test .left) in
+    subst (Backs (lexicon (a .chars .now) (a .lengths .now)) (a .index .now) (a .string .now) (a .flags .now) (l .flags)) e (l .inv .1)
+
+pub flag-before-spec : {M : Type 1} → statement M
+flag-before-spec =
+    tie.close
+    (tie.spec
+    Inv-loop
+    μ-loop
+    loop-holds
+    key-of-requires
+    add-line
+    begins-before-requires
+    slice-write-flags
+    loop-less
+    loop-again
+    loop-less-2
+    loop-again-2
+    same-length
+    returns)

@@ -1,0 +1,57 @@
+-- `flag_lines` meets its contract. The invariant: the lines before `line` are flagged. The measure is how many are left. Assumes
+-- nothing.
+use mathlib.Core.Path.{_≡_, subst}
+use Prim.Native.Nat.{ℕ, _-_, _≤_}
+use native.Mathlib.Omega.{arith}
+use borrow.Author.Needs.{needs}
+use Rattle.laws.specs.Flagging.{Ones, ones-none, ones-next}
+use Rattle.bearing.proofs.within.flag_lines.Statement.{statement}
+use Rattle.bearing.proofs.within.flag_lines.Tie as tie
+
+abbrev Inv-loop : tie.InvT-loop
+Inv-loop from to flags₀ line₀ flags line = (line ≤ to) × Ones from line flags₀ flags
+
+abbrev μ-loop : tie.MeasureT-loop
+μ-loop from to flags₀ line₀ flags line = to - line
+
+loop-holds : tie.Need-loop-holds Inv-loop μ-loop
+loop-holds c = (c .pre .0, ones-none (c .args .from) (c .args .flags .now))
+
+slice-write-flags : tie.Need-slice-write-flags Inv-loop μ-loop
+slice-write-flags c = omega (arith, c .before .loop .inv .1 .long, c .before .before .pre .1)
+
+add-line : tie.Need-add-line Inv-loop μ-loop
+add-line c = search needs
+
+loop-less : tie.Need-loop-less Inv-loop μ-loop
+loop-less c = search needs
+
+loop-again : tie.Need-loop-again Inv-loop μ-loop
+loop-again c =
+    let a = c .before .before .args in
+    let l = c .before .loop in
+    (omega arith, ones-next (a .from) (l .line) (a .flags .now) (l .flags) (l .inv .1) (omega (arith, l .inv .1 .long, c .before .before .pre .1)))
+
+same-length : tie.Need-same-length Inv-loop μ-loop
+same-length c = c .before .loop .inv .1 .long
+
+returns : tie.Need-returns Inv-loop μ-loop
+returns c =
+    let a = c .before .before .args in
+    let l = c .before .loop in
+    let e : l .line ≡ a .to = omega (arith, l .inv .0) in
+    subst (λ (n : ℕ). Ones (a .from) n (a .flags .now) (l .flags)) e (l .inv .1)
+
+pub flag-lines-spec : {M : Type 1} → statement M
+flag-lines-spec =
+    tie.close
+    (tie.spec
+    Inv-loop
+    μ-loop
+    loop-holds
+    slice-write-flags
+    add-line
+    loop-less
+    loop-again
+    same-length
+    returns)

@@ -1,0 +1,101 @@
+-- `flag_lone` meets its contract: the line of the character, or none. Assumes nothing.
+use mathlib.Core.Path.{refl}
+use native.Mathlib.Omega.{arith}
+use lib.ListN.{getD}
+use borrow.Author.Needs.{needs}
+use Rattle.spec.specs.Dictionary.{lexicon}
+use Rattle.spec.specs.Index.{keys-of}
+use Rattle.laws.specs.Narrowing.{lone-rise, lone-agrees, lone-others, lone-all}
+use Rattle.laws.specs.Flagging.{flagged-one, flagged-none}
+use Rattle.bearing.proofs.within.flag_lone.Statement.{statement}
+use Rattle.bearing.proofs.within.flag_lone.Tie as tie
+
+shared-slice-read-keys : tie.Need-shared-slice-read-keys
+shared-slice-read-keys c = search needs
+
+cast-keys : tie.Need-cast-keys
+cast-keys c = search needs
+
+mul-character : tie.Need-mul-character
+mul-character c = search needs
+
+shared-slice-read-character : tie.Need-shared-slice-read-character
+shared-slice-read-character c = search needs
+
+cast-first-line : tie.Need-cast-first-line
+cast-first-line c = omega (arith, c .shared-slice-known6 .given (c .before .before .before .before .before .before .before .args .key-start))
+
+first-line-requires : tie.Need-first-line-requires
+first-line-requires c κs =
+    let s = c .before .before .before .before .before .before .before in
+    let a = s .args in
+    (s .pre .0 .fits .has-directory, omega arith, lone-rise (a .chars .now) (a .lengths .now) (a .index .now) (s .pre .0) (a .ends) (s .pre .1))
+
+mul-if2 : tie.Need-mul-if2
+mul-if2 c = search needs
+
+add-if2 : tie.Need-add-if2
+add-if2 c = search needs
+
+add-if2-2 : tie.Need-add-if2-2
+add-if2-2 c = search needs
+
+mul-if2-2 : tie.Need-mul-if2-2
+mul-if2-2 c = search needs
+
+shared-slice-read-if2 : tie.Need-shared-slice-read-if2
+shared-slice-read-if2 c = search needs
+
+slice-write-flags : tie.Need-slice-write-flags
+slice-write-flags c = search needs
+
+same-length : tie.Need-same-length
+same-length c = search needs
+
+returns : tie.Need-returns
+returns c =
+    let s = c .before .before .before .before .before .before .before .before .before .before .before in
+    let a = s .args in
+    let found = c .before .before .before .first-line in
+    flagged-one (lexicon (a .chars .now) (a .lengths .now)) (a .index .now) (a .string .now) (a .key-start) (a .ends) (keys-of (a .index .now)) (a .flags .now) (s .pre .4)
+    (found .result) (c .before .before .if1 .taken)
+    (lone-agrees (a .chars .now) (a .lengths .now) (a .index .now) (s .pre .0) (a .ends) (s .pre .1) (a .string .now) (a .key-start) (getD (a .string .now) (a .key-start) 0) refl
+    (found .result) (found .ensures .from) (c .before .before .if1 .taken) (c .if2 .taken) (s .pre .3))
+    (lone-others (a .chars .now) (a .lengths .now) (a .index .now) (s .pre .0) (a .ends) (s .pre .1) (a .string .now) (a .key-start) (getD (a .string .now) (a .key-start) 0) refl (found .result) (found .ensures))
+
+returns-2 : tie.Need-returns-2
+returns-2 c =
+    let s = c .before .before .before .before .before .before .before .before .before .before .before in
+    let a = s .args in
+    let found = c .before .before .before .first-line in
+    flagged-none (lexicon (a .chars .now) (a .lengths .now)) (a .index .now) (a .string .now) (a .key-start) (a .ends) (keys-of (a .index .now)) (a .flags .now) (s .pre .4)
+    (lone-all (a .chars .now) (a .lengths .now) (a .index .now) (s .pre .0) (a .ends) (s .pre .1) (a .string .now) (a .key-start) (getD (a .string .now) (a .key-start) 0) refl (found .result) (found .ensures) (λ some. c .if2 .left))
+
+returns-3 : tie.Need-returns-3
+returns-3 c =
+    let s = c .before .before .before .before .before .before .before .before .before in
+    let a = s .args in
+    let found = c .before .first-line in
+    flagged-none (lexicon (a .chars .now) (a .lengths .now)) (a .index .now) (a .string .now) (a .key-start) (a .ends) (keys-of (a .index .now)) (a .flags .now) (s .pre .4)
+    (lone-all (a .chars .now) (a .lengths .now) (a .index .now) (s .pre .0) (a .ends) (s .pre .1) (a .string .now) (a .key-start) (getD (a .string .now) (a .key-start) 0) refl (found .result) (found .ensures) (λ some e. omega (arith, c .if1 .left)))
+
+pub flag-lone-spec : {M : Type 1} → statement M
+flag-lone-spec =
+    tie.close
+    (tie.spec
+    shared-slice-read-keys
+    cast-keys
+    mul-character
+    shared-slice-read-character
+    cast-first-line
+    first-line-requires
+    mul-if2
+    add-if2
+    add-if2-2
+    mul-if2-2
+    shared-slice-read-if2
+    slice-write-flags
+    same-length
+    returns
+    returns-2
+    returns-3)

@@ -1,0 +1,168 @@
+-- `flag_words` meets its contract. The invariant: the lines from `low` to `high` - 1 are left, and share `depth` characters with the
+-- string from the offset on. The measure is how many lines and characters are left. Assumes nothing.
+use mathlib.Core.Path.{_≡_, refl, sym, ap, _∙_}
+use mathlib.Core.Logic.{inl, inr}
+use Prim.Native.Nat.{ℕ, _+_, _-_, _<_}
+use native.Mathlib.Omega.{arith}
+use lib.ListN.{length, getD, set}
+use Rattle.spec.specs.Dictionary.{lexicon}
+use Rattle.spec.specs.Index.{value-at}
+use Rattle.laws.specs.WordLines.{Sharing, sharing-start, sharing-next, shared-word, shared-deep, sharing-column, sharing-deeper, sharing-agrees, apart-front, apart-back}
+use Rattle.laws.specs.Flagging.{Left, ones-one, left-start, left-narrow, left-ones, left-end}
+use Rattle.bearing.proofs.within.flag_words.Statement.{statement}
+use Rattle.bearing.proofs.within.flag_words.Tie as tie
+
+abbrev Inv-loop : tie.InvT-loop
+Inv-loop chars lengths index words string key-start ends flags₀ left low₀ high₀ depth₀ flags low high depth =
+    Left (lexicon chars lengths) index string key-start ends flags₀ flags low high
+    × Sharing chars lengths index string key-start ends low high depth
+
+abbrev μ-loop : tie.MeasureT-loop
+μ-loop chars lengths index words string key-start ends flags₀ left low₀ high₀ depth₀ flags low high depth =
+    (high - low) + (32 - depth)
+
+-- the string goes on
+below : (c : tie.Else1 Inv-loop μ-loop) → c .before .before .before .before .before .before .before .before .before .args .key-start + c .before .before .loop .depth < length (c .before .before .before .before .before .before .before .before .before .args .string .now)
+below c = omega (arith, c .if1 .left)
+
+sub-left : tie.Need-sub-left Inv-loop μ-loop
+sub-left c = omega (arith, c .before .before .before .before .before .before .pre .4)
+
+loop-holds : tie.Need-loop-holds Inv-loop μ-loop
+loop-holds c =
+    let s = c .before .before .before .before .before .before in
+    let a = s .args in (
+      left-start (lexicon (a .chars .now) (a .lengths .now)) (a .index .now) (a .string .now) (a .key-start) (a .ends) (a .flags .now) (s .pre .5) (s .pre .2 .within),
+      sharing-start (a .chars .now) (a .lengths .now) (a .index .now) (a .string .now) (a .key-start) (a .ends),
+    )
+
+flag-lines-requires : tie.Need-flag-lines-requires Inv-loop μ-loop
+flag-lines-requires c κs =
+    let s = c .before .before .before .before .before .before .before .before .before .before in
+    let a = s .args in
+    let l = c .before .before .before .loop in
+    (l .inv .1 .order, omega (arith, l .inv .1 .within, s .pre .2 .within, l .inv .0 .way .flags .room))
+
+same-length : tie.Need-same-length Inv-loop μ-loop
+same-length c = c .before .before .flag-lines .kept .1 .1 .0 ∙ c .before .before .before .before .before .before .loop .inv .0 .way .long
+
+returns : tie.Need-returns Inv-loop μ-loop
+returns c =
+    let s = c .before .before .before .before .before .before .before .before .before .before .before .before .before in
+    let a = s .args in
+    let l = c .before .before .before .before .before .before .loop in
+    let now = c .before .before .flag-lines in
+    left-end (lexicon (a .chars .now) (a .lengths .now)) (a .index .now) (a .string .now) (a .key-start) (a .ends) (a .flags .now) (now .last .1 .1 .0) (l .high) (l .high)
+    (left-ones (lexicon (a .chars .now) (a .lengths .now)) (a .index .now) (a .string .now) (a .key-start) (a .ends) (a .flags .now) (l .flags) (l .low) (l .high) (l .inv .0) (l .high) (now .last .1 .1 .0) (omega arith) (l .inv .1 .within) (now .ensures)
+    (λ i x y. sharing-agrees (a .chars .now) (a .lengths .now) (a .index .now) (s .pre .0) (a .ends) (s .pre .2) (a .words .now) (s .pre .1) (a .string .now) (a .key-start) (l .low) (l .high) (l .depth) (l .inv .1) (s .pre .4) i x y (inl (omega (arith, c .before .before .before .before .if1 .taken))))) refl
+
+word-length-requires : tie.Need-word-length-requires Inv-loop μ-loop
+word-length-requires c κs =
+    let s = c .before .before .before .before .before .before .before .before .before in
+    let a = s .args in
+    let l = c .before .before .loop in
+    (omega (arith, c .before .loop-test .taken, l .inv .1 .within, s .pre .2 .within, s .pre .0 .fits .has-directory), shared-word (a .chars .now) (a .lengths .now) (a .index .now) (s .pre .0) (a .ends) (s .pre .2) (a .words .now) (s .pre .1) (a .string .now) (a .key-start) (l .low) (l .high) (l .depth) (l .inv .1) (l .low) (omega arith) (c .before .loop-test .taken))
+
+slice-write-flags : tie.Need-slice-write-flags Inv-loop μ-loop
+slice-write-flags c =
+    let s = c .before .before .before .before .before .before .before .before .before .before .before in
+    let a = s .args in
+    let l = c .before .before .before .before .loop in
+    omega (arith, c .before .before .before .loop-test .taken, l .inv .1 .within, s .pre .2 .within, l .inv .0 .way .flags .room)
+
+add-low : tie.Need-add-low Inv-loop μ-loop
+add-low c =
+    let s = c .before .before .before .before .before .before .before .before .before .before .before in
+    let a = s .args in
+    let l = c .before .before .before .before .loop in
+    omega (arith, c .before .before .before .loop-test .taken, l .inv .1 .within, s .pre .2 .within, s .pre .0 .keys-small)
+
+loop-less : tie.Need-loop-less Inv-loop μ-loop
+loop-less c = omega (arith, c .before .before .before .loop-test .taken)
+
+loop-again : tie.Need-loop-again Inv-loop μ-loop
+loop-again c =
+    let s = c .before .before .before .before .before .before .before .before .before .before .before in
+    let a = s .args in
+    let l = c .before .before .before .before .loop in (
+      left-ones (lexicon (a .chars .now) (a .lengths .now)) (a .index .now) (a .string .now) (a .key-start) (a .ends) (a .flags .now) (l .flags) (l .low) (l .high) (l .inv .0) (l .low + 1) (set (l .flags) (l .low) 1) (omega (arith, c .before .before .before .loop-test .taken)) (l .inv .1 .within)
+          (ones-one (l .low) (l .flags) (omega (arith, c .before .before .before .loop-test .taken, l .inv .1 .within, s .pre .2 .within, l .inv .0 .way .flags .room)))
+          (λ i x y. let e : i ≡ l .low = omega arith in sharing-agrees (a .chars .now) (a .lengths .now) (a .index .now) (s .pre .0) (a .ends) (s .pre .2) (a .words .now) (s .pre .1) (a .string .now) (a .key-start) (l .low) (l .high) (l .depth) (l .inv .1) (s .pre .4) i x (omega (arith, c .before .before .before .loop-test .taken)) (inr (ap (λ (j : ℕ). getD (a .lengths .now) (value-at (a .index .now) j) 0) e ∙ sym (c .before .word-length .ensures) ∙ c .if2 .taken))),
+      sharing-next (a .chars .now) (a .lengths .now) (a .index .now) (s .pre .0) (a .ends) (s .pre .2) (a .words .now) (s .pre .1) (a .string .now) (a .key-start) (l .low) (l .high) (l .depth) (l .inv .1) (c .before .before .before .loop-test .taken),
+    )
+
+add-character : tie.Need-add-character Inv-loop μ-loop
+add-character c = omega (arith, below (c .before .before), c .before .before .before .before .before .before .before .before .before .before .before .pre .3 .short)
+
+mul-character : tie.Need-mul-character Inv-loop μ-loop
+mul-character c = omega (arith, below (c .before .before), c .before .before .before .before .before .before .before .before .before .before .before .pre .3 .short)
+
+shared-slice-read-character : tie.Need-shared-slice-read-character Inv-loop μ-loop
+shared-slice-read-character c = below (c .before .before .before)
+
+narrow-requires : tie.Need-narrow-requires Inv-loop μ-loop
+narrow-requires c κs =
+    let s = c .before .before .before .before .before .before .before .before .before .before .before .before in
+    let a = s .args in
+    let l = c .before .before .before .before .before .loop in
+    sharing-column (a .chars .now) (a .lengths .now) (a .index .now) (s .pre .0) (a .ends) (s .pre .2) (a .words .now) (s .pre .1) (a .string .now) (a .key-start) (l .low) (l .high) (l .depth) (l .inv .1) (c .before .before .before .before .loop-test .taken) (λ e. c .before .if2 .left (c .before .before .word-length .ensures ∙ e))
+
+add-depth : tie.Need-add-depth Inv-loop μ-loop
+add-depth c = omega (arith, below (c .before .before .before .before), c .before .before .before .before .before .before .before .before .before .before .before .before .before .pre .3 .short)
+
+loop-less-2 : tie.Need-loop-less-2 Inv-loop μ-loop
+loop-less-2 c =
+    let s = c .before .before .before .before .before .before .before .before .before .before .before .before .before in
+    let a = s .args in
+    let l = c .before .before .before .before .before .before .loop in
+    omega (arith, shared-deep (a .chars .now) (a .lengths .now) (a .index .now) (s .pre .0) (a .ends) (s .pre .2) (a .words .now) (s .pre .1) (a .string .now) (a .key-start) (l .low) (l .high) (l .depth) (l .inv .1) (c .before .before .before .before .before .loop-test .taken) (λ e. c .before .before .if2 .left (c .before .before .before .word-length .ensures ∙ e)), c .before .before .before .before .before .loop-test .taken, c .narrow .ensures .0 .from, c .narrow .ensures .1 .to)
+
+loop-again-2 : tie.Need-loop-again-2 Inv-loop μ-loop
+loop-again-2 c =
+    let s = c .before .before .before .before .before .before .before .before .before .before .before .before .before in
+    let a = s .args in
+    let l = c .before .before .before .before .before .before .loop in (
+      left-narrow (lexicon (a .chars .now) (a .lengths .now)) (a .index .now) (a .string .now) (a .key-start) (a .ends) (a .flags .now) (l .flags) (l .low) (l .high) (l .inv .0) (c .narrow .result .from) (c .narrow .result .to)
+          (apart-front (a .chars .now) (a .lengths .now) (a .index .now) (s .pre .0) (a .ends) (s .pre .2) (a .words .now) (s .pre .1) (a .string .now) (a .key-start) (l .low) (l .high) (l .depth) (l .inv .1) (c .before .before .before .before .before .loop-test .taken) (λ e. c .before .before .if2 .left (c .before .before .before .word-length .ensures ∙ e))
+          (getD (a .string .now) (a .key-start + l .depth) 0) (c .narrow .result .from) (c .narrow .result .to) refl (below (c .before .before .before .before)) (c .narrow .ensures .0) (c .narrow .ensures .1))
+          (apart-back (a .chars .now) (a .lengths .now) (a .index .now) (s .pre .0) (a .ends) (s .pre .2) (a .words .now) (s .pre .1) (a .string .now) (a .key-start) (l .low) (l .high) (l .depth) (l .inv .1) (c .before .before .before .before .before .loop-test .taken) (λ e. c .before .before .if2 .left (c .before .before .before .word-length .ensures ∙ e))
+          (getD (a .string .now) (a .key-start + l .depth) 0) (c .narrow .result .from) (c .narrow .result .to) refl (below (c .before .before .before .before)) (c .narrow .ensures .0) (c .narrow .ensures .1)),
+      sharing-deeper (a .chars .now) (a .lengths .now) (a .index .now) (s .pre .0) (a .ends) (s .pre .2) (a .words .now) (s .pre .1) (a .string .now) (a .key-start) (l .low) (l .high) (l .depth) (l .inv .1) (c .before .before .before .before .before .loop-test .taken) (λ e. c .before .before .if2 .left (c .before .before .before .word-length .ensures ∙ e))
+          (getD (a .string .now) (a .key-start + l .depth) 0) (c .narrow .result .from) (c .narrow .result .to) refl (below (c .before .before .before .before)) (c .narrow .ensures .0) (c .narrow .ensures .1),
+    )
+
+same-length-2 : tie.Need-same-length-2 Inv-loop μ-loop
+same-length-2 c = c .before .loop .inv .0 .way .long
+
+returns-2 : tie.Need-returns-2 Inv-loop μ-loop
+returns-2 c =
+    let s = c .before .before .before .before .before .before .before .before in
+    let a = s .args in
+    let l = c .before .loop in
+    left-end (lexicon (a .chars .now) (a .lengths .now)) (a .index .now) (a .string .now) (a .key-start) (a .ends) (a .flags .now) (l .flags) (l .low) (l .high) (l .inv .0) (omega (arith, l .inv .1 .order, c .loop-test .left))
+
+pub flag-words-spec : {M : Type 1} → statement M
+flag-words-spec =
+    tie.close
+    (tie.spec
+    Inv-loop
+    μ-loop
+    sub-left
+    loop-holds
+    flag-lines-requires
+    same-length
+    returns
+    word-length-requires
+    slice-write-flags
+    add-low
+    loop-less
+    loop-again
+    add-character
+    mul-character
+    shared-slice-read-character
+    narrow-requires
+    add-depth
+    loop-less-2
+    loop-again-2
+    same-length-2
+    returns-2)

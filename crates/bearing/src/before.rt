@@ -1,0 +1,60 @@
+// The offsets below 0: keys that start before the string.
+//
+// Such a key has the string's first character at a later place than its first. A lone character has no later place, so only the lines
+// of words are walked.
+ghost use mathlib.Core.Path.{_≡_};
+ghost use mathlib.Core.Bool.{true, false};
+ghost use Prim.Native.Nat.{ℕ, _≤_};
+ghost use lib.ListN.{length};
+ghost use Rattle.spec.specs.Dictionary.{lexicon};
+ghost use Rattle.spec.specs.Index.{keys-of};
+ghost use Rattle.spec.specs.Search.{agrees};
+ghost use Rattle.spec.specs.Cut.{bears};
+ghost use Rattle.laws.specs.Tables.{Can-read, Word-starts};
+ghost use Rattle.laws.specs.Flagging.{Flags};
+ghost use Rattle.laws.specs.FlagWalks.{Backs};
+use directory::lines::key_of;
+use postings::agreement::agrees_from_starts;
+
+// Whether a key agrees with the string at an offset below 0.
+fn begins_before(key: &[u16], string: &[u16]) -> bool
+    requires { ⌜ 1 ≤ length (now string) ⌝ }
+    ensures { λ r. ⌜ (r ≡ true → bears (now (key .entry)) (now (string .entry)) ≡ true) × (r ≡ false → (p : ℕ) → 1 ≤ p → agrees (now (string .entry)) p (now (key .entry)) 0 ≡ false) ⌝ }
+{
+    let front = string[0];
+    let mut i = 1;
+    while i < key.len() {
+        let at = i;
+        i += 1;
+        if key[at] == front {
+            if agrees_from_starts(key, string, at, 0) {
+                return true;
+            }
+        }
+    }
+    false
+}
+
+// Flags those of the first `ends` lines whose keys agree with the string at an offset below 0.
+pub fn flag_before<'a>(
+    chars: &'a [u16],
+    lengths: &[u16],
+    index: &'a [u16],
+    words: &[u16],
+    string: &[u16],
+    ends: usize,
+    flags: &mut [u8],
+)
+    requires { ⌜ Can-read (now chars) (now lengths) (now index) × Word-starts (now lengths) (length (now lengths)) (now words) × (1 ≤ length (now string)) × (ends ≤ keys-of (now index)) × Flags (lexicon (now chars) (now lengths)) (now index) (now string) (now flags) ⌝ }
+    ensures { λ r. ⌜ Backs (lexicon (now (chars .entry)) (now (lengths .entry))) (now (index .entry)) (now (string .entry)) (now (flags .entry)) (now (flags .exit)) ends ⌝ }
+{
+    let mut line = 0;
+    while line < ends {
+        let at = line;
+        let key = key_of(chars, lengths, index, words, at);
+        line += 1;
+        if begins_before(key, string) {
+            flags[at] = 1;
+        }
+    }
+}

@@ -1,0 +1,127 @@
+// The offsets from 0 up: keys that start within the string.
+//
+// Such a key starts with the string's character at the offset, so the lines of words are narrowed by binary search to those that
+// share the string's characters from there on, one character after the other, and a lone character is one line. Narrowed to the end,
+// what is left agrees: no key is laid against the string.
+ghost use Prim.Native.Nat.{_≤_, _<_};
+ghost use lib.ListN.{length};
+ghost use Rattle.spec.specs.Dictionary.{lexicon};
+ghost use Rattle.spec.specs.Index.{keys-of};
+ghost use Rattle.laws.specs.Tables.{Can-read, Word-starts};
+ghost use Rattle.laws.specs.Narrowing.{Split};
+ghost use Rattle.laws.specs.Sizing.{Is-string};
+ghost use Rattle.laws.specs.Flagging.{Ones, Flags, Flagging, Flagged};
+ghost use Rattle.laws.specs.FlagWalks.{Offsets};
+use directory::lines::word_length;
+use directory::narrowing::first_line;
+use directory::narrowing::narrow;
+
+// Flags the lines `from` to `to` - 1.
+fn flag_lines(from: usize, to: usize, flags: &mut [u8])
+    requires { ⌜ (from ≤ to) × (to ≤ length (now flags)) ⌝ }
+    ensures { λ r. ⌜ Ones from to (now (flags .entry)) (now (flags .exit)) ⌝ }
+{
+    let mut line = from;
+    while line < to {
+        flags[line] = 1;
+        line += 1;
+    }
+}
+
+// Flags the lines of words, of which there are `ends`, whose keys agree with the string at the offset `key_start`.
+fn flag_words(
+    chars: &[u16],
+    lengths: &[u16],
+    index: &[u16],
+    words: &[u16],
+    string: &[u16],
+    key_start: usize,
+    ends: usize,
+    flags: &mut [u8],
+)
+    requires { ⌜ Can-read (now chars) (now lengths) (now index) × Word-starts (now lengths) (length (now lengths)) (now words) × Split (now index) ends × Is-string (now string) × («key_start» < length (now string)) × Flags (lexicon (now chars) (now lengths)) (now index) (now string) (now flags) ⌝ }
+    ensures { λ r. ⌜ Flagging (lexicon (now (chars .entry)) (now (lengths .entry))) (now (index .entry)) (now (string .entry)) (now (flags .entry)) (now (flags .exit)) × Flagged (lexicon (now (chars .entry)) (now (lengths .entry))) (now (index .entry)) (now (string .entry)) 0 «key_start» 0 ends (now (flags .exit)) ⌝ }
+{
+    let left = string.len() - key_start;
+    let mut low = 0;
+    let mut high = ends;
+    let mut depth = 0;
+    while low < high {
+        if left <= depth {
+            flag_lines(low, high, flags);
+            return;
+        }
+        if word_length(lengths, index, low) == depth {
+            flags[low] = 1;
+            low += 1;
+        } else {
+            let character = string[key_start + depth];
+            let cut = narrow(chars, index, words, low, high, depth, character);
+            low = cut.from;
+            high = cut.to;
+            depth += 1;
+        }
+    }
+}
+
+// The same for the lines of lone characters, which follow those of words: the string's character has at most one of them.
+fn flag_lone(
+    chars: &[u16],
+    lengths: &[u16],
+    index: &[u16],
+    string: &[u16],
+    key_start: usize,
+    ends: usize,
+    flags: &mut [u8],
+)
+    requires { ⌜ Can-read (now chars) (now lengths) (now index) × Split (now index) ends × Is-string (now string) × («key_start» < length (now string)) × Flags (lexicon (now chars) (now lengths)) (now index) (now string) (now flags) ⌝ }
+    ensures { λ r. ⌜ Flagging (lexicon (now (chars .entry)) (now (lengths .entry))) (now (index .entry)) (now (string .entry)) (now (flags .entry)) (now (flags .exit)) × Flagged (lexicon (now (chars .entry)) (now (lengths .entry))) (now (index .entry)) (now (string .entry)) 0 «key_start» ends (keys-of (now (index .entry))) (now (flags .exit)) ⌝ }
+{
+    let keys = index[1] as usize;
+    let character = string[key_start];
+    let line = first_line(index, ends, keys, 1, character as usize);
+    if line < keys {
+        if index[2 + 3 * line + 1] == character {
+            flags[line] = 1;
+        }
+    }
+}
+
+// Flags the lines whose keys agree with the string at the offset `key_start`.
+fn flag_offset(
+    chars: &[u16],
+    lengths: &[u16],
+    index: &[u16],
+    words: &[u16],
+    string: &[u16],
+    key_start: usize,
+    ends: usize,
+    flags: &mut [u8],
+)
+    requires { ⌜ Can-read (now chars) (now lengths) (now index) × Word-starts (now lengths) (length (now lengths)) (now words) × Split (now index) ends × Is-string (now string) × («key_start» < length (now string)) × Flags (lexicon (now chars) (now lengths)) (now index) (now string) (now flags) ⌝ }
+    ensures { λ r. ⌜ Flagging (lexicon (now (chars .entry)) (now (lengths .entry))) (now (index .entry)) (now (string .entry)) (now (flags .entry)) (now (flags .exit)) × Flagged (lexicon (now (chars .entry)) (now (lengths .entry))) (now (index .entry)) (now (string .entry)) 0 «key_start» 0 (keys-of (now (index .entry))) (now (flags .exit)) ⌝ }
+{
+    flag_words(chars, lengths, index, words, string, key_start, ends, flags);
+    flag_lone(chars, lengths, index, string, key_start, ends, flags);
+}
+
+// Flags the lines whose keys agree with the string at an offset from 0 to the string's last place.
+pub fn flag_within(
+    chars: &[u16],
+    lengths: &[u16],
+    index: &[u16],
+    words: &[u16],
+    string: &[u16],
+    ends: usize,
+    flags: &mut [u8],
+)
+    requires { ⌜ Can-read (now chars) (now lengths) (now index) × Word-starts (now lengths) (length (now lengths)) (now words) × Split (now index) ends × Is-string (now string) × Flags (lexicon (now chars) (now lengths)) (now index) (now string) (now flags) ⌝ }
+    ensures { λ r. ⌜ Offsets (lexicon (now (chars .entry)) (now (lengths .entry))) (now (index .entry)) (now (string .entry)) (now (flags .entry)) (now (flags .exit)) (length (now (string .entry))) ⌝ }
+{
+    let last = string.len() - 1;
+    let mut key_start = 0;
+    while key_start <= last {
+        flag_offset(chars, lengths, index, words, string, key_start, ends, flags);
+        key_start += 1;
+    }
+}

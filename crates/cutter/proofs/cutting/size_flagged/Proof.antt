@@ -1,0 +1,115 @@
+-- `size_flagged` meets its contract. The invariant: the lines before `line` are counted. The measure is how many are left. Assumes
+-- nothing.
+use Prim.Native.Nat.{_+_, _*_, _-_}
+use native.Mathlib.Omega.{arith}
+use borrow.Author.Needs.{needs}
+use Rattle.spec.specs.Dictionary.{lexicon}
+use Rattle.spec.specs.Index.{keys-of}
+use Rattle.laws.specs.Judging.{judged-get, judged-none, Counting, counting-start, counting-bears, counting-passes, counting-end}
+use Rattle.cutter.proofs.cutting.size_flagged.Statement.{statement}
+use Rattle.cutter.proofs.cutting.size_flagged.Tie as tie
+
+abbrev Inv-loop : tie.InvT-loop
+Inv-loop chars lengths index string flags count keys₀ entries₀ line₀ keys entries line =
+    Counting (lexicon chars lengths) index string keys entries line
+
+abbrev μ-loop : tie.MeasureT-loop
+μ-loop chars lengths index string flags count keys₀ entries₀ line₀ keys entries line = count - line
+
+shared-slice-read-count : tie.Need-shared-slice-read-count Inv-loop μ-loop
+shared-slice-read-count c = search needs
+
+cast-count : tie.Need-cast-count Inv-loop μ-loop
+cast-count c = search needs
+
+loop-holds : tie.Need-loop-holds Inv-loop μ-loop
+loop-holds c =
+    let a = c .before .args in
+    counting-start (lexicon (a .chars .now) (a .lengths .now)) (a .index .now) (a .string .now)
+
+add-line : tie.Need-add-line Inv-loop μ-loop
+add-line c = search needs
+
+shared-slice-read-if1 : tie.Need-shared-slice-read-if1 Inv-loop μ-loop
+shared-slice-read-if1 c = omega (arith, c .before .loop-test .taken, c .before .before .before .before .pre .1 .room)
+
+add-keys : tie.Need-add-keys Inv-loop μ-loop
+add-keys c = omega (arith, c .before .before .before .loop .inv .keys-few, c .before .before .loop-test .taken, c .before .before .before .before .shared-slice-known .given 1)
+
+mul-entries : tie.Need-mul-entries Inv-loop μ-loop
+mul-entries c = search needs
+
+add-entries : tie.Need-add-entries Inv-loop μ-loop
+add-entries c = omega (arith, c .before .before .loop-test .taken, c .before .before .before .before .shared-slice-known .given 1)
+
+add-entries-2 : tie.Need-add-entries-2 Inv-loop μ-loop
+add-entries-2 c = search needs
+
+mul-entries-2 : tie.Need-mul-entries-2 Inv-loop μ-loop
+mul-entries-2 c = search needs
+
+shared-slice-read-entries : tie.Need-shared-slice-read-entries Inv-loop μ-loop
+shared-slice-read-entries c = omega (arith, c .before .before .before .loop-test .taken, c .before .before .before .before .before .before .pre .0 .has-directory)
+
+cast-entries : tie.Need-cast-entries Inv-loop μ-loop
+cast-entries c = omega (arith, c .shared-slice-known3 .given (2 + 3 * c .before .before .before .before .loop .line + 2))
+
+add-entries-3 : tie.Need-add-entries-3 Inv-loop μ-loop
+add-entries-3 c =
+    let l = c .before .before .before .before .loop in
+    omega (arith, l .inv .entries-few, c .before .before .before .loop-test .taken, c .before .before .before .before .before .shared-slice-known .given 1, c .shared-slice-known3 .given (2 + 3 * l .line + 2))
+
+loop-less : tie.Need-loop-less Inv-loop μ-loop
+loop-less c = search needs
+
+loop-again : tie.Need-loop-again Inv-loop μ-loop
+loop-again c =
+    let s = c .before .before .before .before .before .before in
+    let a = s .args in
+    let l = c .before .before .before .before .loop in
+    counting-bears (lexicon (a .chars .now) (a .lengths .now)) (a .index .now) (a .string .now) (l .keys) (l .entries) (l .line) (l .inv) (c .before .before .before .loop-test .taken)
+    (judged-get (lexicon (a .chars .now) (a .lengths .now)) (a .index .now) (a .string .now) (keys-of (a .index .now)) (a .flags .now) (s .pre .1) (l .line) (c .before .before .before .loop-test .taken) (c .before .if1 .taken))
+    (omega (arith, c .shared-slice-known3 .given (2 + 3 * l .line + 2))) (s .pre .0)
+
+loop-less-2 : tie.Need-loop-less-2 Inv-loop μ-loop
+loop-less-2 c = search needs
+
+loop-again-2 : tie.Need-loop-again-2 Inv-loop μ-loop
+loop-again-2 c =
+    let s = c .before .before .before .before .before in
+    let a = s .args in
+    let l = c .before .before .before .loop in
+    counting-passes (lexicon (a .chars .now) (a .lengths .now)) (a .index .now) (a .string .now) (l .keys) (l .entries) (l .line) (l .inv) (c .before .before .loop-test .taken)
+    (judged-none (lexicon (a .chars .now) (a .lengths .now)) (a .index .now) (a .string .now) (keys-of (a .index .now)) (a .flags .now) (s .pre .1) (l .line) (c .before .before .loop-test .taken) (c .if1 .left))
+
+returns : tie.Need-returns Inv-loop μ-loop
+returns c =
+    let s = c .before .before .before in
+    let a = s .args in
+    let l = c .before .loop in
+    counting-end (lexicon (a .chars .now) (a .lengths .now)) (a .index .now) (a .string .now) (l .keys) (l .entries) (l .line) (l .inv) (c .loop-test .left) (omega (arith, c .before .before .shared-slice-known .given 1))
+
+pub size-flagged-spec : {M : Type 1} → statement M
+size-flagged-spec =
+    tie.close
+    (tie.spec
+    Inv-loop
+    μ-loop
+    shared-slice-read-count
+    cast-count
+    loop-holds
+    add-line
+    shared-slice-read-if1
+    add-keys
+    mul-entries
+    add-entries
+    add-entries-2
+    mul-entries-2
+    shared-slice-read-entries
+    cast-entries
+    add-entries-3
+    loop-less
+    loop-again
+    loop-less-2
+    loop-again-2
+    returns)
