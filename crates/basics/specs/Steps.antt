@@ -4,7 +4,7 @@ use mathlib.Core.Path.{_≡_, refl, ap, _∙_}
 use mathlib.Core.Bool.{Bool, true, false, _&&_, _||_, cond}
 use mathlib.Core.Logic.{_⊎_, inl, inr, ⊎-elim}
 use mathlib.Core.List.{List, [], _∷_, _++_, append-nil}
-use Prim.Native.Nat.{ℕ, zero, suc, _+_, _≤_, _<_}
+use Prim.Native.Nat.{ℕ, zero, suc, _+_, _-_, _≤_, _<_}
 use native.Mathlib.Omega.{arith}
 use Rattle.basics.specs.Bools.{clash, le-or-lt, and-put, and-left, and-right, or-left, or-right, or-get}
 use Rattle.basics.specs.Member.{In, in-cond-get, in-cond-here, in-cond-there}
@@ -13,6 +13,12 @@ use Rattle.basics.specs.Member.{In, in-cond-get, in-cond-here, in-cond-t
 first-or-later : (p x : ℕ) → p ≤ x → (x ≡ p) ⊎ (suc p ≤ x)
 first-or-later p x lo =
     ⊎-elim (λ (h : x ≤ p). let e : x ≡ p = omega arith in inl e) (λ (h : p < x). inr h) (le-or-lt x p)
+
+-- what holds from i on, up to n, and at the number before i
+pub from-less :
+    (P : ℕ → Type 0) (n i : ℕ) → ((j : ℕ) → j < n → i ≤ j → P j) → P (i - 1) → (j : ℕ) → j < n → i - 1 ≤ j → P j
+from-less P n i rest here j b lo =
+    ⊎-elim (λ (h : i ≤ j). rest j b h) (λ (h : j < i). let e : j ≡ i - 1 = omega arith in rw e here) (le-or-lt i j)
 
 -- AT EACH
 

@@ -1,7 +1,7 @@
 // The agreement of a key with a string at an offset.
 //
 // A signed offset becomes two natural starts at once, one of them 0. Whichever of the two strings begins first, the other begins
-// at a place in it or after it, and the places that they share are compared in order.
+// at a place in it or after it, and the places that they share are compared from the last one: callers come where the first are equal.
 ghost use mathlib.Core.Path.{_≡_};
 ghost use Rattle.spec.specs.Search.{agrees, agrees-at};
 use dictionary::numbers::lesser;
@@ -16,13 +16,12 @@ fn agrees_after(first: &[u16], second: &[u16], at: usize) -> bool
     if second.len() == 0 {
         return false;
     }
-    let shared = lesser(first.len() - at, second.len());
-    let mut i = 0;
-    while i < shared {
+    let mut i = lesser(first.len() - at, second.len());
+    while 0 < i {
+        i -= 1;
         if first[at + i] != second[i] {
             return false;
         }
-        i += 1;
     }
     true
 }

@@ -1,12 +1,12 @@
 -- `same_run` meets its contract. The invariant: the characters from i on are the same. The measure is how many come before. Assumes
 -- nothing.
 use mathlib.Core.Path.{_≡_, refl}
-use mathlib.Core.Logic.{⊎-elim}
 use Prim.Native.Nat.{ℕ, _+_, _-_, _≤_, _<_}
 use native.Mathlib.Omega.{arith}
 use lib.ListN.{getD}
 use borrow.Author.Needs.{needs}
-use Rattle.basics.specs.Bools.{clash, le-or-lt}
+use Rattle.basics.specs.Bools.{clash}
+use Rattle.basics.specs.Steps.{from-less}
 use Rattle.matching.proofs.longest.same_run.Statement.{statement}
 use Rattle.matching.proofs.longest.same_run.Tie as tie
 
@@ -54,15 +54,7 @@ loop-less : tie.Need-loop-less Inv-loop μ-loop
 loop-less c = omega arith
 
 loop-again : tie.Need-loop-again Inv-loop μ-loop
-loop-again c = (
-  omega arith,
-  λ j l b.
-      ⊎-elim (λ (h : c .before .before .before .before .loop .i ≤ j). c .before .before .before .before .loop .inv .1 j l h)
-      (λ (h : j < c .before .before .before .before .loop .i).
-      let e : j ≡ c .before .before .before .before .loop .i - 1 = omega arith in
-      rw e (c .if1 .left))
-      (le-or-lt (c .before .before .before .before .loop .i) j),
-)
+loop-again c = (omega arith, from-less _ _ _ (c .before .before .before .before .loop .inv .1) (c .if1 .left))
 
 returns-2 : tie.Need-returns-2 Inv-loop μ-loop
 returns-2 c =

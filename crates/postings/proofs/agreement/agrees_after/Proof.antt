@@ -1,20 +1,20 @@
--- `agrees_after` meets its contract. The invariant: the places before i are equal. The measure is how many shared places are left.
+-- `agrees_after` meets its contract. The invariant: the shared places from i on are equal. The measure is how many come before.
 -- Assumes nothing.
 use mathlib.Core.Path.{_≡_}
 use Prim.Native.Nat.{ℕ, _+_, _-_, _≤_, _<_}
 use native.Mathlib.Omega.{arith}
-use borrow.Author.Count.{below-more}
 use borrow.Author.Needs.{needs}
 use lib.ListN.{getD}
+use Rattle.basics.specs.Steps.{from-less}
 use Rattle.laws.specs.AgreeWalk.{apart-short, apart-empty, apart-at, together}
 use Rattle.postings.proofs.agreement.agrees_after.Statement.{statement}
 use Rattle.postings.proofs.agreement.agrees_after.Tie as tie
 
 abbrev Inv-loop : tie.InvT-loop
-Inv-loop first second at shared i₀ i = (i ≤ shared) × ((k : ℕ) → k < i → getD first (at + k) 0 ≡ getD second k 0)
+Inv-loop first second at i₀ i = (i ≤ i₀) × ((k : ℕ) → k < i₀ → i ≤ k → getD first (at + k) 0 ≡ getD second k 0)
 
 abbrev μ-loop : tie.MeasureT-loop
-μ-loop first second at shared i₀ i = shared - i
+μ-loop first second at i₀ i = i
 
 returns : tie.Need-returns Inv-loop μ-loop
 returns c = apart-short (c .before .before .before .args .first .now) (c .before .before .before .args .second .now) (c .before .before .before .args .at) (c .if1 .taken)
@@ -29,7 +29,10 @@ lesser-requires : tie.Need-lesser-requires Inv-loop μ-loop
 lesser-requires c κs = search needs
 
 loop-holds : tie.Need-loop-holds Inv-loop μ-loop
-loop-holds c = (omega arith, λ k h. absurd (omega arith))
+loop-holds c = (omega arith, λ k h b. absurd (omega arith))
+
+sub-i : tie.Need-sub-i Inv-loop μ-loop
+sub-i c = search needs
 
 add-if3 : tie.Need-add-if3 Inv-loop μ-loop
 add-if3 c = search needs
@@ -47,19 +50,16 @@ shared-slice-read-if3-2 : tie.Need-shared-slice-read-if3-2 Inv-loop μ-loop
 shared-slice-read-if3-2 c = search needs
 
 returns-3 : tie.Need-returns-3 Inv-loop μ-loop
-returns-3 c = apart-at (c .before .before .before .before .before .before .before .before .before .before .args .first .now) (c .before .before .before .before .before .before .before .before .before .before .args .second .now) (c .before .before .before .before .before .before .before .before .before .before .args .at) (c .before .before .before .before .loop .i) (omega arith) (omega arith) (c .if3 .taken)
-
-add-i : tie.Need-add-i Inv-loop μ-loop
-add-i c = search needs
+returns-3 c = apart-at (c .before .before .before .before .before .before .before .before .before .before .args .first .now) (c .before .before .before .before .before .before .before .before .before .before .args .second .now) (c .before .before .before .before .before .before .before .before .before .before .args .at) (c .before .before .before .before .loop .i - 1) (omega (arith, c .before .before .before .before .loop .inv .0)) (omega (arith, c .before .before .before .before .loop .inv .0)) (c .if3 .taken)
 
 loop-less : tie.Need-loop-less Inv-loop μ-loop
 loop-less c = search needs
 
 loop-again : tie.Need-loop-again Inv-loop μ-loop
-loop-again c = (omega arith, below-more _ _ (c .before .before .before .before .loop .inv .1) (c .if3 .left))
+loop-again c = (omega arith, from-less _ _ _ (c .before .before .before .before .loop .inv .1) (c .if3 .left))
 
 returns-4 : tie.Need-returns-4 Inv-loop μ-loop
-returns-4 c = together (c .before .before .before .before .before .before .before .args .first .now) (c .before .before .before .before .before .before .before .args .second .now) (c .before .before .before .before .before .before .before .args .at) (c .before .loop .i) (omega arith) (c .before .before .before .if2 .left) (omega arith) (c .before .loop .inv .1)
+returns-4 c = together (c .before .before .before .before .before .before .before .args .first .now) (c .before .before .before .before .before .before .before .args .second .now) (c .before .before .before .before .before .before .before .args .at) _ (omega arith) (c .before .before .before .if2 .left) (omega arith) (λ k b. c .before .loop .inv .1 k b (omega arith))
 
 pub agrees-after-spec : {M : Type 1} → statement M
 agrees-after-spec =
@@ -72,13 +72,13 @@ agrees-after-spec =
     sub-lesser
     lesser-requires
     loop-holds
+    sub-i
     add-if3
     mul-if3
     shared-slice-read-if3
     mul-if3-2
     shared-slice-read-if3-2
     returns-3
-    add-i
     loop-less
     loop-again
     returns-4)
