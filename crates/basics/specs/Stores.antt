@@ -1,5 +1,5 @@
 -- Stores into a list, one by one. Assumes nothing.
-use mathlib.Core.Path.{_≡_, _∙_}
+use mathlib.Core.Path.{_≡_, refl, _∙_}
 use mathlib.Core.Logic.{_⊎_, inl, inr, ⊎-elim}
 use mathlib.Core.List.{List, [], _∷_}
 use Prim.Native.Nat.{ℕ, suc, _+_, _-_, _≤_, _<_}
@@ -44,6 +44,18 @@ module _ {A : Type 0} (z : A) where
       later lo hi =
           let w : i - k ≡ suc (i - suc k) = omega arith in
           rw w at (right (omega arith) (omega arith))
+
+  -- a place is as it was, or is one of those stored
+  pub sets-either :
+      (l : List A) (k : ℕ) (vs : List A) (i : ℕ) → (getD (sets l k vs) i z ≡ getD l i z) ⊎ ((k ≤ i) × (i < k + length vs))
+  sets-either l k vs i = go (le-or-lt k i) (le-or-lt (k + length vs) i)
+    where
+      go :
+          (k ≤ i) ⊎ (i < k) → (k + length vs ≤ i) ⊎ (i < k + length vs) →
+          (getD (sets l k vs) i z ≡ getD l i z) ⊎ ((k ≤ i) × (i < k + length vs))
+      go (inl lo) (inr hi) = inr (lo, hi)
+      go (inl lo) (inl past) = inl (sets-keeps l k vs i (getD l i z) refl (λ a b. absurd (omega arith)))
+      go (inr early) end = inl (sets-keeps l k vs i (getD l i z) refl (λ a b. absurd (omega arith)))
 
   -- and what is stored at i is there
   pub sets-writes :

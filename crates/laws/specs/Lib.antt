@@ -60,6 +60,7 @@ pub mod LineNumbers
 pub mod Criterion
 pub mod Noted
 pub mod Painting
+pub mod PaintedSearch
 pub mod Noting
 pub mod Reception
 pub mod Promises
