@@ -121,6 +121,7 @@ pub mod DemandThree
 pub mod DemandsHold
 pub mod PlaceWalk
 pub mod LinePass
+pub mod ShowWalk
 pub mod PaintWalk
 pub mod NoteWalk
 pub mod Accepting

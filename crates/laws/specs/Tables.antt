@@ -114,7 +114,7 @@ module _ (cs ls xs : List ℕ) (can : Can-read cs ls xs) (i : ℕ) (below : i < 
 
 -- FILLING THE TABLES
 
-below-next : (P : ℕ → Type 0) (n : ℕ) → ((w : ℕ) → w < n → P w) → P n → (w : ℕ) → w < n + 1 → P w
+pub below-next : (P : ℕ → Type 0) (n : ℕ) → ((w : ℕ) → w < n → P w) → P n → (w : ℕ) → w < n + 1 → P w
 below-next P n each here w h =
     ⊎-elim (λ (lo : n ≤ w). let e : w ≡ n = omega arith in subst⁻¹ P e here) (λ (hi : w < n). each w hi) (le-or-lt n w)
 
