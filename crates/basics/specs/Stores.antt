@@ -1,9 +1,10 @@
 -- Stores into a list, one by one. Assumes nothing.
-use mathlib.Core.Path.{_≡_, refl, _∙_}
+use mathlib.Core.Path.{_≡_, refl, sym, _∙_, subst}
 use mathlib.Core.Logic.{_⊎_, inl, inr, ⊎-elim}
 use mathlib.Core.List.{List, [], _∷_}
 use Prim.Native.Nat.{ℕ, suc, _+_, _-_, _≤_, _<_}
 use native.Mathlib.Omega.{arith}
+use borrow.Author.Count.{below-more}
 use lib.ListN.{length, getD, set, length-set}
 use lib.Seq.{sets, set-out, getD-set-same, getD-set-other}
 use Rattle.basics.specs.Bools.{le-or-lt}
@@ -27,6 +28,15 @@ module _ {A : Type 0} (z : A) where
   set-keeps l k v i c h right =
       ⊎-elim (λ (e : getD (set l k v) i z ≡ getD l i z). e ∙ h)
       (λ (e : (i ≡ k) × (getD (set l k v) i z ≡ v)). e .1 ∙ right (e .0)) (set-either l k v i)
+
+  -- what holds of each element below i, and of the store at i, holds of each below i + 1
+  pub set-more :
+      (P : ℕ → A → Type 0) (l : List A) (i : ℕ) (v : A) → i < length l → ((k : ℕ) → k < i → P k (getD l k z)) → P i v →
+      (k : ℕ) → k < i + 1 → P k (getD (set l i v) k z)
+  set-more P l i v room all here =
+      below-more (λ (k : ℕ). P k (getD (set l i v) k z)) i
+      (λ k b. subst (P k) (sym (getD-set-other l i k v z (λ e. omega arith))) (all k b))
+      (subst (P i) (sym (getD-set-same l i v z room)) here)
 
   pub sets-keeps :
       (l : List A) (k : ℕ) (vs : List A) (i : ℕ) (c : A) → getD l i z ≡ c →

@@ -133,3 +133,4 @@ pub mod FindWalk
 pub mod JobAnswering
 pub mod JobParts
 pub mod AnswerLength
+pub mod StandingWalk

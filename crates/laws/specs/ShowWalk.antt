@@ -7,6 +7,7 @@ use Prim.Native.Nat.{ℕ, zero, suc, _+_, _*_, _-_, _≤_, _<_}
 use native.Mathlib.Omega.{arith}
 use lib.ListN.{length, getD, take, drop, length-take, length-drop}
 use lib.Seq.{getD-take, getD-drop}
+use borrow.Author.Count.{below-more}
 use Rattle.basics.specs.Bools.{le-or-lt}
 use Rattle.basics.specs.Member.{In, in-place, in-append-get}
 use Rattle.spec.specs.Dictionary.{Lexicon}
@@ -18,7 +19,6 @@ use Rattle.laws.specs.Standing.{stand-at, stand-put, stand-char}
 use Rattle.laws.specs.Facts.{entries-at, flat, Rise, All-stand}
 use Rattle.laws.specs.Flat.{posting, entries-at-get}
 use Rattle.laws.specs.Opened.{list-start, line-of, lines-next, lines-none, counts-next}
-use Rattle.laws.specs.Tables.{below-next}
 use Rattle.laws.specs.LinePass.{Line-lies, lies-places}
 
 -- ONE PLACE
@@ -33,7 +33,7 @@ module _ (s : List ℕ) (a : ℕ) (ts : List ℕ) (at : ℕ) where
 
   pub equal-part-next : (b : ℕ) → Equal-part s a b ts at → getD s b 0 ≡ getD ts (at + b) 0 → Equal-part s a (b + 1) ts at
   equal-part-next b h e x lo hi =
-      below-next (λ (y : ℕ). a ≤ y → getD s y 0 ≡ getD ts (at + y) 0) b (λ y under from. h y from under) (λ from. e) x hi lo
+      below-more (λ (y : ℕ). a ≤ y → getD s y 0 ≡ getD ts (at + y) 0) b (λ y under from. h y from under) (λ from. e) x hi lo
 
   pub equal-part-end : (b : ℕ) → length s ≤ b → Equal-part s a b ts at → Equal-part s a (length s) ts at
   equal-part-end b past h x lo hi = h x lo (omega arith)
@@ -99,7 +99,7 @@ module _ (s ts ps : List ℕ) where
   stand-first-none j b = absurd (omega arith)
 
   pub stand-first-next : (i : ℕ) → Stand-first s ts ps i → Stand s ts (getD ps i 0) → Stand-first s ts ps (i + 1)
-  stand-first-next i h here = below-next (λ (j : ℕ). Stand s ts (getD ps j 0)) i h here
+  stand-first-next i h here = below-more (λ (j : ℕ). Stand s ts (getD ps j 0)) i h here
 
   pub stand-first-end : (i : ℕ) → length ps ≤ i → Stand-first s ts ps i → Stand-each s ts ps
   stand-first-end i past h j b = h j (omega arith)
