@@ -60,7 +60,6 @@ pub mod LineNumbers
 pub mod Criterion
 pub mod Noted
 pub mod Painting
-pub mod PaintedSearch
 pub mod Noting
 pub mod Reception
 pub mod Promises
@@ -134,3 +133,4 @@ pub mod JobAnswering
 pub mod JobParts
 pub mod AnswerLength
 pub mod StandingWalk
+pub mod PaintedSearch

@@ -1,6 +1,6 @@
 -- A string looked for in the text that entries paint over a ground character which the string has not: where every entry stands
 -- in what was painted, the string is found exactly where it stands. Assumes nothing.
-use mathlib.Core.Path.{_≡_, _∙_}
+use mathlib.Core.Path.{_≡_, sym, ap, _∙_, subst}
 use mathlib.Core.Logic.{_⊎_, inl, inr}
 use mathlib.Core.List.{List}
 use Prim.Native.Nat.{ℕ, suc, _+_, _-_, _≤_, _<_}
@@ -11,11 +11,14 @@ use Rattle.basics.specs.Steps.{those-from}
 use Rattle.spec.specs.Dictionary.{Lexicon}
 use Rattle.spec.specs.Words.{spells, stands, Entry}
 use Rattle.spec.specs.Numbers.{Line}
+use Rattle.spec.specs.Index.{lines-in}
 use Rattle.spec.specs.Search.{found-from}
 use Rattle.laws.specs.Strings.{Stand}
 use Rattle.laws.specs.Facts.{flat, All-stand}
 use Rattle.laws.specs.Flat.{flat-long}
 use Rattle.laws.specs.Search.{all-stand-found}
+use Rattle.laws.specs.Window.{found-in}
+use Rattle.laws.specs.StandingWalk.{Standing, found-standing}
 use Rattle.laws.specs.Painting.{paint, length-paint, paint-either}
 
 -- the text that lines paint over n ground characters
@@ -54,3 +57,30 @@ module _ (lex : Lexicon) (ls : List Line) (n g : ℕ) (all : All-stand lex ls (p
       found-from k 1 lex ls s ≡ those-from k 1 (stands s (painted-over lex ls n g))
   painted-found k few =
       all-stand-found lex ls (painted-over lex ls n g) all s painted-covers k (omega (arith, length-painted lex ls n g))
+
+-- a text that lines painted over a ground, and in which every entry of them stands
+pub record Painted-shows (lex : Lexicon) (ls : List Line) (n g : ℕ) (ts : List ℕ) : Type 0 where
+  pub is : ts ≡ painted-over lex ls n g
+  pub all : All-stand lex ls ts
+
+-- what a window finds is what the index has there
+abbrev pub Finds : Lexicon → (index string reaches : List ℕ) → Type 0
+Finds lex xs s rs = found-in (length s) 1 rs ≡ found-from (length rs) 1 lex (lines-in xs) s
+
+-- The window that tells where the string stands in such a text.
+pub painted-finds :
+    (lex : Lexicon) (xs : List ℕ) (n g : ℕ) (ts s rs : List ℕ) → Painted-shows lex (lines-in xs) n g ts →
+    ((i : ℕ) → i < length s → getD s i 0 ≡ g → ⊥) → length rs + length s ≤ suc n → Standing s ts rs → Finds lex xs s rs
+painted-finds lex xs n g ts s rs shown other room told =
+    found-standing s ts rs told
+    ∙ ap (λ (l : List ℕ). those-from (length rs) 1 (stands s l)) (shown .is)
+    ∙ sym
+    (painted-found lex (lines-in xs) n g (subst (All-stand lex (lines-in xs)) (shown .is) (shown .all)) s other (length rs)
+    (omega arith))
+
+-- What was painted over the ground that fills a text of n characters.
+pub painted-ground :
+    (lex : Lexicon) (ls : List Line) (n g : ℕ) (old mid now : List ℕ) → mid ≡ replicate (length old) g → length old ≡ n →
+    now ≡ paint lex (flat lex ls) mid → now ≡ painted-over lex ls n g
+painted-ground lex ls n g old mid now filled long e =
+    e ∙ ap (paint lex (flat lex ls)) (filled ∙ ap (λ (k : ℕ). replicate {A = ℕ} k g) long)

@@ -2,3 +2,4 @@
 pub mod noting;
 pub mod painting;
 pub mod showing;
+pub mod shown;
