@@ -8,6 +8,7 @@ use native.Mathlib.Omega.{arith}
 use lib.ListN.{length, getD, replicate, length-replicate, getD-replicate}
 use Rattle.basics.specs.Member.{In}
 use Rattle.basics.specs.Steps.{those-from}
+use Rattle.spec.specs.declared.Answer.{Answer}
 use Rattle.spec.specs.Dictionary.{Lexicon}
 use Rattle.spec.specs.Words.{spells, stands, Entry}
 use Rattle.spec.specs.Numbers.{Line}
@@ -18,6 +19,8 @@ use Rattle.laws.specs.Facts.{flat, All-stand}
 use Rattle.laws.specs.Flat.{flat-long}
 use Rattle.laws.specs.Search.{all-stand-found}
 use Rattle.laws.specs.Window.{found-in}
+use Rattle.laws.specs.Sizing.{Sized}
+use Rattle.laws.specs.Searching.{Window-says}
 use Rattle.laws.specs.StandingWalk.{Standing, found-standing}
 use Rattle.laws.specs.Painting.{paint, length-paint, paint-either}
 
@@ -84,3 +87,17 @@ pub painted-ground :
     now ≡ paint lex (flat lex ls) mid → now ≡ painted-over lex ls n g
 painted-ground lex ls n g old mid now filled long e =
     e ∙ ap (paint lex (flat lex ls)) (filled ∙ ap (λ (k : ℕ). replicate {A = ℕ} k g) long)
+
+-- WHAT A SEARCH SAYS
+
+-- the window that finds what the index has, answered
+pub says-told :
+    (lex : Lexicon) (xs s : List ℕ) (n : ℕ) (rs : List ℕ) (r : Answer) (o z : List ℕ) → Finds lex xs s rs → length rs ≡ n →
+    Sized (found-in (length s) 1 rs) r o z → Window-says lex xs s n 1 r o z
+unfolding Window-says
+says-told lex xs s n rs r o z finds long h =
+    subst (λ (l : List ℕ). Sized l r o z) (finds ∙ ap (λ (k : ℕ). found-from k 1 lex (lines-in xs) s) long) h
+
+-- a window left as it was is still clear
+pub still-clear : (old now : List ℕ) → now ≡ old → old ≡ replicate (length old) 0 → now ≡ replicate (length now) 0
+still-clear old now e clear = e ∙ clear ∙ ap (λ (l : List ℕ). replicate {A = ℕ} (length l) 0) (sym e)
