@@ -1,9 +1,10 @@
 -- Stores into a list, one by one. Assumes nothing.
-use mathlib.Core.Path.{_≡_, _∙_}
+use mathlib.Core.Path.{_≡_, refl, sym, _∙_, subst}
 use mathlib.Core.Logic.{_⊎_, inl, inr, ⊎-elim}
 use mathlib.Core.List.{List, [], _∷_}
 use Prim.Native.Nat.{ℕ, suc, _+_, _-_, _≤_, _<_}
 use native.Mathlib.Omega.{arith}
+use borrow.Author.Count.{below-more}
 use lib.ListN.{length, getD, set, length-set}
 use lib.Seq.{sets, set-out, getD-set-same, getD-set-other}
 use Rattle.basics.specs.Bools.{le-or-lt}
@@ -28,6 +29,15 @@ module _ {A : Type 0} (z : A) where
       ⊎-elim (λ (e : getD (set l k v) i z ≡ getD l i z). e ∙ h)
       (λ (e : (i ≡ k) × (getD (set l k v) i z ≡ v)). e .1 ∙ right (e .0)) (set-either l k v i)
 
+  -- what holds of each element below i, and of the store at i, holds of each below i + 1
+  pub set-more :
+      (P : ℕ → A → Type 0) (l : List A) (i : ℕ) (v : A) → i < length l → ((k : ℕ) → k < i → P k (getD l k z)) → P i v →
+      (k : ℕ) → k < i + 1 → P k (getD (set l i v) k z)
+  set-more P l i v room all here =
+      below-more (λ (k : ℕ). P k (getD (set l i v) k z)) i
+      (λ k b. subst (P k) (sym (getD-set-other l i k v z (λ e. omega arith))) (all k b))
+      (subst (P i) (sym (getD-set-same l i v z room)) here)
+
   pub sets-keeps :
       (l : List A) (k : ℕ) (vs : List A) (i : ℕ) (c : A) → getD l i z ≡ c →
       (k ≤ i → i < k + length vs → getD vs (i - k) z ≡ c) → getD (sets l k vs) i z ≡ c
@@ -44,6 +54,18 @@ module _ {A : Type 0} (z : A) where
       later lo hi =
           let w : i - k ≡ suc (i - suc k) = omega arith in
           rw w at (right (omega arith) (omega arith))
+
+  -- a place is as it was, or is one of those stored
+  pub sets-either :
+      (l : List A) (k : ℕ) (vs : List A) (i : ℕ) → (getD (sets l k vs) i z ≡ getD l i z) ⊎ ((k ≤ i) × (i < k + length vs))
+  sets-either l k vs i = go (le-or-lt k i) (le-or-lt (k + length vs) i)
+    where
+      go :
+          (k ≤ i) ⊎ (i < k) → (k + length vs ≤ i) ⊎ (i < k + length vs) →
+          (getD (sets l k vs) i z ≡ getD l i z) ⊎ ((k ≤ i) × (i < k + length vs))
+      go (inl lo) (inr hi) = inr (lo, hi)
+      go (inl lo) (inl past) = inl (sets-keeps l k vs i (getD l i z) refl (λ a b. absurd (omega arith)))
+      go (inr early) end = inl (sets-keeps l k vs i (getD l i z) refl (λ a b. absurd (omega arith)))
 
   -- and what is stored at i is there
   pub sets-writes :

@@ -98,7 +98,11 @@ pub record Good-lines (lex : Lexicon) (n : ℕ) (ls : List Line) : Type 0 where
   pub each : (l : Line) → In l ls → Good-line lex n l
   pub order : Keys-rise ls
 
+-- every entry of the lines stands in a text
+abbrev pub All-stand : Lexicon → List Line → (text : List ℕ) → Type 0
+All-stand lex ls ts = (e : Entry) → In e (flat lex ls) → Stand (spells lex (e .key-of)) ts (e .at)
+
 -- lines that show a text: each entry stands in it, each position is covered
 pub record Shows (lex : Lexicon) (ls : List Line) (ts : List ℕ) : Type 0 where
-  pub stand : (e : Entry) → In e (flat lex ls) → Stand (spells lex (e .key-of)) ts (e .at)
+  pub stand : All-stand lex ls ts
   pub cover : (p : ℕ) → 1 ≤ p → p ≤ length ts → (e : Entry) × In e (flat lex ls) × (e .at ≤ p) × (p < e .at + e .long)

@@ -122,6 +122,7 @@ pub mod DemandThree
 pub mod DemandsHold
 pub mod PlaceWalk
 pub mod LinePass
+pub mod ShowWalk
 pub mod PaintWalk
 pub mod NoteWalk
 pub mod Accepting
@@ -133,3 +134,5 @@ pub mod FindWalk
 pub mod JobAnswering
 pub mod JobParts
 pub mod AnswerLength
+pub mod StandingWalk
+pub mod PaintedSearch

@@ -11,7 +11,7 @@ use Rattle.spec.specs.Dictionary.{Lexicon, longest-text, lexicon}
 use Rattle.spec.specs.Words.{Key, key, spells, Entry, entry}
 use Rattle.spec.specs.Numbers.{Line, line}
 use Rattle.spec.specs.Index.{header, n-of, keys-of, kind-at, value-at, count-at, key-at, lines-in, readable}
-use Rattle.laws.specs.Facts.{Good-line, entries-at, flat}
+use Rattle.laws.specs.Facts.{Good-line, Rise, entries-at, flat}
 use Rattle.laws.specs.Keys.{spells-lone}
 use Rattle.laws.specs.FlatOrder.{rise-least}
 use Rattle.laws.specs.Lexicon.{Is-admitted, admitted-get, admitted-lexicon, admitted-ascend}
@@ -23,6 +23,7 @@ use Rattle.laws.specs.Tables.{Can-read, Word-starts, line-is-good, key-i
 use Rattle.laws.specs.Painting.{paint}
 use Rattle.laws.specs.Noting.{note-places}
 use Rattle.laws.specs.PlaceWalk.{paint-places, length-paint-places, paint-mark, Lie-within}
+use Rattle.laws.specs.ShowWalk.{Stand-each}
 use Rattle.laws.specs.LinePass.{Line-lies, lies-places, Passing, passing-start, passing-lies, passing-step, passing-end}
 
 -- WHAT IS READ
@@ -86,6 +87,17 @@ module _ (cs ls xs : List ℕ) (can : Can-read cs ls xs) (i begin end : ℕ) (li
       rw (lies-places xs i begin end lies, long)
       (good-lie (lexicon cs ls) (n-of xs) (line-of xs i) (line-is-good cs ls xs can i (lies .below)))
 
+  line-good : Good-line (lexicon cs ls) (n-of xs) (line-of xs i)
+  line-good = line-is-good cs ls xs can i (lies .below)
+
+  pub places-some : 1 ≤ length (take (end - begin) (drop begin xs))
+  unfolding line
+  places-some = rw (lies-places xs i begin end lies) (line-good .some)
+
+  pub places-rise : Rise 1 (take (end - begin) (drop begin xs))
+  unfolding line
+  places-rise = rw (lies-places xs i begin end lies) (line-good .rise)
+
   -- a word, spelt by its part of the characters
   module _ (word : kind-at xs i ≡ 0) (ws : List ℕ) (table : Word-starts ls (length ls) ws) where
     abbrev part : List ℕ
@@ -103,6 +115,11 @@ module _ (cs ls xs : List ℕ) (can : Can-read cs ls xs) (i begin end : ℕ) (li
         next ≡ paint-places (spells (lexicon cs ls) (key-at xs i)) (take (end - begin) (drop begin xs)) us
     word-painted next e = e ∙ ap (λ (s : List ℕ). paint-places s (take (end - begin) (drop begin xs)) us) spelt
 
+    pub word-stood :
+        (ts : List ℕ) → Stand-each part ts (take (end - begin) (drop begin xs)) →
+        Stand-each (spells (lexicon cs ls) (key-at xs i)) ts (take (end - begin) (drop begin xs))
+    word-stood ts h = rw spelt at h
+
   -- a lone character, which is one mark
   module _ (lone : kind-at xs i ≡ 0 → ⊥) where
     spelt-lone : spells (lexicon cs ls) (key-at xs i) ≡ value-at xs i ∷ []
@@ -118,6 +135,11 @@ module _ (cs ls xs : List ℕ) (can : Can-read cs ls xs) (i begin end : ℕ) (li
         (next : List ℕ) → next ≡ note-places (value-at xs i) (take (end - begin) (drop begin xs)) us →
         next ≡ paint-places (spells (lexicon cs ls) (key-at xs i)) (take (end - begin) (drop begin xs)) us
     lone-painted next e = rw spelt-lone (e ∙ sym (paint-mark (value-at xs i) (take (end - begin) (drop begin xs)) us))
+
+    pub lone-stood :
+        (ts : List ℕ) → Stand-each (value-at xs i ∷ []) ts (take (end - begin) (drop begin xs)) →
+        Stand-each (spells (lexicon cs ls) (key-at xs i)) ts (take (end - begin) (drop begin xs))
+    lone-stood ts h = rw spelt-lone h
 
 -- THE LINES
 

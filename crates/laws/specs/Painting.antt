@@ -2,14 +2,14 @@
 -- painting is that text, whatever was there before. Assumes nothing.
 use mathlib.Core.Path.{_≡_, refl, sym, _∙_, subst}
 use mathlib.Core.Bool.{true}
-use mathlib.Core.Logic.{inl, inr}
+use mathlib.Core.Logic.{_⊎_, inl, inr}
 use mathlib.Core.List.{List, [], _∷_}
 use Prim.Native.Nat.{ℕ, suc, _+_, _-_, _≤_, _<_}
 use native.Mathlib.Omega.{arith}
 use lib.ListN.{length, getD}
 use lib.Seq.{sets, length-sets, ext-getD}
 use Rattle.basics.specs.Member.{In}
-use Rattle.basics.specs.Stores.{sets-keeps, sets-writes}
+use Rattle.basics.specs.Stores.{sets-either, sets-keeps, sets-writes}
 use Rattle.spec.specs.Dictionary.{Lexicon}
 use Rattle.spec.specs.Words.{spells, Entry}
 use Rattle.spec.specs.Index.{n-of, lines-in}
@@ -33,6 +33,30 @@ unfolding paint
 length-paint lex [] us = refl
 length-paint lex (e ∷ es) us =
     length-paint lex es (sets us (e .at - 1) (spells lex (e .key-of))) ∙ length-sets us (e .at - 1) (spells lex (e .key-of))
+
+-- a place of a painted text is as it was, or an entry covers it
+pub paint-either :
+    (lex : Lexicon) (es : List Entry) (us : List ℕ) (i : ℕ) →
+    (getD (paint lex es us) i 0 ≡ getD us i 0)
+    ⊎ ((e : Entry) × In e es × (e .at - 1 ≤ i) × (i < e .at - 1 + length (spells lex (e .key-of))))
+unfolding paint
+paint-either lex [] us i = inl refl
+paint-either lex (e ∷ es) us i =
+    here (sets-either 0 us (e .at - 1) (spells lex (e .key-of)) i)
+    (paint-either lex es (sets us (e .at - 1) (spells lex (e .key-of))) i)
+  where
+    vs : List ℕ
+    vs = sets us (e .at - 1) (spells lex (e .key-of))
+
+    here :
+        (getD vs i 0 ≡ getD us i 0) ⊎ ((e .at - 1 ≤ i) × (i < e .at - 1 + length (spells lex (e .key-of)))) →
+        (getD (paint lex es vs) i 0 ≡ getD vs i 0)
+        ⊎ ((f : Entry) × In f es × (f .at - 1 ≤ i) × (i < f .at - 1 + length (spells lex (f .key-of)))) →
+        (getD (paint lex es vs) i 0 ≡ getD us i 0)
+        ⊎ ((f : Entry) × In f (e ∷ es) × (f .at - 1 ≤ i) × (i < f .at - 1 + length (spells lex (f .key-of))))
+    here one (inr later) = inr (later .0, inr (later .1), later .2, later .3)
+    here (inl kept) (inl same) = inl (same ∙ kept)
+    here (inr on) (inl same) = inr (e, inl refl, on .0, on .1)
 
 module _ (lex : Lexicon) (ts : List ℕ) where
   -- the character that an entry which stands in ts has at position i + 1

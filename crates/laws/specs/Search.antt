@@ -17,7 +17,7 @@ use Rattle.spec.specs.Reception.{lies-on}
 use Rattle.spec.specs.Search.{agrees, covers, covered, all-covered, found-from, find}
 use Rattle.spec.specs.Promise.{places-from, places}
 use Rattle.laws.specs.Strings.{Stand, stands-get, stands-put}
-use Rattle.laws.specs.Facts.{flat, Shows}
+use Rattle.laws.specs.Facts.{flat, All-stand, Shows}
 use Rattle.laws.specs.Flat.{posting, flat-get, flat-put, flat-long}
 use Rattle.laws.specs.Recover.{lies-on-get, lies-on-put}
 use Rattle.laws.specs.Agree.{Agree, agrees-get, agrees-put}
@@ -134,12 +134,16 @@ unfolding places-from those-from
 places-from-those s ts zero p = refl
 places-from-those s ts (suc n) p = rw (places-from-those s ts n (suc p))
 
--- LINES THAT SHOW A TEXT
+-- LINES WHOSE ENTRIES STAND IN A TEXT
 
-module _ (lex : Lexicon) (ls : List Line) (ts : List ℕ) (show : Shows lex ls ts) (s : List ℕ) where
+-- a string that has no place in the text which no entry covers
+module _ (lex : Lexicon) (ls : List Line) (ts : List ℕ) (all : All-stand lex ls ts) (s : List ℕ)
+    (cover :
+    (p : ℕ) → Stand s ts p → (x : ℕ) → p ≤ x → x < p + length s →
+    (e : Entry) × In e (flat lex ls) × (e .at ≤ x) × (x < e .at + e .long)) where
   -- covered everywhere is standing
-  pub shows-stands : (p : ℕ) → 1 ≤ p → p + length s ≤ suc (length ts) → all-covered (length s) p lex ls s p ≡ stands s ts p
-  shows-stands p lo hi = iff-eq (all-covered (length s) p lex ls s p) (stands s ts p) (λ t. stands-put s ts p (to t)) from
+  pub all-stand-stands : (p : ℕ) → 1 ≤ p → p + length s ≤ suc (length ts) → all-covered (length s) p lex ls s p ≡ stands s ts p
+  all-stand-stands p lo hi = iff-eq (all-covered (length s) p lex ls s p) (stands s ts p) (λ t. stands-put s ts p (to t)) from
     where
       to : all-covered (length s) p lex ls s p ≡ true → Stand s ts p
       to t =
@@ -151,12 +155,12 @@ module _ (lex : Lexicon) (ls : List Line) (ts : List ℕ) (show : Shows lex ls t
                 let e = covered-get lex ls s p x (all-covered-get lex ls s p (length s) p t x l h) in
                 let long = flat-long lex ls (e .0) (e .1 .among) in
                 e .1 .agree .equal x l h (e .1 .from) (omega (arith, e .1 .to))
-                ∙ show .stand (e .0) (e .1 .among) .equal x (e .1 .from) (omega (arith, e .1 .to));
+                ∙ all (e .0) (e .1 .among) .equal x (e .1 .from) (omega (arith, e .1 .to));
           }
 
       covered-at : Stand s ts p → (x : ℕ) → p ≤ x → x < p + length s → covered lex ls s p x ≡ true
       covered-at st x l h =
-          let over = show .cover x (omega arith) (omega arith) in
+          let over = cover p st x l h in
           let long = flat-long lex ls (over .0) (over .1) in
           covered-put lex ls s p x (over .0)
           (record {
@@ -171,20 +175,36 @@ module _ (lex : Lexicon) (ls : List Line) (ts : List ℕ) (show : Shows lex ls t
                   entry-from = over .2;
                   entry-to = omega (arith, over .3);
                   equal =
-                      λ y c d f g. st .equal y c d ∙ sym (show .stand (over .0) (over .1) .equal y f g);
+                      λ y c d f g. st .equal y c d ∙ sym (all (over .0) (over .1) .equal y f g);
                 };
           })
 
       from : stands s ts p ≡ true → all-covered (length s) p lex ls s p ≡ true
       from t = all-covered-put lex ls s p (length s) p (covered-at (stands-get s ts p t))
 
+  -- what is found at starts where the string fits is where it stands
+  pub all-stand-found :
+      (n : ℕ) → n ≤ suc (length ts) - length s → found-from n 1 lex ls s ≡ those-from n 1 (stands s ts)
+  all-stand-found n few =
+      found-from-those lex ls s n 1
+      ∙ those-from-alike n 1 (found-at lex ls s) (stands s ts) (λ x lo hi. all-stand-stands x lo (omega arith))
+
+-- LINES THAT SHOW A TEXT
+
+module _ (lex : Lexicon) (ls : List Line) (ts : List ℕ) (show : Shows lex ls ts) (s : List ℕ) where
+  cover-string :
+      (p : ℕ) → Stand s ts p → (x : ℕ) → p ≤ x → x < p + length s →
+      (e : Entry) × In e (flat lex ls) × (e .at ≤ x) × (x < e .at + e .long)
+  cover-string p st x lo hi = show .cover x (omega (arith, st .from)) (omega (arith, st .within))
+
+  pub shows-stands : (p : ℕ) → 1 ≤ p → p + length s ≤ suc (length ts) → all-covered (length s) p lex ls s p ≡ stands s ts p
+  shows-stands = all-stand-stands lex ls ts (show .stand) s cover-string
+
   -- what is found is where the string stands; `places` also passes the starts at which the string does not fit
   pub found-places : 1 ≤ length s → found-from (suc (length ts) - length s) 1 lex ls s ≡ places s ts
   unfolding places
   found-places some =
-      found-from-those lex ls s (suc (length ts) - length s) 1
-      ∙ those-from-alike (suc (length ts) - length s) 1 (found-at lex ls s) (stands s ts)
-      (λ x lo hi. shows-stands x lo (omega arith))
+      all-stand-found lex ls ts (show .stand) s cover-string (suc (length ts) - length s) (omega arith)
       ∙ sym (those-from-fewer (suc (length ts) - length s) (length ts - (suc (length ts) - length s)) 1 (stands s ts) outside)
       ∙ ap (λ (n : ℕ). those-from n 1 (stands s ts)) steps
       ∙ sym (places-from-those s ts (length ts) 1)

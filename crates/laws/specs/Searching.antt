@@ -1,5 +1,5 @@
 -- What a search of a window says, and of all starts: from the refusal to the whole promise. Assumes nothing.
-use mathlib.Core.Path.{_≡_, refl, sym, ap, _∙_}
+use mathlib.Core.Path.{_≡_, refl, sym, ap, _∙_, subst}
 use mathlib.Core.List.{List, [], _∷_}
 use Prim.Native.Nat.{ℕ, zero, suc, _-_, _≤_, _<_}
 use native.Mathlib.Omega.{arith}
@@ -53,23 +53,24 @@ module _ (lex : Lexicon) (xs s : List ℕ) (n q : ℕ) (o : List ℕ) where
         let none : found ≡ [] = sym in-window ∙ none-found (length s) most q rs (done .bounded) early in
         rw none (sized-written [] r o o (omega arith) a b refl)
 
-    pub count-is : (count : ℕ) → count ≡ count-in (length s) rs → count ≡ length (found-in (length s) q rs)
-    count-is count e = e ∙ count-found (length s) q rs
-
-    pub says-short :
-        (count : ℕ) → count ≡ count-in (length s) rs → length o < count → (r : Answer) → r .refusal ≡ 8 → r .count ≡ 0 →
-        Window-says lex xs s n q r o o
+    -- what is said of the window is said of the starts
+    pub says-answered : (r : Answer) (z : List ℕ) → Sized (found-in (length s) q rs) r o z → Window-says lex xs s n q r o z
     unfolding Window-says found
-    says-short count e few r a b =
-        sized-short found r o (omega (arith, count-is count e, ap length in-window)) a b
+    says-answered r z h = subst (λ (l : List ℕ). Sized l r o z) in-window h
 
-    pub says-found :
-        (count : ℕ) → count ≡ count-in (length s) rs → count ≤ length o → (z : List ℕ) →
-        z ≡ in-front (found-in (length s) q rs) o → (r : Answer) → r .refusal ≡ 0 → r .count ≡ count → Window-says lex xs s n q r o z
-    unfolding Window-says found
-    says-found count e enough z w r a b =
-        let long : count ≡ length found = count-is count e ∙ ap length in-window in
-        sized-written found r o z (omega arith) a (b ∙ long) (w ∙ ap (λ (l : List ℕ). in-front l o) in-window)
+-- THE STARTS OF A WINDOW, counted and written
+
+module _ (m q : ℕ) (rs o : List ℕ) (count : ℕ) (e : count ≡ count-in m rs) where
+  pub count-is : count ≡ length (found-in m q rs)
+  count-is = e ∙ count-found m q rs
+
+  pub answer-short : length o < count → (r : Answer) → r .refusal ≡ 8 → r .count ≡ 0 → Sized (found-in m q rs) r o o
+  answer-short few r a b = sized-short (found-in m q rs) r o (omega (arith, count-is)) a b
+
+  pub answer-found :
+      count ≤ length o → (z : List ℕ) → z ≡ in-front (found-in m q rs) o → (r : Answer) → r .refusal ≡ 0 → r .count ≡ count →
+      Sized (found-in m q rs) r o z
+  answer-found enough z w r a b = sized-written (found-in m q rs) r o z (omega (arith, count-is)) a (b ∙ count-is) w
 
 -- all starts at which the string fits
 pub search-says :

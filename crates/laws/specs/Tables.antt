@@ -1,5 +1,5 @@
 -- An accepted index with its tables of starts: what a directory line's key spells and where its positions lie. Assumes nothing.
-use mathlib.Core.Path.{_≡_, refl, sym, ap, _∙_, subst⁻¹}
+use mathlib.Core.Path.{_≡_, refl, sym, ap, _∙_}
 use mathlib.Core.Bool.{true, _&&_}
 use mathlib.Core.Logic.{inl, inr, ⊎-elim}
 use mathlib.Core.List.{List, [], _∷_}
@@ -8,7 +8,8 @@ use native.Mathlib.Omega.{arith}
 use lib.Dec.{leb}
 use lib.ListN.{length, getD, take, drop, set, length-set}
 use lib.Seq.{drop-nil, drop-cons, getD-set-same, getD-set-other}
-use Rattle.basics.specs.Bools.{and-left, le-or-lt}
+use borrow.Author.Count.{below-more}
+use Rattle.basics.specs.Bools.{and-left}
 use Rattle.basics.specs.Member.{In}
 use Rattle.spec.specs.Dictionary.{longest-text, lexicon, total, ascend}
 use Rattle.spec.specs.Words.{key, spells}
@@ -114,10 +115,6 @@ module _ (cs ls xs : List ℕ) (can : Can-read cs ls xs) (i : ℕ) (below : i < 
 
 -- FILLING THE TABLES
 
-below-next : (P : ℕ → Type 0) (n : ℕ) → ((w : ℕ) → w < n → P w) → P n → (w : ℕ) → w < n + 1 → P w
-below-next P n each here w h =
-    ⊎-elim (λ (lo : n ≤ w). let e : w ≡ n = omega arith in subst⁻¹ P e here) (λ (hi : w < n). each w hi) (le-or-lt n w)
-
 module _ (ls : List ℕ) where
   pub word-starts-none : (ws : List ℕ) → length ls ≤ length ws → Word-starts ls 0 ws
   word-starts-none ws h = record { within = omega arith; room = h; at = λ w b. absurd (omega arith) }
@@ -133,7 +130,7 @@ module _ (ls : List ℕ) where
         within = omega arith;
         room = omega (arith, h .room, length-set ws n v);
         at =
-            below-next (λ (w : ℕ). getD (set ws n v) w 0 ≡ word-start ls w) n
+            below-more (λ (w : ℕ). getD (set ws n v) w 0 ≡ word-start ls w) n
             (λ w b. getD-set-other ws n w v 0 (λ (z : w ≡ n). omega arith) ∙ h .at w b)
             (getD-set-same ws n v 0 (omega (arith, h .room)) ∙ e);
       }
@@ -153,7 +150,7 @@ module _ (xs : List ℕ) where
         within = omega arith;
         room = omega (arith, h .room, length-set ts n v);
         at =
-            below-next (λ (w : ℕ). getD (set ts n v) w 0 ≡ counts-from w 0 xs) n
+            below-more (λ (w : ℕ). getD (set ts n v) w 0 ≡ counts-from w 0 xs) n
             (λ w b. getD-set-other ts n w v 0 (λ (z : w ≡ n). omega arith) ∙ h .at w b)
             (getD-set-same ts n v 0 (omega (arith, h .room)) ∙ e);
       }

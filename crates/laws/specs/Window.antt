@@ -136,3 +136,18 @@ pub found-in-raised :
 unfolding found-in raised those-from
 found-in-raised m f zero q = refl
 found-in-raised m f (suc n) q = rw (found-in-raised m f n (suc q))
+
+-- of a window whose reaches tell where a test holds
+pub found-in-those :
+    (m q : ℕ) (rs : List ℕ) (f : ℕ → Bool) → ((j : ℕ) → j < length rs → leb m (getD rs j 0) ≡ f (q + j)) →
+    found-in m q rs ≡ those-from (length rs) q f
+unfolding found-in those-from
+found-in-those m q [] f told = refl
+found-in-those m q (r ∷ rs) f told =
+    let first : leb m r ≡ f q = rw (add-zero q) at (told 0 (omega arith)) in
+    rw (first, found-in-those m (suc q) rs f later)
+  where
+    later : (j : ℕ) → j < length rs → leb m (getD rs j 0) ≡ f (suc q + j)
+    later j b =
+        let z : suc q + j ≡ q + suc j = omega arith in
+        rw z (told (suc j) (omega arith))

@@ -4,15 +4,13 @@
 // its positions. Where entries disagree the last one painted stays, and where there is none the text is as it was: reception finds
 // both by scanning what was painted. The cost is the length of an entry's key.
 ghost use mathlib.Core.Path.{_≡_};
-ghost use mathlib.Core.Bool.{true};
 ghost use Prim.Native.Nat.{_+_, _-_, _≤_};
 ghost use lib.ListN.{length, take, drop};
 ghost use lib.Seq.{sets};
-ghost use Rattle.spec.specs.Dictionary.{longest-text, lexicon};
+ghost use Rattle.spec.specs.Dictionary.{lexicon};
 ghost use Rattle.spec.specs.Words.{spells};
-ghost use Rattle.spec.specs.Index.{n-of, key-at, lines-in, readable};
+ghost use Rattle.spec.specs.Index.{n-of, key-at, lines-in};
 ghost use Rattle.laws.specs.Facts.{flat};
-ghost use Rattle.laws.specs.WordTable.{Started};
 ghost use Rattle.laws.specs.Tables.{Can-read, Word-starts};
 ghost use Rattle.laws.specs.Painting.{paint};
 ghost use Rattle.laws.specs.PlaceWalk.{paint-places, Lie-within};
@@ -76,7 +74,7 @@ pub fn paint_entries(
     index: &[u16],
     text: &mut [u16],
 )
-    requires { ⌜ Started (now chars) (now lengths) (now starts) × (readable longest-text (lexicon (now chars) (now lengths)) (now index) ≡ true) × (length (now text) ≡ n-of (now index)) ⌝ }
+    requires { ⌜ Can-read (now chars) (now lengths) (now index) × Word-starts (now lengths) (length (now lengths)) (now starts) × (length (now text) ≡ n-of (now index)) ⌝ }
     ensures { λ r. ⌜ now (text .exit) ≡ paint (lexicon (now (chars .entry)) (now (lengths .entry))) (flat (lexicon (now (chars .entry)) (now (lengths .entry))) (lines-in (now (index .entry)))) (now (text .entry)) ⌝ }
 {
     let keys = index[1] as usize;

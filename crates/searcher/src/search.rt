@@ -11,9 +11,9 @@ ghost use Rattle.spec.specs.Calls.{Search-says};
 ghost use Rattle.laws.specs.Tables.{Can-read};
 ghost use Rattle.laws.specs.Sizing.{Is-string};
 ghost use Rattle.laws.specs.Searching.{Window-says};
+use crate::window::search_opened;
 use directory::tables::fill_lists;
 use directory::tables::fill_words;
-use finding::window::search_window;
 use reading::readability::refusal_of;
 use spec::Answer;
 
@@ -34,14 +34,13 @@ fn search_lent<'a>(
     let mut words = [0u16; 4096];
     fill_words(lengths, &mut words);
     fill_lists(index, lists);
-    search_window(
+    search_opened(
         chars,
         lengths,
         index,
         &words,
         lists,
         string,
-        1,
         &mut reach[..starts],
         output,
     )

@@ -1,9 +1,10 @@
--- `search_window` meets its contract: the stages leave in the window what tells the starts found. Assumes nothing.
+-- `search_window` meets its contract: where no start gets through the string nothing is found, else the window answers. Assumes
+-- nothing.
 use mathlib.Core.Path.{refl}
 use native.Mathlib.Omega.{arith}
 use lib.ListN.{length}
 use Rattle.spec.specs.Dictionary.{lexicon}
-use Rattle.laws.specs.Searching.{cleared-within, says-none, count-is, says-short, says-found}
+use Rattle.laws.specs.Searching.{cleared-within, says-none, says-answered}
 use borrow.Author.Needs.{needs}
 use Rattle.finding.proofs.window.search_window.Statement.{statement}
 use Rattle.finding.proofs.window.search_window.Tie as tie
@@ -21,50 +22,26 @@ returns c =
     let s = c .before .before .before .before .before .before .before .before .before .before .before .before .before in
     let a = s .args in
     let window = c .before .before .before .raise-window in
-    says-none (lexicon (a .chars .now) (a .lengths .now)) (a .index .now) (a .string .now) (length (a .reach .now)) (a .first)
-    (a .output .now) (window .last .1 .1 .1 .1 .1 .1 .1 .0) (window .result) (a .reach .now) (s .pre .3) (window .ensures) (c .if1 .taken) (record { refusal = 0; count = 0 }) refl refl
+    says-none (lexicon (a .chars .now) (a .lengths .now)) (a .index .now) (a .string .now) (length (a .reach .now)) (a .first) (a .output .now)
+    (window .last .1 .1 .1 .1 .1 .1 .1 .0) (window .result) (a .reach .now) (s .pre .3) (window .ensures) (c .if1 .taken) (record { refusal = 0; count = 0 }) refl refl
 
-count-found-requires : tie.Need-count-found-requires
-count-found-requires c κs = search needs
+answer-window-requires : tie.Need-answer-window-requires
+answer-window-requires c κs = search needs
 
 same-length-2 : tie.Need-same-length-2
 same-length-2 c = search needs
 
-returns-2 : tie.Need-returns-2
-returns-2 c =
-    let s = c .before .before .before .before .before .before .before .before .before .before .before .before .before .before .before .before in
-    let a = s .args in
-    let window = c .before .before .before .before .before .before .raise-window in
-    says-short (lexicon (a .chars .now) (a .lengths .now)) (a .index .now) (a .string .now) (length (a .reach .now)) (a .first)
-    (a .output .now) (window .last .1 .1 .1 .1 .1 .1 .1 .0) (window .result) (a .reach .now) (s .pre .3) (window .ensures)
-    (c .before .count-found .result) (c .before .count-found .ensures) (c .if2 .taken) (record { refusal = 8; count = 0 }) refl refl
-
-write-found-requires : tie.Need-write-found-requires
-write-found-requires c κs =
-    let s = c .before .before .before .before .before .before .before .before .before .before .before .before .before .before .before .before .before .before in
-    let a = s .args in
-    let window = c .before .before .before .before .before .before .before .before .raise-window in (
-      count-is (lexicon (a .chars .now) (a .lengths .now)) (a .index .now) (a .string .now) (length (a .reach .now)) (a .first)
-          (a .output .now) (window .last .1 .1 .1 .1 .1 .1 .1 .0) (window .result) (a .reach .now) (s .pre .3) (window .ensures) (c .before .before .before .count-found .result) (c .before .before .before .count-found .ensures),
-      c .before .before .if2 .left,
-      omega (arith, s .pre .2, window .kept .1 .1 .1 .1 .1 .1 .1 .0),
-    )
-
 same-length-3 : tie.Need-same-length-3
 same-length-3 c = search needs
 
-same-length-4 : tie.Need-same-length-4
-same-length-4 c = search needs
-
-returns-3 : tie.Need-returns-3
-returns-3 c =
-    let s = c .before .before .before .before .before .before .before .before .before .before .before .before .before .before .before .before .before .before .before .before .before in
+returns-2 : tie.Need-returns-2
+returns-2 c =
+    let s = c .before .before .before .before .before .before .before .before .before .before .before .before .before .before .before .before .before .before in
     let a = s .args in
-    let window = c .before .before .before .before .before .before .before .before .before .before .before .raise-window in
-    says-found (lexicon (a .chars .now) (a .lengths .now)) (a .index .now) (a .string .now) (length (a .reach .now)) (a .first)
-    (a .output .now) (window .last .1 .1 .1 .1 .1 .1 .1 .0) (window .result) (a .reach .now) (s .pre .3) (window .ensures)
-    (c .before .before .before .before .before .before .count-found .result) (c .before .before .before .before .before .before .count-found .ensures) (c .before .before .before .before .before .if2 .left) (c .before .before .write-found .last .1 .1 .1 .1 .0)
-    (c .before .before .write-found .ensures) (record { refusal = 0; count = c .before .before .before .before .before .before .count-found .result }) refl refl
+    let window = c .before .before .before .before .before .before .before .before .raise-window in
+    let answered = c .before .before .answer-window in
+    says-answered (lexicon (a .chars .now) (a .lengths .now)) (a .index .now) (a .string .now) (length (a .reach .now)) (a .first) (a .output .now)
+    (window .last .1 .1 .1 .1 .1 .1 .1 .0) (window .result) (a .reach .now) (s .pre .3) (window .ensures) (answered .result) (answered .last .1 .1 .1 .0) (answered .ensures)
 
 pub search-window-spec : {M : Type 1} → statement M
 search-window-spec =
@@ -73,10 +50,7 @@ search-window-spec =
     raise-window-requires
     same-length
     returns
-    count-found-requires
+    answer-window-requires
     same-length-2
-    returns-2
-    write-found-requires
     same-length-3
-    same-length-4
-    returns-3)
+    returns-2)

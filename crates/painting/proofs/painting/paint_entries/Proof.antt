@@ -4,11 +4,10 @@ use mathlib.Core.Path.{_∙_}
 use Prim.Native.Nat.{_+_, _*_, _-_}
 use native.Mathlib.Omega.{arith}
 use lib.ListN.{getD}
-use Rattle.spec.specs.Dictionary.{longest-text, lexicon}
+use Rattle.spec.specs.Dictionary.{lexicon}
 use Rattle.laws.specs.Tables.{Can-read}
-use Rattle.laws.specs.LineWalk.{readable-fits}
 use Rattle.laws.specs.LinePass.{lies-room}
-use Rattle.laws.specs.PaintWalk.{started-words, started-read, Painting-lines, painting-start, painting-lies, painting-step, painting-end}
+use Rattle.laws.specs.PaintWalk.{Painting-lines, painting-start, painting-lies, painting-step, painting-end}
 use Rattle.painting.proofs.painting.paint_entries.Statement.{statement}
 use Rattle.painting.proofs.painting.paint_entries.Tie as tie
 
@@ -21,8 +20,7 @@ abbrev μ-loop : tie.MeasureT-loop
 
 shared-slice-read-keys : tie.Need-shared-slice-read-keys Inv-loop μ-loop
 shared-slice-read-keys c =
-    let s = c .before .before .before .before .before .before in
-    omega (arith, readable-fits longest-text (lexicon (s .args .chars .now) (s .args .lengths .now)) (s .args .index .now) (s .pre .1) .has-header)
+    omega (arith, c .before .before .before .before .before .before .pre .0 .fits .has-header)
 
 cast-keys : tie.Need-cast-keys Inv-loop μ-loop
 cast-keys c = omega (arith, c .shared-slice-known5 .given 1)
@@ -36,7 +34,7 @@ add-begin c = omega (arith, c .shared-slice-known5 .given 1)
 loop-holds : tie.Need-loop-holds Inv-loop μ-loop
 loop-holds c =
     let s = c .before .before .before .before .before .before in (
-      started-read (s .args .chars .now) (s .args .lengths .now) (s .args .starts .now) (s .pre .0) (s .args .index .now) (s .pre .1) (omega (arith, c .shared-slice-known5 .given 1)),
+      s .pre .0,
       painting-start (lexicon (s .args .chars .now) (s .args .lengths .now)) (s .args .index .now) (s .args .text .now),
     )
 
@@ -71,7 +69,7 @@ paint-line-requires c κs =
     let s = c .before .before .before .before .before .before .before .before .before .before in
     let l = c .before .before .before .loop in (
       l .inv .0,
-      started-words (s .args .chars .now) (s .args .lengths .now) (s .args .starts .now) (s .pre .0),
+      s .pre .1,
       painting-lies (lexicon (s .args .chars .now) (s .args .lengths .now)) (s .args .index .now) (s .args .text .now) (l .text) (l .begin) (l .line) (l .inv .1) (c .before .before .loop-test .taken),
       l .inv .1 .long ∙ s .pre .2,
     )

@@ -2,6 +2,8 @@
 use mathlib.Core.Path.{_≡_, sym, _∙_}
 use lib.ListN.{length}
 use lib.Seq.{length-take-le}
+use native.Mathlib.Omega.{arith}
+use Rattle.laws.specs.PaintWalk.{started-words, started-read}
 use Rattle.laws.specs.ReceivedText.{front-put}
 use borrow.Author.Needs.{needs}
 use Rattle.receiver.proofs.text.paint_front.Statement.{statement}
@@ -18,7 +20,11 @@ slice-aggregate-paint-entries c =
 paint-entries-requires : tie.Need-paint-entries-requires
 paint-entries-requires c κs =
     let start = c .before .before .before .before .before .before in
-    (start .pre .0, start .pre .1, length-take-le (start .args .n) (start .args .work .now) (start .pre .3) ∙ start .pre .2)
+    let a = start .args in (
+      started-read (a .chars .now) (a .lengths .now) (a .starts .now) (start .pre .0) (a .index .now) (start .pre .1) (omega (arith, c .before .before .shared-slice-known4 .given 1)),
+      started-words (a .chars .now) (a .lengths .now) (a .starts .now) (start .pre .0),
+      length-take-le (a .n) (a .work .now) (start .pre .3) ∙ start .pre .2,
+    )
 
 same-length : tie.Need-same-length
 same-length c = search needs

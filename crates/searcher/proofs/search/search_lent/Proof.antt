@@ -18,19 +18,19 @@ fill-words-requires c κs = search needs
 fill-lists-requires : tie.Need-fill-lists-requires
 fill-lists-requires c κs = search needs
 
-slice-aggregate-search-window : tie.Need-slice-aggregate-search-window
-slice-aggregate-search-window c = search needs
+slice-aggregate-search-opened : tie.Need-slice-aggregate-search-opened
+slice-aggregate-search-opened c = search needs
 
-slice-relend-prefix-search-window : tie.Need-slice-relend-prefix-search-window
-slice-relend-prefix-search-window c = search needs
+slice-relend-prefix-search-opened : tie.Need-slice-relend-prefix-search-opened
+slice-relend-prefix-search-opened c = search needs
 
-slice-aggregate-search-window-2 : tie.Need-slice-aggregate-search-window-2
-slice-aggregate-search-window-2 c =
+slice-aggregate-search-opened-2 : tie.Need-slice-aggregate-search-opened-2
+slice-aggregate-search-opened-2 c =
     let s = c .before .before .before .before .before .before .before .before .before .before .before .before .before .before .before .before .before in
     sym (length-take-le (s .args .starts) (s .args .reach .now) (s .pre .4))
 
-search-window-requires : tie.Need-search-window-requires
-search-window-requires c κs =
+search-opened-requires : tie.Need-search-opened-requires
+search-opened-requires c κs =
     let s = c .before .before .before .before .before .before .before .before .before .before .before .before .before .before .before .before .before .before in
     let a = s .args in (
       record { can = s .pre .0; words = c .before .before .before .before .before .before .before .before .before .fill-words .ensures; lists = c .before .before .before .before .before .before .fill-lists .ensures },
@@ -52,9 +52,9 @@ returns : tie.Need-returns
 returns c =
     let s = c .before .before .before .before .before .before .before .before .before .before .before .before .before .before .before .before .before .before .before .before .before .before .before in
     let a = s .args in
-    let searched = c .before .before .before .before .search-window in
+    let searched = c .before .before .before .before .search-opened in
     says-count (lexicon (a .chars .now) (a .lengths .now)) (a .index .now) (a .string .now) (length (take (a .starts) (a .reach .now)))
-    (a .starts) 1 (searched .result) (a .output .now) (searched .last .1 .1 .1 .1 .1 .1 .1 .1 .0)
+    (a .starts) 1 (searched .result) (a .output .now) (searched .last .1 .1 .1 .1 .1 .1 .1 .0)
     (length-take-le (a .starts) (a .reach .now) (s .pre .4)) (searched .ensures)
 
 pub search-lent-spec : {M : Type 1} → statement M
@@ -64,10 +64,10 @@ search-lent-spec =
     slice-aggregate-fill-words
     fill-words-requires
     fill-lists-requires
-    slice-aggregate-search-window
-    slice-relend-prefix-search-window
-    slice-aggregate-search-window-2
-    search-window-requires
+    slice-aggregate-search-opened
+    slice-relend-prefix-search-opened
+    slice-aggregate-search-opened-2
+    search-opened-requires
     same-length
     same-length-2
     same-length-3

@@ -1,0 +1,53 @@
+// A window of starts told by the text that the entries show, for strings that would otherwise be laid against very many entries.
+//
+// The text is painted over a character that the string has not. If every entry stands in it, the string is found exactly where it
+// stands in that text, which one pass tells whatever the characters are. If two entries contradict one another there is no such
+// text, and the window is left as it was.
+ghost use mathlib.Core.Path.{_≡_};
+ghost use mathlib.Core.Bool.{true, false};
+ghost use Prim.Native.Nat.{suc, _+_, _≤_};
+ghost use lib.ListN.{length};
+ghost use Rattle.spec.specs.Dictionary.{lexicon};
+ghost use Rattle.spec.specs.Index.{n-of};
+ghost use Rattle.laws.specs.Tables.{Can-read, Word-starts};
+ghost use Rattle.laws.specs.StandingWalk.{Standing};
+ghost use Rattle.laws.specs.PaintedSearch.{Finds};
+use painting::shown::paint_shown;
+use standing::ground::ground_of;
+use standing::repeats::fill_repeats;
+use standing::standing::fill_standing;
+
+// How many characters of the string stand at each start of a text.
+fn reach_standing(text: &[u16], string: &[u16], reach: &mut [u16])
+    requires { ⌜ (length (now string) ≤ 256) × (length (now reach) + length (now string) ≤ suc (length (now text))) ⌝ }
+    ensures { λ r. ⌜ Standing (now (string .entry)) (now (text .entry)) (now (reach .exit)) ⌝ }
+{
+    let mut repeats = [0u16; 256];
+    fill_repeats(string, &mut repeats);
+    fill_standing(text, string, &repeats, reach);
+}
+
+// Tells the window by the painted text, with room for the text lent. Answers whether it could.
+pub fn reach_painted(
+    chars: &[u16],
+    lengths: &[u16],
+    index: &[u16],
+    words: &[u16],
+    string: &[u16],
+    text: &mut [u16],
+    reach: &mut [u16],
+) -> bool
+    requires { ⌜ Can-read (now chars) (now lengths) (now index) × Word-starts (now lengths) (length (now lengths)) (now words) × (length (now string) ≤ 256) × (length (now text) ≡ n-of (now index)) × (length (now reach) + length (now string) ≤ suc (n-of (now index))) ⌝ }
+    ensures told { λ r. ⌜ (r ≡ true → Finds (lexicon (now (chars .entry)) (now (lengths .entry))) (now (index .entry)) (now (string .entry)) (now (reach .exit))) ⌝ }
+    ensures kept { λ r. ⌜ (r ≡ false → now (reach .exit) ≡ now (reach .entry)) ⌝ }
+{
+    let ground = ground_of(string);
+    if 257 <= ground {
+        return false;
+    }
+    if !paint_shown(chars, lengths, words, index, ground as u16, text) {
+        return false;
+    }
+    reach_standing(text, string, reach);
+    true
+}

@@ -1,0 +1,103 @@
+-- A string looked for in the text that entries paint over a ground character which the string has not: where every entry stands
+-- in what was painted, the string is found exactly where it stands. Assumes nothing.
+use mathlib.Core.Path.{_≡_, sym, ap, _∙_, subst}
+use mathlib.Core.Logic.{_⊎_, inl, inr}
+use mathlib.Core.List.{List}
+use Prim.Native.Nat.{ℕ, suc, _+_, _-_, _≤_, _<_}
+use native.Mathlib.Omega.{arith}
+use lib.ListN.{length, getD, replicate, length-replicate, getD-replicate}
+use Rattle.basics.specs.Member.{In}
+use Rattle.basics.specs.Steps.{those-from}
+use Rattle.spec.specs.declared.Answer.{Answer}
+use Rattle.spec.specs.Dictionary.{Lexicon}
+use Rattle.spec.specs.Words.{spells, stands, Entry}
+use Rattle.spec.specs.Numbers.{Line}
+use Rattle.spec.specs.Index.{lines-in}
+use Rattle.spec.specs.Search.{found-from}
+use Rattle.laws.specs.Strings.{Stand}
+use Rattle.laws.specs.Facts.{flat, All-stand}
+use Rattle.laws.specs.Flat.{flat-long}
+use Rattle.laws.specs.Search.{all-stand-found}
+use Rattle.laws.specs.Window.{found-in}
+use Rattle.laws.specs.Sizing.{Sized}
+use Rattle.laws.specs.Searching.{Window-says}
+use Rattle.laws.specs.StandingWalk.{Standing, found-standing}
+use Rattle.laws.specs.Painting.{paint, length-paint, paint-either}
+
+-- the text that lines paint over n ground characters
+abbrev pub painted-over : Lexicon → List Line → (n ground : ℕ) → List ℕ
+painted-over lex ls n g = paint lex (flat lex ls) (replicate {A = ℕ} n g)
+
+pub length-painted : (lex : Lexicon) (ls : List Line) (n g : ℕ) → length (painted-over lex ls n g) ≡ n
+length-painted lex ls n g = length-paint lex (flat lex ls) (replicate {A = ℕ} n g) ∙ length-replicate {A = ℕ} n g
+
+module _ (lex : Lexicon) (ls : List Line) (n g : ℕ) (all : All-stand lex ls (painted-over lex ls n g)) (s : List ℕ)
+    (other : (i : ℕ) → i < length s → getD s i 0 ≡ g → ⊥) where
+  -- where the string stands no place has the ground
+  painted-covers :
+      (p : ℕ) → Stand s (painted-over lex ls n g) p → (x : ℕ) → p ≤ x → x < p + length s →
+      (e : Entry) × In e (flat lex ls) × (e .at ≤ x) × (x < e .at + e .long)
+  painted-covers p st x lo hi = by-place (paint-either lex (flat lex ls) (replicate {A = ℕ} n g) (x - 1))
+    where
+      by-place :
+          (getD (painted-over lex ls n g) (x - 1) 0 ≡ getD (replicate {A = ℕ} n g) (x - 1) 0)
+          ⊎ ((e : Entry) × In e (flat lex ls) × (e .at - 1 ≤ x - 1) × (x - 1 < e .at - 1 + length (spells lex (e .key-of)))) →
+          (e : Entry) × In e (flat lex ls) × (e .at ≤ x) × (x < e .at + e .long)
+      by-place (inl bare) =
+          let within : x - 1 < n = omega (arith, st .from, st .within, length-painted lex ls n g) in
+          absurd (other (x - p) (omega arith) (st .equal x lo hi ∙ bare ∙ getD-replicate {A = ℕ} n (x - 1) g 0 within))
+      by-place (inr on) =
+          let from : 1 ≤ on .0 .at = all (on .0) (on .1) .from in (
+            on .0,
+            on .1,
+            omega (arith, st .from, on .2),
+            omega (arith, st .from, on .3, flat-long lex ls (on .0) (on .1)),
+          )
+
+  -- Where every entry stands in what was painted, the string is found exactly where it stands.
+  pub painted-found :
+      (k : ℕ) → k ≤ suc n - length s →
+      found-from k 1 lex ls s ≡ those-from k 1 (stands s (painted-over lex ls n g))
+  painted-found k few =
+      all-stand-found lex ls (painted-over lex ls n g) all s painted-covers k (omega (arith, length-painted lex ls n g))
+
+-- a text that lines painted over a ground, and in which every entry of them stands
+pub record Painted-shows (lex : Lexicon) (ls : List Line) (n g : ℕ) (ts : List ℕ) : Type 0 where
+  pub is : ts ≡ painted-over lex ls n g
+  pub all : All-stand lex ls ts
+
+-- what a window finds is what the index has there
+abbrev pub Finds : Lexicon → (index string reaches : List ℕ) → Type 0
+Finds lex xs s rs = found-in (length s) 1 rs ≡ found-from (length rs) 1 lex (lines-in xs) s
+
+-- The window that tells where the string stands in such a text.
+pub painted-finds :
+    (lex : Lexicon) (xs : List ℕ) (n g : ℕ) (ts s rs : List ℕ) → Painted-shows lex (lines-in xs) n g ts →
+    ((i : ℕ) → i < length s → getD s i 0 ≡ g → ⊥) → length rs + length s ≤ suc n → Standing s ts rs → Finds lex xs s rs
+painted-finds lex xs n g ts s rs shown other room told =
+    found-standing s ts rs told
+    ∙ ap (λ (l : List ℕ). those-from (length rs) 1 (stands s l)) (shown .is)
+    ∙ sym
+    (painted-found lex (lines-in xs) n g (subst (All-stand lex (lines-in xs)) (shown .is) (shown .all)) s other (length rs)
+    (omega arith))
+
+-- What was painted over the ground that fills a text of n characters.
+pub painted-ground :
+    (lex : Lexicon) (ls : List Line) (n g : ℕ) (old mid now : List ℕ) → mid ≡ replicate (length old) g → length old ≡ n →
+    now ≡ paint lex (flat lex ls) mid → now ≡ painted-over lex ls n g
+painted-ground lex ls n g old mid now filled long e =
+    e ∙ ap (paint lex (flat lex ls)) (filled ∙ ap (λ (k : ℕ). replicate {A = ℕ} k g) long)
+
+-- WHAT A SEARCH SAYS
+
+-- the window that finds what the index has, answered
+pub says-told :
+    (lex : Lexicon) (xs s : List ℕ) (n : ℕ) (rs : List ℕ) (r : Answer) (o z : List ℕ) → Finds lex xs s rs → length rs ≡ n →
+    Sized (found-in (length s) 1 rs) r o z → Window-says lex xs s n 1 r o z
+unfolding Window-says
+says-told lex xs s n rs r o z finds long h =
+    subst (λ (l : List ℕ). Sized l r o z) (finds ∙ ap (λ (k : ℕ). found-from k 1 lex (lines-in xs) s) long) h
+
+-- a window left as it was is still clear
+pub still-clear : (old now : List ℕ) → now ≡ old → old ≡ replicate (length old) 0 → now ≡ replicate (length now) 0
+still-clear old now e clear = e ∙ clear ∙ ap (λ (l : List ℕ). replicate {A = ℕ} (length l) 0) (sym e)

@@ -1,0 +1,202 @@
+-- The starts at which a string stands in a text, found in one pass: what is known of a start from a stretch of the text that is a front
+-- of the string, what is compared beyond it, and what the table of all starts says. Assumes nothing.
+use mathlib.Core.Path.{_≡_, refl, sym, ap, _∙_, subst}
+use mathlib.Core.Bool.{true}
+use mathlib.Core.Logic.{⊎-elim}
+use mathlib.Core.List.{List}
+use Prim.Native.Nat.{ℕ, suc, _+_, _-_, _≤_, _<_}
+use native.Mathlib.Omega.{arith}
+use lib.Dec.{leb}
+use lib.ListN.{length, getD, set, length-set}
+use borrow.Author.Count.{below-more}
+use borrow.Author.Tests.{le-leb, leb-true}
+use Rattle.basics.specs.Bools.{iff-eq, le-or-lt}
+use Rattle.basics.specs.Steps.{those-from}
+use Rattle.basics.specs.Stores.{set-more}
+use Rattle.spec.specs.Words.{stands}
+use Rattle.laws.specs.Strings.{Stand, stands-get, stands-put}
+use Rattle.laws.specs.Standing.{stand-at, stand-put}
+use Rattle.laws.specs.Window.{found-in, found-in-those}
+
+-- A FRONT OF THE STRING
+
+-- the first n characters of s lie in ts from `at` on, which counts from 0
+pub record Front-at (s ts : List ℕ) (at n : ℕ) : Type 0 where
+  pub short : n ≤ length s
+  pub within : at + n ≤ length ts
+  pub equal : (x : ℕ) → x < n → getD ts (at + x) 0 ≡ getD s x 0
+
+-- and no more do, of at most `most`
+pub record Ends-at (s ts : List ℕ) (at most n : ℕ) : Type 0 where
+  pub lies : Front-at s ts at n
+  pub bound : n ≤ most
+  pub ends : n < most → getD ts (at + n) 0 ≡ getD s n 0 → ⊥
+
+-- WHAT THE TABLES SAY
+
+-- v is the length of a front of s that lies in s itself from j on
+abbrev pub Repeat : (s : List ℕ) → (j v : ℕ) → Type 0
+Repeat s j v = 1 ≤ j → Front-at s s j v
+
+-- at each place of s after its first
+abbrev pub Repeats : (s repeats : List ℕ) → Type 0
+Repeats s zs = (j : ℕ) → j < length s → Repeat s j (getD zs j 0)
+
+-- v tells whether s stands at the start j, which counts from 0
+abbrev pub Tells : (s ts : List ℕ) → (j v : ℕ) → Type 0
+Tells s ts j v = leb (length s) v ≡ stands s ts (suc j)
+
+-- at each start
+abbrev pub Standing : (s ts reach : List ℕ) → Type 0
+Standing s ts rs = (j : ℕ) → j < length rs → Tells s ts j (getD rs j 0)
+
+-- the starts found in such a table are those at which s stands
+pub found-standing :
+    (s ts rs : List ℕ) → Standing s ts rs → found-in (length s) 1 rs ≡ those-from (length rs) 1 (λ p. stands s ts p)
+found-standing s ts rs told =
+    found-in-those (length s) 1 rs (λ p. stands s ts p)
+    (λ j b. let z : suc j ≡ 1 + j = omega arith in told j b ∙ ap (λ (p : ℕ). stands s ts p) z)
+
+-- COMPARING
+
+module _ (s ts : List ℕ) (at : ℕ) where
+  pub front-none : at ≤ length ts → Front-at s ts at 0
+  front-none b = record { short = omega arith; within = omega arith; equal = λ x h. absurd (omega arith) }
+
+  -- one character more
+  pub front-more :
+      (n : ℕ) → Front-at s ts at n → n < length s → at + n < length ts → getD ts (at + n) 0 ≡ getD s n 0 → Front-at s ts at (n + 1)
+  front-more n h short within same =
+      record {
+        short = omega arith;
+        within = omega arith;
+        equal = below-more (λ (x : ℕ). getD ts (at + x) 0 ≡ getD s x 0) n (h .equal) same;
+      }
+
+-- a string stands where all of it lies
+pub ends-stands :
+    (s ts : List ℕ) (j n : ℕ) → Ends-at s ts j (length s) n → j + length s ≤ length ts → leb (length s) n ≡ stands s ts (suc j)
+ends-stands s ts j n h within = iff-eq (leb (length s) n) (stands s ts (suc j)) whole back
+  where
+    whole : leb (length s) n ≡ true → stands s ts (suc j) ≡ true
+    whole t =
+        let all : length s ≤ n = leb-true (length s) n t in
+        stands-put s ts (suc j)
+        (stand-put s ts (suc j) (omega arith) (omega arith)
+        (λ i b. let z : j + i ≡ suc j + i - 1 = omega arith in
+        sym (h .lies .equal i (omega arith)) ∙ ap (λ (k : ℕ). getD ts k 0) z))
+
+    same : Stand s ts (suc j) → n < length s → ⊥
+    same st b =
+        let z : suc j + n - 1 ≡ j + n = omega arith in
+        h .ends b (sym (stand-at s ts (suc j) n st b ∙ ap (λ (k : ℕ). getD ts k 0) z))
+
+    back : stands s ts (suc j) ≡ true → leb (length s) n ≡ true
+    back t =
+        ⊎-elim (λ (b : length s ≤ n). le-leb (length s) n b)
+        (λ (b : n < length s). absurd (same (stands-get s ts (suc j) t) b)) (le-or-lt (length s) n)
+
+-- A STRETCH THAT IS A FRONT
+
+-- the text from `left` to `right` is a front of s; if it goes beyond `at`, it began from `first` on and before `at`
+pub record Stretch (first : ℕ) (s ts : List ℕ) (at left right : ℕ) : Type 0 where
+  pub ordered : left ≤ right
+  pub begun : at < right → (first ≤ left) × (left < at)
+  pub lies : Front-at s ts left (right - left)
+
+-- n is what the stretch and the repeats tell of the start `at`
+pub record Known (zs : List ℕ) (at left right n : ℕ) : Type 0 where
+  pub none : right ≤ at → n ≡ 0
+  pub repeated : at < right → n ≤ getD zs (at - left) 0
+  pub reached : at < right → at + n ≤ right
+
+module _ (first : ℕ) (s ts : List ℕ) where
+  pub stretch-start : Stretch first s ts first 0 0
+  stretch-start =
+      record {
+        ordered = omega arith;
+        begun = λ b. absurd (omega arith);
+        lies = record { short = omega arith; within = omega arith; equal = λ x h. absurd (omega arith) };
+      }
+
+  module _ (at : ℕ) where
+    -- a new stretch
+    pub stretch-new : (n : ℕ) → first ≤ at → Front-at s ts at n → Stretch first s ts (at + 1) at (at + n)
+    stretch-new n from h =
+        let z : n ≡ at + n - at = omega arith in
+        record {
+          ordered = omega arith;
+          begun = λ b. (from, omega arith);
+          lies = subst (Front-at s ts at) z h;
+        }
+
+    module _ (left right : ℕ) (h : Stretch first s ts at left right) where
+      pub stretch-on : Stretch first s ts (at + 1) left right
+      stretch-on =
+          record {
+            ordered = h .ordered;
+            begun = λ b. let g = h .begun (omega arith) in (g .0, omega (arith, g .1));
+            lies = h .lies;
+          }
+
+      -- the stretch is no longer than the string
+      pub stretch-short : at < right → at - left < length s
+      stretch-short b = omega (arith, h .begun b .1, h .lies .short)
+
+      -- what is known lies there: the stretch has the string's own characters, and these repeat its front
+      pub known-lies :
+          (k : ℕ) (zs : List ℕ) (n : ℕ) → ((j : ℕ) → j < k → Repeat s j (getD zs j 0)) → (at < right → at - left < k) →
+          at ≤ length ts → Known zs at left right n → Front-at s ts at n
+      known-lies k zs n told inside within known =
+          ⊎-elim
+          (λ (b : right ≤ at). subst (Front-at s ts at) (sym (known .none b)) (front-none s ts at within))
+          (λ (b : at < right). repeated b (told (at - left) (inside b) (omega (arith, h .begun b .1)))) (le-or-lt right at)
+        where
+          repeated : at < right → Front-at s s (at - left) (getD zs (at - left) 0) → Front-at s ts at n
+          repeated b f =
+              record {
+                short = omega (arith, known .repeated b, f .short);
+                within = omega (arith, known .reached b, h .ordered, h .lies .within);
+                equal =
+                    λ x c.
+                    let z : left + (at - left + x) ≡ at + x = omega (arith, h .begun b .1) in
+                    sym (ap (λ (j : ℕ). getD ts j 0) z)
+                    ∙ h .lies .equal (at - left + x) (omega (arith, h .begun b .1, known .reached b))
+                    ∙ f .equal x (omega (arith, known .repeated b));
+              }
+
+-- FILLING A TABLE
+
+-- each place of the table below `at` says P of what lies there, and a stretch is kept beside it
+pub record Filling (first : ℕ) (s ts : List ℕ) (P : ℕ → ℕ → Type 0) (old xs : List ℕ) (at left right : ℕ) : Type 0 where
+  pub from : first ≤ at
+  pub stretch : Stretch first s ts at left right
+  pub told : (j : ℕ) → j < at → P j (getD xs j 0)
+  pub long : length xs ≡ length old
+
+module _ (first : ℕ) (s ts : List ℕ) (P : ℕ → ℕ → Type 0) (old : List ℕ) where
+  pub filling-start : ((j : ℕ) → j < first → P j (getD old j 0)) → Filling first s ts P old old first 0 0
+  filling-start h = record { from = omega arith; stretch = stretch-start first s ts; told = h; long = refl }
+
+  module _
+      (xs : List ℕ)
+      (at left right n : ℕ)
+      (h : Filling first s ts P old xs at left right)
+      (room : at < length old)
+      (here : P at n)
+    where
+      kept : (a b : ℕ) → Stretch first s ts (at + 1) a b → Filling first s ts P old (set xs at n) (at + 1) a b
+      kept a b st =
+          record {
+            from = omega (arith, h .from);
+            stretch = st;
+            told = set-more 0 P xs at n (omega (arith, h .long)) (h .told) here;
+            long = length-set xs at n ∙ h .long;
+          }
+
+      -- the stretch stays, or what lies here is the new one
+      pub filling-on : Filling first s ts P old (set xs at n) (at + 1) left right
+      filling-on = kept left right (stretch-on first s ts at left right (h .stretch))
+
+      pub filling-new : Front-at s ts at n → Filling first s ts P old (set xs at n) (at + 1) at (at + n)
+      filling-new f = kept at (at + n) (stretch-new first s ts at n (h .from) f)

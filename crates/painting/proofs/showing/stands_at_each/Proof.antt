@@ -1,0 +1,142 @@
+-- `stands_at_each` meets its contract. The invariant: the string stands at the first i positions, and has the period. The measure is
+-- how many positions are left. Assumes nothing.
+use Prim.Native.Nat.{_-_, _≤_}
+use native.Mathlib.Omega.{arith}
+use borrow.Author.Tests.{not-false}
+use borrow.Author.Needs.{needs}
+use lib.ListN.{length, getD}
+use mathlib.Core.Path.{refl}
+use Rattle.basics.specs.Bools.{clash}
+use Rattle.laws.specs.ShowWalk.{Period, period-whole, stand-all, stand-back, Stand-first, stand-first-none, stand-first-next, stand-first-end, rise-after}
+use Rattle.painting.proofs.showing.stands_at_each.Statement.{statement}
+use Rattle.painting.proofs.showing.stands_at_each.Tie as tie
+use Rattle.painting.proofs.showing.equal_from.Reads as equal-from-reads
+use Rattle.painting.proofs.showing.period_of.Reads as period-of-reads
+use Rattle.painting.proofs.showing.stands_again.Reads as stands-again-reads
+
+abbrev Inv-loop : tie.InvT-loop
+Inv-loop string places text period₀ i₀ period i = (1 ≤ i) × Period string period × Stand-first string text places i
+
+abbrev μ-loop : tie.MeasureT-loop
+μ-loop string places text period₀ i₀ period i = length places - i
+
+shared-slice-read-equal-from : tie.Need-shared-slice-read-equal-from Inv-loop μ-loop
+shared-slice-read-equal-from c = c .before .before .before .before .pre .1
+
+cast-equal-from : tie.Need-cast-equal-from Inv-loop μ-loop
+cast-equal-from c = omega (arith, c .shared-slice-known4 .given 0)
+
+sub-equal-from : tie.Need-sub-equal-from Inv-loop μ-loop
+sub-equal-from c = c .before .before .before .before .pre .0 .from 0 (c .before .before .before .before .pre .1)
+
+equal-from-requires : tie.Need-equal-from-requires Inv-loop μ-loop
+equal-from-requires c κs =
+    let s = c .before .before .before .before in
+    omega (arith, s .pre .0 .from 0 (s .pre .1), s .pre .0 .to 0 (s .pre .1))
+
+returns : tie.Need-returns Inv-loop μ-loop
+returns c = λ t. clash t refl
+
+loop-holds : tie.Need-loop-holds Inv-loop μ-loop
+loop-holds c =
+    let s = c .before .before .before .before .before .before in
+    let a = s .args in (
+      omega arith,
+      period-whole (a .string .now),
+      stand-first-next (a .string .now) (a .text .now) (a .places .now) 0 (stand-first-none (a .string .now) (a .text .now) (a .places .now))
+          (stand-all (a .string .now) (a .text .now) (getD (a .places .now) 0 0) (s .pre .0 .from 0 (s .pre .1)) (s .pre .0 .to 0 (s .pre .1)) (c .before .equal-from .ensures (not-false (c .before .equal-from .result) (c .if1 .left)))),
+    )
+
+mul-place : tie.Need-mul-place Inv-loop μ-loop
+mul-place c = search needs
+
+shared-slice-read-place : tie.Need-shared-slice-read-place Inv-loop μ-loop
+shared-slice-read-place c = search needs
+
+cast-place : tie.Need-cast-place Inv-loop μ-loop
+cast-place c = omega (arith, c .shared-slice-known5 .given (c .before .before .loop .i))
+
+sub-step : tie.Need-sub-step Inv-loop μ-loop
+sub-step c = search needs
+
+mul-step : tie.Need-mul-step Inv-loop μ-loop
+mul-step c = search needs
+
+shared-slice-read-step : tie.Need-shared-slice-read-step Inv-loop μ-loop
+shared-slice-read-step c = search needs
+
+cast-step : tie.Need-cast-step Inv-loop μ-loop
+cast-step c = omega (arith, c .shared-slice-known6 .given (c .before .before .before .loop .i - 1))
+
+sub-step-2 : tie.Need-sub-step-2 Inv-loop μ-loop
+sub-step-2 c =
+    let s = c .before .before .before .before .before .before .before .before .before .before in
+    let l = c .before .before .before .loop in
+    omega (arith, rise-after 1 (s .args .places .now) (s .pre .2) (l .i) (l .inv .0) (c .before .before .loop-test .taken))
+
+period-of-requires : tie.Need-period-of-requires Inv-loop μ-loop
+period-of-requires c κs = c .before .before .before .loop .inv .1
+
+stands-again-requires : tie.Need-stands-again-requires Inv-loop μ-loop
+stands-again-requires c κs =
+    let s = c .before .before .before .before .before .before .before .before .before .before .before in
+    let a = s .args in
+    let l = c .before .before .before .before .loop in
+    let below = c .before .before .before .loop-test .taken in (
+      c .period-of .ensures,
+      omega arith,
+      stand-back (a .string .now) (a .text .now) (getD (a .places .now) (l .i - 1) 0) (getD (a .places .now) (l .i) 0)
+          (omega (arith, rise-after 1 (a .places .now) (s .pre .2) (l .i) (l .inv .0) below)) (l .inv .2 (l .i - 1) (omega (arith, l .inv .0))),
+      s .pre .0 .to (l .i) below,
+    )
+
+returns-2 : tie.Need-returns-2 Inv-loop μ-loop
+returns-2 c = λ t. clash t refl
+
+add-i : tie.Need-add-i Inv-loop μ-loop
+add-i c = search needs
+
+loop-less : tie.Need-loop-less Inv-loop μ-loop
+loop-less c = search needs
+
+loop-again : tie.Need-loop-again Inv-loop μ-loop
+loop-again c =
+    let a = c .before .before .before .before .before .before .before .before .before .before .before .before .before .args in
+    let l = c .before .before .before .before .before .before .loop in (
+      omega arith,
+      c .before .before .period-of .ensures,
+      stand-first-next (a .string .now) (a .text .now) (a .places .now) (l .i) (l .inv .2) (c .before .stands-again .ensures (not-false (c .before .stands-again .result) (c .if2 .left))),
+    )
+
+returns-3 : tie.Need-returns-3 Inv-loop μ-loop
+returns-3 c =
+    let a = c .before .before .before .before .before .before .before .before .args in
+    λ t. stand-first-end (a .string .now) (a .text .now) (a .places .now) (c .before .loop .i) (c .loop-test .left) (c .before .loop .inv .2)
+
+pub stands-at-each-spec : {M : Type 1} → statement M
+stands-at-each-spec =
+    tie.close
+    (tie.spec
+    Inv-loop
+    μ-loop
+    shared-slice-read-equal-from
+    cast-equal-from
+    sub-equal-from
+    equal-from-requires
+    returns
+    loop-holds
+    mul-place
+    shared-slice-read-place
+    cast-place
+    sub-step
+    mul-step
+    shared-slice-read-step
+    cast-step
+    sub-step-2
+    period-of-requires
+    stands-again-requires
+    returns-2
+    add-i
+    loop-less
+    loop-again
+    returns-3)

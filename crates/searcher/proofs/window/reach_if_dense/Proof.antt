@@ -1,0 +1,28 @@
+-- `reach_if_dense` meets its contract: only where the string fits is the text painted. Assumes nothing.
+use mathlib.Core.Path.{refl}
+use borrow.Author.Tests.{not-false}
+use Rattle.basics.specs.Bools.{clash}
+use borrow.Author.Needs.{needs}
+use Rattle.searcher.proofs.window.reach_if_dense.Statement.{statement}
+use Rattle.searcher.proofs.window.reach_if_dense.Tie as tie
+
+is-dense-requires : tie.Need-is-dense-requires
+is-dense-requires c κs = search needs
+
+returns : tie.Need-returns
+returns c = (λ t. clash t refl, λ t. refl)
+
+reach-by-text-requires : tie.Need-reach-by-text-requires
+reach-by-text-requires c κs =
+    let s = c .before .before .before .before .before .before .before .before .before .before in
+    (s .pre .0 .can, s .pre .0 .words, s .pre .1 .short, c .before .before .is-dense .ensures (not-false (c .before .before .is-dense .result) (c .before .if1 .left)))
+
+same-length : tie.Need-same-length
+same-length c = search needs
+
+returns-2 : tie.Need-returns-2
+returns-2 c = search needs
+
+pub reach-if-dense-spec : {M : Type 1} → statement M
+reach-if-dense-spec =
+    tie.close (tie.spec is-dense-requires returns reach-by-text-requires same-length returns-2)

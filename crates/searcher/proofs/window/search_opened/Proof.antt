@@ -1,0 +1,69 @@
+-- `search_opened` meets its contract: the painted text tells the window, or leaves it clear for the search by entries. Assumes nothing.
+use mathlib.Core.Path.{_∙_}
+use native.Mathlib.Omega.{arith}
+use lib.ListN.{length}
+use Rattle.spec.specs.Dictionary.{lexicon}
+use Rattle.laws.specs.Searching.{says-count}
+use Rattle.laws.specs.PaintedSearch.{says-told, still-clear}
+use borrow.Author.Needs.{needs}
+use Rattle.searcher.proofs.window.search_opened.Statement.{statement}
+use Rattle.searcher.proofs.window.search_opened.Tie as tie
+
+reach-if-dense-requires : tie.Need-reach-if-dense-requires
+reach-if-dense-requires c κs = search needs
+
+answer-window-requires : tie.Need-answer-window-requires
+answer-window-requires c κs = search needs
+
+same-length : tie.Need-same-length
+same-length c = search needs
+
+same-length-2 : tie.Need-same-length-2
+same-length-2 c = search needs
+
+returns : tie.Need-returns
+returns c =
+    let a = c .before .before .before .before .before .before .before .before .before .before .before .before .before .before .before .before .before .before .args in
+    let told = c .before .before .before .before .before .before .before .before .reach-if-dense in
+    let answered = c .before .before .answer-window in
+    says-told (lexicon (a .chars .now) (a .lengths .now)) (a .index .now) (a .string .now) (length (a .reach .now)) (told .last .1 .1 .1 .1 .1 .1 .0) (answered .result) (a .output .now)
+    (answered .last .1 .1 .1 .0) (told .ensures .0 (c .before .before .before .before .before .if1 .taken)) (told .kept .1 .1 .1 .1 .1 .1 .0) (answered .ensures)
+
+search-window-requires : tie.Need-search-window-requires
+search-window-requires c κs =
+    let s = c .before .before .before .before .before .before .before .before .before .before .before .before .before .before .before in
+    let a = s .args in
+    let told = c .before .before .before .before .before .reach-if-dense in (
+      s .pre .0,
+      s .pre .1,
+      omega (arith, s .pre .2, told .kept .1 .1 .1 .1 .1 .1 .0),
+      still-clear (a .reach .now) (told .last .1 .1 .1 .1 .1 .1 .0) (told .ensures .1 (c .before .before .if1 .left)) (s .pre .3),
+    )
+
+same-length-3 : tie.Need-same-length-3
+same-length-3 c = search needs
+
+same-length-4 : tie.Need-same-length-4
+same-length-4 c = search needs
+
+returns-2 : tie.Need-returns-2
+returns-2 c =
+    let a = c .before .before .before .before .before .before .before .before .before .before .before .before .before .before .before .before .before .before .before .before .args in
+    let told = c .before .before .before .before .before .before .before .before .before .before .reach-if-dense in
+    let searched = c .before .before .before .before .search-window in
+    says-count (lexicon (a .chars .now) (a .lengths .now)) (a .index .now) (a .string .now) (length (told .last .1 .1 .1 .1 .1 .1 .0)) (length (a .reach .now)) 1 (searched .result) (a .output .now)
+    (searched .last .1 .1 .1 .1 .1 .1 .1 .1 .0) (told .kept .1 .1 .1 .1 .1 .1 .0) (searched .ensures)
+
+pub search-opened-spec : {M : Type 1} → statement M
+search-opened-spec =
+    tie.close
+    (tie.spec
+    reach-if-dense-requires
+    answer-window-requires
+    same-length
+    same-length-2
+    returns
+    search-window-requires
+    same-length-3
+    same-length-4
+    returns-2)

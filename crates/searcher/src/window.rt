@@ -1,0 +1,101 @@
+// The starts of an opened index searched: by the painted text where that is cheaper and the entries show one, else by the entries.
+ghost use mathlib.Core.Path.{_≡_};
+ghost use mathlib.Core.Bool.{true, false};
+ghost use Prim.Native.Nat.{suc, _+_, _≤_};
+ghost use lib.ListN.{length, replicate};
+ghost use Rattle.spec.specs.Dictionary.{lexicon};
+ghost use Rattle.spec.specs.Index.{n-of};
+ghost use Rattle.laws.specs.Tables.{Can-read, Word-starts, Opened};
+ghost use Rattle.laws.specs.Sizing.{Is-string};
+ghost use Rattle.laws.specs.PaintedSearch.{Finds};
+ghost use Rattle.laws.specs.Searching.{Window-says};
+use crate::dense::is_dense;
+use finding::painted::reach_painted;
+use finding::window::answer_window;
+use finding::window::search_window;
+use spec::Answer;
+
+// Tells the window by the painted text, at the front of the room lent for it.
+fn reach_in_front(
+    chars: &[u16],
+    lengths: &[u16],
+    index: &[u16],
+    words: &[u16],
+    string: &[u16],
+    room: &mut [u16],
+    reach: &mut [u16],
+) -> bool
+    requires { ⌜ Can-read (now chars) (now lengths) (now index) × Word-starts (now lengths) (length (now lengths)) (now words) × (length (now string) ≤ 256) × (n-of (now index) ≤ length (now room)) × (length (now reach) + length (now string) ≤ suc (n-of (now index))) ⌝ }
+    ensures told { λ r. ⌜ (r ≡ true → Finds (lexicon (now (chars .entry)) (now (lengths .entry))) (now (index .entry)) (now (string .entry)) (now (reach .exit))) ⌝ }
+    ensures kept { λ r. ⌜ (r ≡ false → now (reach .exit) ≡ now (reach .entry)) ⌝ }
+{
+    let n = index[0] as usize;
+    reach_painted(chars, lengths, index, words, string, &mut room[..n], reach)
+}
+
+// The same with room for the text of its own, which only this way clears.
+fn reach_by_text(
+    chars: &[u16],
+    lengths: &[u16],
+    index: &[u16],
+    words: &[u16],
+    string: &[u16],
+    reach: &mut [u16],
+) -> bool
+    requires { ⌜ Can-read (now chars) (now lengths) (now index) × Word-starts (now lengths) (length (now lengths)) (now words) × (length (now string) ≤ 256) × (length (now reach) + length (now string) ≤ suc (n-of (now index))) ⌝ }
+    ensures told { λ r. ⌜ (r ≡ true → Finds (lexicon (now (chars .entry)) (now (lengths .entry))) (now (index .entry)) (now (string .entry)) (now (reach .exit))) ⌝ }
+    ensures kept { λ r. ⌜ (r ≡ false → now (reach .exit) ≡ now (reach .entry)) ⌝ }
+{
+    let mut room = [0u16; 65536];
+    reach_in_front(chars, lengths, index, words, string, &mut room, reach)
+}
+
+// The same where it is cheaper than searching by the entries.
+fn reach_if_dense(
+    chars: &[u16],
+    lengths: &[u16],
+    index: &[u16],
+    words: &[u16],
+    lists: &[u32],
+    string: &[u16],
+    reach: &mut [u16],
+) -> bool
+    requires { ⌜ Opened (now chars) (now lengths) (now index) (now words) (now lists) × Is-string (now string) × (length (now reach) ≤ 65535) ⌝ }
+    ensures told { λ r. ⌜ (r ≡ true → Finds (lexicon (now (chars .entry)) (now (lengths .entry))) (now (index .entry)) (now (string .entry)) (now (reach .exit))) ⌝ }
+    ensures kept { λ r. ⌜ (r ≡ false → now (reach .exit) ≡ now (reach .entry)) ⌝ }
+{
+    if !is_dense(chars, lengths, index, words, lists, string, reach.len()) {
+        return false;
+    }
+    reach_by_text(chars, lengths, index, words, string, reach)
+}
+
+// Searches the starts of a cleared window, from the first position on.
+pub fn search_opened<'a>(
+    chars: &'a [u16],
+    lengths: &[u16],
+    index: &'a [u16],
+    words: &[u16],
+    lists: &[u32],
+    string: &[u16],
+    reach: &mut [u16],
+    output: &mut [u16],
+) -> Answer
+    requires { ⌜ Opened (now chars) (now lengths) (now index) (now words) (now lists) × Is-string (now string) × (length (now reach) ≤ 65535) × (now reach ≡ replicate (length (now reach)) 0) ⌝ }
+    ensures { λ r. ⌜ Window-says (lexicon (now (chars .entry)) (now (lengths .entry))) (now (index .entry)) (now (string .entry)) (length (now (reach .entry))) 1 r (now (output .entry)) (now (output .exit)) ⌝ }
+{
+    if reach_if_dense(chars, lengths, index, words, lists, string, reach) {
+        return answer_window(reach, string.len(), 1, output);
+    }
+    search_window(
+        chars,
+        lengths,
+        index,
+        words,
+        lists,
+        string,
+        1,
+        reach,
+        output,
+    )
+}

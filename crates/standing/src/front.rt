@@ -1,0 +1,38 @@
+// How long a front of a string lies at one place of a text: what is known without looking, and what comparing adds to it.
+//
+// Both tables of this crate are filled by this pair, place after place. The stretch of the text that reaches furthest so far is a front
+// of the string, so a place within it repeats what the string has at the same place, and comparing starts where the stretch ends.
+ghost use Prim.Native.Nat.{_+_, _-_, _≤_, _<_};
+ghost use lib.ListN.{length};
+ghost use Rattle.laws.specs.StandingWalk.{Front-at, Ends-at, Known};
+
+// How many characters at a place are known from the stretch that lies from `left` to `right`.
+pub fn known_from(repeats: &[u16], at: usize, left: usize, right: usize) -> usize
+    requires { ⌜ (at < right → (left ≤ at) × (at - left < length (now repeats))) ⌝ }
+    ensures { λ r. ⌜ Known (now (repeats .entry)) at left right r ⌝ }
+{
+    if right <= at {
+        return 0;
+    }
+    let known = repeats[at - left] as usize;
+    let rest = right - at;
+    if known < rest {
+        return known;
+    }
+    rest
+}
+
+// How many characters at a place are those of the string's front, at most `most`, where the first `known` of them are.
+pub fn extend(text: &[u16], string: &[u16], at: usize, known: usize, most: usize) -> usize
+    requires { ⌜ Front-at (now string) (now text) at known × (known ≤ most) × (most ≤ length (now string)) × (at + most ≤ length (now text)) ⌝ }
+    ensures { λ r. ⌜ Ends-at (now (string .entry)) (now (text .entry)) at most r ⌝ }
+{
+    let mut long = known;
+    while long < most {
+        if text[at + long] != string[long] {
+            return long;
+        }
+        long += 1;
+    }
+    long
+}
