@@ -34,9 +34,6 @@ pub record Copy-in-hand (links : List ℕ) (head : ℕ) (old now : List ℕ) (st
 
 module _ (links : List ℕ) (head : ℕ) (old now : List ℕ) (start here member : ℕ)
     (k : Copying links head old now start here member) where
-  pub copy-long : length now ≡ length old
-  copy-long = k .writing .long
-
   pub copy-member : Threaded links head → (member ≡ 0 → ⊥) → Copy-in-hand links head old now start here member
   copy-member t some =
       record {

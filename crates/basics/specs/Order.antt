@@ -232,14 +232,3 @@ ltb-strict =
       irreflexive = λ a. le-ltb a a (omega arith);
       transitive = λ a b c p q. lt-ltb a c (omega (arith, ltb-true a b p, ltb-true b c q));
     }
-
--- in the order of their numbers
-abbrev pub by-number : {A : Type 0} → (A → ℕ) → A → A → Bool
-by-number f a b = ltb (f a) (f b)
-
-pub by-number-strict : {A : Type 0} → (f : A → ℕ) → Strict (by-number f)
-by-number-strict f =
-    record {
-      irreflexive = λ a. ltb-strict .irreflexive (f a);
-      transitive = λ a b c p q. ltb-strict .transitive (f a) (f b) (f c) p q;
-    }

@@ -135,6 +135,3 @@ agrees-move s a e b c d z =
     iff-eq (agrees s a e b) (agrees s c e d)
     (λ t. agrees-put s c e d (agree-move s a e b c d z (agrees-get s a e b t)))
     (λ t. agrees-put s a e b (agree-move s c e d a b y (agrees-get s c e d t)))
-
-pub agrees-shift : (s : List ℕ) (a : ℕ) (e : List ℕ) (b d : ℕ) → agrees s (a + d) e (b + d) ≡ agrees s a e b
-agrees-shift s a e b d = agrees-move s (a + d) e (b + d) a b (omega arith)

@@ -8,7 +8,7 @@ use native.Mathlib.Omega.{arith}
 use lib.ListN.{length, getD, take, length-append}
 use Rattle.basics.specs.Bools.{le-or-lt}
 use Rattle.basics.specs.Chain.{chain, chain-none, chained-some}
-use Rattle.basics.specs.Writing.{over, Writing, starts, appends, written, written-length}
+use Rattle.basics.specs.Writing.{over, Writing, starts, appends, written}
 use Rattle.spec.specs.Numbers.{Line, line, directory, positions}
 use Rattle.laws.specs.KeyCode.{code-key}
 use Rattle.laws.specs.Groups.{lines-from, lines-some, lines-skip}
@@ -154,11 +154,6 @@ module _ (give : List Line → List ℕ) (each : Line → List ℕ) (by : Line-b
     pub listing-end : length heads ≤ code → now ≡ over all old
     listing-end past =
         written all old now at
-        (rw (← (ap give (lines-over heads links code past) ∙ by .none)) (l .writing))
-
-    pub listing-end-at : length heads ≤ code → length all ≡ at
-    listing-end-at past =
-        written-length all old now at
         (rw (← (ap give (lines-over heads links code past) ∙ by .none)) (l .writing))
 
 -- THE DIRECTORY AND THE POSITIONS

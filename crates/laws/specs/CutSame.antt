@@ -1,5 +1,5 @@
--- The lines whose keys bear on a string cover and find exactly what all lines do; fewer entries find no more. Assumes nothing.
-use mathlib.Core.Path.{_≡_, refl, sym, ap, _∙_}
+-- The lines whose keys bear on a string cover and find exactly what all lines do; fewer entries cover no more. Assumes nothing.
+use mathlib.Core.Path.{_≡_, refl, ap}
 use mathlib.Core.Bool.{true}
 use mathlib.Core.Logic.{inl, inr, ⊎-elim}
 use mathlib.Core.List.{List, [], _∷_}
@@ -7,7 +7,6 @@ use Prim.Native.Nat.{ℕ, zero, suc, _-_}
 use lib.ListN.{length}
 use Rattle.basics.specs.Bools.{iff-eq}
 use Rattle.basics.specs.Member.{In, in-cond-get, in-cond-here, in-cond-there}
-use Rattle.basics.specs.Steps.{those-from-alike}
 use Rattle.spec.specs.Dictionary.{Lexicon}
 use Rattle.spec.specs.Words.{spells, Entry}
 use Rattle.spec.specs.Numbers.{Line}
@@ -16,8 +15,7 @@ use Rattle.spec.specs.Search.{covered, all-covered, found-from, find}
 use Rattle.spec.specs.Cut.{bears, bearing}
 use Rattle.laws.specs.Facts.{flat}
 use Rattle.laws.specs.Flat.{Fewer, flat-get, flat-put}
-use Rattle.laws.specs.Search.{covered-get, covered-put, all-covered-get, all-covered-put, found-at, found-from-those}
-use Rattle.laws.specs.Places.{found-from-get, found-from-put}
+use Rattle.laws.specs.Search.{covered-get, covered-put}
 use Rattle.laws.specs.Bears.{bears-put}
 
 -- FEWER ENTRIES
@@ -28,27 +26,6 @@ module _ (lex : Lexicon) (ks ls : List Line) (fewer : Fewer lex ks ls) (s : List
       let e = covered-get lex ks s a p t in
       covered-put lex ls s a p (e .0)
       (record { among = fewer (e .0) (e .1 .among); from = e .1 .from; to = e .1 .to; agree = e .1 .agree })
-
-  pub all-covered-fewer : (n p a : ℕ) → all-covered n p lex ks s a ≡ true → all-covered n p lex ls s a ≡ true
-  all-covered-fewer n p a t =
-      all-covered-put lex ls s a n p (λ x lo hi. covered-fewer a x (all-covered-get lex ks s a n p t x lo hi))
-
-  -- Fewer entries find no more positions.
-  pub found-fewer : (n q p : ℕ) → In p (found-from n q lex ks s) → In p (found-from n q lex ls s)
-  found-fewer n q p m =
-      let h = found-from-get lex ks s n q p m in
-      found-from-put lex ls s n q p (h .0) (h .1) (all-covered-fewer (length s) p p (h .2))
-
--- lines with the same entries find the same
-module _ (lex : Lexicon) (ks ls : List Line) (fewer : Fewer lex ks ls) (more : Fewer lex ls ks) (s : List ℕ) where
-  pub found-same-entries : (n q : ℕ) → found-from n q lex ks s ≡ found-from n q lex ls s
-  found-same-entries n q =
-      found-from-those lex ks s n q
-      ∙ those-from-alike n q (found-at lex ks s) (found-at lex ls s)
-      (λ p lo hi.
-      iff-eq (found-at lex ks s p) (found-at lex ls s p)
-      (all-covered-fewer lex ks ls fewer s (length s) p p) (all-covered-fewer lex ls ks more s (length s) p p))
-      ∙ sym (found-from-those lex ls s n q)
 
 -- LINES THAT BEAR
 

@@ -11,7 +11,7 @@ use lib.Seq.{take-at, drop-at, drop-drop}
 use borrow.Author.Tests.{lt-ltb, le-ltb, eq-eqb, ne-eqb, leb-true, eqb-true}
 use Rattle.basics.specs.Bools.{and-left, and-right, or-left, or-right}
 use Rattle.basics.specs.Placed.{placed}
-use Rattle.spec.specs.Dictionary.{dictionary-refusal, words-from}
+use Rattle.spec.specs.Dictionary.{dictionary-refusal}
 use Rattle.spec.specs.Calls.{string-wrong, or-else}
 use Rattle.spec.specs.JobSheet.{words-on, texts-on, text-on, finds-on, nothing-left, left-on, in-form, in-counts, run-together, lengths-of, sheet-too-long, sheet-wrong, some-string-wrong, contents-refusal, sheet-refusal}
 use Rattle.basics.specs.PlacedCopies.{drop-next}
@@ -108,13 +108,6 @@ pub record Job-parts (s : List ℕ) (words dictionary text finds : ℕ) (chars l
   pub finds-lengths : take finds (drop (words + 1) lengths) ≡ lengths-of (finds-on s)
   pub chars-fit : dictionary + text + length (run-together (finds-on s)) ≤ length chars
   pub lengths-fit : words + 1 + finds ≤ length lengths
-
--- the strings, one after the other
-pub strings-again : (ws : List (List ℕ)) → words-from (lengths-of ws) (run-together ws) ≡ ws
-unfolding words-from lengths-of run-together
-strings-again [] = refl
-strings-again (w ∷ ws) =
-    rw (take-at w (run-together ws) (length w) refl, drop-at w (run-together ws) (length w) refl, strings-again ws)
 
 module _ (s chars₀ lengths₀ : List ℕ) (good : Bool) (words dictionary text finds : ℕ) (chars lengths : List ℕ) (r : Sheet-read s chars₀ lengths₀ good words dictionary text finds chars lengths) (t : good ≡ true) where
   both : (in-form s && in-counts s) ≡ true

@@ -74,10 +74,6 @@ key-before-total a b = go (less-equal-more (a .kind) (b .kind)) (less-equal-more
 pub key-before-not-itself : (a : Key) → key-before a a ≡ false
 key-before-not-itself = key-before-strict .irreflexive
 
-pub key-before-not-back : (a b : Key) → key-before a b ≡ true → key-before b a ≡ false
-key-before-not-back a b t =
-    false-put (key-before b a) (λ u. clash (key-before-strict .transitive a b a t u) (key-before-strict .irreflexive a))
-
 -- ENTRIES
 
 -- by key, then by place

@@ -8,10 +8,10 @@ use native.Mathlib.Numerals.{add-one}
 use native.Mathlib.Omega.{arith}
 use lib.Dec.{ltb}
 use lib.ListN.{length, getD, take, drop, length-drop, drop-of-length-le}
-use lib.Seq.{drop-drop, take-all}
+use lib.Seq.{take-all}
 use borrow.Author.Tests.{lt-ltb, le-ltb}
-use Rattle.spec.specs.Numbers.{Line, line}
-use Rattle.spec.specs.Index.{header, keys-of, count-at, key-at, counts-from, lines-from, lines-in}
+use Rattle.spec.specs.Numbers.{line}
+use Rattle.spec.specs.Index.{header, count-at, counts-from}
 
 -- past the end of a slice every number reads as 0
 pub past-end : (xs : List ℕ) (i : ℕ) → length xs ≤ i → 0 ≡ getD xs i 0
@@ -97,24 +97,3 @@ module _ (xs : List ℕ) (keys first l : ℕ) where
         (take-all (length xs - at) (drop at xs) (omega arith) ∙ sym (take-all (count-at xs l) (drop at xs) (omega arith)))
 
 -- THE LINES OF THE INDEX
-
-lines-from-at :
-    (k i j : ℕ) (xs ps : List ℕ) (z : Line) → j < k →
-    getD (lines-from k i xs ps) j z ≡ line (key-at xs (i + j)) (take (count-at xs (i + j)) (drop (counts-from j i xs) ps))
-unfolding lines-from counts-from
-lines-from-at zero i j xs ps z h = absurd (omega arith)
-lines-from-at (suc k) i zero xs ps z h = let e : i + 0 ≡ i = omega arith in rw e
-lines-from-at (suc k) i (suc j) xs ps z h =
-    let e : i + suc j ≡ suc i + j = omega arith in
-    rw (e, ← drop-drop (counts-from j (suc i) xs) (count-at xs i) ps)
-    (lines-from-at k (suc i) j xs (drop (count-at xs i) ps) z (omega arith))
-
--- Read with the bounds of its own directory, a line is that of the index.
-pub line-at-places :
-    (xs : List ℕ) (i : ℕ) (z : Line) → i < keys-of xs →
-    getD (lines-in xs) i z ≡ line (key-at xs i) (places-at xs (keys-of xs) (header + 3 * keys-of xs) i)
-unfolding lines-in places-at
-line-at-places xs i z below =
-    let e : 0 + i ≡ i = omega arith in
-    rw (lt-ltb i (keys-of xs) below, ← drop-drop (counts-from i 0 xs) (header + 3 * keys-of xs) xs)
-    (rw e at (lines-from-at (keys-of xs) 0 i xs (drop (header + 3 * keys-of xs) xs) z below))

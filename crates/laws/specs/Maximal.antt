@@ -68,11 +68,6 @@ module _ (lex : Lexicon) (good : Good-lexicon lex) (ts : List ℕ) where
   maximal-unique e f he hf a =
       longest-unique e f (maximal-leading lex ts e he .is-longest) (maximal-leading lex ts f hf .is-longest) a
 
-  -- in the order of their places maximal entries end ever later
-  pub maximal-ends :
-      (e f : Entry) → Is-maximal lex ts e → Is-maximal lex ts f → e .at < f .at → e .at + e .long < f .at + f .long
-  maximal-ends e f he hf a = maximal-leading lex ts f hf .after e (he .is-entry) a
-
 -- EVERY ENTRY LIES IN A MAXIMAL ONE
 
 module _ (lex : Lexicon) (good : Good-lexicon lex) (ts : List ℕ) (chars : Chars ts) where

@@ -38,12 +38,6 @@ unfolding note-places
 length-note-places m [] ns = refl
 length-note-places m (p ∷ ps) ns = length-note-places m ps (set ns (p - 1) m) ∙ length-set ns (p - 1) m
 
-pub length-note-lines : (i : ℕ) (ls : List Line) (ns : List ℕ) → length (note-lines i ls ns) ≡ length ns
-unfolding note-lines
-length-note-lines i [] ns = refl
-length-note-lines i (l ∷ ls) ns =
-    length-note-lines (suc i) ls (note-places (suc i) (l .places) ns) ∙ length-note-places (suc i) (l .places) ns
-
 -- a mark is the one that was there, or a new one whose place is in the list
 note-places-get :
     (m : ℕ) (ps ns : List ℕ) (p : ℕ) → 1 ≤ p → ((q : ℕ) → In q ps → 1 ≤ q) →

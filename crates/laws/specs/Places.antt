@@ -63,9 +63,6 @@ pub record Is-found (lex : Lexicon) (ls : List Line) (n : ℕ) (s : List ℕ) (p
   pub each : (x : ℕ) → p ≤ x → x < p + length s → covered lex ls s p x ≡ true
 
 module _ (lex : Lexicon) (ls : List Line) (s : List ℕ) where
-  pub found-from-rise : (n p : ℕ) → Rise p (found-from n p lex ls s)
-  found-from-rise n p = rw (found-from-those lex ls s n p) (those-from-rise n p (found-at lex ls s))
-
   pub found-from-get :
       (n q p : ℕ) → In p (found-from n q lex ls s) → (q ≤ p) × (p < q + n) × (all-covered (length s) p lex ls s p ≡ true)
   found-from-get n q p m = those-from-get n q (found-at lex ls s) p (rw (found-from-those lex ls s n q) at m)
@@ -75,10 +72,6 @@ module _ (lex : Lexicon) (ls : List Line) (s : List ℕ) where
   found-from-put n q p lo hi t = rw (found-from-those lex ls s n q) (those-from-put n q (found-at lex ls s) p lo hi t)
 
 module _ (lex : Lexicon) (xs s : List ℕ) where
-  pub find-rise : Rise 1 (find lex xs s)
-  unfolding find
-  find-rise = found-from-rise lex (lines-in xs) s (suc (n-of xs) - length s) 1
-
   pub find-get : (p : ℕ) → In p (find lex xs s) → Is-found lex (lines-in xs) (n-of xs) s p
   unfolding find
   find-get p m =

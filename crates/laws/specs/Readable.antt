@@ -1,5 +1,5 @@
 -- Readable: what the test comes to in facts, and that a readable slice is the numbers of good lines. Assumes nothing.
-use mathlib.Core.Path.{_≡_, refl, sym, ap, _∙_, subst}
+use mathlib.Core.Path.{_≡_, refl, sym, ap, _∙_}
 use mathlib.Core.Bool.{Bool, true, _&&_}
 use mathlib.Core.Logic.{inl, inr}
 use mathlib.Core.List.{List, [], _∷_}
@@ -200,9 +200,3 @@ pub entries-of-positions :
     (g : ℕ) (lex : Lexicon) (xs : List ℕ) → readable g lex xs ≡ true → entries-of xs ≡ length (positions (lines-in xs))
 entries-of-positions g lex xs t =
     ap entries-of (readable-get g lex xs t .is-numbers) ∙ entries-of-numbers (n-of xs) (lines-in xs)
-
--- the test from the facts
-pub readable-from : (g : ℕ) (lex : Lexicon) (xs : List ℕ) → Readable g lex xs → readable g lex xs ≡ true
-readable-from g lex xs h =
-    subst (λ (ys : List ℕ). readable g lex ys ≡ true) (sym (h .is-numbers))
-    (readable-put g lex (n-of xs) (lines-in xs) (h .lines) (h .length-allowed))

@@ -16,7 +16,7 @@ use Rattle.spec.specs.Words.{Entry}
 use Rattle.laws.specs.Facts.{Good-lexicon, Is-entry, Is-maximal}
 use Rattle.laws.specs.Entries.{in-text}
 use Rattle.laws.specs.Maximal.{Is-longest, maximal-leading, leading-maximal, maximal-unique}
-use Rattle.laws.specs.EntryPlaces.{Places-rise, places-rise-from, places-rise-in, places-rise-unique}
+use Rattle.laws.specs.EntryPlaces.{Places-rise, places-rise-from}
 use Rattle.spec.specs.Models.{scan}
 
 pub scan-registers :
@@ -121,13 +121,6 @@ pub record Maximal-from (lex : Lexicon) (ts : List ℕ) (p : ℕ) (es : List Ent
   pub get : (e : Entry) → In e es → Is-maximal lex ts e
   pub put : (e : Entry) → Is-maximal lex ts e → p ≤ e .at → In e es
   pub rise : Places-rise p es
-
--- there is only one such list
-pub maximal-from-unique :
-    (lex : Lexicon) (ts : List ℕ) (p : ℕ) (es fs : List Entry) → Maximal-from lex ts p es → Maximal-from lex ts p fs → es ≡ fs
-maximal-from-unique lex ts p es fs h k =
-    places-rise-unique p p es fs (h .rise) (k .rise)
-    (λ e m. k .put e (h .get e m) (places-rise-in p es e (h .rise) m)) (λ e m. h .put e (k .get e m) (places-rise-in p fs e (k .rise) m))
 
 module _ (lex : Lexicon) (good : Good-lexicon lex) (ts : List ℕ) where
   maximal-from-end : Maximal-from lex ts (suc (length ts)) []

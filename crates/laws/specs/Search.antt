@@ -197,9 +197,6 @@ module _ (lex : Lexicon) (ls : List Line) (ts : List ℕ) (show : Shows lex ls t
       (e : Entry) × In e (flat lex ls) × (e .at ≤ x) × (x < e .at + e .long)
   cover-string p st x lo hi = show .cover x (omega (arith, st .from)) (omega (arith, st .within))
 
-  pub shows-stands : (p : ℕ) → 1 ≤ p → p + length s ≤ suc (length ts) → all-covered (length s) p lex ls s p ≡ stands s ts p
-  shows-stands = all-stand-stands lex ls ts (show .stand) s cover-string
-
   -- what is found is where the string stands; `places` also passes the starts at which the string does not fit
   pub found-places : 1 ≤ length s → found-from (suc (length ts) - length s) 1 lex ls s ≡ places s ts
   unfolding places

@@ -11,13 +11,13 @@ use borrow.Author.Count.{below-more}
 use Rattle.basics.specs.Bools.{le-or-lt}
 use Rattle.basics.specs.Member.{In, in-place, in-append-get}
 use Rattle.spec.specs.Dictionary.{Lexicon}
-use Rattle.spec.specs.Words.{Key, spells, Entry}
+use Rattle.spec.specs.Words.{spells}
 use Rattle.spec.specs.Numbers.{Line, line}
 use Rattle.spec.specs.Index.{header, keys-of, count-at, key-at, counts-from, lines-in}
 use Rattle.laws.specs.Strings.{Stand}
 use Rattle.laws.specs.Standing.{stand-at, stand-put, stand-char}
 use Rattle.laws.specs.Facts.{entries-at, flat, Rise, All-stand}
-use Rattle.laws.specs.Flat.{posting, entries-at-get}
+use Rattle.laws.specs.Flat.{entries-at-get}
 use Rattle.laws.specs.Opened.{list-start, line-of, lines-next, lines-none, counts-next}
 use Rattle.laws.specs.LinePass.{Line-lies, lies-places}
 

@@ -2,7 +2,7 @@
 use mathlib.Core.Path.{_≡_, refl, sym, ap, _∙_}
 use mathlib.Core.Bool.{Bool, true, _&&_}
 use mathlib.Core.Logic.{inl, inr}
-use mathlib.Core.List.{List, [], _∷_, _++_, map}
+use mathlib.Core.List.{List, [], _∷_, _++_}
 use Prim.Native.Nat.{ℕ, zero, suc, _+_, _*_, _≤_}
 use native.Mathlib.Omega.{arith}
 use lib.Dec.{leb, eqb}
@@ -11,7 +11,6 @@ use lib.Seq.{getD-drop, drop-drop, drop-at, take-append-seam, drop-append-seam, 
 use borrow.Author.Tests.{le-leb, leb-true, eq-eqb, eqb-true}
 use Rattle.basics.specs.Bools.{and-put, and-left, and-right}
 use Rattle.basics.specs.Member.{In}
-use Rattle.spec.specs.Dictionary.{total}
 use Rattle.spec.specs.Words.{key}
 use Rattle.spec.specs.Numbers.{Line, line, directory, positions, numbers}
 use Rattle.spec.specs.Index.{header, n-of, keys-of, kind-at, value-at, count-at, counts-from, entries-of, lines-from, lines-in, kinds-good, lengths-fit}
@@ -105,11 +104,6 @@ unfolding entries-of
 entries-of-numbers n ls = rw keys-of-numbers (counts-from-directory ls 0 (numbers n ls) (positions ls) (directory-starts n ls))
 
 -- M as the sum of the counts
-pub length-positions : (ls : List Line) → length (positions ls) ≡ total (map (λ (l : Line). length (l .places)) ls)
-unfolding positions total
-length-positions [] = refl
-length-positions (l ∷ ls) = rw (← length-positions ls) (length-append (l .places) (positions ls))
-
 pub length-numbers : (n : ℕ) (ls : List Line) → length (numbers n ls) ≡ header + 3 * length ls + length (positions ls)
 unfolding numbers
 length-numbers n ls = omega (arith, length-append (directory ls) (positions ls), length-directory ls)

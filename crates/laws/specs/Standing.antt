@@ -53,14 +53,3 @@ stand-within r s ts q p h k lo hi = stand-put r s (suc (q - p)) (omega arith) (o
         stand-at r ts q i h b
         ∙ ap (λ (j : ℕ). getD ts j 0) at
         ∙ sym (stand-at s ts p (suc (q - p) + i - 1) k (omega arith))
-
--- what stands in a standing string stands in the text
-pub stand-inner : (r s ts : List ℕ) (k p : ℕ) → Stand r s k → Stand s ts p → Stand r ts (p + k - 1)
-stand-inner r s ts k p h g = stand-put r ts (p + k - 1) (omega (arith, h .from, g .from)) (omega (arith, h .from, h .within, g .within)) same
-  where
-    same : (i : ℕ) → i < length r → getD r i 0 ≡ getD ts (p + k - 1 + i - 1) 0
-    same i b =
-        let at : p + (k + i - 1) - 1 ≡ p + k - 1 + i - 1 = omega (arith, h .from, g .from) in
-        stand-at r s k i h b
-        ∙ stand-at s ts p (k + i - 1) g (omega (arith, h .from, h .within))
-        ∙ ap (λ (j : ℕ). getD ts j 0) at

@@ -1,5 +1,5 @@
 -- The order of words is strict and total, and ascending words are distinct. Assumes nothing.
-use mathlib.Core.Path.{_≡_, refl, sym, _∙_}
+use mathlib.Core.Path.{_≡_, refl, _∙_}
 use mathlib.Core.Bool.{true, false, _&&_}
 use mathlib.Core.Logic.{_⊎_, inl, inr, ⊎-elim}
 use mathlib.Core.List.{List, [], _∷_}
@@ -8,7 +8,7 @@ use native.Mathlib.Omega.{arith}
 use lib.Dec.{ltb, eqb}
 use lib.ListN.{length, getD}
 use borrow.Author.Tests.{lt-ltb, le-ltb, eq-eqb, ltb-true, eqb-true}
-use Rattle.basics.specs.Bools.{clash, false-put, and-put, and-left, and-right, or-left, or-right, or-get, or-none, le-or-lt}
+use Rattle.basics.specs.Bools.{clash, and-put, and-left, and-right, or-left, or-right, or-get, or-none, le-or-lt}
 use Rattle.basics.specs.Member.{In, in-getD}
 use Rattle.spec.specs.Dictionary.{word-before, ascend}
 
@@ -52,33 +52,6 @@ word-before-trans (x ∷ xs) (y ∷ ys) (z ∷ zs) t u =
     step more (inr p) (inl q) = word-before-first x z xs zs (omega arith)
     step more (inr p) (inr q) = word-before-rest x z xs zs (p .0 ∙ q .0) (more (p .1) (q .1))
 
-pub word-before-asym : (a b : List ℕ) → word-before a b ≡ true → word-before b a ≡ false
-word-before-asym a b t =
-    false-put (word-before b a) (λ (u : word-before b a ≡ true). clash (word-before-trans a b a t u) (word-before-self a))
-
--- of two words one is before the other, or they are the same
-pub word-before-total : (a b : List ℕ) → (word-before a b ≡ true) ⊎ (a ≡ b) ⊎ (word-before b a ≡ true)
-unfolding word-before
-word-before-total [] [] = inr (inl refl)
-word-before-total [] (y ∷ ys) = inl refl
-word-before-total (x ∷ xs) [] = inr (inr refl)
-word-before-total (x ∷ xs) (y ∷ ys) = firsts (word-before-total xs ys) (le-or-lt x y) (le-or-lt y x)
-  where
-    rests :
-        x ≡ y → (word-before xs ys ≡ true) ⊎ (xs ≡ ys) ⊎ (word-before ys xs ≡ true) →
-        (word-before (x ∷ xs) (y ∷ ys) ≡ true) ⊎ (x ∷ xs ≡ y ∷ ys) ⊎ (word-before (y ∷ ys) (x ∷ xs) ≡ true)
-    rests e (inl t) = inl (word-before-rest x y xs ys e t)
-    rests e (inr (inl p)) = inr (inl (rw (e, p)))
-    rests e (inr (inr t)) = inr (inr (word-before-rest y x ys xs (sym e) t))
-
-    firsts :
-        (word-before xs ys ≡ true) ⊎ (xs ≡ ys) ⊎ (word-before ys xs ≡ true) → (x ≤ y) ⊎ (y < x) → (y ≤ x) ⊎ (x < y) →
-        (word-before (x ∷ xs) (y ∷ ys) ≡ true) ⊎ (x ∷ xs ≡ y ∷ ys) ⊎ (word-before (y ∷ ys) (x ∷ xs) ≡ true)
-    firsts more (inl p) (inl q) = rests (omega arith) more
-    firsts more (inl p) (inr q) = inl (word-before-first x y xs ys q)
-    firsts more (inr p) (inl q) = inr (inr (word-before-first y x ys xs p))
-    firsts more (inr p) (inr q) = inr (inr (word-before-first y x ys xs p))
-
 pub ascend-tail : (w : List ℕ) (ws : List (List ℕ)) → ascend (w ∷ ws) ≡ true → ascend ws ≡ true
 unfolding ascend
 ascend-tail w [] t = refl
@@ -99,14 +72,6 @@ ascend-get [] t i j h b = absurd (omega arith)
 ascend-get (w ∷ ws) t i zero h b = absurd (omega arith)
 ascend-get (w ∷ ws) t zero (suc j) h b = ascend-first w (getD ws j []) ws t (in-getD ws j [] (omega arith))
 ascend-get (w ∷ ws) t (suc i) (suc j) h b = ascend-get ws (ascend-tail w ws t) i j (omega arith) (omega arith)
-
-pub ascend-put :
-    (ws : List (List ℕ)) → ((i : ℕ) → suc i < length ws → word-before (getD ws i []) (getD ws (suc i) []) ≡ true) →
-    ascend ws ≡ true
-unfolding ascend
-ascend-put [] h = refl
-ascend-put (w ∷ []) h = refl
-ascend-put (w ∷ v ∷ ws) h = and-put (h 0 (omega arith)) (ascend-put (v ∷ ws) (λ i b. h (suc i) (omega arith)))
 
 pub ascend-distinct :
     (ws : List (List ℕ)) → ascend ws ≡ true → (i j : ℕ) → i < length ws → j < length ws → getD ws i [] ≡ getD ws j [] → i ≡ j

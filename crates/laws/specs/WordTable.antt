@@ -76,14 +76,8 @@ module _ (cs ls : List ℕ) (a : admitted cs ls ≡ true) where
   pub few-words : length ls ≤ 4096
   few-words = facts .few
 
-  pub few-chars : length cs ≤ 65535
-  few-chars = facts .small
-
   pub start-small : (i : ℕ) → i ≤ length ls → start-of ls i ≤ 65535
   start-small i b = omega (arith, start-total ls i b, facts .sum, facts .small)
-
-  pub chars-small : (i : ℕ) → i < length cs → getD cs i 0 < 65536
-  chars-small = facts .chars
 
   module _ (i : ℕ) (below : i < length ls) where
     pub word-long : length (word cs ls i) ≡ getD ls i 0

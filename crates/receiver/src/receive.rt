@@ -2,7 +2,6 @@
 //
 // What needs no painting is tested first. On every path the work slice is cleared over its whole length.
 ghost use mathlib.Core.Path.{_≡_};
-ghost use lib.ListN.{length};
 ghost use Rattle.spec.specs.Calls.{Receive-says};
 ghost use Rattle.laws.specs.Answering.{Refuses};
 ghost use Rattle.laws.specs.Receiving.{delivery-refusal};

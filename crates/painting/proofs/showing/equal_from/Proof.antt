@@ -1,7 +1,6 @@
 -- `equal_from` meets its contract. The invariant: the characters from `from` to i are equal. The measure is how many are left.
 -- Assumes nothing.
 use Prim.Native.Nat.{_-_}
-use native.Mathlib.Omega.{arith}
 use borrow.Author.Needs.{needs}
 use lib.ListN.{length}
 use mathlib.Core.Path.{refl}

@@ -3,7 +3,6 @@
 use Prim.Native.Nat.{_+_, _*_, _-_, _/_, _≤_}
 use native.Mathlib.Nat.{mul-le-mul}
 use native.Mathlib.Omega.{arith}
-use borrow.Author.Needs.{needs}
 use lib.ListN.{length}
 use Rattle.searcher.proofs.dense.visits_more.Statement.{statement}
 use Rattle.searcher.proofs.dense.visits_more.Tie as tie

@@ -1,5 +1,4 @@
 -- `search_opened` meets its contract: the painted text tells the window, or leaves it clear for the search by entries. Assumes nothing.
-use mathlib.Core.Path.{_∙_}
 use native.Mathlib.Omega.{arith}
 use lib.ListN.{length}
 use Rattle.spec.specs.Dictionary.{lexicon}

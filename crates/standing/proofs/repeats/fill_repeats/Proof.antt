@@ -1,6 +1,6 @@
 -- `fill_repeats` meets its contract. The invariant: each place before `at` says how long a front lies there, and the string from `left` to
 -- `right` is a front of it. The measure is how many places are left. Assumes nothing.
-use Prim.Native.Nat.{_-_, _≤_}
+use Prim.Native.Nat.{_-_}
 use native.Mathlib.Omega.{arith}
 use borrow.Author.Needs.{needs}
 use lib.ListN.{length}
