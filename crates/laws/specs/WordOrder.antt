@@ -1,4 +1,4 @@
--- The order of words is strict and total, and ascending words are distinct. Assumes nothing.
+-- The order of words is strict, and ascending words are distinct. Assumes nothing.
 use mathlib.Core.Path.{_≡_, refl, _∙_}
 use mathlib.Core.Bool.{true, false, _&&_}
 use mathlib.Core.Logic.{_⊎_, inl, inr, ⊎-elim}
