@@ -2,7 +2,7 @@
 //
 // At each offset the search by entries visits the positions of the keys that start with the string's character there, and at the
 // front a word's positions again for each offset at which it agrees. Offsets are sampled, at most 32 of them, each for as many as
-// lie up to the next. What painting the text costs is taken as four visits a character. The answer says only which way is taken:
+// lie up to the next. What painting the text costs is taken as six visits a character. The answer says only which way is taken:
 // both find the same.
 ghost use mathlib.Core.Path.{_≡_};
 ghost use mathlib.Core.Bool.{true};
@@ -107,7 +107,7 @@ fn visits_more(
     ends: usize,
     limit: usize,
 ) -> bool
-    requires { ⌜ Opened (now chars) (now lengths) (now index) (now words) (now lists) × Is-string (now string) × Split (now index) ends × (limit ≤ 262140) ⌝ }
+    requires { ⌜ Opened (now chars) (now lengths) (now index) (now words) (now lists) × Is-string (now string) × Split (now index) ends × (limit ≤ 393210) ⌝ }
 {
     let stride = 1 + string.len() / 32;
     let mut sum = weigh_starting(chars, lengths, index, words, ends, string[0]);
@@ -141,5 +141,5 @@ pub fn is_dense(
         return false;
     }
     let ends = words_end(index);
-    visits_more(chars, lengths, index, words, lists, string, ends, 4 * n)
+    visits_more(chars, lengths, index, words, lists, string, ends, 6 * n)
 }

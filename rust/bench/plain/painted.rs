@@ -24,7 +24,7 @@ pub fn is_dense(directory: &Directory, n: usize, string: &[u16]) -> bool {
         if let Some(line) = lines.lone(string[at]) {
             visits += stride * directory.count(line);
         }
-        if 4 * n < visits {
+        if 6 * n < visits {
             return true;
         }
     }
