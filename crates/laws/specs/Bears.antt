@@ -1,16 +1,14 @@
--- A key bears on a string exactly if it agrees with it at some offset, and a walk over the offsets tells. Assumes nothing.
-use mathlib.Core.Path.{_≡_, refl, sym, _∙_}
-use mathlib.Core.Bool.{Bool, true, false, _||_}
+-- A key bears on a string exactly if it agrees with it at some offset. Assumes nothing.
+use mathlib.Core.Path.{_≡_}
+use mathlib.Core.Bool.{true, _||_}
 use mathlib.Core.Logic.{⊎-elim}
 use mathlib.Core.List.{List}
-use Prim.Native.Nat.{ℕ, zero, suc, _+_, _-_, _≤_, _<_}
+use Prim.Native.Nat.{ℕ, suc, _+_, _-_, _≤_, _<_}
 use native.Mathlib.Omega.{arith}
 use lib.ListN.{length}
-use Rattle.basics.specs.Bools.{iff-eq, or-left, or-right, or-get, le-or-lt}
-use Rattle.basics.specs.Steps.{any-from, any-from-get, any-from-put}
-use Rattle.spec.specs.Search.{agrees}
+use Rattle.basics.specs.Bools.{or-left, or-right, or-get, le-or-lt}
 use Rattle.spec.specs.Cut.{lies-in, joins, bears}
-use Rattle.laws.specs.Agree.{Agree, agrees-get, agrees-put, agree-sym, agree-move}
+use Rattle.laws.specs.Agree.{Agree, agree-sym}
 use Rattle.laws.specs.Parts.{lies-in-get, lies-in-put, joins-get, joins-put, stand-agree, agree-stand, join-agree, agree-join}
 
 module _ (k s : List ℕ) where
@@ -55,42 +53,3 @@ module _ (k s : List ℕ) where
       (or-left (joins s k) (joins-put k s (a - b) (agree-join k s b a (agree-sym s a k b h) (omega arith) (omega arith)))))
       (le-or-lt (a + length s) (b + length k)))
       (le-or-lt a b)
-
--- THE WALK OVER THE OFFSETS
-
--- some offset agrees, where the string starts at the key's last place and the key at i or after: offset i − (|k| − 1)
-unfoldable pub bears-by-offsets : (left i : ℕ) → (key string : List ℕ) → Bool
-bears-by-offsets zero i k s = false
-bears-by-offsets (suc n) i k s = agrees s (length k - 1) k i || bears-by-offsets n (suc i) k s
-
-module _ (k s : List ℕ) where
-  agrees-from : ℕ → Bool
-  agrees-from i = agrees s (length k - 1) k i
-
-  bears-by-offsets-any : (n i : ℕ) → bears-by-offsets n i k s ≡ any-from n i agrees-from
-  unfolding bears-by-offsets any-from agrees-from
-  bears-by-offsets-any zero i = refl
-  bears-by-offsets-any (suc n) i = rw (bears-by-offsets-any n (suc i))
-
-  -- A key bears on a string exactly if it agrees at one of the |k| + |s| − 1 offsets.
-  pub bears-offsets : 1 ≤ length k → 1 ≤ length s → bears k s ≡ bears-by-offsets (length k + length s - 1) 0 k s
-  unfolding agrees-from
-  bears-offsets k-some s-some =
-      iff-eq (bears k s) (bears-by-offsets (length k + length s - 1) 0 k s) to from
-    where
-      to : bears k s ≡ true → bears-by-offsets (length k + length s - 1) 0 k s ≡ true
-      to t =
-          let h = bears-get k s k-some s-some t in at-offset (h .0) (h .1) (h .2)
-        where
-          at-offset : (a b : ℕ) → Agree s a k b → bears-by-offsets (length k + length s - 1) 0 k s ≡ true
-          at-offset a b h =
-              bears-by-offsets-any (length k + length s - 1) 0
-              ∙ any-from-put (length k + length s - 1) 0 agrees-from ((b + (length k - 1)) - a) (omega arith) (omega arith)
-              (agrees-put s (length k - 1) k ((b + (length k - 1)) - a)
-              (agree-move s a k b (length k - 1) ((b + (length k - 1)) - a) (omega arith) h))
-
-      from : bears-by-offsets (length k + length s - 1) 0 k s ≡ true → bears k s ≡ true
-      from t =
-          let some = sym (bears-by-offsets-any (length k + length s - 1) 0) ∙ t in
-          let at = any-from-get (length k + length s - 1) 0 agrees-from some in
-          bears-put k s (length k - 1) (at .0) (agrees-get s (length k - 1) k (at .0) (at .3))
