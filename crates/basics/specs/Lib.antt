@@ -5,6 +5,7 @@ pub mod Order
 pub mod Steps
 pub mod Stores
 pub mod Writing
+pub mod Wrapping
 pub mod Chain
 pub mod Copying
 pub mod Placed

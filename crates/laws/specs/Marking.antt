@@ -5,7 +5,7 @@ use Prim.Native.Nat.{ℕ, _+_, _-_, _≤_, _<_, max}
 use native.Mathlib.Omega.{arith}
 use lib.ListN.{length, getD, drop, set, length-set}
 use Rattle.laws.specs.Window.{Within, within-more, within-set, Reaches, Midway, midway-start, midway-step, midway-end}
-use Rattle.laws.specs.WindowSearch.{raise-all, places-all, raise-before, raise-after, raise-far, raise-near, places-none, places-next}
+use Rattle.laws.specs.WindowSearch.{raise-all, places-all, raise-outside, raise-passed, raise-here, places-none, places-next}
 
 -- a key of this length shares a place with the string at the offset, and the numbers that the pass computes are small
 pub record Offset-fits (long i o q : ℕ) : Type 0 where
@@ -21,7 +21,7 @@ offset-fits long o q short start first = record { shared = omega arith; end-smal
 pub record Marking (bs : List ℕ) (l i o q : ℕ) (old : List ℕ) (most : ℕ) (rs : List ℕ) (top j : ℕ) : Type 0 where
   pub within : j ≤ length bs
   pub way : Midway (places-all i o l q (drop j bs)) (places-all i o l q bs old) old rs top
-  pub top-small : top ≤ max most (o + l - i)
+  pub top-small : top ≤ max most (max o (o + l - i))
 
 pub marking-start :
     (bs : List ℕ) (l i o q : ℕ) (old : List ℕ) (most : ℕ) → Within most old → Marking bs l i o q old most old most 0
@@ -36,7 +36,7 @@ module _ (bs : List ℕ) (l i o q : ℕ) (old : List ℕ) (most : ℕ) (rs : Lis
   module _ (some : j < length bs) where
     step :
         (now : List ℕ) (peak : ℕ) → length now ≡ length rs → Reaches (raise-all i o l q (getD bs j 0) rs) now peak →
-        peak ≤ max most (o + l - i) → Marking bs l i o q old most now peak (j + 1)
+        peak ≤ max most (max o (o + l - i)) → Marking bs l i o q old most now peak (j + 1)
     step now peak kept r small =
         record {
           within = omega arith;
@@ -50,28 +50,21 @@ module _ (bs : List ℕ) (l i o q : ℕ) (old : List ℕ) (most : ℕ) (rs : Lis
     pass : raise-all i o l q (getD bs j 0) rs ≡ rs → Marking bs l i o q old most rs top (j + 1)
     pass same = step rs top refl (record { is = sym same; bounded = h .way .bounded }) (h .top-small)
 
-    pub marking-before : getD bs j 0 + i < q + o → Marking bs l i o q old most rs top (j + 1)
-    marking-before early = pass (raise-before i o l q (getD bs j 0) rs early)
+    pub marking-outside : (q + o ≤ getD bs j 0 + i → length rs + (q + o) ≤ getD bs j 0 + i) → Marking bs l i o q old most rs top (j + 1)
+    marking-outside outside = pass (raise-outside i o l q (getD bs j 0) rs outside)
 
-    module _ (lo : q + o ≤ getD bs j 0 + i) where
-      pub marking-after : length rs ≤ getD bs j 0 + i - (q + o) → Marking bs l i o q old most rs top (j + 1)
-      marking-after late = pass (raise-after i o l q (getD bs j 0) rs lo late)
+    module _ (p : ℕ) (own : p + (q + o) ≡ getD bs j 0 + i) (inside : p < length rs) where
+      pub marking-passed : (o ≤ getD rs p 0 → o + l - i ≤ getD rs p 0) → Marking bs l i o q old most rs top (j + 1)
+      marking-passed gained = pass (raise-passed i o l q (getD bs j 0) rs p own inside gained)
 
-      module _ (inside : getD bs j 0 + i - (q + o) < length rs) where
-        pub marking-far : getD rs (getD bs j 0 + i - (q + o)) 0 < o → Marking bs l i o q old most rs top (j + 1)
-        marking-far far = pass (raise-far i o l q (getD bs j 0) rs lo inside far)
-
-        pub marking-near :
-            o ≤ getD rs (getD bs j 0 + i - (q + o)) 0 → (next peak : ℕ) →
-            next ≡ max (getD rs (getD bs j 0 + i - (q + o)) 0) (o + l - i) → peak ≡ max most (o + l - i) →
-            Marking bs l i o q old most (set rs (getD bs j 0 + i - (q + o)) next) peak (j + 1)
-        marking-near near next peak is greatest =
-            step (set rs (getD bs j 0 + i - (q + o)) next) peak (length-set rs (getD bs j 0 + i - (q + o)) next)
-            (record {
-              is = ap (set rs (getD bs j 0 + i - (q + o))) is ∙ sym (raise-near i o l q (getD bs j 0) rs lo inside near);
-              bounded =
-                  within-set peak rs (getD bs j 0 + i - (q + o)) next
-                  (omega (arith, h .top-small, h .way .bounded (getD bs j 0 + i - (q + o)) inside))
-                  (within-more top peak rs (omega (arith, h .top-small)) (h .way .bounded));
-            })
-            (omega arith)
+      pub marking-raised :
+          (end peak : ℕ) → end ≡ max o (o + l - i) → peak ≡ max most end → o ≤ getD rs p 0 → getD rs p 0 ≤ end →
+          Marking bs l i o q old most (set rs p end) peak (j + 1)
+      marking-raised end peak is greatest near gain =
+          step (set rs p end) peak (length-set rs p end)
+          (record {
+            is = ap (set rs p) is ∙ sym (raise-here i o l q (getD bs j 0) rs p own inside near (omega arith));
+            bounded =
+                within-set peak rs p end (omega arith) (within-more top peak rs (omega (arith, h .top-small)) (h .way .bounded));
+          })
+          (omega arith)

@@ -71,12 +71,6 @@ counts-split (suc a) b i xs =
     let y : i + suc a ≡ suc i + a = omega arith in
     rw (z, y) (omega (arith, counts-split a b (suc i) xs))
 
--- the positions of a later line do not start before
-pub counts-rise : (i j : ℕ) (xs : List ℕ) → i ≤ j → counts-from i 0 xs ≤ counts-from j 0 xs
-counts-rise i j xs h =
-    let z : i + (j - i) ≡ j = omega arith in
-    omega (arith, rw z at (counts-split i (j - i) 0 xs))
-
 lines-cut :
     (k i j : ℕ) (xs ps : List ℕ) → j < k →
     drop j (lines-from k i xs ps)

@@ -1,6 +1,7 @@
 -- The search algorithm on a window of starts: each of its loops, with what one turn does and how it ends. Assumes nothing.
 use mathlib.Core.Path.{_≡_, refl, sym, ap, _∙_}
 use mathlib.Core.Bool.{true, false, cond}
+use mathlib.Core.Logic.{⊎-elim}
 use mathlib.Core.List.{List, [], _∷_}
 use Prim.Native.Nat.{ℕ, suc, _+_, _-_, _≤_, _<_, max}
 use native.Mathlib.Numerals.{add-one}
@@ -9,6 +10,7 @@ use lib.Dec.{leb}
 use lib.ListN.{length, getD, drop, set, replicate, drop-of-length-le}
 use lib.Seq.{drop-cons, set-getD}
 use borrow.Author.Tests.{le-leb, lt-leb, eq-eqb, ne-eqb}
+use Rattle.basics.specs.Bools.{le-or-lt}
 use Rattle.spec.specs.Dictionary.{Lexicon}
 use Rattle.spec.specs.Words.{spells}
 use Rattle.spec.specs.Numbers.{Line}
@@ -41,47 +43,39 @@ stage-all o lex ls s q = raised (λ p r. reach-stage o lex ls s p r) q
 unfoldable pub stages-all : (left o : ℕ) → Lexicon → List Line → (string : List ℕ) → (first : ℕ) → (reaches : List ℕ) → List ℕ
 stages-all n o lex ls s q = raised (λ p r. reach-stages n o lex ls s p r) q
 
--- ONE POSITION b OF A KEY'S LIST: it is a start's own at most once, and is passed over where it is no start of the window, or where
--- that start is not reached so far
+-- ONE POSITION b OF A KEY'S LIST: it is a start's own at most once, and is passed over where it is no start of the window, where
+-- that start is not reached so far, or where nothing is gained
 
 module _ (i o l q b : ℕ) (rs : List ℕ) where
   elsewhere : (j : ℕ) → (b + i ≡ q + j + o → ⊥) → raise i o l (q + j) b (getD rs j 0) ≡ getD rs j 0
   unfolding raise
   elsewhere j other = rw (ne-eqb (b + i) (q + j + o) other)
 
-  pub raise-before : b + i < q + o → raise-all i o l q b rs ≡ rs
+  pub raise-outside : (q + o ≤ b + i → length rs + (q + o) ≤ b + i) → raise-all i o l q b rs ≡ rs
   unfolding raise-all
-  raise-before h =
-      raised-same (λ p r. raise i o l p b r) q rs (λ j w. elsewhere j (λ (e : b + i ≡ q + j + o). omega arith))
+  raise-outside outside =
+      raised-same (λ p r. raise i o l p b r) q rs
+      (λ j w. elsewhere j (λ (e : b + i ≡ q + j + o). omega (arith, outside (omega arith))))
 
-  pub raise-after : q + o ≤ b + i → length rs ≤ b + i - (q + o) → raise-all i o l q b rs ≡ rs
-  unfolding raise-all
-  raise-after lo h =
-      raised-same (λ p r. raise i o l p b r) q rs (λ j w. elsewhere j (λ (e : b + i ≡ q + j + o). omega arith))
-
-  module _ (lo : q + o ≤ b + i) (within : b + i - (q + o) < length rs) where
+  module _ (p : ℕ) (own : p + (q + o) ≡ b + i) (within : p < length rs) where
     -- at its own start
     here :
-        (v : ℕ) →
-        cond (leb o (getD rs (b + i - (q + o)) 0)) (max (getD rs (b + i - (q + o)) 0) ((o + l) - i)) (getD rs (b + i - (q + o)) 0) ≡ v →
-        raise-all i o l q b rs ≡ set rs (b + i - (q + o)) v
+        (v : ℕ) → cond (leb o (getD rs p 0)) (max (getD rs p 0) ((o + l) - i)) (getD rs p 0) ≡ v → raise-all i o l q b rs ≡ set rs p v
     unfolding raise-all raise
     here v e =
-        raised-one (λ p r. raise i o l p b r) q rs (b + i - (q + o)) v within
-        (rw (eq-eqb (b + i) (q + (b + i - (q + o)) + o) (omega arith)) e)
+        raised-one (λ p r. raise i o l p b r) q rs p v within (rw (eq-eqb (b + i) (q + p + o) (omega arith)) e)
         (λ j w other. elsewhere j (λ (z : b + i ≡ q + j + o). other (omega arith)))
 
-    -- which is not reached so far
-    pub raise-far : getD rs (b + i - (q + o)) 0 < o → raise-all i o l q b rs ≡ rs
-    raise-far far =
-        here (getD rs (b + i - (q + o)) 0) (rw (lt-leb o (getD rs (b + i - (q + o)) 0) far)) ∙ set-getD rs (b + i - (q + o)) 0
+    pub raise-passed : (o ≤ getD rs p 0 → (o + l) - i ≤ getD rs p 0) → raise-all i o l q b rs ≡ rs
+    raise-passed gained =
+        here (getD rs p 0)
+        (⊎-elim (λ (near : o ≤ getD rs p 0). rw (le-leb o (getD rs p 0) near) (omega (arith, gained near)))
+        (λ (far : getD rs p 0 < o). rw (lt-leb o (getD rs p 0) far)) (le-or-lt o (getD rs p 0)))
+        ∙ set-getD rs p 0
 
-    -- or is
-    pub raise-near :
-        o ≤ getD rs (b + i - (q + o)) 0 →
-        raise-all i o l q b rs ≡ set rs (b + i - (q + o)) (max (getD rs (b + i - (q + o)) 0) ((o + l) - i))
-    raise-near near =
-        here (max (getD rs (b + i - (q + o)) 0) ((o + l) - i)) (rw (le-leb o (getD rs (b + i - (q + o)) 0) near))
+    pub raise-here :
+        o ≤ getD rs p 0 → getD rs p 0 ≤ max o ((o + l) - i) → raise-all i o l q b rs ≡ set rs p (max o ((o + l) - i))
+    raise-here near gain = here (max o ((o + l) - i)) (rw (le-leb o (getD rs p 0) near) (omega arith))
 
 -- THE POSITIONS OF A KEY, from the jth on
 

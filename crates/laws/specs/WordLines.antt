@@ -3,7 +3,7 @@
 use mathlib.Core.Path.{_≡_, sym, ap, _∙_}
 use mathlib.Core.Bool.{true, false}
 use mathlib.Core.Logic.{_⊎_, ⊎-elim}
-use mathlib.Core.List.{List, []}
+use mathlib.Core.List.{List}
 use Prim.Native.Nat.{ℕ, _+_, _*_, _-_, _≤_, _<_}
 use native.Mathlib.Omega.{arith}
 use lib.ListN.{length, getD, take, drop, length-drop}
@@ -227,38 +227,11 @@ module _
         pub still-back : Still (stage-at o (lexicon cs ls) xs s q) to hi
         still-back i a b = stage-apart (lexicon cs ls) xs s q o i (apart-back i a b)
 
--- ALL WORDS BY THEIR FIRST CHARACTERS
+-- ALL WORDS
 
 -- the words of the first w lines are in the dictionary
 abbrev pub Words-at : (lengths numbers : List ℕ) → (w : ℕ) → Type 0
 Words-at ls xs w = (i : ℕ) → i < w → value-at xs i < length ls
 
-module _
-    (cs ls xs : List ℕ) (can : Can-read cs ls xs) (w : ℕ) (split : Split xs w) (ws : List ℕ) (table : Word-starts ls (length ls) ws) where
-  pub words-at : Words-at ls xs w
-  words-at i b = word-below cs ls xs can i (omega (arith, split .within)) (split .words i b)
-
-  pub first-column : Word-column cs xs ws 0 w 0
-  first-column = ⊎-elim none some (le-or-lt w 0)
-    where
-      all : Sharing cs ls xs [] 0 w 0 w 0
-      all = sharing-start cs ls xs [] 0 w
-
-      none : w ≤ 0 → Word-column cs xs ws 0 w 0
-      none h =
-          record {
-            rising = record { order = omega arith; rises = λ i j a b c. absurd (omega arith) };
-            line = λ i a b. absurd (omega arith);
-            word = λ i a b. absurd (omega arith);
-            room = λ i a b. absurd (omega arith);
-          }
-
-      some : 0 < w → Word-column cs xs ws 0 w 0
-      some h =
-          sharing-column cs ls xs can w split ws table [] 0 0 w 0 all h
-          (λ e.
-          omega (
-            arith,
-            shared-long cs ls xs can w split ws table [] 0 0 w 0 all 0 (omega arith) h,
-            key-some cs ls xs can 0 (omega (arith, split .within)),
-          ))
+pub words-at : (cs ls xs : List ℕ) → Can-read cs ls xs → (w : ℕ) → Split xs w → Words-at ls xs w
+words-at cs ls xs can w split i b = word-below cs ls xs can i (omega (arith, split .within)) (split .words i b)

@@ -1,6 +1,7 @@
 // One key at one offset against the string: each start of a window at which an entry of the key then lies is raised.
 //
-// The offset is two natural starts, one of them 0. An entry that starts within what is reached raises the reach to its end.
+// The offset is two natural starts, one of them 0. An entry that starts within what is reached raises the reach to its end. Differences
+// wrap, so that one test tells whether a number lies in a range: below its start the difference is very large.
 ghost use mathlib.Core.Path.{_≡_};
 ghost use Prim.Native.Nat.{max};
 ghost use lib.ListN.{length};
@@ -8,6 +9,7 @@ ghost use Rattle.laws.specs.Window.{Within, Reaches};
 ghost use Rattle.laws.specs.WindowSearch.{places-all, key-all};
 ghost use Rattle.laws.specs.Marking.{Offset-fits};
 use postings::agreement::agrees_from_starts;
+use std::num::wrapping_sub_usize;
 
 // The greater of two numbers.
 fn greater(a: usize, b: usize) -> usize
@@ -30,7 +32,8 @@ fn mark(
     requires { ⌜ Offset-fits long «string_start» «key_start» first × Within most (now reach) ⌝ }
     ensures { λ r. ⌜ Reaches (places-all «string_start» «key_start» long first (now (places .entry)) (now (reach .entry))) (now (reach .exit)) r ⌝ }
 {
-    let end = key_start + long - string_start;
+    let end = greater(key_start, key_start + long - string_start);
+    let gain = end - key_start;
     let peak = greater(most, end);
     let from = first + key_start;
     let mut top = most;
@@ -38,14 +41,12 @@ fn mark(
     while i < places.len() {
         let at = places[i] as usize + string_start;
         i += 1;
-        if from <= at {
-            let p = at - from;
-            if p < reach.len() {
-                let reached = reach[p] as usize;
-                if key_start <= reached {
-                    reach[p] = greater(reached, end) as u16;
-                    top = peak;
-                }
+        let p = wrapping_sub_usize(at, from);
+        if p < reach.len() {
+            let above = wrapping_sub_usize(reach[p] as usize, key_start);
+            if above < gain {
+                reach[p] = end as u16;
+                top = peak;
             }
         }
     }

@@ -56,15 +56,14 @@ fn reach_if_dense(
     lengths: &[u16],
     index: &[u16],
     words: &[u16],
-    lists: &[u32],
     string: &[u16],
     reach: &mut [u16],
 ) -> bool
-    requires { ⌜ Opened (now chars) (now lengths) (now index) (now words) (now lists) × Is-string (now string) × (length (now reach) ≤ 65535) ⌝ }
+    requires { ⌜ Can-read (now chars) (now lengths) (now index) × Word-starts (now lengths) (length (now lengths)) (now words) × Is-string (now string) × (length (now reach) ≤ 65535) ⌝ }
     ensures told { λ r. ⌜ (r ≡ true → Finds (lexicon (now (chars .entry)) (now (lengths .entry))) (now (index .entry)) (now (string .entry)) (now (reach .exit))) ⌝ }
     ensures kept { λ r. ⌜ (r ≡ false → now (reach .exit) ≡ now (reach .entry)) ⌝ }
 {
-    if !is_dense(chars, lengths, index, words, lists, string, reach.len()) {
+    if !is_dense(chars, lengths, index, words, string, reach.len()) {
         return false;
     }
     reach_by_text(chars, lengths, index, words, string, reach)
@@ -84,7 +83,7 @@ pub fn search_opened<'a>(
     requires { ⌜ Opened (now chars) (now lengths) (now index) (now words) (now lists) × Is-string (now string) × (length (now reach) ≤ 65535) × (now reach ≡ replicate (length (now reach)) 0) ⌝ }
     ensures { λ r. ⌜ Window-says (lexicon (now (chars .entry)) (now (lengths .entry))) (now (index .entry)) (now (string .entry)) (length (now (reach .entry))) 1 r (now (output .entry)) (now (output .exit)) ⌝ }
 {
-    if reach_if_dense(chars, lengths, index, words, lists, string, reach) {
+    if reach_if_dense(chars, lengths, index, words, string, reach) {
         return answer_window(reach, string.len(), 1, output);
     }
     search_window(

@@ -54,12 +54,7 @@ impl<'a> Lines<'a> {
 
     /// Of the lines from `low` to `high`, whose words ascend and share their
     /// first `depth` characters, those that have this one next.
-    pub fn narrow(
-        &self,
-        (low, high): (usize, usize),
-        depth: usize,
-        character: u16,
-    ) -> (usize, usize) {
+    fn narrow(&self, (low, high): (usize, usize), depth: usize, character: u16) -> (usize, usize) {
         if low < high {
             let ends = [low, high - 1];
             if ends.iter().all(|&line| self.word(line)[depth] == character) {
@@ -138,7 +133,7 @@ impl<'a> Directory<'a> {
     }
 
     /// How many positions the lines before this one have.
-    pub fn start(&self, line: usize) -> usize {
+    fn start(&self, line: usize) -> usize {
         let first = line / PAGE * PAGE;
         let before = self.lines.lines[3 * first..3 * line].chunks_exact(3);
         let inside: usize = before.map(|line| usize::from(line[2])).sum();

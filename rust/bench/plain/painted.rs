@@ -5,30 +5,24 @@
 use super::directory::Directory;
 
 /// Whether raising reaches would visit many positions: an estimate, from the
-/// keys that begin with every so many of the string's characters.
+/// keys that agree with the string at every so many of its offsets.
 pub fn is_dense(directory: &Directory, n: usize, string: &[u16]) -> bool {
     let lines = &directory.lines;
     let stride = 1 + string.len() / 32;
     let mut visits = 0;
+    // At the front a word may agree at as many offsets as it has characters.
+    lines.each_that_starts(string, |line, long| {
+        visits += directory.count(line) * long;
+    });
     for at in (0..string.len()).step_by(stride) {
-        let (low, high) = lines.narrow((0, lines.words), 0, string[at]);
-        if at == 0 {
-            visits += (low..high)
-                .map(|line| directory.count(line) * lines.word(line).len())
-                .sum::<usize>();
-        }
-        if low < high {
-            visits += stride * (directory.start(high - 1) + directory.count(high - 1));
-            visits -= stride * directory.start(low);
-        }
-        if let Some(line) = lines.lone(string[at]) {
-            visits += stride * directory.count(line);
-        }
         if 6 * n < visits {
             return true;
         }
+        lines.each_that_starts(&string[at..], |line, _| {
+            visits += stride * directory.count(line);
+        });
     }
-    false
+    6 * n < visits
 }
 
 /// Fills `reach` with how many characters of the string stand at each start of

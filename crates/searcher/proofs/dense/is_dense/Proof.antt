@@ -6,6 +6,8 @@ use Rattle.laws.specs.Narrowing.{kinds-rise, split-found}
 use borrow.Author.Needs.{needs}
 use Rattle.searcher.proofs.dense.is_dense.Statement.{statement}
 use Rattle.searcher.proofs.dense.is_dense.Tie as tie
+use Rattle.directory.proofs.narrowing.words_end.Reads as words-end-reads
+use Rattle.searcher.proofs.dense.visits_more.Reads as visits-more-reads
 
 shared-slice-read-n : tie.Need-shared-slice-read-n
 shared-slice-read-n c = search needs
@@ -24,21 +26,22 @@ returns c = λ t. clash t refl
 
 words-end-requires : tie.Need-words-end-requires
 words-end-requires c κs =
-    let s = c .before .before .before .before .before .before .before .before in
+    let s = c .before .before .before .before .before .before .before in
     let a = s .args in
-    (s .pre .0 .can .fits, kinds-rise (a .chars .now) (a .lengths .now) (a .index .now) (s .pre .0 .can))
+    (s .pre .0 .fits, kinds-rise (a .chars .now) (a .lengths .now) (a .index .now) (s .pre .0))
 
 mul-visits-more : tie.Need-mul-visits-more
 mul-visits-more c = search needs
 
 visits-more-requires : tie.Need-visits-more-requires
 visits-more-requires c κs =
-    let s = c .before .before .before .before .before .before .before .before .before in
+    let s = c .before .before .before .before .before .before .before .before in
     let a = s .args in (
       s .pre .0,
       s .pre .1,
-      split-found (a .chars .now) (a .lengths .now) (a .index .now) (s .pre .0 .can) (c .words-end .result) (c .words-end .ensures),
-      omega (arith, s .pre .0 .can .n-small),
+      split-found (a .chars .now) (a .lengths .now) (a .index .now) (s .pre .0) (c .words-end .result) (c .words-end .ensures),
+      s .pre .2,
+      omega (arith, s .pre .0 .n-small),
     )
 
 returns-2 : tie.Need-returns-2

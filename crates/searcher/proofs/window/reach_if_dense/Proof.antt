@@ -5,6 +5,8 @@ use Rattle.basics.specs.Bools.{clash}
 use borrow.Author.Needs.{needs}
 use Rattle.searcher.proofs.window.reach_if_dense.Statement.{statement}
 use Rattle.searcher.proofs.window.reach_if_dense.Tie as tie
+use Rattle.searcher.proofs.dense.is_dense.Reads as is-dense-reads
+use Rattle.searcher.proofs.window.reach_by_text.Reads as reach-by-text-reads
 
 is-dense-requires : tie.Need-is-dense-requires
 is-dense-requires c κs = search needs
@@ -14,8 +16,8 @@ returns c = (λ t. clash t refl, λ t. refl)
 
 reach-by-text-requires : tie.Need-reach-by-text-requires
 reach-by-text-requires c κs =
-    let s = c .before .before .before .before .before .before .before .before .before .before in
-    (s .pre .0 .can, s .pre .0 .words, s .pre .1 .short, c .before .before .is-dense .ensures (not-false (c .before .before .is-dense .result) (c .before .if1 .left)))
+    let s = c .before .before .before .before .before .before .before .before .before in
+    (s .pre .0, s .pre .1, s .pre .2 .short, c .before .before .is-dense .ensures (not-false (c .before .before .is-dense .result) (c .before .if1 .left)))
 
 same-length : tie.Need-same-length
 same-length c = search needs

@@ -25,8 +25,8 @@ returns c =
     let a = c .before .before .before .before .before .before .before .before .before .before .before .before .before .before .before .before .before .before .args in
     let told = c .before .before .before .before .before .before .before .before .reach-if-dense in
     let answered = c .before .before .answer-window in
-    says-told (lexicon (a .chars .now) (a .lengths .now)) (a .index .now) (a .string .now) (length (a .reach .now)) (told .last .1 .1 .1 .1 .1 .1 .0) (answered .result) (a .output .now)
-    (answered .last .1 .1 .1 .0) (told .ensures .0 (c .before .before .before .before .before .if1 .taken)) (told .kept .1 .1 .1 .1 .1 .1 .0) (answered .ensures)
+    says-told (lexicon (a .chars .now) (a .lengths .now)) (a .index .now) (a .string .now) (length (a .reach .now)) (told .last .1 .1 .1 .1 .1 .0) (answered .result) (a .output .now)
+    (answered .last .1 .1 .1 .0) (told .ensures .0 (c .before .before .before .before .before .if1 .taken)) (told .kept .1 .1 .1 .1 .1 .0) (answered .ensures)
 
 search-window-requires : tie.Need-search-window-requires
 search-window-requires c κs =
@@ -35,8 +35,8 @@ search-window-requires c κs =
     let told = c .before .before .before .before .before .reach-if-dense in (
       s .pre .0,
       s .pre .1,
-      omega (arith, s .pre .2, told .kept .1 .1 .1 .1 .1 .1 .0),
-      still-clear (a .reach .now) (told .last .1 .1 .1 .1 .1 .1 .0) (told .ensures .1 (c .before .before .if1 .left)) (s .pre .3),
+      omega (arith, s .pre .2, told .kept .1 .1 .1 .1 .1 .0),
+      still-clear (a .reach .now) (told .last .1 .1 .1 .1 .1 .0) (told .ensures .1 (c .before .before .if1 .left)) (s .pre .3),
     )
 
 same-length-3 : tie.Need-same-length-3
@@ -50,8 +50,8 @@ returns-2 c =
     let a = c .before .before .before .before .before .before .before .before .before .before .before .before .before .before .before .before .before .before .before .before .args in
     let told = c .before .before .before .before .before .before .before .before .before .before .reach-if-dense in
     let searched = c .before .before .before .before .search-window in
-    says-count (lexicon (a .chars .now) (a .lengths .now)) (a .index .now) (a .string .now) (length (told .last .1 .1 .1 .1 .1 .1 .0)) (length (a .reach .now)) 1 (searched .result) (a .output .now)
-    (searched .last .1 .1 .1 .1 .1 .1 .1 .1 .0) (told .kept .1 .1 .1 .1 .1 .1 .0) (searched .ensures)
+    says-count (lexicon (a .chars .now) (a .lengths .now)) (a .index .now) (a .string .now) (length (told .last .1 .1 .1 .1 .1 .0)) (length (a .reach .now)) 1 (searched .result) (a .output .now)
+    (searched .last .1 .1 .1 .1 .1 .1 .1 .1 .0) (told .kept .1 .1 .1 .1 .1 .0) (searched .ensures)
 
 pub search-opened-spec : {M : Type 1} → statement M
 search-opened-spec =
