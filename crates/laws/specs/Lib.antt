@@ -85,7 +85,6 @@ pub mod LineKinds
 pub mod TallyWalk
 pub mod TallyAnswers
 pub mod KeyLengths
-pub mod LinePlaces
 pub mod Opening
 pub mod Printing
 pub mod IndexPrinting

@@ -36,16 +36,16 @@ use denote.Triple.Spec.{Meets, tripleOf}
 use denote.Triple.Table.{entered}
 use denote.Triple.Walked.{says, Stays, stay-none, stay-none-slice, walkOf, goes-none, goes-none-slice, Walks, ends-at, walked, walk-meets}
 use denote.Exit.{yes}
-use Rattle.postings.specs.declared.opened.Opened.{Opened}
-use Rattle.postings.specs.declared.opened.Bounds.{Bounds}
-use Rattle.postings.proofs.opened.Opened as T
-use Rattle.postings.proofs.opened.Opened.Laws as T′
-use Rattle.postings.proofs.opened.Bounds as S
-use Rattle.postings.proofs.opened.Bounds.Laws as S′
-use Rattle.postings.proofs.opened.with_bounds.Key.{name as #with-bounds}
-use Rattle.postings.proofs.opened.with_bounds as maker
-use Rattle.postings.proofs.opened.with_bounds.Statement as stated
-use Rattle.postings.proofs.opened.with_bounds.Code as code
+use Rattle.opening.specs.declared.opened.Opened.{Opened}
+use Rattle.opening.specs.declared.opened.Bounds.{Bounds}
+use Rattle.opening.proofs.opened.Opened as T
+use Rattle.opening.proofs.opened.Opened.Laws as T′
+use Rattle.opening.proofs.opened.Bounds as S
+use Rattle.opening.proofs.opened.Bounds.Laws as S′
+use Rattle.opening.proofs.opened.with_bounds.Key.{name as #with-bounds}
+use Rattle.opening.proofs.opened.with_bounds as maker
+use Rattle.opening.proofs.opened.with_bounds.Statement as stated
+use Rattle.opening.proofs.opened.with_bounds.Code as code
 
 abbrev stayed : Stays (maker.ended .signature .params) (maker.ended .kept)
 stayed = (stay-none-slice (0 ∷ []) tt (plain (λ _. u16)) yes, (stay-none (λ _. S.the-row) yes, tt))

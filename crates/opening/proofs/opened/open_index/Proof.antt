@@ -38,24 +38,24 @@ use denote.Triple.Walked.{says, Stays, stay-none-slice, walkOf, goes-none-slice,
 use denote.Exit.{yes}
 use denote.Triple.Clauses.{ensured, lasts}
 use Rattle.laws.specs.Opening.{Bounded}
-use Rattle.postings.specs.declared.opened.Opened.{Opened}
-use Rattle.postings.specs.declared.opened.Bounds.{Bounds}
-use Rattle.postings.proofs.opened.Opened as T
-use Rattle.postings.proofs.opened.Opened.Laws as T′
-use Rattle.postings.proofs.opened.Bounds as S
-use Rattle.postings.proofs.opened.Bounds.Laws as S′
-use Rattle.postings.proofs.opened.bounds_of as test
-use Rattle.postings.proofs.opened.bounds_of.Symbol as test-def
-use Rattle.postings.proofs.opened.bounds_of.Symbol.{name as #bounds-of}
-use Rattle.postings.proofs.opened.bounds_of.Met as test-thm
-use Rattle.postings.proofs.opened.with_bounds as maker
-use Rattle.postings.proofs.opened.with_bounds.Symbol as maker-def
-use Rattle.postings.proofs.opened.with_bounds.Symbol.{name as #with-bounds}
-use Rattle.postings.proofs.opened.with_bounds.Met as maker-thm
-use Rattle.postings.proofs.opened.open_index.Key.{name as #open-index}
-use Rattle.postings.proofs.opened.open_index as opener
-use Rattle.postings.proofs.opened.open_index.Statement as stated
-use Rattle.postings.proofs.opened.open_index.Code as code
+use Rattle.opening.specs.declared.opened.Opened.{Opened}
+use Rattle.opening.specs.declared.opened.Bounds.{Bounds}
+use Rattle.opening.proofs.opened.Opened as T
+use Rattle.opening.proofs.opened.Opened.Laws as T′
+use Rattle.opening.proofs.opened.Bounds as S
+use Rattle.opening.proofs.opened.Bounds.Laws as S′
+use Rattle.opening.proofs.opened.bounds_of as test
+use Rattle.opening.proofs.opened.bounds_of.Symbol as test-def
+use Rattle.opening.proofs.opened.bounds_of.Symbol.{name as #bounds-of}
+use Rattle.opening.proofs.opened.bounds_of.Met as test-thm
+use Rattle.opening.proofs.opened.with_bounds as maker
+use Rattle.opening.proofs.opened.with_bounds.Symbol as maker-def
+use Rattle.opening.proofs.opened.with_bounds.Symbol.{name as #with-bounds}
+use Rattle.opening.proofs.opened.with_bounds.Met as maker-thm
+use Rattle.opening.proofs.opened.open_index.Key.{name as #open-index}
+use Rattle.opening.proofs.opened.open_index as opener
+use Rattle.opening.proofs.opened.open_index.Statement as stated
+use Rattle.opening.proofs.opened.open_index.Code as code
 
 -- bounds of equal numbers
 same-bounds : (cs ls xs : List ℕ) (a k f a′ k′ f′ : ℕ) → a′ ≡ a → k′ ≡ k → f′ ≡ f → Bounded cs ls xs a k f → Bounded cs ls xs a′ k′ f′
@@ -192,5 +192,5 @@ open-index-spec 𝓤 H 𝓜 𝓖 𝓡 =
     entered 𝓤 H (tripleOf 𝓤 H (𝓖 .A) opener.signature (opener.spec 𝓤 H (𝓖 .A) (𝓜 .mem) (𝓡 .run)))
     (tables 𝓤 H 𝓜 𝓡 code.env .C) (tables 𝓤 H 𝓜 𝓡 code.env .Λ) #open-index code.function (code.unfolded 𝓤 H 𝓜 𝓡)
     (open-index-meets 𝓤 H (𝓖 .A) (givenOf 𝓤 H 𝓜 𝓖) (𝓜 .mem) (𝓡 .run) (tablesOf 𝓤 H 𝓜 (tables 𝓤 H 𝓜 𝓡 code.env))
-    (cited 𝓤 H (Test 𝓤 H (𝓖 .A) (𝓜 .mem) (𝓡 .run)) 𝓜 𝓡 code.env #bounds-of test-def.routine code.calls-postings·opened·bounds-of (test-thm.met 𝓤 H 𝓜 𝓖 𝓡))
-    (cited 𝓤 H (Make 𝓤 H (𝓖 .A) (𝓜 .mem) (𝓡 .run)) 𝓜 𝓡 code.env #with-bounds maker-def.routine code.calls-postings·opened·with-bounds (maker-thm.met 𝓤 H 𝓜 𝓖 𝓡)))
+    (cited 𝓤 H (Test 𝓤 H (𝓖 .A) (𝓜 .mem) (𝓡 .run)) 𝓜 𝓡 code.env #bounds-of test-def.routine code.calls-opening·opened·bounds-of (test-thm.met 𝓤 H 𝓜 𝓖 𝓡))
+    (cited 𝓤 H (Make 𝓤 H (𝓖 .A) (𝓜 .mem) (𝓡 .run)) 𝓜 𝓡 code.env #with-bounds maker-def.routine code.calls-opening·opened·with-bounds (maker-thm.met 𝓤 H 𝓜 𝓖 𝓡)))

@@ -1,0 +1,50 @@
+-- `bounds_of` meets its contract: the refusal decides what is answered. Assumes nothing.
+use mathlib.Core.Path.{refl, sym, _∙_}
+use native.Mathlib.Omega.{arith}
+use Rattle.spec.specs.Dictionary.{longest-text, lexicon}
+use Rattle.laws.specs.IndexRefusal.{index-accepted}
+use Rattle.laws.specs.LineWalk.{readable-fits}
+use Rattle.laws.specs.Opening.{bounds-refused, bounds-accepted}
+use borrow.Author.Needs.{needs}
+use Rattle.opening.proofs.opened.bounds_of.Statement.{statement}
+use Rattle.opening.proofs.opened.bounds_of.Tie as tie
+
+refusal-of-requires : tie.Need-refusal-of-requires
+refusal-of-requires c κs = search needs
+
+returns : tie.Need-returns
+returns c =
+    let a = c .before .before .before .before .before .args in
+    bounds-refused (a .chars .now) (a .lengths .now) (a .index .now) (c .before .refusal-of .result) (c .before .refusal-of .ensures) (c .if1 .taken)
+
+shared-slice-read-keys : tie.Need-shared-slice-read-keys
+shared-slice-read-keys c =
+    let a = c .before .before .before .before .before .before .args in
+    let ok = index-accepted (a .chars .now) (a .lengths .now) (a .index .now) (sym (c .before .before .refusal-of .ensures) ∙ c .before .if1 .left) in
+    omega (arith, readable-fits longest-text (lexicon (a .chars .now) (a .lengths .now)) (a .index .now) (ok .is-readable) .has-header)
+
+cast-keys : tie.Need-cast-keys
+cast-keys c = omega (arith, c .shared-slice-known4 .given 1)
+
+mul-t9 : tie.Need-mul-t9
+mul-t9 c = omega (arith, c .shared-slice-known4 .given 1)
+
+add-t10 : tie.Need-add-t10
+add-t10 c = omega (arith, c .shared-slice-known4 .given 1)
+
+returns-2 : tie.Need-returns-2
+returns-2 c =
+    let a = c .before .before .before .before .before .before .args in
+    bounds-accepted (a .chars .now) (a .lengths .now) (a .index .now) (c .before .before .refusal-of .result) (c .before .before .refusal-of .ensures) (c .before .if1 .left) _ refl
+
+pub bounds-of-spec : {M : Type 1} → statement M
+bounds-of-spec =
+    tie.close
+    (tie.spec
+    refusal-of-requires
+    returns
+    shared-slice-read-keys
+    cast-keys
+    mul-t9
+    add-t10
+    returns-2)
