@@ -75,7 +75,7 @@ fn index_marks(text: &[u16], output: &mut [u16], marks: &mut [u16]) -> Answer
 }
 
 // The same for marks at the front of a longer slice.
-pub fn finish(text: &[u16], output: &mut [u16], work: &mut [u16]) -> Answer
+fn finish(text: &[u16], output: &mut [u16], work: &mut [u16]) -> Answer
     requires { ⌜ length (now text) ≤ length (now work) ⌝ }
     requires { ⌜ Linkable (now text) (take (length (now text)) (now work)) ⌝ }
     ensures { λ r. ⌜ Marked-says (take (length (now (text .entry))) (now (work .entry))) (now (text .entry)) r (now (output .entry)) (now (output .exit)) ⌝ }

@@ -61,7 +61,7 @@ pub fn link(text: &[u16], marks: &mut [u16], heads: &mut [u16], pages: &mut [u8]
 }
 
 // The first code from `from` on that has a chain, or the number of codes.
-pub fn next_code(heads: &[u16], pages: &[u8], from: usize) -> usize
+pub(crate) fn next_code(heads: &[u16], pages: &[u8], from: usize) -> usize
     requires { ⌜ Paged (now heads) (now pages) ⌝ }
     requires { ⌜ from ≤ length (now heads) ⌝ }
     ensures { λ r. ⌜ Next (now (heads .entry)) from r ⌝ }
@@ -83,7 +83,7 @@ pub fn next_code(heads: &[u16], pages: &[u8], from: usize) -> usize
 }
 
 // How many members a chain has.
-pub fn chain_length(links: &[u16], head: u16) -> usize
+pub(crate) fn chain_length(links: &[u16], head: u16) -> usize
     requires { ⌜ Threaded (now links) head ⌝ }
     ensures { λ r. ⌜ r ≡ length (chain (now (links .entry)) head) ⌝ }
 {

@@ -4,7 +4,7 @@ ghost use Prim.Native.Nat.{_≤_};
 ghost use Rattle.spec.specs.JobSheet.{digit};
 
 // The value of a hexadecimal digit, and 16 for every byte that is none.
-pub fn value_of(byte: u8) -> u8
+pub(crate) fn value_of(byte: u8) -> u8
     ensures value { λ r. ⌜ r ≡ digit byte ⌝ }
     ensures small { λ r. ⌜ r ≤ 16 ⌝ }
 {

@@ -70,7 +70,7 @@ fn ends_well(line: &[u8]) -> bool
 }
 
 // Whether a line is the form with this head.
-pub fn is_form(line: &[u8], head: &[u8]) -> bool
+pub(crate) fn is_form(line: &[u8], head: &[u8]) -> bool
     requires { ⌜ length (now head) ≡ 5 ⌝ }
     ensures { λ r. ⌜ r ≡ is-form (now (head .entry)) (now (line .entry)) ⌝ }
 {
@@ -84,7 +84,7 @@ pub fn is_form(line: &[u8], head: &[u8]) -> bool
 }
 
 // Writes the characters of a form.
-pub fn put_string(line: &[u8], out: &mut [u16], at: usize) -> usize
+pub(crate) fn put_string(line: &[u8], out: &mut [u16], at: usize) -> usize
     requires { ⌜ (5 ≤ length (now line)) × (ends-well (drop 5 (now line)) ≡ true) × (at + length (string-in (now line)) ≤ length (now out)) ⌝ }
     ensures { λ r. ⌜ Wrote (string-in (now (line .entry))) at (now (out .entry)) r (now (out .exit)) ⌝ }
 {

@@ -89,7 +89,7 @@ pub struct Parts {
 }
 
 // Reads a sheet.
-pub fn read_sheet(sheet: &[u8], chars: &mut [u16], lengths: &mut [u16]) -> Parts
+pub(crate) fn read_sheet(sheet: &[u8], chars: &mut [u16], lengths: &mut [u16]) -> Parts
     requires { ⌜ Enough (now sheet) (now chars) (now lengths) ⌝ }
     ensures { λ r. ⌜ Sheet-read (now (sheet .entry)) (now (chars .entry)) (now (lengths .entry)) (r .good) (r .words) (r .dictionary) (r .text) (r .finds) (now (chars .exit)) (now (lengths .exit)) ⌝ }
 {

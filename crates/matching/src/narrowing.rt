@@ -82,7 +82,7 @@ fn cut_high(
 }
 
 // One more than the number of the last of the first `count` words that stands in the text at index `at`, or 0.
-pub fn narrow(
+pub(crate) fn narrow(
     chars: &[u16],
     lengths: &[u16],
     starts: &[u16],

@@ -10,7 +10,7 @@ ghost use lib.ListN.{length};
 ghost use Rattle.laws.specs.WordTable.{pair-bucket, char-bucket, Bucket-read, Room, Tables};
 
 // The bucket of words that begin with these two characters.
-pub fn bucket_of_pair(x: u16, y: u16) -> usize
+pub(crate) fn bucket_of_pair(x: u16, y: u16) -> usize
     ensures value { λ r. ⌜ r ≡ pair-bucket x y ⌝ }
     ensures small { λ r. ⌜ r < 8192 ⌝ }
 {
@@ -18,7 +18,7 @@ pub fn bucket_of_pair(x: u16, y: u16) -> usize
 }
 
 // The bucket of the words of one character.
-pub fn bucket_of_char(x: u16) -> usize
+pub(crate) fn bucket_of_char(x: u16) -> usize
     ensures value { λ r. ⌜ r ≡ char-bucket x ⌝ }
     ensures small { λ r. ⌜ r < 10240 ⌝ }
 {

@@ -10,7 +10,7 @@ ghost use Rattle.laws.specs.PlaceWalk.{Lie-within};
 ghost use Rattle.laws.specs.NoteWalk.{Can-note};
 
 // Sets one number at each of these positions.
-pub fn mark_places(mark: u16, places: &[u16], slots: &mut [u16])
+pub(crate) fn mark_places(mark: u16, places: &[u16], slots: &mut [u16])
     requires { ⌜ Lie-within 1 (length (now slots)) (now places) ⌝ }
     ensures { λ r. ⌜ now (slots .exit) ≡ note-places mark (now (places .entry)) (now (slots .entry)) ⌝ }
 {

@@ -13,7 +13,7 @@ ghost use Rattle.laws.specs.IndexPrinting.{Whole};
 ghost use Rattle.laws.specs.Printing.{each-spaced, listed};
 
 // One byte.
-pub fn put_byte(out: &mut [u8], at: usize, byte: u8) -> usize
+fn put_byte(out: &mut [u8], at: usize, byte: u8) -> usize
     requires { ⌜ at < length (now out) ⌝ }
     ensures { λ r. ⌜ Wrote (byte ∷ []) at (now (out .entry)) r (now (out .exit)) ⌝ }
 {
@@ -37,7 +37,7 @@ pub fn put_bytes(out: &mut [u8], at: usize, bytes: &[u8]) -> usize
 }
 
 // A number in decimal: the digits of its tenth part, then the last.
-pub fn put_decimal(out: &mut [u8], at: usize, n: usize) -> usize
+fn put_decimal(out: &mut [u8], at: usize, n: usize) -> usize
     requires { ⌜ at + length (decimal n) ≤ length (now out) ⌝ }
     ensures { λ r. ⌜ Wrote (decimal n) at (now (out .entry)) r (now (out .exit)) ⌝ }
 {
@@ -62,7 +62,7 @@ fn digit_byte(value: u16) -> u8
 }
 
 // A character as four hexadecimal digits.
-pub fn put_hexadecimal(out: &mut [u8], at: usize, character: u16) -> usize
+fn put_hexadecimal(out: &mut [u8], at: usize, character: u16) -> usize
     requires { ⌜ at + 4 ≤ length (now out) ⌝ }
     ensures { λ r. ⌜ Wrote (hexadecimal character) at (now (out .entry)) r (now (out .exit)) ⌝ }
 {
@@ -76,7 +76,7 @@ pub fn put_hexadecimal(out: &mut [u8], at: usize, character: u16) -> usize
 }
 
 // A space and a number.
-pub fn put_next_decimal(out: &mut [u8], at: usize, n: usize) -> usize
+fn put_next_decimal(out: &mut [u8], at: usize, n: usize) -> usize
     requires { ⌜ at + length (gap ++ decimal n) ≤ length (now out) ⌝ }
     ensures { λ r. ⌜ Wrote (gap ++ decimal n) at (now (out .entry)) r (now (out .exit)) ⌝ }
 {
@@ -99,7 +99,7 @@ fn put_next_positions(out: &mut [u8], at: usize, positions: &[u16]) -> usize
 }
 
 // Positions with a space between.
-pub fn put_positions(out: &mut [u8], at: usize, positions: &[u16]) -> usize
+fn put_positions(out: &mut [u8], at: usize, positions: &[u16]) -> usize
     requires { ⌜ at + length (spaced (now positions)) ≤ length (now out) ⌝ }
     ensures { λ r. ⌜ Wrote (spaced (now (positions .entry))) at (now (out .entry)) r (now (out .exit)) ⌝ }
 {
@@ -121,7 +121,7 @@ fn put_list(out: &mut [u8], at: usize, positions: &[u16]) -> usize
 }
 
 // The line of an index's three numbers.
-pub fn put_index_line(out: &mut [u8], at: usize, n: usize, k: usize, m: usize) -> usize
+fn put_index_line(out: &mut [u8], at: usize, n: usize, k: usize, m: usize) -> usize
     requires { ⌜ at + length (index-line n k m) ≤ length (now out) ⌝ }
     ensures { λ r. ⌜ Wrote (index-line n k m) at (now (out .entry)) r (now (out .exit)) ⌝ }
 {
@@ -166,7 +166,7 @@ fn put_key_name(out: &mut [u8], at: usize, kind: u16, value: u16) -> usize
 }
 
 // The line of a key.
-pub fn put_key_line(out: &mut [u8], at: usize, kind: u16, value: u16, positions: &[u16]) -> usize
+fn put_key_line(out: &mut [u8], at: usize, kind: u16, value: u16, positions: &[u16]) -> usize
     requires { ⌜ at + length (key-line (line (key kind value) (now positions))) ≤ length (now out) ⌝ }
     ensures { λ r. ⌜ Wrote (key-line (line (key kind value) (now (positions .entry)))) at (now (out .entry)) r (now (out .exit)) ⌝ }
 {

@@ -7,7 +7,7 @@ ghost use lib.ListN.{length};
 ghost use Rattle.laws.specs.StandingWalk.{Front-at, Ends-at, Known};
 
 // How many characters at a place are known from the stretch that lies from `left` to `right`.
-pub fn known_from(repeats: &[u16], at: usize, left: usize, right: usize) -> usize
+pub(crate) fn known_from(repeats: &[u16], at: usize, left: usize, right: usize) -> usize
     requires { ⌜ (at < right → (left ≤ at) × (at - left < length (now repeats))) ⌝ }
     ensures { λ r. ⌜ Known (now (repeats .entry)) at left right r ⌝ }
 {
@@ -23,7 +23,7 @@ pub fn known_from(repeats: &[u16], at: usize, left: usize, right: usize) -> usiz
 }
 
 // How many characters at a place are those of the string's front, at most `most`, where the first `known` of them are.
-pub fn extend(text: &[u16], string: &[u16], at: usize, known: usize, most: usize) -> usize
+pub(crate) fn extend(text: &[u16], string: &[u16], at: usize, known: usize, most: usize) -> usize
     requires { ⌜ Front-at (now string) (now text) at known × (known ≤ most) × (most ≤ length (now string)) × (at + most ≤ length (now text)) ⌝ }
     ensures { λ r. ⌜ Ends-at (now (string .entry)) (now (text .entry)) at most r ⌝ }
 {
