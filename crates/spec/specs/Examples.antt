@@ -1,7 +1,7 @@
 -- Document 01's starred examples as one table, and a second table of further tries, each row proved by computation. Assumes nothing.
 use mathlib.Core.Path.{_≡_, refl}
 use mathlib.Core.Bool.{true, false, cond}
-use mathlib.Core.List.{List, [], _∷_}
+use mathlib.Core.List.{List, [], _∷_, _++_}
 use Prim.Native.Nat.{ℕ, suc, _-_}
 use native.Mathlib.Omega.{arith}
 use lib.Dec.{eqb}
@@ -18,6 +18,8 @@ use Rattle.spec.specs.Tally.{tally, shorter, of-length, tally-from}
 use Rattle.spec.specs.Promise.{places, places-from}
 use Rattle.spec.specs.Models.{scan, raise, reach-places, reach-key, reach-back, reach-first, reach-stage, reach-stages, reach}
 use Rattle.spec.specs.Calls.{index-refusal, reception-refusal, recovery-refusal, unreadable, work-short, output-short, no-text, or-else}
+use Rattle.spec.specs.JobAnswer.{decimal-within, decimal, digit-byte, hexadecimal, spaced, index-line, key-name, key-line, key-lines, index-lines}
+use Rattle.spec.specs.Bytes.{bytes}
 
 -- the characters a, b, c, d, x
 abbrev pub a : ℕ
@@ -57,6 +59,9 @@ B = lexicon B-chars B-lengths
 abbrev pub abcdab : List ℕ
 abcdab = a ∷ b ∷ c ∷ d ∷ a ∷ b ∷ []
 
+abbrev pub axa : List ℕ
+axa = a ∷ x ∷ a ∷ []
+
 -- lone a and lone b over the text ab
 abbrev pub two-lone : List ℕ
 two-lone = 2 ∷ 2 ∷ 1 ∷ a ∷ 1 ∷ 1 ∷ b ∷ 1 ∷ 1 ∷ 2 ∷ []
@@ -77,7 +82,10 @@ longest-in-abcd p =
 -- The starred examples, in document 01's order.
 pub record Starred : Type 0 where
   pub overlapping-words : index-of A abcdab ≡ 6 ∷ 3 ∷ 0 ∷ 0 ∷ 1 ∷ 0 ∷ 1 ∷ 1 ∷ 0 ∷ 2 ∷ 1 ∷ 5 ∷ 1 ∷ 2 ∷ []
-  pub lone-characters : index-of A (a ∷ x ∷ a ∷ []) ≡ 3 ∷ 2 ∷ 1 ∷ a ∷ 2 ∷ 1 ∷ x ∷ 1 ∷ 1 ∷ 3 ∷ 2 ∷ []
+  pub lone-characters :
+      (index-of A axa ≡ 3 ∷ 2 ∷ 1 ∷ 97 ∷ 2 ∷ 1 ∷ 120 ∷ 1 ∷ 1 ∷ 3 ∷ 2 ∷ [])
+      × (index-lines (index-of A axa)
+      ≡ bytes "(index 3 2 3)\n" ++ bytes "(key lone 0061 (1 3))\n" ++ bytes "(key lone 0078 (2))\n")
   pub empty-text :
       (index-of A [] ≡ 0 ∷ 0 ∷ []) × ((h : ℕ) (s : List ℕ) → find A (index-of A []) (h ∷ s) ≡ [])
   pub longest-only : index-of B (replicate 4 a) ≡ 4 ∷ 1 ∷ 0 ∷ 2 ∷ 2 ∷ 1 ∷ 2 ∷ []
@@ -121,7 +129,7 @@ pub record Tried : Type 0 where
   pub reach-stops : reach A (lines-in lone-a-c) (a ∷ b ∷ c ∷ []) 1 ≡ 1
   pub fewer-find-none : find A one-lone (a ∷ b ∷ []) ≡ []
   pub tally-of-aaaa : tally B (index-of B (replicate 4 a)) ≡ 0 ∷ 0 ∷ 2 ∷ replicate 29 0
-  pub tally-of-axa : tally A (index-of A (a ∷ x ∷ a ∷ [])) ≡ 3 ∷ replicate 31 0
+  pub tally-of-axa : tally A (index-of A axa) ≡ 3 ∷ replicate 31 0
   pub tally-of-abcdab : tally A (index-of A abcdab) ≡ 0 ∷ 1 ∷ 2 ∷ replicate 29 0
   pub entries-of-abcdab : entries-of (index-of A abcdab) ≡ 3
   pub shorter-second : shorter 3 2 a b ≡ b
@@ -141,13 +149,13 @@ no-place : (m : ℕ) → 1 - suc m ≡ 0
 no-place m = omega arith
 
 pub examples : Examples
-unfolding scan raise reach-places reach-key reach-back reach-first reach-stage reach-stages reach is-char words-from lexicon total too-large length-good lengths-good lengths-wrong word-before ascend disordered dictionary-refusal key same listed is-word spells stands entry contains same-key same-entry key-entries word-entries lone-entries complete in-another maximal entries key-before entry-before into sorted line with-entry lines-of directory positions numbers index-of counts-from entries-of lines-from lines-in kinds-good key-good keys-ascend rise-from last-of line-good lines-good lengths-fit readable lies-on shown-by or-shown shown char-or recovered-from recovered received places-from places overlaps equal-from agrees offset in-offsets string-start key-start agrees-at covers covered all-covered found-from find lies-from lies-in joins-from joins bears bearing cut-down of-length tally-from tally shorter unreadable work-short output-short no-text or-else index-refusal reception-refusal recovery-refusal
+unfolding scan raise reach-places reach-key reach-back reach-first reach-stage reach-stages reach is-char words-from lexicon total too-large length-good lengths-good lengths-wrong word-before ascend disordered dictionary-refusal key same listed is-word spells stands entry contains same-key same-entry key-entries word-entries lone-entries complete in-another maximal entries key-before entry-before into sorted line with-entry lines-of directory positions numbers index-of counts-from entries-of lines-from lines-in kinds-good key-good keys-ascend rise-from last-of line-good lines-good lengths-fit readable lies-on shown-by or-shown shown char-or recovered-from recovered received places-from places overlaps equal-from agrees offset in-offsets string-start key-start agrees-at covers covered all-covered found-from find lies-from lies-in joins-from joins bears bearing cut-down of-length tally-from tally shorter unreadable work-short output-short no-text or-else index-refusal reception-refusal recovery-refusal bytes decimal-within decimal digit-byte hexadecimal spaced index-line key-name key-line key-lines index-lines
 examples =
     record {
       starred =
           record {
             overlapping-words = refl;
-            lone-characters = refl;
+            lone-characters = (refl, refl);
             empty-text = (refl, λ h s. rw (no-place (length s)));
             longest-only = refl;
             each-once = refl;

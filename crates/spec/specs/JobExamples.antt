@@ -1,9 +1,10 @@
--- Job sheets and their answers, each row proved by computation: document 01's example, its lone keys, and refused sheets. Assumes
--- nothing.
+-- Job sheets and their answers, each row proved by computation on literal bytes: document 01's example, its lone keys, and refused
+-- sheets. Assumes nothing.
 use mathlib.Core.Path.{_≡_, refl}
 use mathlib.Core.Bool.{Bool, true, false}
 use mathlib.Core.List.{List, [], _∷_, _++_}
 use Prim.Native.Nat.{ℕ}
+use Prim.Native.String.{String}
 use lib.ListN.{length, replicate}
 use Rattle.spec.specs.Dictionary.{lexicon, dictionary-refusal, words-from, total, too-large, length-good, lengths-good, lengths-wrong, word-before, ascend, disordered}
 use Rattle.spec.specs.Words.{key, same, listed, is-word, spells, stands, entry, contains, same-key, same-entry, key-entries, word-entries, lone-entries, complete, in-another, maximal, entries}
@@ -12,141 +13,93 @@ use Rattle.spec.specs.Index.{entries-of, counts-from, lines-from, lines-
 use Rattle.spec.specs.Reception.{lies-on}
 use Rattle.spec.specs.Search.{find, overlaps, equal-from, agrees, covers, covered, all-covered, found-from}
 use Rattle.spec.specs.Calls.{string-wrong, or-else, accepted}
-use Rattle.spec.specs.JobSheet.{word-head, text-head, find-head, digit, is-digit, character, is-spaced, ends-well, characters, is-form, string-in, onto-first, lines, forms, after, nothing-left, words-on, texts-on, finds-on, left-on, text-on, in-form, in-counts, sheet-too-long, sheet-wrong, run-together, lengths-of, some-string-wrong, contents-refusal, sheet-refusal}
-use Rattle.spec.specs.JobAnswer.{decimal-within, decimal, digit-byte, hexadecimal, index-head, key-word-head, key-lone-head, found-head, refused-head, opening-list, ending, ending-list, spaced, index-line, key-name, key-line, key-lines, index-lines, found-line, found-lines, refused-line, lexicon-on, printed, job-answer}
-
--- BYTES
-
--- ` 0061` to ` 0064`, ` 0078`: the characters a, b, c, d, x
-abbrev a : List ℕ
-a = 32 ∷ 48 ∷ 48 ∷ 54 ∷ 49 ∷ []
-
-abbrev b : List ℕ
-b = 32 ∷ 48 ∷ 48 ∷ 54 ∷ 50 ∷ []
-
-abbrev c : List ℕ
-c = 32 ∷ 48 ∷ 48 ∷ 54 ∷ 51 ∷ []
-
-abbrev d : List ℕ
-d = 32 ∷ 48 ∷ 48 ∷ 54 ∷ 52 ∷ []
-
-abbrev x : List ℕ
-x = 32 ∷ 48 ∷ 48 ∷ 55 ∷ 56 ∷ []
-
--- ` 004a` and ` 004A`: the character J, wrongly and rightly
-abbrev lower : List ℕ
-lower = 32 ∷ 48 ∷ 48 ∷ 52 ∷ 97 ∷ []
-
-abbrev upper : List ℕ
-upper = 32 ∷ 48 ∷ 48 ∷ 52 ∷ 65 ∷ []
-
--- a form on its line
-abbrev word : List ℕ → List ℕ
-word cs = word-head ++ cs ++ ending
-
-abbrev text : List ℕ → List ℕ
-text cs = text-head ++ cs ++ ending
-
-abbrev sought : List ℕ → List ℕ
-sought cs = find-head ++ cs ++ ending
-
--- lines of the answer, for numbers of one digit: `(key word I (p))`, `(key lone H (p))`, `(found C (..))`
-abbrev key-of-word : (number position : ℕ) → List ℕ
-key-of-word i p = key-word-head ++ (i ∷ []) ++ opening-list ++ (p ∷ []) ++ ending-list
-
-abbrev found : (count : ℕ) → (positions : List ℕ) → List ℕ
-found n ps = found-head ++ (n ∷ []) ++ opening-list ++ ps ++ ending-list
-
-abbrev refused : (refusal : List ℕ) → List ℕ
-refused r = refused-head ++ r ++ ending
-
--- the digits 0, 1, 2, 3, 5, 6 as bytes
-abbrev nought : ℕ
-nought = 48
-
-abbrev one : ℕ
-one = 49
-
-abbrev two : ℕ
-two = 50
-
-abbrev three : ℕ
-three = 51
-
-abbrev five : ℕ
-five = 53
-
-abbrev six : ℕ
-six = 54
+use Rattle.spec.specs.JobSheet.{digit, is-digit, character, is-spaced, ends-well, characters, is-form, string-in, onto-first, lines, forms, after, nothing-left, words-on, texts-on, finds-on, left-on, text-on, in-form, in-counts, sheet-too-long, sheet-wrong, run-together, lengths-of, some-string-wrong, contents-refusal, sheet-refusal}
+use Rattle.spec.specs.JobAnswer.{decimal-within, decimal, digit-byte, hexadecimal, spaced, index-line, key-name, key-line, key-lines, index-lines, found-line, found-lines, refused-line, lexicon-on, printed, job-answer}
+use Rattle.spec.specs.Bytes.{bytes}
 
 -- SHEETS
 
 -- "Input, whole"
 abbrev input : List ℕ
 input =
-    word (a ++ b)
-    ++ word (a ++ b ++ c)
-    ++ word (b ++ c ++ d)
-    ++ text (a ++ b ++ c ++ d ++ a ++ b)
-    ++ sought (a ++ b)
-    ++ sought (c ++ d ++ a)
-    ++ sought x
+    bytes "(word 0061 0062)\n"
+    ++ bytes "(word 0061 0062 0063)\n"
+    ++ bytes "(word 0062 0063 0064)\n"
+    ++ bytes "(text 0061 0062 0063 0064 0061 0062)\n"
+    ++ bytes "(find 0061 0062)\n"
+    ++ bytes "(find 0063 0064 0061)\n"
+    ++ bytes "(find 0078)\n"
 
 -- "Output, whole"
 abbrev output : List ℕ
 output =
-    index-head ++ (six ∷ 32 ∷ three ∷ 32 ∷ three ∷ []) ++ ending
-    ++ key-of-word nought five
-    ++ key-of-word one one
-    ++ key-of-word two two
-    ++ found two (one ∷ 32 ∷ five ∷ [])
-    ++ found one (three ∷ [])
-    ++ found nought []
+    bytes "(index 6 3 3)\n"
+    ++ bytes "(key word 0 (5))\n"
+    ++ bytes "(key word 1 (1))\n"
+    ++ bytes "(key word 2 (2))\n"
+    ++ bytes "(found 2 (1 5))\n"
+    ++ bytes "(found 1 (3))\n"
+    ++ bytes "(found 0 ())\n"
 
--- document 01's axa, printed with lone keys: "a lone key is printed `(key lone 0061 (1 3))`"
+-- document 01's axa over ab, abc, bcd
 abbrev lone-input : List ℕ
-lone-input = word (a ++ b) ++ text (a ++ x ++ a)
+lone-input =
+    bytes "(word 0061 0062)\n"
+    ++ bytes "(word 0061 0062 0063)\n"
+    ++ bytes "(word 0062 0063 0064)\n"
+    ++ bytes "(text 0061 0078 0061)\n"
 
+-- "a lone key is printed `(key lone 0061 (1 3))`"
 abbrev lone-output : List ℕ
 lone-output =
-    index-head ++ (three ∷ 32 ∷ two ∷ 32 ∷ three ∷ []) ++ ending
-    ++ key-lone-head ++ (nought ∷ nought ∷ six ∷ one ∷ []) ++ opening-list ++ (one ∷ 32 ∷ three ∷ []) ++ ending-list
-    ++ key-lone-head ++ (nought ∷ nought ∷ 55 ∷ 56 ∷ []) ++ opening-list ++ (two ∷ []) ++ ending-list
+    bytes "(index 3 2 3)\n"
+    ++ bytes "(key lone 0061 (1 3))\n"
+    ++ bytes "(key lone 0078 (2))\n"
+
+-- what is printed for a sheet, both as texts
+abbrev Prints : (sheet answer : String) → Type 0
+Prints s t = job-answer (bytes s) ≡ bytes t
+
+-- a text without characters, and k finds of a
+abbrev finds : ℕ → List ℕ
+finds k = bytes "(text)\n" ++ run-together (replicate k (bytes "(find 0061)\n"))
 
 -- ROWS
 
 pub record Job-examples : Type 0 where
+  pub codes : bytes "(A a0)\n" ≡ 40 ∷ 65 ∷ 32 ∷ 97 ∷ 48 ∷ 41 ∷ 10 ∷ []
   pub whole : job-answer input ≡ output
   pub lone-keys : job-answer lone-input ≡ lone-output
-  pub only-a-text : job-answer (text []) ≡ index-head ++ (nought ∷ 32 ∷ nought ∷ 32 ∷ nought ∷ []) ++ ending
-  pub more-than-nine : decimal 2047 ≡ 50 ∷ 48 ∷ 52 ∷ 55 ∷ []
-  pub four-digits : hexadecimal 43981 ≡ 65 ∷ 66 ∷ 67 ∷ 68 ∷ []
-  pub upper-case : job-answer (text upper) ≡ index-head ++ (one ∷ 32 ∷ one ∷ 32 ∷ one ∷ []) ++ ending ++ key-lone-head ++ (48 ∷ 48 ∷ 52 ∷ 65 ∷ []) ++ opening-list ++ (one ∷ []) ++ ending-list
-  pub empty-word : job-answer (word [] ++ text a) ≡ refused (two ∷ [])
-  pub words-fall : job-answer (word b ++ word a ++ text a) ≡ refused (three ∷ [])
-  pub empty-find : job-answer (text a ++ sought []) ≡ refused (six ∷ [])
-  pub later-find : job-answer (text a ++ sought a ++ sought []) ≡ refused (six ∷ [])
-  pub two-before-six : job-answer (word [] ++ text a ++ sought []) ≡ refused (two ∷ [])
-  pub three-before-six : job-answer (word a ++ word a ++ text a ++ sought []) ≡ refused (three ∷ [])
-  pub eleven-before-two : job-answer (word [] ++ text a ++ text a) ≡ refused (one ∷ one ∷ [])
-  pub no-input : job-answer [] ≡ refused (one ∷ one ∷ [])
-  pub no-text : job-answer (word a) ≡ refused (one ∷ one ∷ [])
-  pub two-texts : job-answer (text a ++ text a) ≡ refused (one ∷ one ∷ [])
-  pub word-after-text : job-answer (text a ++ word a) ≡ refused (one ∷ one ∷ [])
-  pub last-line-feed : job-answer (text a ++ find-head ++ a ++ (41 ∷ [])) ≡ refused (one ∷ one ∷ [])
-  pub byte-after-the-last : job-answer (text a ++ (32 ∷ [])) ≡ refused (one ∷ one ∷ [])
-  pub line-after-the-last : job-answer (text a ++ (10 ∷ [])) ≡ refused (one ∷ one ∷ [])
-  pub carriage-return : job-answer (text-head ++ (41 ∷ 13 ∷ 10 ∷ [])) ≡ refused (one ∷ one ∷ [])
-  pub space-alone : job-answer (word (32 ∷ []) ++ text a) ≡ refused (one ∷ one ∷ [])
-  pub three-digits : job-answer (text (32 ∷ 48 ∷ 48 ∷ 54 ∷ [])) ≡ refused (one ∷ one ∷ [])
-  pub lower-case : job-answer (text lower) ≡ refused (one ∷ one ∷ [])
-  pub finds-50 : sheet-refusal (text [] ++ run-together (replicate 50 (sought a))) ≡ 0
-  pub finds-51 : sheet-refusal (text [] ++ run-together (replicate 51 (sought a))) ≡ 11
+  pub only-a-text : Prints "(text)\n" "(index 0 0 0)\n"
+  pub more-than-nine : decimal 2047 ≡ bytes "2047"
+  pub four-digits : hexadecimal 0xABCD ≡ bytes "ABCD"
+  pub upper-case : Prints "(text 004A)\n" "(index 1 1 1)\n(key lone 004A (1))\n"
+  pub empty-word : Prints "(word)\n(text 0061)\n" "(refused 2)\n"
+  pub words-fall : Prints "(word 0062)\n(word 0061)\n(text 0061)\n" "(refused 3)\n"
+  pub empty-find : Prints "(text 0061)\n(find)\n" "(refused 6)\n"
+  pub later-find : Prints "(text 0061)\n(find 0061)\n(find)\n" "(refused 6)\n"
+  pub two-before-six : Prints "(word)\n(text 0061)\n(find)\n" "(refused 2)\n"
+  pub three-before-six : Prints "(word 0061)\n(word 0061)\n(text 0061)\n(find)\n" "(refused 3)\n"
+  pub eleven-before-two : Prints "(word)\n(text 0061)\n(text 0061)\n" "(refused 11)\n"
+  pub no-input : Prints "" "(refused 11)\n"
+  pub no-text : Prints "(word 0061)\n" "(refused 11)\n"
+  pub two-texts : Prints "(text 0061)\n(text 0061)\n" "(refused 11)\n"
+  pub word-after-text : Prints "(text 0061)\n(word 0061)\n" "(refused 11)\n"
+  pub last-line-feed : Prints "(text 0061)\n(find 0061)" "(refused 11)\n"
+  pub byte-after-the-last : Prints "(text 0061)\n " "(refused 11)\n"
+  pub line-after-the-last : Prints "(text 0061)\n\n" "(refused 11)\n"
+  pub carriage-return : Prints "(text)\r\n" "(refused 11)\n"
+  pub space-alone : Prints "(word )\n(text 0061)\n" "(refused 11)\n"
+  pub three-digits : Prints "(text 006)\n" "(refused 11)\n"
+  pub lower-case : Prints "(text 004a)\n" "(refused 11)\n"
+  pub finds-50 : sheet-refusal (finds 50) ≡ 0
+  pub finds-51 : sheet-refusal (finds 51) ≡ 11
 
 pub job-examples : Job-examples
-unfolding words-from lexicon total too-large length-good lengths-good lengths-wrong word-before ascend disordered dictionary-refusal key same listed is-word spells stands entry contains same-key same-entry key-entries word-entries lone-entries complete in-another maximal entries key-before entry-before into sorted line with-entry lines-of directory positions numbers index-of counts-from entries-of lines-from lines-in lies-on overlaps equal-from agrees covers covered all-covered found-from find string-wrong or-else accepted digit is-digit character is-spaced ends-well characters is-form string-in onto-first lines forms after nothing-left words-on texts-on finds-on left-on text-on in-form in-counts sheet-too-long sheet-wrong run-together lengths-of some-string-wrong contents-refusal sheet-refusal decimal-within decimal digit-byte hexadecimal spaced index-line key-name key-line key-lines index-lines found-line found-lines refused-line lexicon-on printed job-answer
+unfolding bytes words-from lexicon total too-large length-good lengths-good lengths-wrong word-before ascend disordered dictionary-refusal key same listed is-word spells stands entry contains same-key same-entry key-entries word-entries lone-entries complete in-another maximal entries key-before entry-before into sorted line with-entry lines-of directory positions numbers index-of counts-from entries-of lines-from lines-in lies-on overlaps equal-from agrees covers covered all-covered found-from find string-wrong or-else accepted digit is-digit character is-spaced ends-well characters is-form string-in onto-first lines forms after nothing-left words-on texts-on finds-on left-on text-on in-form in-counts sheet-too-long sheet-wrong run-together lengths-of some-string-wrong contents-refusal sheet-refusal decimal-within decimal digit-byte hexadecimal spaced index-line key-name key-line key-lines index-lines found-line found-lines refused-line lexicon-on printed job-answer
 job-examples =
     record {
+      codes = refl;
       whole = refl;
       lone-keys = refl;
       only-a-text = refl;

@@ -13,7 +13,8 @@ pub mod Beyond
 pub mod Published
 pub mod Demands
 pub mod Models
-pub mod Examples
 pub mod JobSheet
 pub mod JobAnswer
+pub mod Bytes
+pub mod Examples
 pub mod JobExamples
