@@ -1,10 +1,10 @@
 -- What the calls say of numbers that a text has as its index, under an admitted dictionary: reception and recovery accept, and so do
--- searches, of the numbers and cut down. Assumes nothing.
+-- searches and cuts, and searches of what was cut down. Assumes nothing.
 use mathlib.Core.Path.{_≡_, sym, ap, _∙_, subst}
 use mathlib.Core.Bool.{true}
 use mathlib.Core.Logic.{inl, inr, ⊎-elim}
 use mathlib.Core.List.{List, [], _∷_, _++_}
-use Prim.Native.Nat.{ℕ, _<_}
+use Prim.Native.Nat.{ℕ, _≤_, _<_}
 use native.Mathlib.Omega.{arith}
 use lib.Dec.{eqb}
 use lib.ListN.{length, take}
@@ -19,7 +19,7 @@ use Rattle.spec.specs.Cut.{cut-down}
 use Rattle.spec.specs.Promise.{Query}
 use Rattle.spec.specs.Beyond.{Text-of, Exactly-places, Serves, Demand-three}
 use Rattle.spec.specs.Calls.{Cut-says}
-use Rattle.spec.specs.Demands.{Written, Untouched, Unreadable, String-wrong, Work-short, Output-short, Recovery-short, No-text, Row, row, Meets, Accepts, Refuses, Decides, dictionary-rows, index-rows, reception-rows, recovery-rows, find-rows, Received-for, Recovered-for, Found-for, Delivered}
+use Rattle.spec.specs.Demands.{Written, Untouched, Unreadable, String-wrong, Work-short, Output-short, Recovery-short, No-text, Row, row, Meets, Accepts, Refuses, Decides, dictionary-rows, index-rows, reception-rows, recovery-rows, find-rows, Received-for, Recovered-for, Found-for, Cut-for, Delivered}
 use Rattle.laws.specs.Received.{received-get}
 use Rattle.laws.specs.Promises.{demand-three}
 use Rattle.laws.specs.RefusalRows.{first-decides, dictionary-first, dictionary-rising}
@@ -84,6 +84,16 @@ module _ (cs ls : List ℕ) (adm : admitted cs ls ≡ true) where
       none-both (dictionary-rows cs ls) (row 5 (Unreadable (lexicon cs ls) xs) ∷ []) (admitted-none cs ls adm)
       (none-row 5 (Unreadable (lexicon cs ls) xs) [] (λ f. clash can f) none-nil)
 
+  -- readable numbers, a query and output enough meet no line of a search or cut-down
+  none-find :
+      (xs s result o : List ℕ) → readable longest-text (lexicon cs ls) xs ≡ true → Query s → length result ≤ length o →
+      None-met (find-rows cs ls xs s result o)
+  none-find xs s result o can q room =
+      none-both (index-rows cs ls xs) (row 6 (String-wrong s) ∷ row 8 (Output-short result o) ∷ []) (none-index xs can)
+      (none-row 6 (String-wrong s) (row 8 (Output-short result o) ∷ [])
+      (⊎-elim (λ (e : length s ≡ 0). omega (arith, q .nonempty)) (λ (l : 256 < length s). omega (arith, q .short)))
+      (none-row 8 (Output-short result o) [] (λ l. omega (arith, room)) none-nil))
+
   -- any readable numbers whose search gives the places of a text
   found-for :
       (xs ts s : List ℕ) → readable longest-text (lexicon cs ls) xs ≡ true → Query s →
@@ -93,10 +103,7 @@ module _ (cs ls : List ℕ) (adm : admitted cs ls ≡ true) where
       let h =
       accepts-none (find-rows cs ls xs s found o) (r .refusal) (Written found r o z) (Untouched r o z)
       (first-demand .searches cs ls xs s r o z says)
-      (none-both (index-rows cs ls xs) (row 6 (String-wrong s) ∷ row 8 (Output-short found o) ∷ []) (none-index xs can)
-      (none-row 6 (String-wrong s) (row 8 (Output-short found o) ∷ [])
-      (⊎-elim (λ (e : length s ≡ 0). omega (arith, q .nonempty)) (λ (l : 256 < length s). omega (arith, q .short)))
-      (none-row 8 (Output-short found o) [] (λ l. omega (arith, room, ap length (exactly .are-places))) none-nil))) in (
+      (none-find xs s found o can q (omega (arith, room, ap length (exactly .are-places)))) in (
         h .number,
         subst (λ (ps : List ℕ). Written ps r o z) (exactly .are-places) (h .result),
         subst (Exactly-places s ts) (sym (h .result .front)) exactly,
@@ -146,7 +153,22 @@ module _ (cs ls : List ℕ) (adm : admitted cs ls ≡ true) where
         (λ l. omega (arith, l .0, fits, text .length-is)) none-nine))) in
         (h .number, subst (λ (us : List ℕ). Written us r o z) is-recovered (h .result))
 
-    -- what a cut-down call wrote is the cut-down index
+    -- numbers equal to the cut-down index serve for it
+    cut-found :
+        (s ys : List ℕ) → Query s → ys ≡ cut-down (lexicon cs ls) xs s → Found-for cs ls ys ts s
+    cut-found s ys q e =
+        subst (λ (zs : List ℕ). Found-for cs ls zs ts s) (sym e)
+        (found-for (cut-down (lexicon cs ls) xs s) ts s (serves .cut-readable s q) q (serves .cut-exact s q))
+
+    cut-for : (s : List ℕ) → Query s → Cut-for cs ls xs ts s
+    cut-for s q r o z room says =
+        let cut = cut-down (lexicon cs ls) xs s in
+        let h =
+        accepts-none (find-rows cs ls xs s cut o) (r .refusal) (Written cut r o z) (Untouched r o z)
+        (first-demand .cuts cs ls xs s r o z says) (none-find xs s cut o can q room) in
+        (h .number, h .result, cut-found s (take (r .count) z) q (h .result .front))
+
+    -- what an accepted call of cut wrote is the cut-down index
     cut-written :
         (s : List ℕ) (r : Answer) (o z : List ℕ) → Cut-says cs ls xs s r o z → r .refusal ≡ 0 →
         take (r .count) z ≡ cut-down (lexicon cs ls) xs s
@@ -162,8 +184,6 @@ module _ (cs ls : List ℕ) (adm : admitted cs ls ≡ true) where
           only-text = serves .only-text;
           is-recovered = recovered-for;
           searched = λ s q. found-for xs ts s can q (serves .search-exact s q);
-          cut =
-              λ s q r o z says zero.
-              subst (λ (ys : List ℕ). Found-for cs ls ys ts s) (sym (cut-written s r o z says zero))
-              (found-for (cut-down (lexicon cs ls) xs s) ts s (serves .cut-readable s q) q (serves .cut-exact s q));
+          cut = cut-for;
+          accepted-cut = λ s q r o z says zero. cut-found s (take (r .count) z) q (cut-written s r o z says zero);
         }

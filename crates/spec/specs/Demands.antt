@@ -220,13 +220,22 @@ Found-for cs ls xs ts s =
     (r : Answer) (o z : List ℕ) → length (places s ts) ≤ length o → Search-says cs ls xs s r o z →
     (r .refusal ≡ 0) × Written (places s ts) r o z × Exactly-places s ts (take (r .count) z)
 
--- What is had of numbers xs that text ts has as its index.
+-- Every call of cut for s with enough output accepts, and writes the cut-down index, whose searches for s answer in the same way.
+abbrev pub Cut-for : (chars lengths index text string : List ℕ) → Type 0
+Cut-for cs ls xs ts s =
+    let kept = cut-down (lexicon cs ls) xs s in
+    (r : Answer) (o z : List ℕ) → length kept ≤ length o → Cut-says cs ls xs s r o z →
+    (r .refusal ≡ 0) × Written kept r o z × Found-for cs ls (take (r .count) z) ts s
+
+-- What is had of numbers xs that text ts has as its index. `accepted-cut` asks nothing of the output: that the call answered 0 is
+-- enough.
 pub record Delivered (cs ls xs ts : List ℕ) : Type 0 where
   pub text : Text-of longest-text (lexicon cs ls) xs ts
   pub only-text : (us : List ℕ) → Text-of longest-text (lexicon cs ls) xs us → us ≡ ts
   pub is-recovered : Recovered-for cs ls xs ts
   pub searched : (s : List ℕ) → Query s → Found-for cs ls xs ts s
-  pub cut :
+  pub cut : (s : List ℕ) → Query s → Cut-for cs ls xs ts s
+  pub accepted-cut :
       (s : List ℕ) → Query s → (r : Answer) (o z : List ℕ) → Cut-says cs ls xs s r o z → r .refusal ≡ 0 →
       Found-for cs ls (take (r .count) z) ts s
 
