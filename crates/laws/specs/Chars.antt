@@ -5,8 +5,10 @@ use mathlib.Core.List.{List, [], _∷_}
 use Prim.Native.Nat.{ℕ, zero, suc, _+_, _≤_, _<_}
 use native.Mathlib.Omega.{arith}
 use lib.Dec.{ltb, leb}
-use lib.ListN.{length, take, drop, length-take, length-drop}
+use lib.ListN.{length, getD, take, drop, length-take, length-drop}
 use lib.Seq.{getD-take, getD-drop}
+use mir.Syntax.{w16}
+use mir.Val.{Fits}
 use borrow.Author.Tests.{lt-ltb, le-leb, ltb-true, leb-true}
 use Rattle.basics.specs.Bools.{and-put, and-left, and-right}
 use Rattle.spec.specs.Dictionary.{is-char, all-chars, is-text}
@@ -22,6 +24,10 @@ pub all-chars-put : (xs : List ℕ) → Chars xs → all-chars xs ≡ true
 unfolding all-chars is-char
 all-chars-put [] h = refl
 all-chars-put (c ∷ cs) h = and-put (lt-ltb c 65536 (h 0 (omega arith))) (all-chars-put cs (λ i b. h (suc i) (omega arith)))
+
+-- Every element of a lent `&[u16]` fits 16 bits, which a proof of code has as `.shared-slice-known .given`: the slice holds characters.
+pub lent-chars : (xs : List ℕ) → ((i : ℕ) → Fits w16 (getD xs i 0)) → all-chars xs ≡ true
+lent-chars xs fits = all-chars-put xs (λ i h. fits i .fits)
 
 pub is-text-get : (g : ℕ) (ts : List ℕ) → is-text g ts ≡ true → Chars ts × (length ts ≤ g)
 unfolding is-text

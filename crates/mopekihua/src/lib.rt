@@ -1,6 +1,10 @@
 // The face of the library: every public operation once, for C and Rust to link. No operation has a `requires`, and each contract
 // fixes the answer and the final content of every slice lent to be written, for refused input too. A slice lent to be read
-// stays as it was by its type.
+// stays as it was by its type. What is lent as characters holds characters, by its type too: building, reception and recovery say so
+// in a clause of their own, since the demands (`spec/specs/Demands.antt`) ask for it.
+ghost use mathlib.Core.Path.{_≡_};
+ghost use mathlib.Core.Bool.{true};
+ghost use Rattle.spec.specs.Dictionary.{all-chars};
 ghost use Rattle.spec.specs.Calls.{Admit-says, Build-says, Cut-says, Receive-says, Recover-says, Search-says, Tally-says};
 use spec::Answer;
 use spec::TallyAnswer;
@@ -25,6 +29,7 @@ pub extern "C" fn mopekihua_build(
     work: &mut [u16],
 ) -> Answer
     ensures { λ r. ⌜ Build-says (now (chars .entry)) (now (lengths .entry)) (now (text .entry)) r (now (output .entry)) (now (output .exit)) (now (work .entry)) (now (work .exit)) ⌝ }
+    ensures { λ r. ⌜ (all-chars (now (chars .entry)) ≡ true) × (all-chars (now (text .entry)) ≡ true) ⌝ }
 {
     builder::build::build(chars, lengths, text, output, work)
 }
@@ -39,6 +44,7 @@ pub extern "C" fn mopekihua_receive(
     work: &mut [u16],
 ) -> Answer
     ensures { λ r. ⌜ Receive-says (now (chars .entry)) (now (lengths .entry)) (now (index .entry)) r (now (work .entry)) (now (work .exit)) ⌝ }
+    ensures { λ r. ⌜ all-chars (now (chars .entry)) ≡ true ⌝ }
 {
     receiver::receive::receive(chars, lengths, index, work)
 }
@@ -54,6 +60,7 @@ pub extern "C" fn mopekihua_recover(
     work: &mut [u16],
 ) -> Answer
     ensures { λ r. ⌜ Recover-says (now (chars .entry)) (now (lengths .entry)) (now (index .entry)) r (now (output .entry)) (now (output .exit)) (now (work .entry)) (now (work .exit)) ⌝ }
+    ensures { λ r. ⌜ all-chars (now (chars .entry)) ≡ true ⌝ }
 {
     receiver::recover::recover(chars, lengths, index, output, work)
 }

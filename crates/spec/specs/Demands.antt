@@ -1,6 +1,7 @@
 -- The three demands, over what is lent to the public operations and what comes back. `X-says` is the contract of operation X
 -- (`Calls`); a statement supposes only that a call says so. Each is a type; its proof stands in the crate `laws`. That numbers are
--- characters is asked for where lists need it: a slice of 16-bit numbers has no others. Assumes nothing.
+-- characters is asked for where lists need it: a slice of 16-bit numbers has no others, as the contracts of the three operations
+-- concerned say of each call. Assumes nothing.
 use mathlib.Core.Path.{_≡_}
 use mathlib.Core.Bool.{true, false}
 use mathlib.Core.Logic.{_⊎_}

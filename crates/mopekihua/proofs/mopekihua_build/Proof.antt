@@ -1,0 +1,28 @@
+-- The contract of `build` is passed on, and what is lent as characters holds characters. Assumes nothing.
+use borrow.Author.Needs.{needs}
+use Rattle.laws.specs.Chars.{lent-chars}
+use Rattle.mopekihua.proofs.mopekihua_build.Statement.{statement}
+use Rattle.mopekihua.proofs.mopekihua_build.Tie as tie
+
+build-requires : tie.Need-build-requires
+build-requires c κs = search needs
+
+same-length : tie.Need-same-length
+same-length c = search needs
+
+same-length-2 : tie.Need-same-length-2
+same-length-2 c = search needs
+
+returns : tie.Need-returns
+returns c = (
+  c .before .before .before .before .build .ensures,
+  (
+    lent-chars (c .before .before .before .before .before .before .before .before .before .before .before .before .args .chars .now)
+        (c .before .before .before .before .before .before .before .before .before .before .before .shared-slice-known .given),
+    lent-chars (c .before .before .before .before .before .before .before .before .before .before .before .before .args .text .now)
+        (c .before .before .before .before .before .before .before .before .before .shared-slice-known3 .given),
+  ),
+)
+
+pub mopekihua-build-spec : {M : Type 1} → statement M
+mopekihua-build-spec = tie.close (tie.spec build-requires same-length same-length-2 returns)

@@ -1,0 +1,21 @@
+-- The contract of `receive` is passed on, and what is lent as characters holds characters. Assumes nothing.
+use borrow.Author.Needs.{needs}
+use Rattle.laws.specs.Chars.{lent-chars}
+use Rattle.mopekihua.proofs.mopekihua_receive.Statement.{statement}
+use Rattle.mopekihua.proofs.mopekihua_receive.Tie as tie
+
+receive-requires : tie.Need-receive-requires
+receive-requires c κs = search needs
+
+same-length : tie.Need-same-length
+same-length c = search needs
+
+returns : tie.Need-returns
+returns c = (
+  c .before .before .receive .ensures,
+  lent-chars (c .before .before .before .before .before .before .before .before .args .chars .now)
+      (c .before .before .before .before .before .before .before .shared-slice-known .given),
+)
+
+pub mopekihua-receive-spec : {M : Type 1} → statement M
+mopekihua-receive-spec = tie.close (tie.spec receive-requires same-length returns)
