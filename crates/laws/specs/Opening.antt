@@ -28,3 +28,14 @@ module _ (cs ls xs : List ℕ) (refusal : ℕ) (number : refusal ≡ index-refus
         lines = e ∙ sym (accepted-yes refusal (keys-of xs) 0 none);
         places = ap (λ (k : ℕ). 2 + 3 * k) e ∙ sym (accepted-yes refusal (header + 3 * keys-of xs) 0 none);
       }
+
+-- what the record of an accepted index says: no line is met, and the bounds are those of the directory
+module _ (cs ls xs : List ℕ) (refusal keys first : ℕ) (b : Bounded cs ls xs refusal keys first) (none : refusal ≡ 0) where
+  pub opened-accepted : index-refusal cs ls xs ≡ 0
+  opened-accepted = sym (b .number) ∙ none
+
+  pub opened-keys : keys ≡ keys-of xs
+  opened-keys = b .lines ∙ accepted-yes refusal (keys-of xs) 0 none
+
+  pub opened-first : first ≡ header + 3 * keys-of xs
+  opened-first = b .places ∙ accepted-yes refusal (header + 3 * keys-of xs) 0 none

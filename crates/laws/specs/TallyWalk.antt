@@ -2,8 +2,8 @@
 use mathlib.Core.Path.{_≡_, refl, sym, ap, _∙_}
 use mathlib.Core.Bool.{true, false, cond}
 use mathlib.Core.Logic.{_⊎_, inl, inr, ⊎-elim}
-use mathlib.Core.List.{List}
-use Prim.Native.Nat.{ℕ, zero, suc, _+_, _*_, _-_, _≤_, _<_}
+use mathlib.Core.List.{List, [], _∷_}
+use Prim.Native.Nat.{ℕ, zero, suc, _+_, _*_, _-_, _^_, _≤_, _<_}
 use native.Mathlib.Nat.{zero-add}
 use native.Mathlib.Numerals.{add-one}
 use native.Mathlib.Omega.{arith}
@@ -70,31 +70,69 @@ unfolding tally-from
 length-tally zero l lex ks = refl
 length-tally (suc n) l lex ks = ap suc (length-tally n (suc l) lex ks)
 
--- THE WALK
+-- two lists of counts added place by place
+unfoldable pub added : List ℕ → List ℕ → List ℕ
+added [] ys = []
+added (x ∷ xs) [] = x ∷ xs
+added (x ∷ xs) (y ∷ ys) = (x + y) ∷ added xs ys
 
--- after the first i lines
-pub record Tallied (lex : Lexicon) (xs counts : List ℕ) (i : ℕ) : Type 0 where
-  pub within : i ≤ keys-of xs
-  pub whole : length counts ≡ 32
-  pub bounded : (j : ℕ) → getD counts j 0 ≤ 65535 * i
-  pub summed :
-      (j : ℕ) → j < 32 → getD counts j 0 + counted lex (1 + j) (keys-of xs - i) i xs ≡ counted lex (1 + j) (keys-of xs) 0 xs
+length-added : (xs ys : List ℕ) → length (added xs ys) ≡ length xs
+unfolding added
+length-added [] ys = refl
+length-added (x ∷ xs) [] = refl
+length-added (x ∷ xs) (y ∷ ys) = ap suc (length-added xs ys)
+
+getD-added : (xs ys : List ℕ) (j : ℕ) → j < length xs → getD (added xs ys) j 0 ≡ getD xs j 0 + getD ys j 0
+unfolding added
+getD-added [] ys j h = absurd (omega arith)
+getD-added (x ∷ xs) [] zero h = omega arith
+getD-added (x ∷ xs) [] (suc j) h = omega arith
+getD-added (x ∷ xs) (y ∷ ys) zero h = refl
+getD-added (x ∷ xs) (y ∷ ys) (suc j) h = getD-added xs ys j (omega arith)
+
+added-zeros : (n : ℕ) (ys : List ℕ) → length ys ≡ n → added (replicate n 0) ys ≡ ys
+unfolding added
+added-zeros zero [] e = refl
+added-zeros zero (y ∷ ys) e = absurd (omega arith)
+added-zeros (suc n) [] e = absurd (omega arith)
+added-zeros (suc n) (y ∷ ys) e = rw (zero-add y, added-zeros n ys (omega arith))
+
+-- a tally added to zeros is that tally
+pub tally-afresh : (lex : Lexicon) (xs : List ℕ) → added (replicate 32 0) (tally lex xs) ≡ tally lex xs
+unfolding tally
+tally-afresh lex xs = added-zeros 32 (tally-from 32 1 lex (lines-in xs)) (length-tally 32 1 lex (lines-in xs))
 
 zeros-read : (n j : ℕ) → getD (replicate {A = ℕ} n 0) j 0 ≡ 0
 zeros-read zero j = refl
 zeros-read (suc n) zero = refl
 zeros-read (suc n) (suc j) = zeros-read n j
 
-pub tally-start : (lex : Lexicon) (xs : List ℕ) → Tallied lex xs (replicate 32 0) 0
-tally-start lex xs =
+-- zeros are counts that no tally makes wrap
+pub small-zeros : (j : ℕ) → getD (replicate {A = ℕ} 32 0) j 0 ≤ 2 ^ 62
+small-zeros j = omega (arith, zeros-read 32 j)
+
+-- THE WALK
+
+-- after the first i lines, from the counts given
+pub record Tallied (lex : Lexicon) (xs given counts : List ℕ) (i : ℕ) : Type 0 where
+  pub within : i ≤ keys-of xs
+  pub whole : length counts ≡ 32
+  pub bounded : (j : ℕ) → getD counts j 0 ≤ 2 ^ 62 + 65535 * i
+  pub summed :
+      (j : ℕ) → j < 32 →
+      getD counts j 0 + counted lex (1 + j) (keys-of xs - i) i xs ≡ getD given j 0 + counted lex (1 + j) (keys-of xs) 0 xs
+
+pub tally-start :
+    (lex : Lexicon) (xs given : List ℕ) → length given ≡ 32 → ((j : ℕ) → getD given j 0 ≤ 2 ^ 62) → Tallied lex xs given given 0
+tally-start lex xs given long small =
     record {
       within = omega arith;
-      whole = refl;
-      bounded = λ j. omega (arith, zeros-read 32 j);
-      summed = λ j b. let z : keys-of xs - 0 ≡ keys-of xs = omega arith in rw (z, zeros-read 32 j) (zero-add (counted lex (1 + j) (keys-of xs) 0 xs));
+      whole = long;
+      bounded = λ j. omega (arith, small j);
+      summed = λ j b. let z : keys-of xs - 0 ≡ keys-of xs = omega arith in rw z;
     }
 
-module _ (lex : Lexicon) (xs counts : List ℕ) (i : ℕ) (h : Tallied lex xs counts i) where
+module _ (lex : Lexicon) (xs given counts : List ℕ) (i : ℕ) (h : Tallied lex xs given counts i) where
   module _ (place : ℕ) (below : i < keys-of xs) (small : count-at xs i ≤ 65535) (room : place < 32) (long : length (spells lex (key-at xs i)) ≡ place + 1) where
     raised : List ℕ
     raised = set counts place (getD counts place 0 + count-at xs i)
@@ -119,7 +157,7 @@ module _ (lex : Lexicon) (xs counts : List ℕ) (i : ℕ) (h : Tallied lex xs co
     unfolding counted
     left-cut l = let z : keys-of xs - i ≡ suc (keys-of xs - suc i) = omega arith in rw (add-one i, z)
 
-    pub tally-step : Tallied lex xs (set counts place (getD counts place 0 + count-at xs i)) (i + 1)
+    pub tally-step : Tallied lex xs given (set counts place (getD counts place 0 + count-at xs i)) (i + 1)
     unfolding raised
     tally-step =
         record {
@@ -129,13 +167,14 @@ module _ (lex : Lexicon) (xs counts : List ℕ) (i : ℕ) (h : Tallied lex xs co
           summed = λ j b. summed j b (here-or-other j);
         }
       where
-        bounded : (j : ℕ) → (j ≡ place) ⊎ (j ≡ place → ⊥) → getD raised j 0 ≤ 65535 * (i + 1)
+        bounded : (j : ℕ) → (j ≡ place) ⊎ (j ≡ place → ⊥) → getD raised j 0 ≤ 2 ^ 62 + 65535 * (i + 1)
         bounded j (inl e) = rw e (omega (arith, raised-here, h .bounded place))
         bounded j (inr other) = omega (arith, raised-other j other, h .bounded j)
 
         summed :
             (j : ℕ) → j < 32 → (j ≡ place) ⊎ (j ≡ place → ⊥) →
-            getD raised j 0 + counted lex (1 + j) (keys-of xs - (i + 1)) (i + 1) xs ≡ counted lex (1 + j) (keys-of xs) 0 xs
+            getD raised j 0 + counted lex (1 + j) (keys-of xs - (i + 1)) (i + 1) xs
+            ≡ getD given j 0 + counted lex (1 + j) (keys-of xs) 0 xs
         summed j b (inl e) =
             let same : eqb (length (spells lex (key-at xs i))) (1 + place) ≡ true = eq-eqb (length (spells lex (key-at xs i))) (1 + place) (omega (arith, long)) in
             let left = rw same at (left-cut (1 + place)) in
@@ -145,10 +184,11 @@ module _ (lex : Lexicon) (xs counts : List ℕ) (i : ℕ) (h : Tallied lex xs co
             let left = rw differ at (left-cut (1 + j)) in
             omega (arith, raised-other j other, left, h .summed j b)
 
-  pub tally-end : (g : ℕ) → readable g lex xs ≡ true → keys-of xs ≤ i → counts ≡ tally lex xs
+  pub tally-end : (g : ℕ) → readable g lex xs ≡ true → length given ≡ 32 → keys-of xs ≤ i → counts ≡ added given (tally lex xs)
   unfolding tally lines-in entries-of counted
-  tally-end g t past =
-      ext-getD 0 counts (tally-from 32 1 lex lines) (h .whole ∙ sym (length-tally 32 1 lex lines)) each
+  tally-end g t long past =
+      ext-getD 0 counts (added given (tally-from 32 1 lex lines)) (h .whole ∙ sym (length-added given (tally-from 32 1 lex lines) ∙ long))
+      each
     where
       places : List ℕ
       places = drop (header + 3 * keys-of xs) xs
@@ -156,15 +196,16 @@ module _ (lex : Lexicon) (xs counts : List ℕ) (i : ℕ) (h : Tallied lex xs co
       lines : List Line
       lines = lines-from (keys-of xs) 0 xs places
 
-      each : (j : ℕ) → j < length counts → getD counts j 0 ≡ getD (tally-from 32 1 lex lines) j 0
+      each : (j : ℕ) → j < length counts → getD counts j 0 ≡ getD (added given (tally-from 32 1 lex lines)) j 0
       each j b =
           let inside : j < 32 = omega (arith, h .whole) in
           let none : keys-of xs - i ≡ 0 = omega arith in
-          let all : getD counts j 0 + 0 ≡ counted lex (1 + j) (keys-of xs) 0 xs = rw none at (h .summed j inside) in
+          let all : getD counts j 0 + 0 ≡ getD given j 0 + counted lex (1 + j) (keys-of xs) 0 xs = rw none at (h .summed j inside) in
           let fits = readable-fits g lex xs t in
           omega (
             arith,
             all,
+            getD-added given (tally-from 32 1 lex lines) j (omega (arith, long)),
             getD-tally 32 1 lex lines j inside,
             counted-lines lex (1 + j) (keys-of xs) 0 xs places (omega (arith, fits .is-long, length-drop (header + 3 * keys-of xs) xs)),
           )

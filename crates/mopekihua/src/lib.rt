@@ -98,7 +98,11 @@ pub extern "C" fn mopekihua_cut<'a>(
 // Tallies an index by word length. Refusals 1, 2, 3, 5, with 32 zeros; accepted it answers the number of entries, and under l - 1
 // how many of them have length l.
 #[no_mangle]
-pub extern "C" fn mopekihua_tally(chars: &[u16], lengths: &[u16], index: &[u16]) -> TallyAnswer
+pub extern "C" fn mopekihua_tally<'a>(
+    chars: &'a [u16],
+    lengths: &'a [u16],
+    index: &'a [u16],
+) -> TallyAnswer
     ensures { λ r. ⌜ Tally-says (now (chars .entry)) (now (lengths .entry)) (now (index .entry)) r ⌝ }
 {
     postings::tallying::tally(chars, lengths, index)

@@ -2,8 +2,8 @@
 // travel by value.
 ghost use mathlib.Core.Path.{_≡_};
 ghost use mathlib.Core.Bool.{true};
-ghost use Prim.Native.Nat.{_+_, _*_, _-_, _≤_};
-ghost use lib.ListN.{length, replicate};
+ghost use Prim.Native.Nat.{ℕ, _+_, _*_, _^_, _≤_};
+ghost use lib.ListN.{length, getD};
 ghost use Rattle.spec.specs.Dictionary.{longest-text, lexicon};
 ghost use Rattle.spec.specs.Words.{key, spells};
 ghost use Rattle.spec.specs.Index.{header, keys-of, readable};
@@ -11,6 +11,9 @@ ghost use Rattle.spec.specs.Tally.{tally};
 ghost use Rattle.spec.specs.Calls.{Tally-says};
 ghost use Rattle.laws.specs.Facts.{Is-key};
 ghost use Rattle.laws.specs.Lexicon.{Is-admitted};
+ghost use Rattle.laws.specs.Opening.{Bounded};
+ghost use Rattle.laws.specs.TallyWalk.{added};
+use opening::opened::open_index;
 use spec::TallyAnswer;
 
 // How many characters a key spells.
@@ -25,13 +28,19 @@ pub fn key_length(chars: &[u16], lengths: &[u16], kind: u16, value: u16) -> usiz
     lengths[word] as usize
 }
 
-// 32 zeros, with one place raised for each key of a readable index by the count of its positions.
-fn raised(chars: &[u16], lengths: &[u16], index: &[u16], zeros: [u64; 32]) -> [u64; 32]
-    requires { ⌜ Is-admitted (now chars) (now lengths) × (readable longest-text (lexicon (now chars) (now lengths)) (now index) ≡ true) × (header + 3 * keys-of (now index) ≤ length (now index)) × (zeros ≡ replicate 32 0) ⌝ }
-    ensures { λ r. ⌜ r ≡ tally (lexicon (now (chars .entry)) (now (lengths .entry))) (now (index .entry)) ⌝ }
+// The counts, with one place raised for each key of a readable index by the count of its positions. Each is at most 2^62, so that no
+// sum wraps.
+fn raised(
+    chars: &[u16],
+    lengths: &[u16],
+    index: &[u16],
+    keys: usize,
+    counts: [u64; 32],
+) -> [u64; 32]
+    requires { ⌜ Is-admitted (now chars) (now lengths) × (readable longest-text (lexicon (now chars) (now lengths)) (now index) ≡ true) × (keys ≡ keys-of (now index)) × (header + 3 * keys ≤ length (now index)) × ((j : ℕ) → getD counts j 0 ≤ 2 ^ 62) ⌝ }
+    ensures { λ r. ⌜ r ≡ added counts (tally (lexicon (now (chars .entry)) (now (lengths .entry))) (now (index .entry))) ⌝ }
 {
-    let keys = index[1] as usize;
-    let mut counts = zeros;
+    let mut counts = counts;
     let mut i = 0;
     while i < keys {
         let kind = index[2 + 3 * i];
@@ -44,20 +53,18 @@ fn raised(chars: &[u16], lengths: &[u16], index: &[u16], zeros: [u64; 32]) -> [u
     counts
 }
 
-// How many positions follow the directory of a readable index.
-fn entries_of(index: &[u16]) -> usize
-    requires { ⌜ (header ≤ length (now index)) × (header + 3 * keys-of (now index) ≤ length (now index)) ⌝ }
-    ensures { λ r. ⌜ r ≡ length (now (index .entry)) - (header + 3 * keys-of (now (index .entry))) ⌝ }
-{
-    let keys = index[1] as usize;
-    index.len() - (2 + 3 * keys)
-}
-
-// The tally of an index: M and the 32 counts, or the refusal and 32 zeros.
-pub fn tally(chars: &[u16], lengths: &[u16], index: &[u16]) -> TallyAnswer
+// The tally of an opened index, by its bounds.
+fn tally_opened<'a>(
+    chars: &'a [u16],
+    lengths: &'a [u16],
+    index: &'a [u16],
+    refusal: u32,
+    keys: usize,
+    first: usize,
+) -> TallyAnswer
+    requires { ⌜ Bounded (now chars) (now lengths) (now index) refusal keys first ⌝ }
     ensures { λ r. ⌜ Tally-says (now (chars .entry)) (now (lengths .entry)) (now (index .entry)) r ⌝ }
 {
-    let refusal = reading::readability::refusal_of(chars, lengths, index);
     if refusal != 0 {
         return TallyAnswer {
             refusal,
@@ -65,11 +72,25 @@ pub fn tally(chars: &[u16], lengths: &[u16], index: &[u16]) -> TallyAnswer
             by_length: [0u64; 32],
         };
     }
-    let count = entries_of(index);
-    let by_length = raised(chars, lengths, index, [0u64; 32]);
+    let by_length = raised(chars, lengths, index, keys, [0u64; 32]);
     TallyAnswer {
         refusal,
-        count,
+        count: index.len() - first,
         by_length,
     }
+}
+
+// The tally of an index: M and the 32 counts, or the refusal and 32 zeros.
+pub fn tally<'a>(chars: &'a [u16], lengths: &'a [u16], index: &'a [u16]) -> TallyAnswer
+    ensures { λ r. ⌜ Tally-says (now (chars .entry)) (now (lengths .entry)) (now (index .entry)) r ⌝ }
+{
+    let opened = open_index(chars, lengths, index);
+    tally_opened(
+        chars,
+        lengths,
+        opened.numbers,
+        opened.refusal,
+        opened.keys,
+        opened.first,
+    )
 }

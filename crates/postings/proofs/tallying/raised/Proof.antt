@@ -1,10 +1,10 @@
--- `raised` meets its contract. The invariant: the counts and what the lines from i on add to them are the tally. The measure is
--- how many lines are left. Assumes nothing.
-use mathlib.Core.Path.{sym, subst}
-use mathlib.Core.List.{List}
-use Prim.Native.Nat.{ℕ, _+_, _*_, _-_}
+-- `raised` meets its contract. The invariant: the counts and what the lines from i on add to them are the counts given and the tally.
+-- The measure is how many lines are left. Assumes nothing.
+use Prim.Native.Nat.{_+_, _*_, _-_}
 use native.Mathlib.Omega.{arith}
 use lib.ListN.{getD}
+use mir.Syntax.{w64}
+use borrow.Kind.Array.{eInt, good-length}
 use Rattle.spec.specs.Dictionary.{longest-text}
 use Rattle.spec.specs.Words.{key}
 use Rattle.laws.specs.KeyLengths.{key-sizes}
@@ -14,131 +14,126 @@ use Rattle.postings.proofs.tallying.raised.Statement.{statement}
 use Rattle.postings.proofs.tallying.raised.Tie as tie
 
 abbrev Inv-loop : tie.InvT-loop
-Inv-loop chars lengths index keys counts₀ i₀ counts i = Tallied (lexicon chars lengths) index counts i
+Inv-loop chars lengths index keys counts₀ i₀ counts i = Tallied (lexicon chars lengths) index counts₀ counts i
 
 abbrev μ-loop : tie.MeasureT-loop
 μ-loop chars lengths index keys counts₀ i₀ counts i = keys - i
 
-shared-slice-read-keys : tie.Need-shared-slice-read-keys Inv-loop μ-loop
-shared-slice-read-keys c = omega (arith, c .before .before .before .before .pre .2)
-
-cast-keys : tie.Need-cast-keys Inv-loop μ-loop
-cast-keys c = omega (arith, c .shared-slice-known4 .given 1)
-
 loop-holds : tie.Need-loop-holds Inv-loop μ-loop
 loop-holds c =
-    let start = c .before .before .before .before in
-    subst (λ (counts : List ℕ). Tallied (lexicon (start .args .chars .now) (start .args .lengths .now)) (start .args .index .now) counts 0) (sym (start .pre .3))
-    (tally-start (lexicon (start .args .chars .now) (start .args .lengths .now)) (start .args .index .now))
+    let start = c .before .before .before in
+    tally-start (lexicon (start .args .chars .now) (start .args .lengths .now)) (start .args .index .now) (start .args .counts) (good-length (eInt w64) 32 (start .args .counts) _ (start .good .1 .1 .1 .1 .0)) (start .pre .4)
 
 mul-kind : tie.Need-mul-kind Inv-loop μ-loop
-mul-kind c = omega (arith, c .loop-test .taken, c .before .before .before .before .before .before .pre .2)
+mul-kind c = omega (arith, c .loop-test .taken, c .before .before .before .before .before .pre .3)
 
 add-kind : tie.Need-add-kind Inv-loop μ-loop
-add-kind c = omega (arith, c .loop-test .taken, c .before .before .before .before .before .before .pre .2)
+add-kind c = omega (arith, c .loop-test .taken, c .before .before .before .before .before .pre .3)
 
 mul-kind-2 : tie.Need-mul-kind-2 Inv-loop μ-loop
-mul-kind-2 c = omega (arith, c .loop-test .taken, c .before .before .before .before .before .before .pre .2)
+mul-kind-2 c = omega (arith, c .loop-test .taken, c .before .before .before .before .before .pre .3)
 
 shared-slice-read-kind : tie.Need-shared-slice-read-kind Inv-loop μ-loop
-shared-slice-read-kind c = omega (arith, c .before .loop-test .taken, c .before .before .before .before .before .before .before .pre .2)
+shared-slice-read-kind c = omega (arith, c .before .loop-test .taken, c .before .before .before .before .before .before .pre .3)
 
 mul-value : tie.Need-mul-value Inv-loop μ-loop
-mul-value c = omega (arith, c .before .loop-test .taken, c .before .before .before .before .before .before .before .pre .2)
+mul-value c = omega (arith, c .before .loop-test .taken, c .before .before .before .before .before .before .pre .3)
 
 add-value : tie.Need-add-value Inv-loop μ-loop
-add-value c = omega (arith, c .before .loop-test .taken, c .before .before .before .before .before .before .before .pre .2)
+add-value c = omega (arith, c .before .loop-test .taken, c .before .before .before .before .before .before .pre .3)
 
 add-value-2 : tie.Need-add-value-2 Inv-loop μ-loop
-add-value-2 c = omega (arith, c .before .loop-test .taken, c .before .before .before .before .before .before .before .pre .2)
+add-value-2 c = omega (arith, c .before .loop-test .taken, c .before .before .before .before .before .before .pre .3)
 
 mul-value-2 : tie.Need-mul-value-2 Inv-loop μ-loop
-mul-value-2 c = omega (arith, c .before .loop-test .taken, c .before .before .before .before .before .before .before .pre .2)
+mul-value-2 c = omega (arith, c .before .loop-test .taken, c .before .before .before .before .before .before .pre .3)
 
 shared-slice-read-value : tie.Need-shared-slice-read-value Inv-loop μ-loop
-shared-slice-read-value c = omega (arith, c .before .before .loop-test .taken, c .before .before .before .before .before .before .before .before .pre .2)
+shared-slice-read-value c = omega (arith, c .before .before .loop-test .taken, c .before .before .before .before .before .before .before .pre .3)
 
 mul-count : tie.Need-mul-count Inv-loop μ-loop
-mul-count c = omega (arith, c .before .before .loop-test .taken, c .before .before .before .before .before .before .before .before .pre .2)
+mul-count c = omega (arith, c .before .before .loop-test .taken, c .before .before .before .before .before .before .before .pre .3)
 
 add-count : tie.Need-add-count Inv-loop μ-loop
-add-count c = omega (arith, c .before .before .loop-test .taken, c .before .before .before .before .before .before .before .before .pre .2)
+add-count c = omega (arith, c .before .before .loop-test .taken, c .before .before .before .before .before .before .before .pre .3)
 
 add-count-2 : tie.Need-add-count-2 Inv-loop μ-loop
-add-count-2 c = omega (arith, c .before .before .loop-test .taken, c .before .before .before .before .before .before .before .before .pre .2)
+add-count-2 c = omega (arith, c .before .before .loop-test .taken, c .before .before .before .before .before .before .before .pre .3)
 
 mul-count-2 : tie.Need-mul-count-2 Inv-loop μ-loop
-mul-count-2 c = omega (arith, c .before .before .loop-test .taken, c .before .before .before .before .before .before .before .before .pre .2)
+mul-count-2 c = omega (arith, c .before .before .loop-test .taken, c .before .before .before .before .before .before .before .pre .3)
 
 shared-slice-read-count : tie.Need-shared-slice-read-count Inv-loop μ-loop
-shared-slice-read-count c = omega (arith, c .before .before .before .loop-test .taken, c .before .before .before .before .before .before .before .before .before .pre .2)
+shared-slice-read-count c = omega (arith, c .before .before .before .loop-test .taken, c .before .before .before .before .before .before .before .before .pre .3)
 
 cast-count : tie.Need-cast-count Inv-loop μ-loop
-cast-count c = omega (arith, c .shared-slice-known7 .given (2 + 3 * c .before .before .before .before .loop .i + 2))
+cast-count c = omega (arith, c .shared-slice-known6 .given (2 + 3 * c .before .before .before .before .loop .i + 2))
 
 key-length-requires : tie.Need-key-length-requires Inv-loop μ-loop
 key-length-requires c κs =
-    let start = c .before .before .before .before .before .before .before .before .before in
+    let start = c .before .before .before .before .before .before .before .before in
     let walk = c .before .before .before .before .loop in
-    (start .pre .0, (line-key longest-text (lexicon (start .args .chars .now) (start .args .lengths .now)) (start .args .index .now) (start .pre .1) (walk .i) (c .before .before .before .loop-test .taken)))
+    (start .pre .0, (line-key longest-text (lexicon (start .args .chars .now) (start .args .lengths .now)) (start .args .index .now) (start .pre .1) (walk .i) (omega (arith, c .before .before .before .loop-test .taken, start .pre .2))))
 
 sub-place : tie.Need-sub-place Inv-loop μ-loop
 sub-place c =
-    let start = c .before .before .before .before .before .before .before .before .before .before in
+    let start = c .before .before .before .before .before .before .before .before .before in
     let walk = c .before .before .before .before .before .loop in
-    let is = key-sizes (start .args .chars .now) (start .args .lengths .now) (start .pre .0) (key (getD (start .args .index .now) (2 + 3 * walk .i) 0) (getD (start .args .index .now) (2 + 3 * walk .i + 1) 0)) (line-key longest-text (lexicon (start .args .chars .now) (start .args .lengths .now)) (start .args .index .now) (start .pre .1) (walk .i) (c .before .before .before .before .loop-test .taken)) in
+    let is = key-sizes (start .args .chars .now) (start .args .lengths .now) (start .pre .0) (key (getD (start .args .index .now) (2 + 3 * walk .i) 0) (getD (start .args .index .now) (2 + 3 * walk .i + 1) 0)) (line-key longest-text (lexicon (start .args .chars .now) (start .args .lengths .now)) (start .args .index .now) (start .pre .1) (walk .i) (omega (arith, c .before .before .before .before .loop-test .taken, start .pre .2))) in
     omega (arith, c .key-length .ensures, is .some)
 
 mul-counts : tie.Need-mul-counts Inv-loop μ-loop
 mul-counts c =
-    let start = c .before .before .before .before .before .before .before .before .before .before in
+    let start = c .before .before .before .before .before .before .before .before .before in
     let walk = c .before .before .before .before .before .loop in
-    let is = key-sizes (start .args .chars .now) (start .args .lengths .now) (start .pre .0) (key (getD (start .args .index .now) (2 + 3 * walk .i) 0) (getD (start .args .index .now) (2 + 3 * walk .i + 1) 0)) (line-key longest-text (lexicon (start .args .chars .now) (start .args .lengths .now)) (start .args .index .now) (start .pre .1) (walk .i) (c .before .before .before .before .loop-test .taken)) in
+    let is = key-sizes (start .args .chars .now) (start .args .lengths .now) (start .pre .0) (key (getD (start .args .index .now) (2 + 3 * walk .i) 0) (getD (start .args .index .now) (2 + 3 * walk .i + 1) 0)) (line-key longest-text (lexicon (start .args .chars .now) (start .args .lengths .now)) (start .args .index .now) (start .pre .1) (walk .i) (omega (arith, c .before .before .before .before .loop-test .taken, start .pre .2))) in
     omega (arith, c .key-length .ensures, is .short, is .some)
 
 array-read-counts : tie.Need-array-read-counts Inv-loop μ-loop
 array-read-counts c =
-    let start = c .before .before .before .before .before .before .before .before .before .before in
+    let start = c .before .before .before .before .before .before .before .before .before in
     let walk = c .before .before .before .before .before .loop in
-    let is = key-sizes (start .args .chars .now) (start .args .lengths .now) (start .pre .0) (key (getD (start .args .index .now) (2 + 3 * walk .i) 0) (getD (start .args .index .now) (2 + 3 * walk .i + 1) 0)) (line-key longest-text (lexicon (start .args .chars .now) (start .args .lengths .now)) (start .args .index .now) (start .pre .1) (walk .i) (c .before .before .before .before .loop-test .taken)) in
+    let is = key-sizes (start .args .chars .now) (start .args .lengths .now) (start .pre .0) (key (getD (start .args .index .now) (2 + 3 * walk .i) 0) (getD (start .args .index .now) (2 + 3 * walk .i + 1) 0)) (line-key longest-text (lexicon (start .args .chars .now) (start .args .lengths .now)) (start .args .index .now) (start .pre .1) (walk .i) (omega (arith, c .before .before .before .before .loop-test .taken, start .pre .2))) in
     omega (arith, c .key-length .ensures, is .short, is .some)
 
 add-counts : tie.Need-add-counts Inv-loop μ-loop
 add-counts c =
-    let start = c .before .before .before .before .before .before .before .before .before .before in
+    let start = c .before .before .before .before .before .before .before .before .before in
     let walk = c .before .before .before .before .before .loop in
-    let is = key-sizes (start .args .chars .now) (start .args .lengths .now) (start .pre .0) (key (getD (start .args .index .now) (2 + 3 * walk .i) 0) (getD (start .args .index .now) (2 + 3 * walk .i + 1) 0)) (line-key longest-text (lexicon (start .args .chars .now) (start .args .lengths .now)) (start .args .index .now) (start .pre .1) (walk .i) (c .before .before .before .before .loop-test .taken)) in
-    omega (arith, c .key-length .ensures, is .short, is .some, walk .inv .bounded (c .key-length .result - 1), c .before .before .before .before .loop-test .taken, c .before .shared-slice-known7 .given (2 + 3 * walk .i + 2), c .before .shared-slice-known7 .given 1)
+    let is = key-sizes (start .args .chars .now) (start .args .lengths .now) (start .pre .0) (key (getD (start .args .index .now) (2 + 3 * walk .i) 0) (getD (start .args .index .now) (2 + 3 * walk .i + 1) 0)) (line-key longest-text (lexicon (start .args .chars .now) (start .args .lengths .now)) (start .args .index .now) (start .pre .1) (walk .i) (omega (arith, c .before .before .before .before .loop-test .taken, start .pre .2))) in
+    omega (arith, c .key-length .ensures, is .short, is .some, walk .inv .bounded (c .key-length .result - 1), c .before .before .before .before .loop-test .taken, c .before .shared-slice-known6 .given (2 + 3 * walk .i + 2), c .before .shared-slice-known6 .given 1, start .pre .2)
 
 mul-counts-2 : tie.Need-mul-counts-2 Inv-loop μ-loop
 mul-counts-2 c =
-    let start = c .before .before .before .before .before .before .before .before .before .before in
+    let start = c .before .before .before .before .before .before .before .before .before in
     let walk = c .before .before .before .before .before .loop in
-    let is = key-sizes (start .args .chars .now) (start .args .lengths .now) (start .pre .0) (key (getD (start .args .index .now) (2 + 3 * walk .i) 0) (getD (start .args .index .now) (2 + 3 * walk .i + 1) 0)) (line-key longest-text (lexicon (start .args .chars .now) (start .args .lengths .now)) (start .args .index .now) (start .pre .1) (walk .i) (c .before .before .before .before .loop-test .taken)) in
+    let is = key-sizes (start .args .chars .now) (start .args .lengths .now) (start .pre .0) (key (getD (start .args .index .now) (2 + 3 * walk .i) 0) (getD (start .args .index .now) (2 + 3 * walk .i + 1) 0)) (line-key longest-text (lexicon (start .args .chars .now) (start .args .lengths .now)) (start .args .index .now) (start .pre .1) (walk .i) (omega (arith, c .before .before .before .before .loop-test .taken, start .pre .2))) in
     omega (arith, c .key-length .ensures, is .short, is .some)
 
 array-write-counts : tie.Need-array-write-counts Inv-loop μ-loop
 array-write-counts c =
-    let start = c .before .before .before .before .before .before .before .before .before .before in
+    let start = c .before .before .before .before .before .before .before .before .before in
     let walk = c .before .before .before .before .before .loop in
-    let is = key-sizes (start .args .chars .now) (start .args .lengths .now) (start .pre .0) (key (getD (start .args .index .now) (2 + 3 * walk .i) 0) (getD (start .args .index .now) (2 + 3 * walk .i + 1) 0)) (line-key longest-text (lexicon (start .args .chars .now) (start .args .lengths .now)) (start .args .index .now) (start .pre .1) (walk .i) (c .before .before .before .before .loop-test .taken)) in
+    let is = key-sizes (start .args .chars .now) (start .args .lengths .now) (start .pre .0) (key (getD (start .args .index .now) (2 + 3 * walk .i) 0) (getD (start .args .index .now) (2 + 3 * walk .i + 1) 0)) (line-key longest-text (lexicon (start .args .chars .now) (start .args .lengths .now)) (start .args .index .now) (start .pre .1) (walk .i) (omega (arith, c .before .before .before .before .loop-test .taken, start .pre .2))) in
     omega (arith, c .key-length .ensures, is .short, is .some)
 
 add-i : tie.Need-add-i Inv-loop μ-loop
-add-i c = omega (arith, c .before .before .before .before .loop-test .taken, c .before .before .before .before .before .before .before .before .before .before .pre .2)
+add-i c = omega (arith, c .before .before .before .before .loop-test .taken, c .before .before .before .before .before .before .before .before .before .pre .3)
 
 loop-less : tie.Need-loop-less Inv-loop μ-loop
 loop-less c = omega (arith, c .before .before .before .before .loop-test .taken)
 
 loop-again : tie.Need-loop-again Inv-loop μ-loop
 loop-again c =
-    let start = c .before .before .before .before .before .before .before .before .before .before in
+    let start = c .before .before .before .before .before .before .before .before .before in
     let walk = c .before .before .before .before .before .loop in
-    let is = key-sizes (start .args .chars .now) (start .args .lengths .now) (start .pre .0) (key (getD (start .args .index .now) (2 + 3 * walk .i) 0) (getD (start .args .index .now) (2 + 3 * walk .i + 1) 0)) (line-key longest-text (lexicon (start .args .chars .now) (start .args .lengths .now)) (start .args .index .now) (start .pre .1) (walk .i) (c .before .before .before .before .loop-test .taken)) in
-    tally-step (lexicon (start .args .chars .now) (start .args .lengths .now)) (start .args .index .now) (walk .counts) (walk .i) (walk .inv) (c .key-length .result - 1) (c .before .before .before .before .loop-test .taken) (omega (arith, c .before .shared-slice-known7 .given (2 + 3 * walk .i + 2))) (omega (arith, c .key-length .ensures, is .short, is .some)) (omega (arith, c .key-length .ensures, is .some))
+    let is = key-sizes (start .args .chars .now) (start .args .lengths .now) (start .pre .0) (key (getD (start .args .index .now) (2 + 3 * walk .i) 0) (getD (start .args .index .now) (2 + 3 * walk .i + 1) 0)) (line-key longest-text (lexicon (start .args .chars .now) (start .args .lengths .now)) (start .args .index .now) (start .pre .1) (walk .i) (omega (arith, c .before .before .before .before .loop-test .taken, start .pre .2))) in
+    tally-step (lexicon (start .args .chars .now) (start .args .lengths .now)) (start .args .index .now) (start .args .counts) (walk .counts) (walk .i) (walk .inv) (c .key-length .result - 1) (omega (arith, c .before .before .before .before .loop-test .taken, start .pre .2)) (omega (arith, c .before .shared-slice-known6 .given (2 + 3 * walk .i + 2))) (omega (arith, c .key-length .ensures, is .short, is .some)) (omega (arith, c .key-length .ensures, is .some))
 
 returns : tie.Need-returns Inv-loop μ-loop
-returns c = tally-end (lexicon (c .before .before .before .before .before .before .args .chars .now) (c .before .before .before .before .before .before .args .lengths .now)) (c .before .before .before .before .before .before .args .index .now) (c .before .loop .counts) (c .before .loop .i) (c .before .loop .inv) longest-text (c .before .before .before .before .before .before .pre .1) (c .loop-test .left)
+returns c =
+    let start = c .before .before .before .before .before in
+    tally-end (lexicon (start .args .chars .now) (start .args .lengths .now)) (start .args .index .now) (start .args .counts) (c .before .loop .counts) (c .before .loop .i) (c .before .loop .inv) longest-text (start .pre .1) (good-length (eInt w64) 32 (start .args .counts) _ (start .good .1 .1 .1 .1 .0)) (omega (arith, c .loop-test .left, start .pre .2))
 
 pub raised-spec : {M : Type 1} → statement M
 raised-spec =
@@ -146,8 +141,6 @@ raised-spec =
     (tie.spec
     Inv-loop
     μ-loop
-    shared-slice-read-keys
-    cast-keys
     loop-holds
     mul-kind
     add-kind

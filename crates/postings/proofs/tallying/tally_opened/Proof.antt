@@ -1,0 +1,49 @@
+-- `tally_opened` meets its contract: the refusal decides what is answered. Assumes nothing.
+use mathlib.Core.Path.{_≡_, refl, _∙_}
+use Prim.Native.Nat.{ℕ, _-_}
+use native.Mathlib.Omega.{arith}
+use lib.ListN.{length, replicate}
+use Rattle.spec.specs.Dictionary.{longest-text, lexicon}
+use Rattle.spec.specs.Calls.{index-refusal}
+use Rattle.laws.specs.IndexRefusal.{index-read}
+use Rattle.laws.specs.Opening.{opened-accepted, opened-keys, opened-first}
+use Rattle.laws.specs.TallyWalk.{entries-left, small-zeros, tally-afresh}
+use Rattle.laws.specs.TallyAnswers.{tally-accepted, tally-refused}
+use Rattle.postings.proofs.tallying.tally_opened.Statement.{statement}
+use Rattle.postings.proofs.tallying.tally_opened.Tie as tie
+
+returns : tie.Need-returns
+returns c =
+    let start = c .before .before .before .before in
+    let a = start .args in
+    tally-refused (a .chars .now) (a .lengths .now) (a .index .now) (record { refusal = a .refusal; count = 0; «by_length» = replicate 32 0 }) (start .pre .number)
+    (λ (none : index-refusal (a .chars .now) (a .lengths .now) (a .index .now) ≡ 0). c .if1 .taken (start .pre .number ∙ none)) refl refl
+
+raised-requires : tie.Need-raised-requires
+raised-requires c κs =
+    let start = c .before .before .before .before in
+    let a = start .args in
+    let read = index-read (a .chars .now) (a .lengths .now) (a .index .now) (λ (i : ℕ). omega (arith, c .before .before .before .shared-slice-known .given i)) (opened-accepted (a .chars .now) (a .lengths .now) (a .index .now) (a .refusal) (a .keys) (a .first) (start .pre) (c .if1 .left)) in
+    let lines = opened-keys (a .chars .now) (a .lengths .now) (a .index .now) (a .refusal) (a .keys) (a .first) (start .pre) (c .if1 .left) in
+    (read .is-admitted, read .is-readable, lines, omega (arith, lines, read .fits .has-directory), small-zeros)
+
+sub-t12 : tie.Need-sub-t12
+sub-t12 c =
+    let start = c .before .before .before .before .before in
+    let a = start .args in
+    let read = index-read (a .chars .now) (a .lengths .now) (a .index .now) (λ (i : ℕ). omega (arith, c .before .before .before .before .shared-slice-known .given i)) (opened-accepted (a .chars .now) (a .lengths .now) (a .index .now) (a .refusal) (a .keys) (a .first) (start .pre) (c .before .if1 .left)) in
+    omega (arith, opened-first (a .chars .now) (a .lengths .now) (a .index .now) (a .refusal) (a .keys) (a .first) (start .pre) (c .before .if1 .left), read .fits .has-directory)
+
+returns-2 : tie.Need-returns-2
+returns-2 c =
+    let start = c .before .before .before .before .before in
+    let a = start .args in
+    let none = opened-accepted (a .chars .now) (a .lengths .now) (a .index .now) (a .refusal) (a .keys) (a .first) (start .pre) (c .before .if1 .left) in
+    let read = index-read (a .chars .now) (a .lengths .now) (a .index .now) (λ (i : ℕ). omega (arith, c .before .before .before .before .shared-slice-known .given i)) none in
+    let positions = opened-first (a .chars .now) (a .lengths .now) (a .index .now) (a .refusal) (a .keys) (a .first) (start .pre) (c .before .if1 .left) in
+    let left = entries-left longest-text (lexicon (a .chars .now) (a .lengths .now)) (a .index .now) (read .is-readable) in
+    tally-accepted (a .chars .now) (a .lengths .now) (a .index .now) (record { refusal = a .refusal; count = length (a .index .now) - a .first; «by_length» = c .raised .result }) (start .pre .number) none
+    (omega (arith, positions, left)) (c .raised .ensures ∙ tally-afresh (lexicon (a .chars .now) (a .lengths .now)) (a .index .now))
+
+pub tally-opened-spec : {M : Type 1} → statement M
+tally-opened-spec = tie.close (tie.spec returns raised-requires sub-t12 returns-2)
