@@ -24,9 +24,27 @@ use Rattle.laws.specs.Building.{puts-accepted, puts-refused, output-refu
 
 -- THE ORDER OF THE REFUSALS
 
+-- a refusal, or 7 for a work slice too short
+unfoldable pub or-work-short : (refusal : ℕ) (index : List ℕ) (work : ℕ) → ℕ
+or-work-short refusal xs w = or-else refusal (cond (work-short (n-of xs) w) 7 0)
+
 -- the refusals that need no painting: 1 to 3, 5, 7
-unfoldable pub delivery-refusal : (chars lengths index : List ℕ) → (work : ℕ) → ℕ
-delivery-refusal cs ls xs w = or-else (index-refusal cs ls xs) (cond (work-short (n-of xs) w) 7 0)
+abbrev pub delivery-refusal : (chars lengths index : List ℕ) → (work : ℕ) → ℕ
+delivery-refusal cs ls xs w = or-work-short (index-refusal cs ls xs) xs w
+
+module _ (refusal : ℕ) (xs : List ℕ) (w : ℕ) where
+  pub short-refused : (refusal ≡ 0 → ⊥) → refusal ≡ or-work-short refusal xs w
+  unfolding or-work-short or-else
+  short-refused some = rw (ne-eqb refusal 0 some)
+
+  module _ (none : refusal ≡ 0) where
+    pub short-work : w < 8 * n-of xs → 7 ≡ or-work-short refusal xs w
+    unfolding or-work-short or-else work-short
+    short-work short = rw (eq-eqb refusal 0 none, lt-ltb w (8 * n-of xs) short)
+
+    pub short-none : 8 * n-of xs ≤ w → 0 ≡ or-work-short refusal xs w
+    unfolding or-work-short or-else work-short
+    short-none room = rw (eq-eqb refusal 0 none, le-ltb w (8 * n-of xs) room)
 
 -- what holds where none of them is met
 pub record Delivered (cs ls xs : List ℕ) (w : ℕ) : Type 0 where
@@ -35,29 +53,20 @@ pub record Delivered (cs ls xs : List ℕ) (w : ℕ) : Type 0 where
   pub fits : Fits xs
   pub room : 8 * n-of xs ≤ w
 
+pub delivery-header : (cs ls xs : List ℕ) → index-refusal cs ls xs ≡ 0 → 1 ≤ length xs
+delivery-header cs ls xs none =
+    omega (arith, readable-fits longest-text (lexicon cs ls) xs (index-accepted cs ls xs none .is-readable) .has-header)
+
 module _ (cs ls xs : List ℕ) (w : ℕ) where
-  pub delivery-index :
-      (number : ℕ) → number ≡ index-refusal cs ls xs → (number ≡ 0 → ⊥) → number ≡ delivery-refusal cs ls xs w
-  unfolding delivery-refusal or-else
-  delivery-index number e some = rw (ne-eqb (index-refusal cs ls xs) 0 (λ (z : index-refusal cs ls xs ≡ 0). some (e ∙ z))) e
-
-  module _ (none : index-refusal cs ls xs ≡ 0) where
-    pub delivery-header : 1 ≤ length xs
-    delivery-header =
-        omega (arith, readable-fits longest-text (lexicon cs ls) xs (index-accepted cs ls xs none .is-readable) .has-header)
-
-    pub delivery-work : w < 8 * n-of xs → 7 ≡ delivery-refusal cs ls xs w
-    unfolding delivery-refusal or-else work-short
-    delivery-work short = rw (eq-eqb (index-refusal cs ls xs) 0 none, lt-ltb w (8 * n-of xs) short)
-
-    pub delivery-none : 8 * n-of xs ≤ w → 0 ≡ delivery-refusal cs ls xs w
-    unfolding delivery-refusal or-else work-short
-    delivery-none room = rw (eq-eqb (index-refusal cs ls xs) 0 none, le-ltb w (8 * n-of xs) room)
+  -- by the refusal of an opened index
+  pub opened-delivery :
+      (refusal early : ℕ) → refusal ≡ index-refusal cs ls xs → early ≡ or-work-short refusal xs w → early ≡ delivery-refusal cs ls xs w
+  opened-delivery refusal early number e = rw number at e
 
   -- an early refusal is the call's
   pub reception-early :
       (number : ℕ) → number ≡ delivery-refusal cs ls xs w → (number ≡ 0 → ⊥) → reception-refusal cs ls xs w ≡ number
-  unfolding reception-refusal delivery-refusal or-else work-short
+  unfolding reception-refusal or-work-short or-else work-short
   reception-early number e some = go (eqb (index-refusal cs ls xs) 0) refl (ltb w (8 * n-of xs)) refl ∙ sym e
     where
       go :
@@ -72,7 +81,7 @@ module _ (cs ls xs : List ℕ) (w : ℕ) where
     no-index-refusal : index-refusal cs ls xs ≡ 0
     no-index-refusal =
         ⊎-elim (λ (e : eqb (index-refusal cs ls xs) 0 ≡ true). eqb-true (index-refusal cs ls xs) 0 e)
-        (λ (e : eqb (index-refusal cs ls xs) 0 ≡ false). delivery-index (index-refusal cs ls xs) refl (eqb-false (index-refusal cs ls xs) 0 e) ∙ none)
+        (λ (e : eqb (index-refusal cs ls xs) 0 ≡ false). short-refused (index-refusal cs ls xs) xs w (eqb-false (index-refusal cs ls xs) 0 e) ∙ none)
         (true-or-false (eqb (index-refusal cs ls xs) 0))
 
     pub delivered : Delivered cs ls xs w
@@ -84,7 +93,7 @@ module _ (cs ls xs : List ℕ) (w : ℕ) where
           fits = readable-fits longest-text (lexicon cs ls) xs (a .is-readable);
           room =
               ⊎-elim (λ (h : 8 * n-of xs ≤ w). h)
-              (λ (h : w < 8 * n-of xs). absurd (omega (arith, delivery-work no-index-refusal h))) (le-or-lt (8 * n-of xs) w);
+              (λ (h : w < 8 * n-of xs). absurd (omega (arith, short-work (index-refusal cs ls xs) xs w no-index-refusal h))) (le-or-lt (8 * n-of xs) w);
         }
 
     -- without one it is 9 or none

@@ -37,10 +37,10 @@ pub extern "C" fn mopekihua_build(
 // Receives an index: whether some text of its stated length has it. Refusals 1, 2, 3, 5, 7, 9; accepted it answers that length. The
 // work slice is all zeros after every call.
 #[no_mangle]
-pub extern "C" fn mopekihua_receive(
-    chars: &[u16],
-    lengths: &[u16],
-    index: &[u16],
+pub extern "C" fn mopekihua_receive<'a>(
+    chars: &'a [u16],
+    lengths: &'a [u16],
+    index: &'a [u16],
     work: &mut [u16],
 ) -> Answer
     ensures { λ r. ⌜ Receive-says (now (chars .entry)) (now (lengths .entry)) (now (index .entry)) r (now (work .entry)) (now (work .exit)) ⌝ }
@@ -52,10 +52,10 @@ pub extern "C" fn mopekihua_receive(
 // Recovers the text of an index. Refusals 1, 2, 3, 5, 7, 9, then 8, which leave the output as it was; accepted it answers how many
 // characters are written to the front of the output. The work slice is all zeros after every call.
 #[no_mangle]
-pub extern "C" fn mopekihua_recover(
-    chars: &[u16],
-    lengths: &[u16],
-    index: &[u16],
+pub extern "C" fn mopekihua_recover<'a>(
+    chars: &'a [u16],
+    lengths: &'a [u16],
+    index: &'a [u16],
     output: &mut [u16],
     work: &mut [u16],
 ) -> Answer

@@ -1,21 +1,23 @@
 // Reception of a delivered index.
 //
-// What needs no painting is tested first. On every path the work slice is cleared over its whole length.
+// The index is opened once. What needs no painting is tested first. On every path the work slice is cleared over its whole length.
 ghost use mathlib.Core.Path.{_≡_};
-ghost use Rattle.spec.specs.Calls.{Receive-says};
+ghost use Prim.Native.Nat.{_≤_};
+ghost use lib.ListN.{length};
+ghost use Rattle.spec.specs.Calls.{index-refusal, Receive-says};
 ghost use Rattle.laws.specs.Answering.{Refuses};
-ghost use Rattle.laws.specs.Receiving.{delivery-refusal};
+ghost use Rattle.laws.specs.Receiving.{or-work-short};
 use crate::text::text_of;
-use reading::readability::refusal_of;
+use opening::opened::open_index;
 use scanning::work::clear;
 use scanning::work::refuse;
 use spec::Answer;
 
-// The first refusal that needs no painting, or 0: the index's, or a work slice too short.
-pub fn delivery_refusal(chars: &[u16], lengths: &[u16], index: &[u16], work: usize) -> u32
-    ensures { λ r. ⌜ r ≡ delivery-refusal (now (chars .entry)) (now (lengths .entry)) (now (index .entry)) work ⌝ }
+// The first refusal of an opened index that needs no painting, or 0: its own, or a work slice too short.
+pub fn delivery_refusal(index: &[u16], refusal: u32, work: usize) -> u32
+    requires { ⌜ (refusal ≡ 0 → 1 ≤ length (now index)) ⌝ }
+    ensures { λ r. ⌜ r ≡ or-work-short refusal (now (index .entry)) work ⌝ }
 {
-    let refusal = refusal_of(chars, lengths, index);
     if refusal != 0 {
         return refusal;
     }
@@ -32,13 +34,20 @@ pub fn no_text(work: &mut [u16]) -> Answer
     refuse(work, 9)
 }
 
-// Receives an index: refusals 1, 2, 3, 5, 7, 9; accepted it answers the length of the text.
-pub fn receive(chars: &[u16], lengths: &[u16], index: &[u16], work: &mut [u16]) -> Answer
+// Receives an opened index, by its refusal.
+fn receive_opened<'a>(
+    chars: &'a [u16],
+    lengths: &'a [u16],
+    index: &'a [u16],
+    refusal: u32,
+    work: &mut [u16],
+) -> Answer
+    requires { ⌜ refusal ≡ index-refusal (now chars) (now lengths) (now index) ⌝ }
     ensures { λ r. ⌜ Receive-says (now (chars .entry)) (now (lengths .entry)) (now (index .entry)) r (now (work .entry)) (now (work .exit)) ⌝ }
 {
-    let refusal = delivery_refusal(chars, lengths, index, work.len());
-    if refusal != 0 {
-        return refuse(work, refusal);
+    let early = delivery_refusal(index, refusal, work.len());
+    if early != 0 {
+        return refuse(work, early);
     }
     if !text_of(chars, lengths, index, work) {
         return no_text(work);
@@ -48,4 +57,17 @@ pub fn receive(chars: &[u16], lengths: &[u16], index: &[u16], work: &mut [u16]) 
         refusal: 0,
         count: index[0] as usize,
     }
+}
+
+// Receives an index: refusals 1, 2, 3, 5, 7, 9; accepted it answers the length of the text.
+pub fn receive<'a>(
+    chars: &'a [u16],
+    lengths: &'a [u16],
+    index: &'a [u16],
+    work: &mut [u16],
+) -> Answer
+    ensures { λ r. ⌜ Receive-says (now (chars .entry)) (now (lengths .entry)) (now (index .entry)) r (now (work .entry)) (now (work .exit)) ⌝ }
+{
+    let opened = open_index(chars, lengths, index);
+    receive_opened(chars, lengths, opened.numbers, opened.refusal, work)
 }

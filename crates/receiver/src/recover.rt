@@ -4,11 +4,12 @@
 ghost use mathlib.Core.Path.{_≡_};
 ghost use Prim.Native.Nat.{_≤_};
 ghost use lib.ListN.{length};
-ghost use Rattle.spec.specs.Calls.{in-front, Recover-says};
+ghost use Rattle.spec.specs.Calls.{index-refusal, in-front, Recover-says};
 ghost use Rattle.laws.specs.Receiving.{Gives};
 use crate::receive::delivery_refusal;
 use crate::receive::no_text;
 use crate::text::text_of;
+use opening::opened::open_index;
 use scanning::work::clear;
 use scanning::work::refuse;
 use spec::Answer;
@@ -41,22 +42,38 @@ fn give_text(n: usize, output: &mut [u16], work: &mut [u16]) -> Answer
     }
 }
 
-// Recovers the text of an index: refusals 1, 2, 3, 5, 7, 9, then 8; accepted it answers the length of the text.
-pub fn recover(
-    chars: &[u16],
-    lengths: &[u16],
-    index: &[u16],
+// Recovers the text of an opened index, by its refusal.
+fn recover_opened<'a>(
+    chars: &'a [u16],
+    lengths: &'a [u16],
+    index: &'a [u16],
+    refusal: u32,
     output: &mut [u16],
     work: &mut [u16],
 ) -> Answer
+    requires { ⌜ refusal ≡ index-refusal (now chars) (now lengths) (now index) ⌝ }
     ensures { λ r. ⌜ Recover-says (now (chars .entry)) (now (lengths .entry)) (now (index .entry)) r (now (output .entry)) (now (output .exit)) (now (work .entry)) (now (work .exit)) ⌝ }
 {
-    let refusal = delivery_refusal(chars, lengths, index, work.len());
-    if refusal != 0 {
-        return refuse(work, refusal);
+    let early = delivery_refusal(index, refusal, work.len());
+    if early != 0 {
+        return refuse(work, early);
     }
     if !text_of(chars, lengths, index, work) {
         return no_text(work);
     }
     give_text(index[0] as usize, output, work)
+}
+
+// Recovers the text of an index: refusals 1, 2, 3, 5, 7, 9, then 8; accepted it answers the length of the text.
+pub fn recover<'a>(
+    chars: &'a [u16],
+    lengths: &'a [u16],
+    index: &'a [u16],
+    output: &mut [u16],
+    work: &mut [u16],
+) -> Answer
+    ensures { λ r. ⌜ Recover-says (now (chars .entry)) (now (lengths .entry)) (now (index .entry)) r (now (output .entry)) (now (output .exit)) (now (work .entry)) (now (work .exit)) ⌝ }
+{
+    let opened = open_index(chars, lengths, index);
+    recover_opened(chars, lengths, opened.numbers, opened.refusal, output, work)
 }
