@@ -14,11 +14,11 @@ ghost use Rattle.laws.specs.Tables.{Can-read, Word-starts};
 ghost use Rattle.laws.specs.Flagging.{Flags};
 ghost use Rattle.laws.specs.FlagWalks.{Backs};
 use directory::lines::key_of;
-use postings::agreement::agrees_from_starts;
+use postings::agreement::agrees_at;
 
 // Whether a key agrees with the string at an offset below 0.
 fn begins_before(key: &[u16], string: &[u16]) -> bool
-    requires { ⌜ 1 ≤ length (now string) ⌝ }
+    requires { ⌜ (length (now key) ≤ 32) × (1 ≤ length (now string)) ⌝ }
     ensures { λ r. ⌜ (r ≡ true → bears (now (key .entry)) (now (string .entry)) ≡ true) × (r ≡ false → (p : ℕ) → 1 ≤ p → agrees (now (string .entry)) p (now (key .entry)) 0 ≡ false) ⌝ }
 {
     let front = string[0];
@@ -27,7 +27,7 @@ fn begins_before(key: &[u16], string: &[u16]) -> bool
         let at = i;
         i += 1;
         if key[at] == front {
-            if agrees_from_starts(key, string, at, 0) {
+            if agrees_at(key, string, -(at as i32)) {
                 return true;
             }
         }

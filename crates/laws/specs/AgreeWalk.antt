@@ -1,16 +1,15 @@
 -- The model of the agreement test: one string begins at 0, the other at a place in or after it, and the shared places are
 -- compared in order. Assumes nothing.
-use mathlib.Core.Path.{_≡_, refl, sym, _∙_}
+use mathlib.Core.Path.{_≡_, refl, sym, ap, _∙_}
 use mathlib.Core.Bool.{true, false}
 use mathlib.Core.List.{List}
 use Prim.Native.Nat.{ℕ, _+_, _-_, _≤_, _<_, min}
-use native.Mathlib.Numerals.{add-one}
 use native.Mathlib.Omega.{arith}
 use lib.ListN.{length, getD}
-use lib.IntN.{pos, negsuc}
+use lib.IntN.{ℤ}
 use Rattle.basics.specs.Bools.{false-put, iff-eq}
 use Rattle.spec.specs.Search.{agrees, string-start, key-start, agrees-at}
-use Rattle.laws.specs.Agree.{agrees-get, agrees-put, agree-sym, agrees-move}
+use Rattle.laws.specs.Agree.{agrees-get, agrees-put, agree-sym}
 
 -- WHICH OF THE TWO BEGINS FIRST
 
@@ -19,13 +18,6 @@ agrees-swap s a e b =
     iff-eq (agrees s a e b) (agrees e b s a)
     (λ t. agrees-put e b s a (agree-sym s a e b (agrees-get s a e b t)))
     (λ t. agrees-put s a e b (agree-sym e b s a (agrees-get e b s a t)))
-
-module _ (s : List ℕ) (a : ℕ) (e : List ℕ) (b : ℕ) where
-  pub agrees-string-first : a ≤ b → agrees s 0 e (b - a) ≡ agrees s a e b
-  agrees-string-first h = agrees-move s 0 e (b - a) a b (omega arith)
-
-  pub agrees-key-first : b ≤ a → agrees e 0 s (a - b) ≡ agrees s a e b
-  agrees-key-first h = agrees-swap e 0 s (a - b) ∙ agrees-move s (a - b) e 0 a b (omega arith)
 
 -- a key that starts first, and has another character where the string starts
 pub key-starts-apart : (i : ℕ) (s k : List ℕ) → i < length k → (getD k i 0 ≡ getD s 0 0 → ⊥) → agrees s i k 0 ≡ false
@@ -81,12 +73,14 @@ module _ (s e : List ℕ) (at : ℕ) where
 
 -- THE OFFSET
 
--- what an offset of 32 bits says of the two starts
-module _ (k s : List ℕ) (o : ℕ) where
-  pub agrees-at-ahead : agrees s 0 k o ≡ agrees-at k s (pos o)
-  unfolding agrees-at string-start key-start
-  agrees-at-ahead = refl
+module _ (k s : List ℕ) (o : ℤ) where
+  pub agrees-at-starts : agrees s (string-start o) k (key-start o) ≡ agrees-at k s o
+  unfolding agrees-at
+  agrees-at-starts = refl
 
-  pub agrees-at-back : agrees s (o + 1) k 0 ≡ agrees-at k s (negsuc o)
-  unfolding agrees-at string-start key-start
-  agrees-at-back = rw (add-one o)
+  pub agrees-string-first : string-start o ≡ 0 → agrees s 0 k (key-start o) ≡ agrees-at k s o
+  agrees-string-first e = ap (λ (a : ℕ). agrees s a k (key-start o)) (sym e) ∙ agrees-at-starts
+
+  pub agrees-key-first : key-start o ≡ 0 → agrees k 0 s (string-start o) ≡ agrees-at k s o
+  agrees-key-first e =
+      agrees-swap k 0 s (string-start o) ∙ ap (λ (b : ℕ). agrees s (string-start o) k b) (sym e) ∙ agrees-at-starts

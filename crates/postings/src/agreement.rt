@@ -3,7 +3,7 @@
 // A signed offset becomes two natural starts at once, one of them 0. Whichever of the two strings begins first, the other begins
 // at a place in it or after it, and the places that they share are compared from the last one: callers come where the first are equal.
 ghost use mathlib.Core.Path.{_≡_};
-ghost use Rattle.spec.specs.Search.{agrees, agrees-at};
+ghost use Rattle.spec.specs.Search.{agrees, agrees-at, string-start, key-start};
 use dictionary::numbers::lesser;
 
 // Whether two strings agree, the first laid at 0 and the second at `at`.
@@ -26,30 +26,32 @@ fn agrees_after(first: &[u16], second: &[u16], at: usize) -> bool
     true
 }
 
-// Whether a string and a key agree, each laid where it is said to start.
-pub fn agrees_from_starts(
-    key: &[u16],
-    string: &[u16],
-    string_start: usize,
-    key_start: usize,
-) -> bool
-    ensures { λ r. ⌜ r ≡ agrees (now (string .entry)) «string_start» (now (key .entry)) «key_start» ⌝ }
+// Where the string starts at an offset, the first of the two at 0.
+pub fn string_start(offset: i32) -> usize
+    ensures { λ r. ⌜ r ≡ string-start offset ⌝ }
 {
-    if string_start <= key_start {
-        agrees_after(string, key, key_start - string_start)
+    if offset < 0 {
+        let back = -(offset + 1);
+        back as usize + 1
     } else {
-        agrees_after(key, string, string_start - key_start)
+        0
     }
+}
+
+// Where the key starts there.
+pub fn key_start(offset: i32) -> usize
+    ensures { λ r. ⌜ r ≡ key-start offset ⌝ }
+{
+    if 0 < offset { offset as usize } else { 0 }
 }
 
 // Whether a key agrees with a string at an offset, which is below 0 where the key begins first.
 pub fn agrees_at(key: &[u16], string: &[u16], offset: i32) -> bool
     ensures { λ r. ⌜ r ≡ agrees-at (now (key .entry)) (now (string .entry)) offset ⌝ }
 {
-    if offset < 0 {
-        let back = -(offset + 1);
-        agrees_from_starts(key, string, back as usize + 1, 0)
+    if 0 < offset {
+        agrees_after(string, key, key_start(offset))
     } else {
-        agrees_from_starts(key, string, 0, offset as usize)
+        agrees_after(key, string, string_start(offset))
     }
 }

@@ -1,12 +1,18 @@
 -- `begins_before` meets its contract. The invariant: the key does not agree where the string starts at one of its places before i.
 -- The measure is how many are left. Assumes nothing.
-use mathlib.Core.Path.{refl, sym, _∙_}
-use Prim.Native.Nat.{_-_}
+use mathlib.Core.Path.{_≡_, refl, sym, _∙_}
+use Prim.Native.Nat.{_-_, _<_, _^_}
+use native.Mathlib.Omega.{arith}
+use mir.Syntax.{w32}
+use mir.Val.{toZ}
+use lib.IntN.{pos, _-ℤ_}
 use borrow.Author.Needs.{needs}
 use lib.ListN.{length}
 use Rattle.basics.specs.Bools.{clash}
+use Rattle.spec.specs.Search.{agrees}
 use Rattle.laws.specs.Agree.{agrees-get}
-use Rattle.laws.specs.AgreeWalk.{key-starts-apart}
+use Rattle.laws.specs.AgreeWalk.{key-starts-apart, agrees-at-starts}
+use Rattle.laws.specs.Offset32.{held, start-fits, minus-fits, string-starts-at}
 use Rattle.laws.specs.Bears.{bears-put}
 use Rattle.laws.specs.FlagWalks.{Apart-before, before-start, before-next, before-end}
 use Rattle.bearing.proofs.before.begins_before.Statement.{statement}
@@ -17,6 +23,20 @@ Inv-loop key string front i₀ i = Apart-before key string i
 
 abbrev μ-loop : tie.MeasureT-loop
 μ-loop key string front i₀ i = length key - i
+
+small : (c : tie.In-loop Inv-loop μ-loop) → c .before .loop .i < 2 ^ 31
+small c = omega (arith, c .loop-test .taken, c .before .before .before .before .before .pre .0)
+
+-- what the call answers, over the starts
+agreed :
+    (c : tie.After-agrees-at Inv-loop μ-loop) →
+    agrees (c .before .before .before .before .before .before .before .before .args .string .now) (c .before .before .before .before .loop .i) (c .before .before .before .before .before .before .before .before .args .key .now) 0
+    ≡ c .agrees-at .result
+agreed c =
+    let a = c .before .before .before .before .before .before .before .before .args in
+    let i = c .before .before .before .before .loop .i in
+    let h = string-starts-at i (small (c .before .before .before)) in
+    rw (h .0, h .1) at (agrees-at-starts (a .key .now) (a .string .now) (held (pos 0 -ℤ toZ w32 i)) ∙ sym (c .agrees-at .ensures))
 
 shared-slice-read-front : tie.Need-shared-slice-read-front Inv-loop μ-loop
 shared-slice-read-front c = search needs
@@ -33,14 +53,20 @@ mul-if1 c = search needs
 shared-slice-read-if1 : tie.Need-shared-slice-read-if1 Inv-loop μ-loop
 shared-slice-read-if1 c = search needs
 
-agrees-from-starts-requires : tie.Need-agrees-from-starts-requires Inv-loop μ-loop
-agrees-from-starts-requires c κs = tt
+cast-agrees-at : tie.Need-cast-agrees-at Inv-loop μ-loop
+cast-agrees-at c = start-fits (c .before .before .before .loop .i) (small (c .before .before))
+
+sub-agrees-at : tie.Need-sub-agrees-at Inv-loop μ-loop
+sub-agrees-at c = minus-fits (c .before .before .before .loop .i) (small (c .before .before))
+
+agrees-at-requires : tie.Need-agrees-at-requires Inv-loop μ-loop
+agrees-at-requires c κs = tt
 
 returns : tie.Need-returns Inv-loop μ-loop
 returns c =
     let a = c .before .before .before .before .before .before .before .before .before .args in
     let i = c .before .before .before .before .before .loop .i in (
-      λ t. bears-put (a .key .now) (a .string .now) i 0 (agrees-get (a .string .now) i (a .key .now) 0 (sym (c .before .agrees-from-starts .ensures) ∙ c .if2 .taken)),
+      λ t. bears-put (a .key .now) (a .string .now) i 0 (agrees-get (a .string .now) i (a .key .now) 0 (agreed (c .before) ∙ c .if2 .taken)),
       λ f. clash refl f,
     )
 
@@ -51,7 +77,7 @@ loop-again : tie.Need-loop-again Inv-loop μ-loop
 loop-again c =
     let a = c .before .before .before .before .before .before .before .before .before .args in
     let l = c .before .before .before .before .before .loop in
-    before-next (a .key .now) (a .string .now) (l .i) (l .inv) (sym (c .before .agrees-from-starts .ensures) ∙ c .if2 .left)
+    before-next (a .key .now) (a .string .now) (l .i) (l .inv) (agreed (c .before) ∙ c .if2 .left)
 
 loop-less-2 : tie.Need-loop-less-2 Inv-loop μ-loop
 loop-less-2 c = search needs
@@ -79,7 +105,9 @@ begins-before-spec =
     add-i
     mul-if1
     shared-slice-read-if1
-    agrees-from-starts-requires
+    cast-agrees-at
+    sub-agrees-at
+    agrees-at-requires
     returns
     loop-less
     loop-again

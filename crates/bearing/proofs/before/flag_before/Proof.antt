@@ -6,6 +6,7 @@ use native.Mathlib.Omega.{arith}
 use Rattle.spec.specs.Dictionary.{lexicon}
 use Rattle.spec.specs.Search.{agrees}
 use Rattle.spec.specs.Cut.{bears}
+use Rattle.laws.specs.Tables.{spelt-short}
 use Rattle.laws.specs.FlagWalks.{Backs, backs-start, backs-pass, backs-next}
 use Rattle.bearing.proofs.before.flag_before.Statement.{statement}
 use Rattle.bearing.proofs.before.flag_before.Tie as tie
@@ -34,7 +35,10 @@ add-line c =
     omega (arith, c .before .loop-test .taken, s .pre .3, s .pre .0 .keys-small)
 
 begins-before-requires : tie.Need-begins-before-requires Inv-loop μ-loop
-begins-before-requires c κs = c .before .before .before .before .before .before .before .before .before .pre .2
+begins-before-requires c κs =
+    let s = c .before .before .before .before .before .before .before .before .before in
+    let a = s .args in
+    (spelt-short (a .chars .now) (a .lengths .now) (a .index .now) (s .pre .0) (c .before .before .loop .line) (omega (arith, c .before .loop-test .taken, s .pre .3)) (c .key-of .result .now) (c .key-of .ensures), s .pre .2)
 
 slice-write-flags : tie.Need-slice-write-flags Inv-loop μ-loop
 slice-write-flags c =
