@@ -20,7 +20,13 @@ pub(crate) fn count_found(reach: &[u16], long: usize) -> usize
 }
 
 // Writes the starts that reach `long` and more, of which there are `count`, to the front of the output.
-pub(crate) fn write_found(reach: &[u16], long: usize, first: usize, count: usize, output: &mut [u16])
+pub(crate) fn write_found(
+    reach: &[u16],
+    long: usize,
+    first: usize,
+    count: usize,
+    output: &mut [u16],
+)
     requires { ⌜ (count ≡ length (found-in long first (now reach))) × (count ≤ length (now output)) × (first + length (now reach) ≤ 65536) ⌝ }
     ensures { λ r. ⌜ now (output .exit) ≡ in-front (found-in long first (now (reach .entry))) (now (output .entry)) ⌝ }
 {

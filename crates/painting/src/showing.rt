@@ -124,7 +124,13 @@ fn line_stands(
 }
 
 // Whether every entry of a readable index stands in a text.
-pub(crate) fn shows(chars: &[u16], lengths: &[u16], starts: &[u16], index: &[u16], text: &[u16]) -> bool
+pub(crate) fn shows(
+    chars: &[u16],
+    lengths: &[u16],
+    starts: &[u16],
+    index: &[u16],
+    text: &[u16],
+) -> bool
     requires { ⌜ Can-read (now chars) (now lengths) (now index) × Word-starts (now lengths) (length (now lengths)) (now starts) × (length (now text) ≡ n-of (now index)) ⌝ }
     ensures { λ r. ⌜ (r ≡ true → All-stand (lexicon (now (chars .entry)) (now (lengths .entry))) (lines-in (now (index .entry))) (now (text .entry))) ⌝ }
 {

@@ -1,13 +1,12 @@
 // One key at one offset against the string: each start of a window at which an entry of the key then lies is raised.
 //
-// The positions are passed with the two natural starts of the offset, one of them 0. An entry that starts within what is reached raises the reach to its end. Differences
+// An offset is two natural starts, one of them 0. An entry that starts within what is reached raises the reach to its end. Differences
 // wrap, so that one test tells whether a number lies in a range: below its start the difference is very large.
 ghost use mathlib.Core.Path.{_≡_};
 ghost use Prim.Native.Nat.{max};
 ghost use lib.ListN.{length};
 ghost use Rattle.spec.specs.Search.{string-start, key-start};
 ghost use Rattle.laws.specs.Window.{Within, Reaches};
-ghost use Rattle.spec.specs.Search.{string-start, key-start};
 ghost use Rattle.laws.specs.WindowSearch.{places-all, key-all};
 ghost use Rattle.laws.specs.Marking.{Offset-fits};
 use postings::agreement::agrees_at;
