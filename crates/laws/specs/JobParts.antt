@@ -59,7 +59,7 @@ total-lengths [] = refl
 total-lengths (w ∷ ws) = omega (arith, length-append w (run-together ws), total-lengths ws)
 
 -- the strings, read off the front of a longer list
-strings-in-front : (ws : List (List ℕ)) (rest : List ℕ) → words-from (lengths-of ws) (run-together ws ++ rest) ≡ ws
+pub strings-in-front : (ws : List (List ℕ)) (rest : List ℕ) → words-from (lengths-of ws) (run-together ws ++ rest) ≡ ws
 unfolding words-from lengths-of run-together
 strings-in-front [] rest = refl
 strings-in-front (w ∷ ws) rest =

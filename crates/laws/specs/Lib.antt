@@ -94,6 +94,9 @@ pub mod LineReading
 pub mod SheetReading
 pub mod WholeSheet
 pub mod JobReading
+pub mod Hexadecimal
+pub mod FormRendering
+pub mod SheetRendering
 pub mod Window
 pub mod WindowSearch
 pub mod Marking

@@ -134,13 +134,13 @@ module _ (s : List ℕ) (at i : ℕ) (h : Line-read s at i) where
 
 -- ONE FORM
 
-forms-some :
+pub forms-some :
     (h l : List ℕ) (bs : List ℕ) → is-form h l ≡ true →
     (forms h (l ∷ lines bs) ≡ string-in l ∷ forms h (lines bs)) × (after h (l ∷ lines bs) ≡ after h (lines bs))
 unfolding forms after
 forms-some h l bs t = let some = lines-some bs in rw (some .2, t) (refl, refl)
 
-forms-none :
+pub forms-none :
     (h l : List ℕ) (bs : List ℕ) → is-form h l ≡ false → (forms h (l ∷ lines bs) ≡ []) × (after h (l ∷ lines bs) ≡ l ∷ lines bs)
 unfolding forms after
 forms-none h l bs f = let some = lines-some bs in rw (some .2, f) (refl, refl)

@@ -11,10 +11,11 @@ pub mod Calls
 pub mod Promise
 pub mod Beyond
 pub mod Published
-pub mod Demands
-pub mod Models
 pub mod JobSheet
 pub mod JobAnswer
 pub mod Bytes
+pub mod SheetForms
+pub mod Demands
+pub mod Models
 pub mod Examples
 pub mod JobExamples
