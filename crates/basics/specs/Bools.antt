@@ -68,3 +68,6 @@ or-none p q = rw (p, q)
 pub le-or-lt : (a b : ℕ) → (a ≤ b) ⊎ (b < a)
 le-or-lt a b =
     ⊎-elim (λ (t : leb a b ≡ true). inl (leb-true a b t)) (λ (f : leb a b ≡ false). inr (leb-false a b f)) (true-or-false (leb a b))
+
+pub at-most : (a b : ℕ) → (a < b → ⊥) → b ≤ a
+at-most a b h = ⊎-elim (λ (p : b ≤ a). p) (λ (q : a < b). absurd (h q)) (le-or-lt b a)

@@ -1,14 +1,14 @@
 -- The first demand: each operation accepts exactly what meets no row of the refusal table, and ends as stated; all else is refused
 -- with the lowest number that applies, and nothing but the work space is changed. Assumes nothing.
-use mathlib.Core.Path.{_≡_, refl, sym, _∙_, subst}
-use mathlib.Core.Bool.{true, false}
+use mathlib.Core.Path.{_≡_, refl, _∙_}
+use mathlib.Core.Bool.{true, false, cond}
 use mathlib.Core.Logic.{inl, inr, ⊎-elim}
-use mathlib.Core.List.{List}
+use mathlib.Core.List.{List, [], _∷_}
 use Prim.Native.Nat.{ℕ, _≤_, _<_}
 use native.Mathlib.Omega.{arith}
 use lib.ListN.{length, drop, replicate, length-append, length-drop}
 use lib.Seq.{take-append-seam, drop-append-seam}
-use Rattle.basics.specs.Bools.{true-or-false, le-or-lt}
+use Rattle.basics.specs.Bools.{true-or-false, at-most}
 use Rattle.spec.specs.declared.Answer.{Answer}
 use Rattle.spec.specs.declared.TallyAnswer.{TallyAnswer}
 use Rattle.spec.specs.Dictionary.{longest-text, lexicon, all-chars, dictionary-refusal}
@@ -18,14 +18,13 @@ use Rattle.spec.specs.Reception.{recovered}
 use Rattle.spec.specs.Search.{find}
 use Rattle.spec.specs.Cut.{cut-down}
 use Rattle.spec.specs.Tally.{tally}
-use Rattle.spec.specs.Calls.{zeros, Answers, in-front, Puts, build-refusal, index-refusal, reception-refusal, recovery-refusal, find-refusal, Admit-says, Build-says, Receive-says, Recover-says, Search-says, Cut-says, Tally-says}
-use Rattle.spec.specs.Demands.{Written, Untouched, Cleared, Row, Meets, Accepts, Refuses, Decides, dictionary-rows, build-rows, index-rows, reception-rows, recovery-rows, find-rows, First-demand}
+use Rattle.spec.specs.Calls.{output-short, zeros, Answers, in-front, Puts, build-refusal, index-refusal, reception-refusal, recovery-refusal, find-refusal, Admit-says, Build-says, Receive-says, Recover-says, Search-says, Cut-says, Tally-says}
+use Rattle.spec.specs.Demands.{Written, Untouched, Cleared, Output-short, Row, row, Meets, Decides, dictionary-rows, build-rows, index-rows, reception-rows, recovery-rows, find-rows, Answered, First-demand}
+use Rattle.spec.specs.JobAnswer.{job-answer, Job-says}
 use Rattle.laws.specs.Answering.{accepted-yes, accepted-no}
 use Rattle.laws.specs.Recover.{length-recovered}
-use Rattle.laws.specs.RefusalRows.{First, Rising, first-decides, dictionary-first, dictionary-rising, build-first, index-first, index-rising, reception-first, recovery-first, find-first}
-
-pub at-most : (a b : ℕ) → (a < b → ⊥) → b ≤ a
-at-most a b h = ⊎-elim (λ (p : b ≤ a). p) (λ (q : a < b). absurd (h q)) (le-or-lt b a)
+use Rattle.laws.specs.RefusalRows.{First, Rising, decides, output-first, dictionary-first, dictionary-rising, build-first, index-first, index-rising, reception-first, recovery-first, find-first}
+use Rattle.laws.specs.ProgramRows.{prints, prints-only}
 
 -- WHAT COMES BACK
 
@@ -57,25 +56,6 @@ module _ (n : ℕ) (xs : List ℕ) (r : Answer) (o z : List ℕ) (puts : Puts n 
       record { count = puts .0 .1 ∙ accepted-no n (length xs) 0 some; same = puts .1 ∙ accepted-no n (in-front xs o) o some }
 
 -- WHAT IS DECIDED
-
--- the table fixes one number
-pub one-number : (rows : List Row) (m n : ℕ) (A B : Type 0) → Refuses rows m A → Refuses rows n B → m ≡ n
-one-number rows m n A B h k = omega (arith, h .lowest n (k .met), k .lowest m (h .met))
-
--- no input is both accepted and refused
-pub not-both : (rows : List Row) (m n : ℕ) (A B : Type 0) → Accepts rows m A → Refuses rows n B → ⊥
-not-both rows m n A B h k = h .none-met n (k .met)
-
--- with what an accepted and a refused call end with
-decides :
-    (rows : List Row) (n m : ℕ) → First rows n → Rising 1 rows → m ≡ n → (A B : Type 0) →
-    (((k : ℕ) → Meets rows k → ⊥) → n ≡ 0 → A) → ((n ≡ 0 → ⊥) → B) → Decides rows m A B
-decides rows n m first up e A B accepts refuses =
-    subst (λ (k : ℕ). Decides rows k A B) (sym e) (ends (first-decides 1 rows (omega arith) up n first))
-  where
-    ends : Decides rows n Unit Unit → Decides rows n A B
-    ends (inl h) = inl (record { none-met = h .none-met; number = h .number; result = accepts (h .none-met) (h .number) })
-    ends (inr h) = inr (record { met = h .met; lowest = h .lowest; number = h .number; result = refuses (h .number) })
 
 -- for a call without an output
 answers-decides :
@@ -175,6 +155,18 @@ module _ (cs ls xs : List ℕ) where
         says .2 ∙ accepted-no n (tally (lexicon cs ls) xs) (replicate 32 0) some,
       ))
 
+job-decides : (s : List ℕ) (r : Answer) (o z : List ℕ) → Job-says s r o z → Answered s r o z
+unfolding Job-says
+job-decides s r o z says =
+    record {
+      answer = job-answer s;
+      prints = prints s;
+      only = prints-only s;
+      decided =
+          puts-decides (row 8 (Output-short (job-answer s) o) ∷ []) (cond (output-short (length (job-answer s)) (length o)) 8 0)
+          (output-first (job-answer s) o) (omega arith, tt) (job-answer s) r o z says (λ none h. none 8 (inl (refl, h)));
+    }
+
 pub first-demand : First-demand
 unfolding Search-says Cut-says
 first-demand =
@@ -186,4 +178,5 @@ first-demand =
       searches = λ cs ls xs s r o z says. find-decides cs ls xs s (find (lexicon cs ls) xs s) r o z says;
       cuts = λ cs ls xs s r o z says. find-decides cs ls xs s (cut-down (lexicon cs ls) xs s) r o z says;
       tallies = tally-decides;
+      prints = job-decides;
     }

@@ -6,13 +6,14 @@ use mathlib.Core.Logic.{inl, inr}
 use mathlib.Core.List.{List, [], _∷_}
 use Prim.Native.Nat.{ℕ}
 use lib.ListN.{length}
+use Rattle.basics.specs.Bools.{at-most}
 use Rattle.spec.specs.Dictionary.{longest-text, lexicon, is-text, admitted}
 use Rattle.spec.specs.Numbers.{index-of}
 use Rattle.spec.specs.Beyond.{Text-of}
 use Rattle.spec.specs.Demands.{Written, Untouched, Text-too-long, Work-short, Output-short, row, Accepts, dictionary-rows, build-rows, Built, Second-demand}
 use Rattle.laws.specs.Chars.{all-chars-get, is-text-put}
 use Rattle.laws.specs.IndexOf.{n-of-index}
-use Rattle.laws.specs.DemandOne.{at-most, first-demand}
+use Rattle.laws.specs.DemandOne.{first-demand}
 use Rattle.laws.specs.Delivery.{accepts-zero, none-left, none-admitted, received-for, recovered-for}
 use Rattle.laws.specs.PublishedIndex.{index-published, published-only}
 

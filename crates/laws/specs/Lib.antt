@@ -116,6 +116,7 @@ pub mod FlagWalks
 pub mod Cutting
 pub mod Reflects
 pub mod RefusalRows
+pub mod ProgramRows
 pub mod DemandOne
 pub mod Delivery
 pub mod PublishedIndex

@@ -8,11 +8,12 @@ use native.Mathlib.Omega.{arith}
 use lib.Dec.{ltb, leb, eqb}
 use lib.ListN.{length}
 use borrow.Author.Tests.{ltb-true, ltb-false, leb-true, leb-false, eqb-true, eqb-false, not-false}
-use Rattle.basics.specs.Bools.{clash, not-get}
+use Rattle.basics.specs.Bools.{clash, false-put, not-get}
 use Rattle.basics.specs.Member.{In}
 use Rattle.spec.specs.Dictionary.{longest-text, Lexicon, total, words-from, too-large, length-good, lengths-good, lengths-wrong, ascend, disordered}
 use Rattle.spec.specs.Index.{readable}
 use Rattle.spec.specs.Calls.{text-too-long, unreadable, string-wrong, work-short, output-short}
+use Rattle.spec.specs.JobSheet.{some-string-wrong}
 use Rattle.spec.specs.Demands.{Too-large, Lengths-wrong, Disordered, Text-too-long, Unreadable, String-wrong, Work-short, Output-short}
 
 -- TESTS AND FACTS
@@ -20,6 +21,13 @@ use Rattle.spec.specs.Demands.{Too-large, Lengths-wrong, Disordered, Text-too-l
 pub record Reflects (t : Bool) (B : Type 0) : Type 0 where
   pub holds : t ≡ true → B
   pub fails : t ≡ false → B → ⊥
+
+pub reflects-put : (t : Bool) (B : Type 0) → Reflects t B → B → t ≡ true
+reflects-put true B is b = refl
+reflects-put false B is b = absurd (is .fails refl b)
+
+pub reflects-not : (t : Bool) (B : Type 0) → Reflects t B → (B → ⊥) → t ≡ false
+reflects-not t B is none = false-put t (λ e. none (is .holds e))
 
 pub reflects-false : (t : Bool) → Reflects (not t) (t ≡ false)
 reflects-false t = record { holds = not-get t; fails = λ f g. clash (not-false t f) g }
@@ -52,6 +60,20 @@ reflects-nand true t A B p q =
     record { holds = λ e. inr (q .holds e); fails = λ f. ⊎-elim (λ (v : A). p .fails refl v) (λ (w : B). q .fails f w) }
 reflects-nand false t A B p q = record { holds = λ e. inl (p .holds refl); fails = λ f. clash refl f }
 
+-- the first element or one of the others
+pub reflects-some :
+    {A : Type 0} (P : A → Type 0) (x : A) (xs : List A) (t : Bool) → Reflects t (P x ⊎ ((a : A) × In a xs × P a)) →
+    Reflects t ((a : A) × In a (x ∷ xs) × P a)
+reflects-some {A} P x xs t both = record { holds = λ e. join (both .holds e); fails = λ f h. both .fails f (split h) }
+  where
+    split : (a : A) × In a (x ∷ xs) × P a → P x ⊎ ((a : A) × In a xs × P a)
+    split (a, inl e, w) = inl (subst P e w)
+    split (a, inr m, w) = inr (a, m, w)
+
+    join : P x ⊎ ((a : A) × In a xs × P a) → (a : A) × In a (x ∷ xs) × P a
+    join (inl w) = (x, inl refl, w)
+    join (inr (a, m, w)) = (a, inr m, w)
+
 abbrev Wrong : ℕ → Type 0
 Wrong l = (l ≡ 0) ⊎ (32 < l)
 
@@ -77,20 +99,8 @@ pub reflects-lengths : (ls : List ℕ) → Reflects (not (lengths-good ls)) ((l 
 unfolding lengths-good
 reflects-lengths [] = record { holds = λ t. clash t refl; fails = λ f h. h .1 }
 reflects-lengths (l ∷ ls) =
-    widen
+    reflects-some Wrong l ls _
     (reflects-nand (length-good l) (lengths-good ls) (Wrong l) ((k : ℕ) × In k ls × Wrong k) (reflects-length l) (reflects-lengths ls))
-  where
-    split : (k : ℕ) × In k (l ∷ ls) × Wrong k → Wrong l ⊎ ((k : ℕ) × In k ls × Wrong k)
-    split (k, inl e, w) = inl (subst Wrong e w)
-    split (k, inr m, w) = inr (k, m, w)
-
-    join : Wrong l ⊎ ((k : ℕ) × In k ls × Wrong k) → (k : ℕ) × In k (l ∷ ls) × Wrong k
-    join (inl w) = (l, inl refl, w)
-    join (inr (k, m, w)) = (k, inr m, w)
-
-    widen :
-        {t : Bool} → Reflects t (Wrong l ⊎ ((k : ℕ) × In k ls × Wrong k)) → Reflects t ((k : ℕ) × In k (l ∷ ls) × Wrong k)
-    widen both = record { holds = λ t. join (both .holds t); fails = λ f h. both .fails f (split h) }
 
 -- the lines of the table
 
@@ -124,6 +134,14 @@ unfolding string-wrong
 reflects-string s =
     reflects-or (eqb (length s) 0) (ltb 256 (length s)) (length s ≡ 0) (256 < length s) (reflects-eq (length s) 0)
     (reflects-lt 256 (length s))
+
+pub reflects-finds : (fs : List (List ℕ)) → Reflects (some-string-wrong fs) ((f : List ℕ) × In f fs × String-wrong f)
+unfolding some-string-wrong
+reflects-finds [] = record { holds = λ t. clash t refl; fails = λ f h. h .1 }
+reflects-finds (s ∷ ss) =
+    reflects-some (λ (f : List ℕ). String-wrong f) s ss _
+    (reflects-or (string-wrong s) (some-string-wrong ss) (String-wrong s) ((f : List ℕ) × In f ss × String-wrong f) (reflects-string s)
+    (reflects-finds ss))
 
 pub reflects-work : (n : ℕ) (w : List ℕ) → Reflects (work-short n (length w)) (Work-short n w)
 unfolding work-short

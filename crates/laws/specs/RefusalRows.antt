@@ -10,16 +10,18 @@ use lib.Dec.{ltb}
 use lib.ListN.{length}
 use borrow.Author.Tests.{eq-eqb, ne-eqb, not-false}
 use Rattle.basics.specs.Bools.{clash, not-get, and-put}
+use Rattle.basics.specs.Member.{In}
 use Rattle.spec.specs.Dictionary.{longest-text, lexicon, all-chars, too-large, lengths-wrong, disordered, dictionary-refusal, admitted}
 use Rattle.spec.specs.Numbers.{index-of}
 use Rattle.spec.specs.Index.{n-of}
 use Rattle.spec.specs.Reception.{recovered, received}
 use Rattle.spec.specs.Calls.{text-too-long, unreadable, string-wrong, work-short, output-short, no-text, or-else, build-refusal, index-refusal, reception-refusal, recovery-refusal, find-refusal}
+use Rattle.spec.specs.JobSheet.{run-together, lengths-of, some-string-wrong, contents-refusal}
 use Rattle.spec.specs.Beyond.{Demand-three}
-use Rattle.spec.specs.Demands.{Too-large, Lengths-wrong, Disordered, Text-too-long, Unreadable, String-wrong, Work-short, Output-short, Recovery-short, No-text, Has-text, Row, row, Meets, Accepts, Refuses, Decides, dictionary-rows, build-rows, index-rows, reception-rows, recovery-rows, find-rows}
+use Rattle.spec.specs.Demands.{Too-large, Lengths-wrong, Disordered, Text-too-long, Unreadable, String-wrong, Work-short, Output-short, Recovery-short, No-text, Has-text, Row, row, Meets, Accepts, Refuses, Decides, dictionary-rows, build-rows, index-rows, reception-rows, recovery-rows, find-rows, parts-rows}
 use Rattle.laws.specs.IndexRefusal.{index-accepted}
 use Rattle.laws.specs.Promises.{demand-three}
-use Rattle.laws.specs.Reflects.{Reflects, reflects-lt, reflects-and, reflects-too-large, reflects-lengths-wrong, reflects-disordered, reflects-text, reflects-unreadable, reflects-string, reflects-work, reflects-output}
+use Rattle.laws.specs.Reflects.{Reflects, reflects-lt, reflects-and, reflects-too-large, reflects-lengths-wrong, reflects-disordered, reflects-text, reflects-unreadable, reflects-string, reflects-finds, reflects-work, reflects-output}
 
 -- ROWS IN ORDER
 
@@ -68,6 +70,35 @@ first-decides a (l ∷ ls) some up n (inr (unmet, f)) = widen (first-decides (su
     widen (inl h) = inl (record { none-met = none h; number = h .number; result = tt })
     widen (inr h) = inr (record { met = inr (h .met); lowest = lowest h; number = h .number; result = tt })
 
+-- WHAT IS DECIDED
+
+-- the table fixes one number
+pub one-number : (rows : List Row) (m n : ℕ) (A B : Type 0) → Refuses rows m A → Refuses rows n B → m ≡ n
+one-number rows m n A B h k = omega (arith, h .lowest n (k .met), k .lowest m (h .met))
+
+-- no input is both accepted and refused
+pub not-both : (rows : List Row) (m n : ℕ) (A B : Type 0) → Accepts rows m A → Refuses rows n B → ⊥
+not-both rows m n A B h k = h .none-met n (k .met)
+
+-- with what an accepted and a refused call end with
+pub decides :
+    (rows : List Row) (n m : ℕ) → First rows n → Rising 1 rows → m ≡ n → (A B : Type 0) →
+    (((k : ℕ) → Meets rows k → ⊥) → n ≡ 0 → A) → ((n ≡ 0 → ⊥) → B) → Decides rows m A B
+decides rows n m first up e A B accepts refuses =
+    subst (λ (k : ℕ). Decides rows k A B) (sym e) (ends (first-decides 1 rows (omega arith) up n first))
+  where
+    ends : Decides rows n Unit Unit → Decides rows n A B
+    ends (inl h) = inl (record { none-met = h .none-met; number = h .number; result = accepts (h .none-met) (h .number) })
+    ends (inr h) = inr (record { met = h .met; lowest = h .lowest; number = h .number; result = refuses (h .number) })
+
+pub decided-number : (rows : List Row) (m n : ℕ) (A B C D : Type 0) → Decides rows m A B → Decides rows n C D → m ≡ n
+decided-number rows m n A B C D (inl h) (inl k) = h .number ∙ sym (k .number)
+decided-number rows m n A B C D (inl h) (inr k) = absurd (not-both rows m n A D h k)
+decided-number rows m n A B C D (inr h) (inl k) = absurd (not-both rows n m C B k h)
+decided-number rows m n A B C D (inr h) (inr k) = one-number rows m n B D h k
+
+-- A ROW BY ITS TEST, AND ROWS BEFORE OTHERS
+
 first-none : First [] 0
 unfolding First
 first-none = refl
@@ -101,6 +132,10 @@ first-then a (l ∷ ls) more some up m n (inr (unmet, f)) rest =
 
 -- THE OPERATIONS
 
+pub output-first : (ys o : List ℕ) → First (row 8 (Output-short ys o) ∷ []) (cond (output-short (length ys) (length o)) 8 0)
+output-first ys o =
+    first-cond 8 (Output-short ys o) (output-short (length ys) (length o)) [] 0 (reflects-output ys o) (λ f. first-none)
+
 module _ (cs ls : List ℕ) where
   pub dictionary-first : First (dictionary-rows cs ls) (dictionary-refusal cs ls)
   unfolding dictionary-refusal
@@ -122,8 +157,7 @@ module _ (cs ls : List ℕ) where
       (λ f.
       first-cond 7 (Work-short (length ts) w) (work-short (length ts) (length w)) _ _ (reflects-work (length ts) w)
       (λ g.
-      first-cond 8 (Output-short (index-of (lexicon cs ls) ts) o) (output-short (length (index-of (lexicon cs ls) ts)) (length o)) _ _
-      (reflects-output (index-of (lexicon cs ls) ts) o) (λ h. first-none))))
+      output-first (index-of (lexicon cs ls) ts) o)))
 
 module _ (cs ls xs : List ℕ) where
   pub index-first : First (index-rows cs ls xs) (index-refusal cs ls xs)
@@ -143,8 +177,19 @@ module _ (cs ls xs : List ℕ) where
       first-then 1 (index-rows cs ls xs) _ (omega arith) index-rising _ _ index-first
       (λ a.
       first-cond 6 (String-wrong s) (string-wrong s) _ _ (reflects-string s)
-      (λ f.
-      first-cond 8 (Output-short ys o) (output-short (length ys) (length o)) _ _ (reflects-output ys o) (λ g. first-none)))
+      (λ f. output-first ys o))
+
+module _ (ws fs : List (List ℕ)) where
+  pub parts-first : First (parts-rows ws fs) (contents-refusal ws fs)
+  unfolding contents-refusal
+  parts-first =
+      first-then 1 (dictionary-rows (run-together ws) (lengths-of ws)) _ (omega arith)
+      (dictionary-rising (run-together ws) (lengths-of ws)) _ _ (dictionary-first (run-together ws) (lengths-of ws))
+      (λ a.
+      first-cond 6 ((f : List ℕ) × In f fs × String-wrong f) (some-string-wrong fs) _ _ (reflects-finds fs) (λ f. first-none))
+
+  pub parts-rising : Rising 1 (parts-rows ws fs)
+  parts-rising = (omega arith, (omega arith, (omega arith, (omega arith, tt))))
 
 -- 8 of recovery, tested after 9, is not met where 9 is
 regroup :

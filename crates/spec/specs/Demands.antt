@@ -1,7 +1,7 @@
--- The three demands, over what is lent to the public operations and what comes back. `X-says` is the contract of operation X
--- (`Calls`); a statement supposes only that a call says so. Each is a type; its proof stands in the crate `laws`. That numbers are
--- characters is asked for where lists need it: a slice of 16-bit numbers has no others, as the contracts of the three operations
--- concerned say of each call. Assumes nothing.
+-- The three demands, over what is lent to the public operations and to the program, and what comes back. `X-says` is the contract of
+-- operation X (`Calls`, `JobAnswer`); a statement supposes only that a call says so. Each is a type; its proof stands in the crate
+-- `laws`. That numbers are characters is asked for where lists need it: a slice of 16-bit numbers has no others, as the contracts of
+-- the three operations concerned say of each call. Assumes nothing.
 use mathlib.Core.Path.{_≡_}
 use mathlib.Core.Bool.{true, false}
 use mathlib.Core.Logic.{_⊎_}
@@ -20,6 +20,9 @@ use Rattle.spec.specs.Tally.{tally}
 use Rattle.spec.specs.Promise.{places, Query}
 use Rattle.spec.specs.Beyond.{Under, Text-of, Exactly-places}
 use Rattle.spec.specs.Published.{Item, item, maximal-items}
+use Rattle.spec.specs.JobSheet.{run-together, lengths-of}
+use Rattle.spec.specs.JobAnswer.{answer-lines, refused-line, Job-says}
+use Rattle.spec.specs.SheetForms.{Sheet-of, Within-counts}
 use Rattle.spec.specs.Calls.{Admit-says, Build-says, Receive-says, Recover-says, Search-says, Cut-says, Tally-says}
 use Rattle.spec.specs.declared.Answer.{Answer}
 use Rattle.spec.specs.declared.TallyAnswer.{TallyAnswer}
@@ -88,6 +91,14 @@ Recovery-short lex xs o = (length o < n-of xs) × Has-text lex xs
 abbrev pub No-text : Lexicon → (index : List ℕ) → Type 0
 No-text lex xs = (readable longest-text lex xs ≡ true) × (Has-text lex xs → ⊥)
 
+-- 10: "job sheet longer than 32,768 bytes"
+abbrev pub Sheet-too-long : (sheet : List ℕ) → Type 0
+Sheet-too-long s = 32768 < length s
+
+-- 11: "job sheet breaks its form or counts"
+abbrev pub Sheet-broken : (sheet : List ℕ) → Type 0
+Sheet-broken s = ((ws : List (List ℕ)) × (t : List ℕ) × (fs : List (List ℕ)) × Sheet-of ws t fs s × Within-counts ws t fs) → ⊥
+
 -- a line of the table, "Returned" and "Exactly when"
 pub record Row : Type 1 where
   pub returned : ℕ
@@ -120,6 +131,11 @@ recovery-rows cs ls xs o w =
 abbrev pub find-rows : (chars lengths index string result out : List ℕ) → List Row
 find-rows cs ls xs s found o = index-rows cs ls xs ++ (row 6 (String-wrong s) ∷ row 8 (Output-short found o) ∷ [])
 
+-- for a job sheet's words and finds: "Every find is tested"
+abbrev pub parts-rows : (words finds : List (List ℕ)) → List Row
+parts-rows ws fs =
+    dictionary-rows (run-together ws) (lengths-of ws) ++ (row 6 ((f : List ℕ) × In f fs × String-wrong f) ∷ [])
+
 -- THE FIRST DEMAND: "Every operation accepts exactly the inputs that no line of the refusal table meets and ends with the stated
 -- result; everything else gets the one number that the table fixes. Apart from work space, which is cleared, a refusal changes no
 -- lent slice."
@@ -145,6 +161,43 @@ pub record Refuses (rows : List Row) (n : ℕ) (ends : Type 0) : Type 0 where
 -- Exactly one of the two: in the first the number is 0, in the second it is not.
 abbrev pub Decides : List Row → (n : ℕ) → (accepted refused : Type 0) → Type 0
 Decides rows n result unchanged = Accepts rows n result ⊎ Refuses rows n unchanged
+
+-- THE PROGRAM: "The program tests 10, then 11, then the rest." "A refused sheet prints only `(refused N)`."
+
+-- 10 is met, whatever else is met
+pub record Refused-long (sheet answer : List ℕ) : Type 0 where
+  pub met : Sheet-too-long sheet
+  pub printed : answer ≡ refused-line 10
+
+-- 11 is met and 10 is not
+pub record Refused-broken (sheet answer : List ℕ) : Type 0 where
+  pub short : Sheet-too-long sheet → ⊥
+  pub met : Sheet-broken sheet
+  pub printed : answer ≡ refused-line 11
+
+-- Neither is met: the sheet has parts, and the lines about these fix the number. Line 1 is among them, though no sheet of this length
+-- and these counts meets it.
+pub record Tested-parts (sheet answer : List ℕ) : Type 0 where
+  pub short : Sheet-too-long sheet → ⊥
+  pub words : List (List ℕ)
+  pub text : List ℕ
+  pub finds : List (List ℕ)
+  pub parts : Sheet-of words text finds sheet
+  pub counts : Within-counts words text finds
+  pub number : ℕ
+  pub printed :
+      Decides (parts-rows words finds) number (answer ≡ answer-lines (lexicon (run-together words) (lengths-of words)) text finds)
+      (answer ≡ refused-line number)
+
+abbrev pub Prints : (sheet answer : List ℕ) → Type 0
+Prints s answer = Refused-long s answer ⊎ (Refused-broken s answer ⊎ Tested-parts s answer)
+
+-- What a call on a sheet comes to: the sheet has one answer, which is written or meets 8. The line of a refused sheet is an answer.
+pub record Answered (sheet : List ℕ) (r : Answer) (out out-now : List ℕ) : Type 0 where
+  pub answer : List ℕ
+  pub prints : Prints sheet answer
+  pub only : (other : List ℕ) → Prints sheet other → other ≡ answer
+  pub decided : Decides (row 8 (Output-short answer out) ∷ []) (r .refusal) (Written answer r out out-now) (Untouched r out out-now)
 
 pub record First-demand : Type 0 where
   pub admits :
@@ -172,6 +225,7 @@ pub record First-demand : Type 0 where
       Decides (index-rows cs ls xs) (r .refusal)
       ((r .count ≡ entries-of xs) × (r .«by_length» ≡ tally (lexicon cs ls) xs))
       ((r .count ≡ 0) × (r .«by_length» ≡ replicate 32 0))
+  pub prints : (s : List ℕ) (r : Answer) (o z : List ℕ) → Job-says s r o z → Answered s r o z
 
 -- THE SECOND DEMAND: "The index built from a text and a dictionary is exactly the complete maximal word index of the published
 -- definition, and the same text is recovered from it."

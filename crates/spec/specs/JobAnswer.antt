@@ -113,10 +113,12 @@ refused-line r = refused-head ++ decimal r ++ ending
 unfoldable pub lexicon-on : (sheet : List ℕ) → Lexicon
 lexicon-on s = lexicon (run-together (words-on s)) (lengths-of (words-on s))
 
--- what is printed where nothing is refused
+-- what is printed where nothing is refused, for a dictionary, a text and finds
+abbrev pub answer-lines : Lexicon → (text : List ℕ) → (finds : List (List ℕ)) → List ℕ
+answer-lines lex ts fs = let index = index-of lex ts in index-lines index ++ found-lines lex index fs
+
 unfoldable pub printed : (sheet : List ℕ) → List ℕ
-printed s =
-    let index = index-of (lexicon-on s) (text-on s) in index-lines index ++ found-lines (lexicon-on s) index (finds-on s)
+printed s = answer-lines (lexicon-on s) (text-on s) (finds-on s)
 
 -- "Every find is tested before anything is printed. A refused sheet prints only `(refused N)`."
 unfoldable pub job-answer : (sheet : List ℕ) → List ℕ
