@@ -10,6 +10,7 @@ use Rattle.spec.specs.Dictionary.{lexicon}
 use Rattle.spec.specs.Words.{same}
 use Rattle.spec.specs.JobSheet.{space, word-head, text-head, find-head, digit, is-digit, character, is-spaced, ends-well, characters, is-form, string-in, onto-first, lines, forms, after, nothing-left, words-on, texts-on, finds-on, left-on, text-on, in-form, run-together, lengths-of}
 use Rattle.spec.specs.JobAnswer.{digit-byte, hexadecimal, ending}
+use Rattle.spec.specs.Bytes.{bytes}
 
 -- RENDERING
 
@@ -69,15 +70,14 @@ pub record Form-tested : Type 0 where
 
 -- EXAMPLES
 
--- `(word 0061 FFFF)`, `(text)`, `(find 004A)`, each with its LF
 abbrev word-line : List ℕ
-word-line = 40 ∷ 119 ∷ 111 ∷ 114 ∷ 100 ∷ 32 ∷ 48 ∷ 48 ∷ 54 ∷ 49 ∷ 32 ∷ 70 ∷ 70 ∷ 70 ∷ 70 ∷ 41 ∷ 10 ∷ []
+word-line = bytes "(word 0061 FFFF)\n"
 
 abbrev text-line : List ℕ
-text-line = 40 ∷ 116 ∷ 101 ∷ 120 ∷ 116 ∷ 41 ∷ 10 ∷ []
+text-line = bytes "(text)\n"
 
 abbrev find-line : List ℕ
-find-line = 40 ∷ 102 ∷ 105 ∷ 110 ∷ 100 ∷ 32 ∷ 48 ∷ 48 ∷ 52 ∷ 65 ∷ 41 ∷ 10 ∷ []
+find-line = bytes "(find 004A)\n"
 
 pub record Form-examples : Type 0 where
   pub three-forms : rendered ((97 ∷ 65535 ∷ []) ∷ []) [] ((74 ∷ []) ∷ []) ≡ word-line ++ text-line ++ find-line
@@ -88,6 +88,6 @@ pub record Form-examples : Type 0 where
   pub word-after-text : in-form (text-line ++ word-line) ≡ false
 
 pub form-examples : Form-examples
-unfolding same digit is-digit character is-spaced ends-well characters is-form string-in onto-first lines forms after nothing-left texts-on left-on in-form digit-byte hexadecimal spelled form form-lines rendered
+unfolding bytes same digit is-digit character is-spaced ends-well characters is-form string-in onto-first lines forms after nothing-left texts-on left-on in-form digit-byte hexadecimal spelled form form-lines rendered
 form-examples =
     record { three-forms = refl; one-form = refl; text-alone = refl; two-texts = refl; find-before-text = refl; word-after-text = refl }
