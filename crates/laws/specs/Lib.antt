@@ -96,6 +96,7 @@ pub mod WholeSheet
 pub mod JobReading
 pub mod Hexadecimal
 pub mod FormRendering
+pub mod SheetChars
 pub mod SheetRendering
 pub mod Window
 pub mod WindowSearch

@@ -10,14 +10,14 @@ use lib.Dec.{eqb}
 use lib.ListN.{length, getD}
 use borrow.Author.Tests.{eqb-true}
 use Rattle.basics.specs.Bools.{clash, and-left, and-right}
-use Rattle.basics.specs.Member.{in-getD, all-cons}
 use Rattle.spec.specs.Dictionary.{lexicon, words-from}
 use Rattle.spec.specs.Words.{same}
 use Rattle.spec.specs.JobSheet.{line-feed, word-head, text-head, find-head, is-form, string-in, onto-first, lines, forms, after, nothing-left, words-on, texts-on, finds-on, left-on, text-on, in-form, run-together, lengths-of}
-use Rattle.spec.specs.SheetForms.{form, form-lines, rendered, Characters, All-characters, Sheet-of, Form-tested}
+use Rattle.spec.specs.SheetForms.{form, form-lines, rendered, All-characters, Sheet-of, Form-tested}
 use Rattle.laws.specs.LineReading.{lines-some}
 use Rattle.laws.specs.JobParts.{strings-in-front}
-use Rattle.laws.specs.FormRendering.{Head, plain-get, form-then, form-back, form-chars, form-first, other-first}
+use Rattle.laws.specs.SheetChars.{forms-chars, first-chars}
+use Rattle.laws.specs.FormRendering.{Head, plain-get, form-then, form-back, form-first, other-first}
 
 -- READ WHAT IS RENDERED
 
@@ -158,18 +158,6 @@ joined-nothing ([] ∷ []) t = refl
 joined-nothing ([] ∷ m ∷ ls) t = clash t refl
 joined-nothing ((b ∷ bs) ∷ ls) t = clash t refl
 
-forms-chars : (h : List ℕ) (ls : List (List ℕ)) → All-characters (forms h ls)
-unfolding forms
-forms-chars h [] = λ s m. absurd m
-forms-chars h (l ∷ []) = λ s m. absurd m
-forms-chars h (l ∷ m ∷ ls) = pick (is-form h l) refl (forms-chars h (m ∷ ls))
-  where
-    pick :
-        (t : Bool) → is-form h l ≡ t → All-characters (forms h (m ∷ ls)) →
-        All-characters (cond t (string-in l ∷ forms h (m ∷ ls)) [])
-    pick true e more = all-cons Characters (string-in l) (forms h (m ∷ ls)) (form-chars h l e) more
-    pick false e more = λ s m. absurd m
-
 one-form : (h : List ℕ) (ts : List (List ℕ)) → length ts ≡ 1 → form-lines h ts ≡ form h (getD ts 0 [])
 unfolding form-lines
 one-form h [] e = absurd (omega arith)
@@ -208,7 +196,7 @@ module _ (s : List ℕ) (test : in-form s ≡ true) where
   sheet-read =
       record {
         words-chars = forms-chars word-head (lines s);
-        text-chars = forms-chars text-head (after word-head (lines s)) (getD (texts-on s) 0 []) (in-getD (texts-on s) 0 [] (omega (arith, one)));
+        text-chars = first-chars (texts-on s) (forms-chars text-head (after word-head (lines s)));
         finds-chars = forms-chars find-head (after text-head (after word-head (lines s)));
         bytes = sheet-back;
       }
