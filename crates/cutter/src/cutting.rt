@@ -1,7 +1,8 @@
 // The cut-down index for one string: the same n, and the keys that bear on the string with all their positions.
 //
 // The lines whose keys bear are flagged already. One walk over the flags sizes the result, so that nothing is written before 8 is
-// tested. Two short walks then write the directory lines and the positions of those that bear.
+// tested. Two short walks then write the directory lines and the positions of those that bear, the positions through the part of the
+// output that begins after the directory.
 ghost use mathlib.Core.Path.{_≡_};
 ghost use mathlib.Core.List.{_++_};
 ghost use Prim.Native.Nat.{_+_, _*_, _≤_, _<_};
@@ -87,22 +88,21 @@ fn write_list(places: &[u16], from: usize, output: &mut [u16])
     }
 }
 
-// Writes the positions of the lines that are flagged, from `from` on.
-pub fn write_positions(
+// Writes the positions of the lines that are flagged, over the front of the part that they have to themselves.
+fn write_positions(
     chars: &[u16],
     lengths: &[u16],
     index: &[u16],
     string: &[u16],
     flags: &[u8],
-    from: usize,
-    output: &mut [u16],
+    part: &mut [u16],
 )
-    requires { ⌜ Fits (now index) × Judged (lexicon (now chars) (now lengths)) (now index) (now string) (keys-of (now index)) (now flags) × (from + length (positions (bearing (lexicon (now chars) (now lengths)) (now string) (lines-in (now index)))) ≤ length (now output)) ⌝ }
-    ensures { λ r. ⌜ now (output .exit) ≡ over (take from (now (output .entry)) ++ positions (bearing (lexicon (now (chars .entry)) (now (lengths .entry))) (now (string .entry)) (lines-in (now (index .entry))))) (now (output .entry)) ⌝ }
+    requires { ⌜ Fits (now index) × Judged (lexicon (now chars) (now lengths)) (now index) (now string) (keys-of (now index)) (now flags) × (length (positions (bearing (lexicon (now chars) (now lengths)) (now string) (lines-in (now index)))) ≤ length (now part)) ⌝ }
+    ensures { λ r. ⌜ now (part .exit) ≡ over (positions (bearing (lexicon (now (chars .entry)) (now (lengths .entry))) (now (string .entry)) (lines-in (now (index .entry))))) (now (part .entry)) ⌝ }
 {
     let count = index[1] as usize;
     let mut start = 2 + 3 * count;
-    let mut at = from;
+    let mut at = 0;
     let mut line = 0;
     while line < count {
         let here = line;
@@ -111,7 +111,7 @@ pub fn write_positions(
         start = end;
         line += 1;
         if flags[here] != 0 {
-            write_list(&index[begin..end], at, output);
+            write_list(&index[begin..end], at, part);
             at += end - begin;
         }
     }
@@ -134,5 +134,6 @@ pub fn write_cut(
     output[0] = index[0];
     output[1] = keys as u16;
     write_directory(chars, lengths, index, string, flags, 2, output);
-    write_positions(chars, lengths, index, string, flags, 2 + 3 * keys, output);
+    let after = 2 + 3 * keys;
+    write_positions(chars, lengths, index, string, flags, &mut output[after..]);
 }

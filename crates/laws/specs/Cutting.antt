@@ -1,7 +1,7 @@
 -- The walks that write the cut-down index: header, directory, positions. Assumes nothing.
-use mathlib.Core.Path.{_≡_, sym, ap, _∙_, subst}
+use mathlib.Core.Path.{_≡_, refl, sym, ap, _∙_, subst}
 use mathlib.Core.Bool.{true, false}
-use mathlib.Core.List.{List, [], _∷_, _++_, append-nil}
+use mathlib.Core.List.{List, [], _∷_, _++_}
 use Prim.Native.Nat.{ℕ, zero, _+_, _*_, _-_, _≤_, _<_}
 use native.Mathlib.Numerals.{add-one}
 use native.Mathlib.Omega.{arith}
@@ -116,28 +116,27 @@ module _ (bs : List ℕ) (from : ℕ) where
 
 module _ (lex : Lexicon) (xs s : List ℕ) where
   -- the positions of the bearing lines before line i are written; those of line i start at `start` in the index
-  pub record Placing (from : ℕ) (old out : List ℕ) (start at i : ℕ) : Type 0 where
+  pub record Placing (old out : List ℕ) (start at i : ℕ) : Type 0 where
     pub within : i ≤ keys-of xs
     pub start-is : start ≡ list-start xs i
     pub way :
-        Writing (take from old ++ positions (bearing-from lex xs s 0)) old out (positions (bearing-from lex xs s i)) at
+        Writing (positions (bearing-from lex xs s 0)) old out (positions (bearing-from lex xs s i)) at
 
   pub placing-start :
-      (from : ℕ) (out : List ℕ) → from + length (positions (bearing-from lex xs s 0)) ≤ length out →
-      Placing from out out (header + 3 * keys-of xs) from 0
+      (out : List ℕ) → length (positions (bearing-from lex xs s 0)) ≤ length out → Placing out out (header + 3 * keys-of xs) 0 0
   unfolding counts-from
-  placing-start from out room =
+  placing-start out room =
       record {
         within = omega arith;
         start-is = omega arith;
-        way = starts out (positions (bearing-from lex xs s 0)) from room;
+        way = starts out (positions (bearing-from lex xs s 0)) 0 (omega (arith, room));
       }
 
-  module _ (from : ℕ) (old out : List ℕ) (start at i : ℕ) (h : Placing from old out start at i) where
-    pub placing-end : keys-of xs ≤ i → out ≡ over (take from old ++ positions (bearing-from lex xs s 0)) old
+  module _ (old out : List ℕ) (start at i : ℕ) (h : Placing old out start at i) where
+    pub placing-end : keys-of xs ≤ i → out ≡ over (positions (bearing-from lex xs s 0)) old
     unfolding positions
     placing-end past =
-        written (take from old ++ positions (bearing-from lex xs s 0)) old out at (rw (bearing-done lex xs s i past) at (h .way))
+        written (positions (bearing-from lex xs s 0)) old out at (rw (bearing-done lex xs s i past) at (h .way))
 
     module _ (below : i < keys-of xs) (fits : Fits xs) where
       pub placing-there : start + count-at xs i ≤ length xs
@@ -165,7 +164,7 @@ module _ (lex : Lexicon) (xs s : List ℕ) where
 
       module _ (t : verdict lex xs s i ≡ true) where
         way-here :
-            Writing (take from old ++ positions (bearing-from lex xs s 0)) old out
+            Writing (positions (bearing-from lex xs s 0)) old out
             (take (start + count-at xs i - start) (drop start xs) ++ positions (bearing-from lex xs s (i + 1))) at
         unfolding positions line part
         way-here =
@@ -182,7 +181,7 @@ module _ (lex : Lexicon) (xs s : List ℕ) where
 
         pub placing-step :
             (now : List ℕ) → now ≡ over (take at out ++ take (start + count-at xs i - start) (drop start xs)) out →
-            Placing from old now (start + count-at xs i) (at + (start + count-at xs i - start)) (i + 1)
+            Placing old now (start + count-at xs i) (at + (start + count-at xs i - start)) (i + 1)
         placing-step now e =
             record {
               within = omega arith;
@@ -191,15 +190,15 @@ module _ (lex : Lexicon) (xs s : List ℕ) where
                   rw e
                   (subst
                   (λ (n : ℕ).
-                  Writing (take from old ++ positions (bearing-from lex xs s 0)) old
+                  Writing (positions (bearing-from lex xs s 0)) old
                   (over (take at out ++ take (start + count-at xs i - start) (drop start xs)) out)
                   (positions (bearing-from lex xs s (i + 1))) (at + n))
                   (placing-counted ∙ sym counted)
-                  (appends (take from old ++ positions (bearing-from lex xs s 0)) old out
+                  (appends (positions (bearing-from lex xs s 0)) old out
                   (take (start + count-at xs i - start) (drop start xs)) (positions (bearing-from lex xs s (i + 1))) at way-here));
             }
 
-      pub placing-pass : verdict lex xs s i ≡ false → Placing from old out (start + count-at xs i) at (i + 1)
+      pub placing-pass : verdict lex xs s i ≡ false → Placing old out (start + count-at xs i) at (i + 1)
       placing-pass f =
           record { within = omega arith; start-is = next-start; way = rw (bearing-left lex xs s i below f) at (h .way) }
 
@@ -213,68 +212,13 @@ unfolding cut-down
 cut-long lex xs s keys entries size =
     omega (arith, size .keys-are, size .entries-are, length-numbers (n-of xs) (bearing lex s (lines-in xs)))
 
--- header, directory and positions written one after another are the cut-down index
-module _ (lex : Lexicon) (xs s old : List ℕ) (keys entries : ℕ) (size : Is-size lex xs s keys entries)
-    (room : length (cut-down lex xs s) ≤ length old) where
-  kept : List Line
-  kept = bearing lex s (lines-in xs)
+-- it is the numbers of the bearing lines
+module _ (lex : Lexicon) (xs s old : List ℕ) where
+  pub cut-room :
+      length (cut-down lex xs s) ≤ length old → length (numbers (n-of xs) (bearing lex s (lines-in xs))) ≤ length old
+  unfolding cut-down
+  cut-room room = room
 
-  whole : cut-down lex xs s ≡ n-of xs ∷ keys ∷ (directory kept ++ positions kept)
-  unfolding kept cut-down numbers
-  whole = ap (λ (k : ℕ). n-of xs ∷ k ∷ (directory kept ++ positions kept)) (sym (size .keys-are))
-
-  directory-long : length (directory kept) ≡ 3 * keys
-  unfolding kept cut-down
-  directory-long =
-      omega (
-        arith,
-        size .keys-are,
-        length-numbers (n-of xs) (bearing lex s (lines-in xs)),
-        ap length whole,
-        length-append (directory kept) (positions kept),
-      )
-
-  pub header-room : 1 < length old
-  header-room = omega (arith, room, ap length whole)
-
-  headed : Writing (cut-down lex xs s) old (set (set old 0 (n-of xs)) 1 keys) (directory kept ++ positions kept) header
-  headed =
-      let all : List ℕ = n-of xs ∷ keys ∷ (directory kept ++ positions kept) in
-      let zero : 0 + 1 ≡ 1 = omega arith in
-      let one : 1 + 1 ≡ header = omega arith in
-      let begun = starts old all 0 (omega (arith, room, ap length whole)) in
-      let n = rw zero at (writes all old old (n-of xs) (keys ∷ (directory kept ++ positions kept)) 0 begun) in
-      rw whole (rw one at (writes all old (set old 0 (n-of xs)) keys (directory kept ++ positions kept) 1 n))
-
-  pub directory-room : header + length (directory (bearing lex s (lines-in xs))) ≤ length (set (set old 0 (n-of xs)) 1 keys)
-  unfolding kept
-  directory-room = omega (arith, headed .room, headed .long, length-append (directory kept) (positions kept))
-
-  module _ (listed : List ℕ)
-      (is-listed :
-      listed ≡ over (take header (set (set old 0 (n-of xs)) 1 keys) ++ directory (bearing lex s (lines-in xs))) (set (set old 0 (n-of xs)) 1 keys)) where
-    listing : Writing (cut-down lex xs s) old listed (positions kept) (header + 3 * keys)
-    unfolding kept
-    listing =
-        rw is-listed
-        (subst
-        (λ (k : ℕ).
-        Writing (cut-down lex xs s) old
-        (over (take header (set (set old 0 (n-of xs)) 1 keys) ++ directory kept) (set (set old 0 (n-of xs)) 1 keys)) (positions kept)
-        (header + k))
-        directory-long
-        (appends (cut-down lex xs s) old (set (set old 0 (n-of xs)) 1 keys) (directory kept) (positions kept) header headed))
-
-    pub positions-room : header + 3 * keys + length (positions (bearing lex s (lines-in xs))) ≤ length listed
-    unfolding kept
-    positions-room = omega (arith, listing .room, listing .long)
-
-    pub cut-written :
-        (out : List ℕ) → out ≡ over (take (header + 3 * keys) listed ++ positions (bearing lex s (lines-in xs))) listed →
-        out ≡ in-front (cut-down lex xs s) old
-    unfolding kept in-front
-    cut-written out e =
-        written (cut-down lex xs s) old out (header + 3 * keys + length (positions kept))
-        (rw e
-        (appends (cut-down lex xs s) old listed (positions kept) [] (header + 3 * keys)
-        (rw (append-nil (positions kept)) listing)))
+  pub cut-written : over (numbers (n-of xs) (bearing lex s (lines-in xs))) old ≡ in-front (cut-down lex xs s) old
+  unfolding cut-down in-front
+  cut-written = refl

@@ -1,13 +1,29 @@
--- `write_cut` meets its contract: header, directory and positions one after another. Assumes nothing.
-use lib.Seq.{lt-length-set}
-use lib.ListN.{getD, set, length-set}
-use mathlib.Core.Path.{_∙_}
+-- `write_cut` meets its contract: header, directory and positions, one after the other. Assumes nothing.
+use mathlib.Core.Path.{_≡_, ap, _∙_}
+use Prim.Native.Nat.{_+_, _*_}
 use native.Mathlib.Omega.{arith}
+use lib.ListN.{length, length-set}
+use Rattle.basics.specs.Writing.{over, tail-back}
 use Rattle.spec.specs.Dictionary.{lexicon}
-use Rattle.laws.specs.Cutting.{header-room, directory-room, positions-room, cut-written}
+use Rattle.spec.specs.Numbers.{numbers}
+use Rattle.spec.specs.Index.{n-of, lines-in}
+use Rattle.spec.specs.Cut.{bearing}
+use Rattle.laws.specs.IndexWriting.{room-is, directory-room, positions-start, positions-room, index-written, written-long}
+use Rattle.laws.specs.Cutting.{cut-room, cut-written}
 use borrow.Author.Needs.{needs}
 use Rattle.cutter.proofs.cutting.write_cut.Statement.{statement}
 use Rattle.cutter.proofs.cutting.write_cut.Tie as tie
+
+done :
+    (c : tie.After-slice-known3) →
+    tail-back (2 + 3 * c .before .before .before .before .before .before .before .before .before .before .before .before .before .before .before .args .size .keys) (c .before .before .before .before .before .before .write-directory .last .1 .1 .1 .1 .1 .1 .0) (c .before .before .write-positions .last .1 .1 .1 .1 .1 .0)
+    ≡ over (numbers (n-of (c .before .before .before .before .before .before .before .before .before .before .before .before .before .before .before .args .index .now)) (bearing (lexicon (c .before .before .before .before .before .before .before .before .before .before .before .before .before .before .before .args .chars .now) (c .before .before .before .before .before .before .before .before .before .before .before .before .before .before .before .args .lengths .now)) (c .before .before .before .before .before .before .before .before .before .before .before .before .before .before .before .args .string .now) (lines-in (c .before .before .before .before .before .before .before .before .before .before .before .before .before .before .before .args .index .now)))) (c .before .before .before .before .before .before .before .before .before .before .before .before .before .before .before .args .output .now)
+done c =
+    let s = c .before .before .before .before .before .before .before .before .before .before .before .before .before .before .before in
+    index-written (n-of (s .args .index .now)) (bearing (lexicon (s .args .chars .now) (s .args .lengths .now)) (s .args .string .now) (lines-in (s .args .index .now))) (s .args .size .keys)
+    (s .pre .2 .keys-are) (s .args .output .now) (cut-room (lexicon (s .args .chars .now) (s .args .lengths .now)) (s .args .index .now) (s .args .string .now) (s .args .output .now) (s .pre .3))
+    (c .before .before .before .before .before .before .write-directory .last .1 .1 .1 .1 .1 .1 .0) (c .before .before .before .before .before .before .write-directory .ensures) (c .before .before .write-positions .last .1 .1 .1 .1 .1 .0)
+    (c .before .before .write-positions .ensures)
 
 shared-slice-read-output : tie.Need-shared-slice-read-output
 shared-slice-read-output c = search needs
@@ -15,11 +31,10 @@ shared-slice-read-output c = search needs
 slice-write-output : tie.Need-slice-write-output
 slice-write-output c =
     let s = c .before .before .before .before .before .before .before in
-    let a = s .args in
     omega (
       arith,
-      header-room (lexicon (a .chars .now) (a .lengths .now)) (a .index .now) (a .string .now) (a .output .now) (a .size .keys)
-          (a .size .entries) (s .pre .2) (s .pre .3),
+      room-is (n-of (s .args .index .now)) (bearing (lexicon (s .args .chars .now) (s .args .lengths .now)) (s .args .string .now) (lines-in (s .args .index .now))) (s .args .size .keys)
+          (s .pre .2 .keys-are) (s .args .output .now) (cut-room (lexicon (s .args .chars .now) (s .args .lengths .now)) (s .args .index .now) (s .args .string .now) (s .args .output .now) (s .pre .3)),
     )
 
 cast-output : tie.Need-cast-output
@@ -28,53 +43,68 @@ cast-output c = search needs
 slice-write-output-2 : tie.Need-slice-write-output-2
 slice-write-output-2 c =
     let s = c .before .before .before .before .before .before .before in
-    let a = s .args in
-    lt-length-set (a .output .now) 0 (getD (a .index .now) 0 0) (header-room (lexicon (a .chars .now) (a .lengths .now)) (a .index .now) (a .string .now) (a .output .now) (a .size .keys)
-    (a .size .entries) (s .pre .2) (s .pre .3))
+    simp length-set (omega (
+      arith,
+      room-is (n-of (s .args .index .now)) (bearing (lexicon (s .args .chars .now) (s .args .lengths .now)) (s .args .string .now) (lines-in (s .args .index .now))) (s .args .size .keys)
+          (s .pre .2 .keys-are) (s .args .output .now) (cut-room (lexicon (s .args .chars .now) (s .args .lengths .now)) (s .args .index .now) (s .args .string .now) (s .args .output .now) (s .pre .3)),
+    ))
 
 write-directory-requires : tie.Need-write-directory-requires
 write-directory-requires c κs =
-    let s = c .before .before .before .before .before .before .before .before in
-    let a = s .args in (
+    let s = c .before .before .before .before .before .before .before .before in (
       s .pre .0,
       s .pre .1,
-      directory-room (lexicon (a .chars .now) (a .lengths .now)) (a .index .now) (a .string .now) (a .output .now) (a .size .keys)
-          (a .size .entries) (s .pre .2) (s .pre .3),
+      directory-room (n-of (s .args .index .now)) (bearing (lexicon (s .args .chars .now) (s .args .lengths .now)) (s .args .string .now) (lines-in (s .args .index .now))) (s .args .size .keys)
+          (s .pre .2 .keys-are) (s .args .output .now) (cut-room (lexicon (s .args .chars .now) (s .args .lengths .now)) (s .args .index .now) (s .args .string .now) (s .args .output .now) (s .pre .3)),
     )
+
+mul-after : tie.Need-mul-after
+mul-after c = search needs
+
+add-after : tie.Need-add-after
+add-after c = search needs
 
 mul-write-positions : tie.Need-mul-write-positions
 mul-write-positions c = search needs
 
-add-write-positions : tie.Need-add-write-positions
-add-write-positions c = search needs
+sub-write-positions : tie.Need-sub-write-positions
+sub-write-positions c =
+    let s = c .before .before .before .before .before .before .before .before .before .before .before in
+    positions-start (n-of (s .args .index .now)) (bearing (lexicon (s .args .chars .now) (s .args .lengths .now)) (s .args .string .now) (lines-in (s .args .index .now))) (s .args .size .keys)
+    (s .pre .2 .keys-are) (s .args .output .now) (cut-room (lexicon (s .args .chars .now) (s .args .lengths .now)) (s .args .index .now) (s .args .string .now) (s .args .output .now) (s .pre .3))
+    (c .before .before .write-directory .last .1 .1 .1 .1 .1 .1 .0) (c .before .before .write-directory .ensures)
+
+part-write-positions-start : tie.Need-part-write-positions-start
+part-write-positions-start c =
+    let s = c .before .before .before .before .before .before .before .before .before .before .before in
+    positions-start (n-of (s .args .index .now)) (bearing (lexicon (s .args .chars .now) (s .args .lengths .now)) (s .args .string .now) (lines-in (s .args .index .now))) (s .args .size .keys)
+    (s .pre .2 .keys-are) (s .args .output .now) (cut-room (lexicon (s .args .chars .now) (s .args .lengths .now)) (s .args .index .now) (s .args .string .now) (s .args .output .now) (s .pre .3))
+    (c .before .before .write-directory .last .1 .1 .1 .1 .1 .1 .0) (c .before .before .write-directory .ensures)
+
+part-write-positions-end : tie.Need-part-write-positions-end
+part-write-positions-end c = search needs
 
 write-positions-requires : tie.Need-write-positions-requires
 write-positions-requires c κs =
-    let s = c .before .before .before .before .before .before .before .before .before .before .before .before in
-    let a = s .args in (
+    let s = c .before .before .before .before .before .before .before .before .before .before .before .before in (
       s .pre .0,
       s .pre .1,
-      positions-room (lexicon (a .chars .now) (a .lengths .now)) (a .index .now) (a .string .now) (a .output .now) (a .size .keys)
-          (a .size .entries) (s .pre .2) (s .pre .3)
+      positions-room (n-of (s .args .index .now)) (bearing (lexicon (s .args .chars .now) (s .args .lengths .now)) (s .args .string .now) (lines-in (s .args .index .now))) (s .args .size .keys)
+          (s .pre .2 .keys-are) (s .args .output .now) (cut-room (lexicon (s .args .chars .now) (s .args .lengths .now)) (s .args .index .now) (s .args .string .now) (s .args .output .now) (s .pre .3))
           (c .before .before .before .write-directory .last .1 .1 .1 .1 .1 .1 .0) (c .before .before .before .write-directory .ensures),
     )
 
 same-length : tie.Need-same-length
 same-length c =
     let s = c .before .before .before .before .before .before .before .before .before .before .before .before .before .before .before in
-    let a = s .args in
-    c .before .before .write-positions .kept .1 .1 .1 .1 .1 .1 .0 ∙ c .before .before .before .before .before .before .write-directory .kept .1 .1 .1 .1 .1 .1 .0
-    ∙ length-set (set (a .output .now) 0 (getD (a .index .now) 0 0)) 1 (a .size .keys)
-    ∙ length-set (a .output .now) 0 (getD (a .index .now) 0 0)
+    ap length (done c)
+    ∙ written-long (n-of (s .args .index .now)) (bearing (lexicon (s .args .chars .now) (s .args .lengths .now)) (s .args .string .now) (lines-in (s .args .index .now))) (s .args .size .keys)
+    (s .pre .2 .keys-are) (s .args .output .now) (cut-room (lexicon (s .args .chars .now) (s .args .lengths .now)) (s .args .index .now) (s .args .string .now) (s .args .output .now) (s .pre .3))
 
 returns : tie.Need-returns
 returns c =
     let s = c .before .before .before .before .before .before .before .before .before .before .before .before .before .before .before in
-    let a = s .args in
-    cut-written (lexicon (a .chars .now) (a .lengths .now)) (a .index .now) (a .string .now) (a .output .now) (a .size .keys)
-    (a .size .entries) (s .pre .2) (s .pre .3)
-    (c .before .before .before .before .before .before .write-directory .last .1 .1 .1 .1 .1 .1 .0) (c .before .before .before .before .before .before .write-directory .ensures)
-    (c .before .before .write-positions .last .1 .1 .1 .1 .1 .1 .0) (c .before .before .write-positions .ensures)
+    done c ∙ cut-written (lexicon (s .args .chars .now) (s .args .lengths .now)) (s .args .index .now) (s .args .string .now) (s .args .output .now)
 
 pub write-cut-spec : {M : Type 1} → statement M
 write-cut-spec =
@@ -85,8 +115,12 @@ write-cut-spec =
     cast-output
     slice-write-output-2
     write-directory-requires
+    mul-after
+    add-after
     mul-write-positions
-    add-write-positions
+    sub-write-positions
+    part-write-positions-start
+    part-write-positions-end
     write-positions-requires
     same-length
     returns)
