@@ -1,0 +1,2 @@
+-- What the walks by hand of other crates cite.
+pub mod Opens
