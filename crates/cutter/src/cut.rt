@@ -5,14 +5,14 @@ ghost use lib.ListN.{length, replicate};
 ghost use Rattle.spec.specs.Dictionary.{lexicon};
 ghost use Rattle.spec.specs.Index.{keys-of};
 ghost use Rattle.spec.specs.Cut.{cut-down};
-ghost use Rattle.spec.specs.Calls.{Cut-says};
+ghost use Rattle.spec.specs.Calls.{index-refusal, accepted, Cut-says};
 ghost use Rattle.laws.specs.Tables.{Can-read};
 ghost use Rattle.laws.specs.Sizing.{Is-string, Sized};
 use crate::cutting::size_flagged;
 use crate::cutting::write_cut;
 use bearing::bearing::flag_bearing;
 use directory::tables::fill_words;
-use reading::readability::refusal_of;
+use opening::opened::open_index;
 use spec::Answer;
 
 // Cuts the index down, with a cleared flag for each line lent.
@@ -92,13 +92,13 @@ fn cut_lines<'a>(
     chars: &'a [u16],
     lengths: &[u16],
     index: &'a [u16],
+    keys: usize,
     string: &[u16],
     output: &mut [u16],
 ) -> Answer
-    requires { ⌜ Can-read (now chars) (now lengths) (now index) × Is-string (now string) × (keys-of (now index) ≤ 65535) ⌝ }
+    requires { ⌜ Can-read (now chars) (now lengths) (now index) × Is-string (now string) × (keys-of (now index) ≤ 65535) × (keys ≡ keys-of (now index)) ⌝ }
     ensures { λ r. ⌜ Sized (cut-down (lexicon (now (chars .entry)) (now (lengths .entry))) (now (index .entry)) (now (string .entry))) r (now (output .entry)) (now (output .exit)) ⌝ }
 {
-    let keys = index[1] as usize;
     if keys <= 1024 {
         return cut_few_lines(chars, lengths, index, string, output);
     }
@@ -108,17 +108,19 @@ fn cut_lines<'a>(
     cut_many_lines(chars, lengths, index, string, output)
 }
 
-// Writes the cut-down index for a string, and answers how many numbers it has, or the refusal.
-pub fn cut_index<'a>(
+// Cuts an opened index down: writes the cut-down index for a string, and answers how many numbers it has, or the refusal.
+fn cut_opened<'a>(
     chars: &'a [u16],
-    lengths: &[u16],
+    lengths: &'a [u16],
     index: &'a [u16],
-    string: &[u16],
+    refusal: u32,
+    keys: usize,
+    string: &'a [u16],
     output: &mut [u16],
 ) -> Answer
+    requires { ⌜ (refusal ≡ index-refusal (now chars) (now lengths) (now index)) × (keys ≡ accepted refusal (keys-of (now index)) 0) ⌝ }
     ensures { λ r. ⌜ Cut-says (now (chars .entry)) (now (lengths .entry)) (now (index .entry)) (now (string .entry)) r (now (output .entry)) (now (output .exit)) ⌝ }
 {
-    let refusal = refusal_of(chars, lengths, index);
     if refusal != 0 {
         return Answer { refusal, count: 0 };
     }
@@ -135,5 +137,27 @@ pub fn cut_index<'a>(
             count: 0,
         };
     }
-    cut_lines(chars, lengths, index, string, output)
+    cut_lines(chars, lengths, index, keys, string, output)
+}
+
+// Cuts an index down for a string: opens it, and cuts the opened index down.
+pub fn cut_index<'a>(
+    chars: &'a [u16],
+    lengths: &'a [u16],
+    index: &'a [u16],
+    string: &'a [u16],
+    output: &mut [u16],
+) -> Answer
+    ensures { λ r. ⌜ Cut-says (now (chars .entry)) (now (lengths .entry)) (now (index .entry)) (now (string .entry)) r (now (output .entry)) (now (output .exit)) ⌝ }
+{
+    let opened = open_index(chars, lengths, index);
+    cut_opened(
+        chars,
+        lengths,
+        opened.numbers,
+        opened.refusal,
+        opened.keys,
+        string,
+        output,
+    )
 }

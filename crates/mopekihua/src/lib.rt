@@ -85,9 +85,9 @@ pub extern "C" fn mopekihua_search<'a>(
 #[no_mangle]
 pub extern "C" fn mopekihua_cut<'a>(
     chars: &'a [u16],
-    lengths: &[u16],
+    lengths: &'a [u16],
     index: &'a [u16],
-    string: &[u16],
+    string: &'a [u16],
     output: &mut [u16],
 ) -> Answer
     ensures { λ r. ⌜ Cut-says (now (chars .entry)) (now (lengths .entry)) (now (index .entry)) (now (string .entry)) r (now (output .entry)) (now (output .exit)) ⌝ }
