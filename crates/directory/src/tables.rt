@@ -1,6 +1,7 @@
 // Two tables of starts, each filled by one walk, so that any word and any line's positions are at hand.
 //
 // A word's characters start where the lengths before it add up to, and a line's positions where the counts before it do.
+ghost use mathlib.Core.Path.{_≡_};
 ghost use Prim.Native.Nat.{_≤_};
 ghost use lib.ListN.{length};
 ghost use Rattle.spec.specs.Dictionary.{total};
@@ -22,12 +23,11 @@ pub fn fill_words(lengths: &[u16], words: &mut [u16])
     }
 }
 
-// Where each line's positions start, counted from the end of the directory.
-pub fn fill_lists(index: &[u16], lists: &mut [u32])
-    requires { ⌜ Fits (now index) × (keys-of (now index) ≤ length (now lists)) ⌝ }
+// Where each of the `keys` lines' positions start, counted from the end of the directory.
+pub fn fill_lists(index: &[u16], keys: usize, lists: &mut [u32])
+    requires { ⌜ Fits (now index) × (keys ≡ keys-of (now index)) × (keys ≤ 65535) × (keys ≤ length (now lists)) ⌝ }
     ensures { λ r. ⌜ List-starts (now (index .entry)) (keys-of (now (index .entry))) (now (lists .exit)) ⌝ }
 {
-    let keys = index[1] as usize;
     let mut at: usize = 0;
     let mut i = 0;
     while i < keys {

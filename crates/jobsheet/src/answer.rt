@@ -15,9 +15,9 @@ use printer::print::put_refused_line;
 use spec::Answer;
 
 // The lines of a job that is not refused, from its parts where they stand.
-fn put_parts(
-    chars: &[u16],
-    lengths: &[u16],
+fn put_parts<'a>(
+    chars: &'a [u16],
+    lengths: &'a [u16],
     words: usize,
     dictionary: usize,
     text: usize,

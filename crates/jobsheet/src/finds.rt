@@ -1,33 +1,35 @@
-// The lines of the finds: each string is searched for in the index and its positions are printed, one after the other.
-ghost use mathlib.Core.Path.{_≡_};
+// The lines of the finds: each string is searched for in the opened index and its positions are printed, one after the other. The
+// finds share the tables of starts.
 ghost use Prim.Native.Nat.{_+_, _≤_};
 ghost use lib.ListN.{length};
 ghost use Rattle.basics.specs.Placed.{Wrote};
 ghost use Rattle.spec.specs.Dictionary.{lexicon, words-from};
 ghost use Rattle.spec.specs.Index.{n-of};
 ghost use Rattle.spec.specs.Search.{find};
-ghost use Rattle.spec.specs.Calls.{index-refusal};
 ghost use Rattle.spec.specs.JobAnswer.{found-line, found-lines};
+ghost use Rattle.laws.specs.Tables.{Opened};
 ghost use Rattle.laws.specs.Sizing.{Is-string};
 ghost use Rattle.laws.specs.JobAnswering.{Strings-good};
 use printer::print::put_found_line;
-use searcher::search::search_index;
+use searcher::search::search_tabled;
 
 // The line of one find.
 fn put_find<'a>(
     chars: &'a [u16],
     lengths: &[u16],
     index: &'a [u16],
+    words: &[u16],
+    lists: &[u32],
     string: &[u16],
     found: &mut [u16],
     out: &mut [u8],
     at: usize,
 ) -> usize
-    requires { ⌜ (index-refusal (now chars) (now lengths) (now index) ≡ 0) × Is-string (now string) × (n-of (now index) ≤ length (now found)) ⌝ }
+    requires { ⌜ Opened (now chars) (now lengths) (now index) (now words) (now lists) × Is-string (now string) × (n-of (now index) ≤ length (now found)) ⌝ }
     requires { ⌜ at + length (found-line (find (lexicon (now chars) (now lengths)) (now index) (now string))) ≤ length (now out) ⌝ }
     ensures { λ r. ⌜ Wrote (found-line (find (lexicon (now (chars .entry)) (now (lengths .entry))) (now (index .entry)) (now (string .entry)))) at (now (out .entry)) r (now (out .exit)) ⌝ }
 {
-    let answer = search_index(chars, lengths, index, string, found);
+    let answer = search_tabled(chars, lengths, index, words, lists, string, found);
     let count = answer.count;
     put_found_line(out, at, &found[..count])
 }
@@ -37,13 +39,15 @@ pub fn put_finds<'a>(
     chars: &'a [u16],
     lengths: &[u16],
     index: &'a [u16],
+    words: &[u16],
+    lists: &[u32],
     strings: &[u16],
     counts: &[u16],
     found: &mut [u16],
     out: &mut [u8],
     at: usize,
 ) -> usize
-    requires { ⌜ (index-refusal (now chars) (now lengths) (now index) ≡ 0) × Strings-good (now strings) (now counts) × (n-of (now index) ≤ length (now found)) ⌝ }
+    requires { ⌜ Opened (now chars) (now lengths) (now index) (now words) (now lists) × Strings-good (now strings) (now counts) × (n-of (now index) ≤ length (now found)) ⌝ }
     requires { ⌜ at + length (found-lines (lexicon (now chars) (now lengths)) (now index) (words-from (now counts) (now strings))) ≤ length (now out) ⌝ }
     ensures { λ r. ⌜ Wrote (found-lines (lexicon (now (chars .entry)) (now (lengths .entry))) (now (index .entry)) (words-from (now (counts .entry)) (now (strings .entry)))) at (now (out .entry)) r (now (out .exit)) ⌝ }
 {
@@ -52,7 +56,17 @@ pub fn put_finds<'a>(
     let mut i = 0;
     while i < counts.len() {
         let next = from + counts[i] as usize;
-        end = put_find(chars, lengths, index, &strings[from..next], found, out, end);
+        end = put_find(
+            chars,
+            lengths,
+            index,
+            words,
+            lists,
+            &strings[from..next],
+            found,
+            out,
+            end,
+        );
         from = next;
         i += 1;
     }

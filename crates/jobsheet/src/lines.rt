@@ -1,38 +1,115 @@
 // The lines of an accepted job: those of the text's index, then those of the finds. At most 2,000 characters of text have an index
 // of at most 8,002 numbers; these and the found positions are local, so that the buffer for the lines is all that is lent.
+ghost use mathlib.Core.Path.{_≡_};
 ghost use Prim.Native.Nat.{_≤_};
 ghost use lib.ListN.{length};
 ghost use Rattle.basics.specs.Placed.{Wrote};
+ghost use Rattle.spec.specs.Index.{keys-of};
+ghost use Rattle.laws.specs.Tables.{Can-read};
 ghost use Rattle.laws.specs.AcceptedCalls.{Usable};
 ghost use Rattle.laws.specs.JobAnswering.{Strings-good, Parts-good, shown, printed-of};
 use crate::finds::put_finds;
 use builder::build::build;
+use directory::tables::fill_lists;
+use directory::tables::fill_words;
+use opening::opened::open_index;
 use printer::print::put_index_lines;
 
-// The lines of an index and of all finds.
-fn put_lines<'a>(
+// The lines of a readable index and of all finds, with a table lent for the starts of the `keys` lines.
+fn put_filled<'a>(
     chars: &'a [u16],
     lengths: &[u16],
     index: &'a [u16],
+    keys: usize,
     strings: &[u16],
     counts: &[u16],
+    lists: &mut [u32],
+    found: &mut [u16],
+    out: &mut [u8],
+) -> usize
+    requires { ⌜ Usable (now chars) (now lengths) (now index) × Can-read (now chars) (now lengths) (now index) × (keys ≡ keys-of (now index)) × (keys ≤ length (now lists)) ⌝ }
+    requires { ⌜ Strings-good (now strings) (now counts) × (2000 ≤ length (now found)) × (700000 ≤ length (now out)) ⌝ }
+    ensures { λ r. ⌜ Wrote (shown (now (chars .entry)) (now (lengths .entry)) (now (index .entry)) (now (strings .entry)) (now (counts .entry))) 0 (now (out .entry)) r (now (out .exit)) ⌝ }
+{
+    let mut words = [0u16; 4096];
+    fill_words(lengths, &mut words);
+    fill_lists(index, keys, lists);
+    let end = put_index_lines(out, 0, index);
+    put_finds(
+        chars,
+        lengths,
+        index,
+        &words,
+        lists,
+        strings,
+        counts,
+        found,
+        out,
+        end,
+    )
+}
+
+// The lines of an opened index and of all finds. An index of at most 8,002 numbers has fewer than 2,667 lines.
+fn put_opened<'a>(
+    chars: &'a [u16],
+    lengths: &'a [u16],
+    index: &'a [u16],
+    keys: usize,
+    strings: &'a [u16],
+    counts: &'a [u16],
+    found: &mut [u16],
+    out: &mut [u8],
+) -> usize
+    requires { ⌜ Usable (now chars) (now lengths) (now index) × (keys ≡ keys-of (now index)) × Strings-good (now strings) (now counts) × (2000 ≤ length (now found)) × (700000 ≤ length (now out)) ⌝ }
+    ensures { λ r. ⌜ Wrote (shown (now (chars .entry)) (now (lengths .entry)) (now (index .entry)) (now (strings .entry)) (now (counts .entry))) 0 (now (out .entry)) r (now (out .exit)) ⌝ }
+{
+    let mut lists = [0u32; 2667];
+    put_filled(
+        chars,
+        lengths,
+        index,
+        keys,
+        strings,
+        counts,
+        &mut lists,
+        found,
+        out,
+    )
+}
+
+// The same for an index that is opened first, once for all finds.
+fn put_lines<'a>(
+    chars: &'a [u16],
+    lengths: &'a [u16],
+    index: &'a [u16],
+    strings: &'a [u16],
+    counts: &'a [u16],
     found: &mut [u16],
     out: &mut [u8],
 ) -> usize
     requires { ⌜ Usable (now chars) (now lengths) (now index) × Strings-good (now strings) (now counts) × (2000 ≤ length (now found)) × (700000 ≤ length (now out)) ⌝ }
     ensures { λ r. ⌜ Wrote (shown (now (chars .entry)) (now (lengths .entry)) (now (index .entry)) (now (strings .entry)) (now (counts .entry))) 0 (now (out .entry)) r (now (out .exit)) ⌝ }
 {
-    let end = put_index_lines(out, 0, index);
-    put_finds(chars, lengths, index, strings, counts, found, out, end)
+    let opened = open_index(chars, lengths, index);
+    put_opened(
+        chars,
+        lengths,
+        opened.numbers,
+        opened.keys,
+        strings,
+        counts,
+        found,
+        out,
+    )
 }
 
 // The same for a text, whose index is built first.
-fn put_built(
-    chars: &[u16],
-    lengths: &[u16],
+fn put_built<'a>(
+    chars: &'a [u16],
+    lengths: &'a [u16],
     text: &[u16],
-    strings: &[u16],
-    counts: &[u16],
+    strings: &'a [u16],
+    counts: &'a [u16],
     index: &mut [u16],
     work: &mut [u16],
     found: &mut [u16],
@@ -48,12 +125,12 @@ fn put_built(
 }
 
 // The same with slices of its own for the index and the positions.
-pub fn put_printed(
-    chars: &[u16],
-    lengths: &[u16],
+pub fn put_printed<'a>(
+    chars: &'a [u16],
+    lengths: &'a [u16],
     text: &[u16],
-    strings: &[u16],
-    counts: &[u16],
+    strings: &'a [u16],
+    counts: &'a [u16],
     out: &mut [u8],
 ) -> usize
     requires { ⌜ Parts-good (now chars) (now lengths) (now text) (now strings) (now counts) × (700000 ≤ length (now out)) ⌝ }

@@ -1,20 +1,17 @@
 -- Calls that have to be accepted: a text's index and a string's positions, in hand at the front of what was lent. Assumes nothing.
-use mathlib.Core.Path.{_≡_, sym, ap, _∙_}
-use mathlib.Core.Bool.{false, _||_}
+use mathlib.Core.Path.{_≡_, refl, sym, ap, _∙_}
 use mathlib.Core.List.{List, _++_}
 use Prim.Native.Nat.{ℕ, _≤_}
 use native.Mathlib.Omega.{arith}
-use lib.Dec.{ltb, eqb}
 use lib.ListN.{length, take, drop, length-append}
 use lib.Seq.{take-at}
-use borrow.Author.Tests.{le-ltb, ne-eqb}
-use Rattle.basics.specs.Bools.{or-none}
+use borrow.Author.Tests.{le-ltb}
 use Rattle.spec.specs.declared.Answer.{Answer}
-use Rattle.spec.specs.Dictionary.{longest-text, lexicon, dictionary-refusal}
+use Rattle.spec.specs.Dictionary.{Lexicon, longest-text, lexicon, dictionary-refusal}
 use Rattle.spec.specs.Numbers.{index-of}
 use Rattle.spec.specs.Index.{n-of}
 use Rattle.spec.specs.Search.{find}
-use Rattle.spec.specs.Calls.{string-wrong, output-short, or-else, index-refusal, build-refusal, find-refusal, in-front, Answers, Puts, Build-says, Search-says}
+use Rattle.spec.specs.Calls.{output-short, index-refusal, build-refusal, in-front, Answers, Puts, Build-says}
 use Rattle.laws.specs.Facts.{Chars, Good-lexicon}
 use Rattle.laws.specs.Answering.{accepted-yes}
 use Rattle.laws.specs.Slices.{Fits}
@@ -22,7 +19,7 @@ use Rattle.laws.specs.LineWalk.{readable-fits}
 use Rattle.laws.specs.IndexOf.{n-of-index, index-readable}
 use Rattle.laws.specs.IndexRefusal.{accepts-index, index-accepted}
 use Rattle.laws.specs.IndexPrinting.{Whole}
-use Rattle.laws.specs.Sizing.{Is-string}
+use Rattle.laws.specs.Sizing.{Is-string, Sized}
 use Rattle.laws.specs.Building.{early-none, output-fits, build-late, reached-lexicon}
 use Rattle.laws.specs.Numbers16.{index-short}
 use Rattle.laws.specs.PrintedBounds.{find-few}
@@ -45,24 +42,17 @@ puts-get n ys r o z none puts =
     in-hand ys (r .count) z (drop (length ys) o) (puts .0 .1 ∙ accepted-yes n (length ys) 0 none)
     (puts .1 ∙ accepted-yes n (in-front ys o) o none)
 
+pub sized-get : (ys : List ℕ) (r : Answer) (o z : List ℕ) → length ys ≤ length o → Sized ys r o z → In-hand ys (r .count) z
+unfolding Sized output-short
+sized-get ys r o z enough h = puts-get 0 ys r o z refl (rw (le-ltb (length o) (length ys) enough) at h)
+
 -- SEARCH
 
-pub search-accepted :
-    (cs ls xs s : List ℕ) (r : Answer) (o z : List ℕ) → index-refusal cs ls xs ≡ 0 → Is-string s → n-of xs ≤ length o →
-    Search-says cs ls xs s r o z → In-hand (find (lexicon cs ls) xs s) (r .count) z
-unfolding Search-says find-refusal or-else string-wrong output-short
-search-accepted cs ls xs s r o z accepts is room says =
-    puts-get (find-refusal cs ls xs s (length (find (lexicon cs ls) xs s)) (length o)) (find (lexicon cs ls) xs s) r o z none says
-  where
-    none : find-refusal cs ls xs s (length (find (lexicon cs ls) xs s)) (length o) ≡ 0
-    none =
-        let good : (eqb (length s) 0 || ltb 256 (length s)) ≡ false =
-        or-none (ne-eqb (length s) 0 (λ (e : length s ≡ 0). omega (arith, is .some))) (le-ltb 256 (length s) (is .short)) in
-        rw (
-          accepts,
-          good,
-          le-ltb (length o) (length (find (lexicon cs ls) xs s)) (omega (arith, find-few (lexicon cs ls) xs s (is .some))),
-        )
+pub found-in-hand :
+    (lex : Lexicon) (xs s : List ℕ) (r : Answer) (o z : List ℕ) → Is-string s → n-of xs ≤ length o → Sized (find lex xs s) r o z →
+    In-hand (find lex xs s) (r .count) z
+found-in-hand lex xs s r o z is room =
+    sized-get (find lex xs s) r o z (omega (arith, find-few lex xs s (is .some)))
 
 -- BUILDING
 

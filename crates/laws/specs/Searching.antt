@@ -73,12 +73,11 @@ module _ (m q : ℕ) (rs o : List ℕ) (count : ℕ) (e : count ≡ count-in m r
   answer-found enough z w r a b = sized-written (found-in m q rs) r o z (omega (arith, count-is)) a (b ∙ count-is) w
 
 -- all starts at which the string fits
-pub search-says :
-    (cs ls xs s : List ℕ) (r : Answer) (o z : List ℕ) → index-refusal cs ls xs ≡ 0 → Is-string s → (starts : ℕ) →
-    starts ≡ suc (n-of xs) - length s → Window-says (lexicon cs ls) xs s starts 1 r o z → Search-says cs ls xs s r o z
-unfolding Window-says Search-says find
-search-says cs ls xs s r o z accepts is starts e h =
-    finds-sized cs ls xs s (find (lexicon cs ls) xs s) r o accepts is z (rw e at h)
+pub all-starts :
+    (lex : Lexicon) (xs s : List ℕ) (r : Answer) (o z : List ℕ) → (starts : ℕ) → starts ≡ suc (n-of xs) - length s →
+    Window-says lex xs s starts 1 r o z → Sized (find lex xs s) r o z
+unfolding Window-says find
+all-starts lex xs s r o z starts e h = rw e at h
 
 -- the number of starts, as the code has it
 pub says-count :
@@ -93,7 +92,7 @@ cleared-room n k h = omega (arith, length-replicate {A = ℕ} n 0)
 pub cleared-whole : (n : ℕ) → replicate {A = ℕ} n 0 ≡ replicate (length (replicate {A = ℕ} n 0)) 0
 cleared-whole n = ap (λ (m : ℕ). replicate {A = ℕ} m 0) (sym (length-replicate {A = ℕ} n 0))
 
--- the refusals before the search
+-- the refusals before the search, and what is answered after them
 module _ (cs ls xs s : List ℕ) (r : Answer) (o : List ℕ) where
   pub search-refused :
       (index-refusal cs ls xs ≡ 0 → ⊥) → r .refusal ≡ index-refusal cs ls xs → r .count ≡ 0 → Search-says cs ls xs s r o o
@@ -107,6 +106,11 @@ module _ (cs ls xs s : List ℕ) (r : Answer) (o : List ℕ) where
   pub search-long : index-refusal cs ls xs ≡ 0 → 256 < length s → r .refusal ≡ 6 → r .count ≡ 0 → Search-says cs ls xs s r o o
   unfolding Search-says
   search-long = finds-long cs ls xs s (find (lexicon cs ls) xs s) r o
+
+  pub search-says :
+      index-refusal cs ls xs ≡ 0 → Is-string s → (z : List ℕ) → Sized (find (lexicon cs ls) xs s) r o z → Search-says cs ls xs s r o z
+  unfolding Search-says
+  search-says = finds-sized cs ls xs s (find (lexicon cs ls) xs s) r o
 
 -- THE CUT-DOWN INDEX
 

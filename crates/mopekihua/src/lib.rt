@@ -70,9 +70,9 @@ pub extern "C" fn mopekihua_recover<'a>(
 #[no_mangle]
 pub extern "C" fn mopekihua_search<'a>(
     chars: &'a [u16],
-    lengths: &[u16],
+    lengths: &'a [u16],
     index: &'a [u16],
-    string: &[u16],
+    string: &'a [u16],
     output: &mut [u16],
 ) -> Answer
     ensures { λ r. ⌜ Search-says (now (chars .entry)) (now (lengths .entry)) (now (index .entry)) (now (string .entry)) r (now (output .entry)) (now (output .exit)) ⌝ }

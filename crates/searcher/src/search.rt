@@ -1,44 +1,43 @@
 // Search of an index without its text.
 //
 // The starts of one window are searched together. A local array is cleared when it is made, so each of the two that grow with the
-// index comes in three sizes.
+// index comes in three sizes. The tables of starts are the same for every string: whoever searches for many fills them once.
 ghost use mathlib.Core.Path.{_≡_};
-ghost use Prim.Native.Nat.{suc, _+_, _-_, _≤_};
+ghost use Prim.Native.Nat.{suc, _-_, _≤_};
 ghost use lib.ListN.{length, replicate};
 ghost use Rattle.spec.specs.Dictionary.{lexicon};
 ghost use Rattle.spec.specs.Index.{keys-of};
-ghost use Rattle.spec.specs.Calls.{Search-says};
-ghost use Rattle.laws.specs.Tables.{Can-read};
-ghost use Rattle.laws.specs.Sizing.{Is-string};
+ghost use Rattle.spec.specs.Search.{find};
+ghost use Rattle.spec.specs.Calls.{index-refusal, accepted, Search-says};
+ghost use Rattle.laws.specs.Tables.{Can-read, Opened};
+ghost use Rattle.laws.specs.Sizing.{Is-string, Sized};
 ghost use Rattle.laws.specs.Searching.{Window-says};
-use crate::window::search_opened;
+use crate::window::search_cleared;
 use directory::tables::fill_lists;
 use directory::tables::fill_words;
-use reading::readability::refusal_of;
+use opening::opened::open_index;
 use spec::Answer;
 
-// Searches all starts, of which there are `starts`, with a table for the lines and a cleared window lent.
+// Searches the starts at which the string fits, of which there are `starts`, in a cleared window that is lent.
 fn search_lent<'a>(
     chars: &'a [u16],
     lengths: &[u16],
     index: &'a [u16],
+    words: &[u16],
+    lists: &[u32],
     string: &[u16],
     starts: usize,
-    lists: &mut [u32],
     reach: &mut [u16],
     output: &mut [u16],
 ) -> Answer
-    requires { ⌜ Can-read (now chars) (now lengths) (now index) × Is-string (now string) × (starts ≤ 65535) × (keys-of (now index) ≤ length (now lists)) × (starts ≤ length (now reach)) × (now reach ≡ replicate (length (now reach)) 0) ⌝ }
+    requires { ⌜ Opened (now chars) (now lengths) (now index) (now words) (now lists) × Is-string (now string) × (starts ≤ 65535) × (starts ≤ length (now reach)) × (now reach ≡ replicate (length (now reach)) 0) ⌝ }
     ensures { λ r. ⌜ Window-says (lexicon (now (chars .entry)) (now (lengths .entry))) (now (index .entry)) (now (string .entry)) starts 1 r (now (output .entry)) (now (output .exit)) ⌝ }
 {
-    let mut words = [0u16; 4096];
-    fill_words(lengths, &mut words);
-    fill_lists(index, lists);
-    search_opened(
+    search_cleared(
         chars,
         lengths,
         index,
-        &words,
+        words,
         lists,
         string,
         &mut reach[..starts],
@@ -51,12 +50,13 @@ fn search_in_short<'a>(
     chars: &'a [u16],
     lengths: &[u16],
     index: &'a [u16],
+    words: &[u16],
+    lists: &[u32],
     string: &[u16],
     starts: usize,
-    lists: &mut [u32],
     output: &mut [u16],
 ) -> Answer
-    requires { ⌜ Can-read (now chars) (now lengths) (now index) × Is-string (now string) × (starts ≤ 1024) × (keys-of (now index) ≤ length (now lists)) ⌝ }
+    requires { ⌜ Opened (now chars) (now lengths) (now index) (now words) (now lists) × Is-string (now string) × (starts ≤ 1024) ⌝ }
     ensures { λ r. ⌜ Window-says (lexicon (now (chars .entry)) (now (lengths .entry))) (now (index .entry)) (now (string .entry)) starts 1 r (now (output .entry)) (now (output .exit)) ⌝ }
 {
     let mut reach = [0u16; 1024];
@@ -64,9 +64,10 @@ fn search_in_short<'a>(
         chars,
         lengths,
         index,
+        words,
+        lists,
         string,
         starts,
-        lists,
         &mut reach,
         output,
     )
@@ -77,12 +78,13 @@ fn search_in_middle<'a>(
     chars: &'a [u16],
     lengths: &[u16],
     index: &'a [u16],
+    words: &[u16],
+    lists: &[u32],
     string: &[u16],
     starts: usize,
-    lists: &mut [u32],
     output: &mut [u16],
 ) -> Answer
-    requires { ⌜ Can-read (now chars) (now lengths) (now index) × Is-string (now string) × (starts ≤ 8192) × (keys-of (now index) ≤ length (now lists)) ⌝ }
+    requires { ⌜ Opened (now chars) (now lengths) (now index) (now words) (now lists) × Is-string (now string) × (starts ≤ 8192) ⌝ }
     ensures { λ r. ⌜ Window-says (lexicon (now (chars .entry)) (now (lengths .entry))) (now (index .entry)) (now (string .entry)) starts 1 r (now (output .entry)) (now (output .exit)) ⌝ }
 {
     let mut reach = [0u16; 8192];
@@ -90,9 +92,10 @@ fn search_in_middle<'a>(
         chars,
         lengths,
         index,
+        words,
+        lists,
         string,
         starts,
-        lists,
         &mut reach,
         output,
     )
@@ -103,12 +106,13 @@ fn search_in_long<'a>(
     chars: &'a [u16],
     lengths: &[u16],
     index: &'a [u16],
+    words: &[u16],
+    lists: &[u32],
     string: &[u16],
     starts: usize,
-    lists: &mut [u32],
     output: &mut [u16],
 ) -> Answer
-    requires { ⌜ Can-read (now chars) (now lengths) (now index) × Is-string (now string) × (starts ≤ 65535) × (keys-of (now index) ≤ length (now lists)) ⌝ }
+    requires { ⌜ Opened (now chars) (now lengths) (now index) (now words) (now lists) × Is-string (now string) × (starts ≤ 65535) ⌝ }
     ensures { λ r. ⌜ Window-says (lexicon (now (chars .entry)) (now (lengths .entry))) (now (index .entry)) (now (string .entry)) starts 1 r (now (output .entry)) (now (output .exit)) ⌝ }
 {
     let mut reach = [0u16; 65536];
@@ -116,9 +120,10 @@ fn search_in_long<'a>(
         chars,
         lengths,
         index,
+        words,
+        lists,
         string,
         starts,
-        lists,
         &mut reach,
         output,
     )
@@ -129,91 +134,22 @@ fn search_starts<'a>(
     chars: &'a [u16],
     lengths: &[u16],
     index: &'a [u16],
+    words: &[u16],
+    lists: &[u32],
     string: &[u16],
     starts: usize,
-    lists: &mut [u32],
     output: &mut [u16],
 ) -> Answer
-    requires { ⌜ Can-read (now chars) (now lengths) (now index) × Is-string (now string) × (starts ≤ 65535) × (keys-of (now index) ≤ length (now lists)) ⌝ }
+    requires { ⌜ Opened (now chars) (now lengths) (now index) (now words) (now lists) × Is-string (now string) × (starts ≤ 65535) ⌝ }
     ensures { λ r. ⌜ Window-says (lexicon (now (chars .entry)) (now (lengths .entry))) (now (index .entry)) (now (string .entry)) starts 1 r (now (output .entry)) (now (output .exit)) ⌝ }
 {
     if starts <= 1024 {
-        return search_in_short(chars, lengths, index, string, starts, lists, output);
+        return search_in_short(chars, lengths, index, words, lists, string, starts, output);
     }
     if starts <= 8192 {
-        return search_in_middle(chars, lengths, index, string, starts, lists, output);
+        return search_in_middle(chars, lengths, index, words, lists, string, starts, output);
     }
-    search_in_long(chars, lengths, index, string, starts, lists, output)
-}
-
-// With a table of 1,024 lines.
-fn search_few_lines<'a>(
-    chars: &'a [u16],
-    lengths: &[u16],
-    index: &'a [u16],
-    string: &[u16],
-    starts: usize,
-    output: &mut [u16],
-) -> Answer
-    requires { ⌜ Can-read (now chars) (now lengths) (now index) × Is-string (now string) × (starts ≤ 65535) × (keys-of (now index) ≤ 1024) ⌝ }
-    ensures { λ r. ⌜ Window-says (lexicon (now (chars .entry)) (now (lengths .entry))) (now (index .entry)) (now (string .entry)) starts 1 r (now (output .entry)) (now (output .exit)) ⌝ }
-{
-    let mut lists = [0u32; 1024];
-    search_starts(chars, lengths, index, string, starts, &mut lists, output)
-}
-
-// With a table of 8,192 lines.
-fn search_some_lines<'a>(
-    chars: &'a [u16],
-    lengths: &[u16],
-    index: &'a [u16],
-    string: &[u16],
-    starts: usize,
-    output: &mut [u16],
-) -> Answer
-    requires { ⌜ Can-read (now chars) (now lengths) (now index) × Is-string (now string) × (starts ≤ 65535) × (keys-of (now index) ≤ 8192) ⌝ }
-    ensures { λ r. ⌜ Window-says (lexicon (now (chars .entry)) (now (lengths .entry))) (now (index .entry)) (now (string .entry)) starts 1 r (now (output .entry)) (now (output .exit)) ⌝ }
-{
-    let mut lists = [0u32; 8192];
-    search_starts(chars, lengths, index, string, starts, &mut lists, output)
-}
-
-// With a table of 65,536 lines.
-fn search_many_lines<'a>(
-    chars: &'a [u16],
-    lengths: &[u16],
-    index: &'a [u16],
-    string: &[u16],
-    starts: usize,
-    output: &mut [u16],
-) -> Answer
-    requires { ⌜ Can-read (now chars) (now lengths) (now index) × Is-string (now string) × (starts ≤ 65535) × (keys-of (now index) ≤ 65535) ⌝ }
-    ensures { λ r. ⌜ Window-says (lexicon (now (chars .entry)) (now (lengths .entry))) (now (index .entry)) (now (string .entry)) starts 1 r (now (output .entry)) (now (output .exit)) ⌝ }
-{
-    let mut lists = [0u32; 65536];
-    search_starts(chars, lengths, index, string, starts, &mut lists, output)
-}
-
-// With a table that is long enough.
-fn search_lines<'a>(
-    chars: &'a [u16],
-    lengths: &[u16],
-    index: &'a [u16],
-    string: &[u16],
-    starts: usize,
-    output: &mut [u16],
-) -> Answer
-    requires { ⌜ Can-read (now chars) (now lengths) (now index) × Is-string (now string) × (starts ≤ 65535) × (keys-of (now index) ≤ 65535) ⌝ }
-    ensures { λ r. ⌜ Window-says (lexicon (now (chars .entry)) (now (lengths .entry))) (now (index .entry)) (now (string .entry)) starts 1 r (now (output .entry)) (now (output .exit)) ⌝ }
-{
-    let keys = index[1] as usize;
-    if keys <= 1024 {
-        return search_few_lines(chars, lengths, index, string, starts, output);
-    }
-    if keys <= 8192 {
-        return search_some_lines(chars, lengths, index, string, starts, output);
-    }
-    search_many_lines(chars, lengths, index, string, starts, output)
+    search_in_long(chars, lengths, index, words, lists, string, starts, output)
 }
 
 // How many starts there are at which a string of this length fits into n characters.
@@ -227,17 +163,124 @@ fn starts_of(n: usize, long: usize) -> usize
     n - long + 1
 }
 
-// Searches an index for a string: writes the positions found, ascending, and answers how many they are, or the refusal.
-pub fn search_index<'a>(
+// Searches a readable index, with its tables of starts lent, for a string that may be searched for.
+pub fn search_tabled<'a>(
     chars: &'a [u16],
     lengths: &[u16],
     index: &'a [u16],
+    words: &[u16],
+    lists: &[u32],
     string: &[u16],
     output: &mut [u16],
 ) -> Answer
+    requires { ⌜ Opened (now chars) (now lengths) (now index) (now words) (now lists) × Is-string (now string) ⌝ }
+    ensures { λ r. ⌜ Sized (find (lexicon (now (chars .entry)) (now (lengths .entry))) (now (index .entry)) (now (string .entry))) r (now (output .entry)) (now (output .exit)) ⌝ }
+{
+    let starts = starts_of(index[0] as usize, string.len());
+    search_starts(chars, lengths, index, words, lists, string, starts, output)
+}
+
+// The same with the tables filled first, one of them lent.
+fn search_filled<'a>(
+    chars: &'a [u16],
+    lengths: &[u16],
+    index: &'a [u16],
+    keys: usize,
+    string: &[u16],
+    lists: &mut [u32],
+    output: &mut [u16],
+) -> Answer
+    requires { ⌜ Can-read (now chars) (now lengths) (now index) × (keys ≡ keys-of (now index)) × Is-string (now string) × (keys ≤ length (now lists)) ⌝ }
+    ensures { λ r. ⌜ Sized (find (lexicon (now (chars .entry)) (now (lengths .entry))) (now (index .entry)) (now (string .entry))) r (now (output .entry)) (now (output .exit)) ⌝ }
+{
+    let mut words = [0u16; 4096];
+    fill_words(lengths, &mut words);
+    fill_lists(index, keys, lists);
+    search_tabled(chars, lengths, index, &words, lists, string, output)
+}
+
+// With a table of 1,024 lines.
+fn search_few_lines<'a>(
+    chars: &'a [u16],
+    lengths: &[u16],
+    index: &'a [u16],
+    keys: usize,
+    string: &[u16],
+    output: &mut [u16],
+) -> Answer
+    requires { ⌜ Can-read (now chars) (now lengths) (now index) × (keys ≡ keys-of (now index)) × Is-string (now string) × (keys ≤ 1024) ⌝ }
+    ensures { λ r. ⌜ Sized (find (lexicon (now (chars .entry)) (now (lengths .entry))) (now (index .entry)) (now (string .entry))) r (now (output .entry)) (now (output .exit)) ⌝ }
+{
+    let mut lists = [0u32; 1024];
+    search_filled(chars, lengths, index, keys, string, &mut lists, output)
+}
+
+// With a table of 8,192 lines.
+fn search_some_lines<'a>(
+    chars: &'a [u16],
+    lengths: &[u16],
+    index: &'a [u16],
+    keys: usize,
+    string: &[u16],
+    output: &mut [u16],
+) -> Answer
+    requires { ⌜ Can-read (now chars) (now lengths) (now index) × (keys ≡ keys-of (now index)) × Is-string (now string) × (keys ≤ 8192) ⌝ }
+    ensures { λ r. ⌜ Sized (find (lexicon (now (chars .entry)) (now (lengths .entry))) (now (index .entry)) (now (string .entry))) r (now (output .entry)) (now (output .exit)) ⌝ }
+{
+    let mut lists = [0u32; 8192];
+    search_filled(chars, lengths, index, keys, string, &mut lists, output)
+}
+
+// With a table of 65,536 lines.
+fn search_many_lines<'a>(
+    chars: &'a [u16],
+    lengths: &[u16],
+    index: &'a [u16],
+    keys: usize,
+    string: &[u16],
+    output: &mut [u16],
+) -> Answer
+    requires { ⌜ Can-read (now chars) (now lengths) (now index) × (keys ≡ keys-of (now index)) × Is-string (now string) ⌝ }
+    ensures { λ r. ⌜ Sized (find (lexicon (now (chars .entry)) (now (lengths .entry))) (now (index .entry)) (now (string .entry))) r (now (output .entry)) (now (output .exit)) ⌝ }
+{
+    let mut lists = [0u32; 65536];
+    search_filled(chars, lengths, index, keys, string, &mut lists, output)
+}
+
+// With a table that is long enough.
+fn search_lines<'a>(
+    chars: &'a [u16],
+    lengths: &[u16],
+    index: &'a [u16],
+    keys: usize,
+    string: &[u16],
+    output: &mut [u16],
+) -> Answer
+    requires { ⌜ Can-read (now chars) (now lengths) (now index) × (keys ≡ keys-of (now index)) × Is-string (now string) ⌝ }
+    ensures { λ r. ⌜ Sized (find (lexicon (now (chars .entry)) (now (lengths .entry))) (now (index .entry)) (now (string .entry))) r (now (output .entry)) (now (output .exit)) ⌝ }
+{
+    if keys <= 1024 {
+        return search_few_lines(chars, lengths, index, keys, string, output);
+    }
+    if keys <= 8192 {
+        return search_some_lines(chars, lengths, index, keys, string, output);
+    }
+    search_many_lines(chars, lengths, index, keys, string, output)
+}
+
+// Searches an opened index: writes the positions found, ascending, and answers how many they are, or the refusal.
+fn search_opened<'a>(
+    chars: &'a [u16],
+    lengths: &'a [u16],
+    index: &'a [u16],
+    refusal: u32,
+    keys: usize,
+    string: &'a [u16],
+    output: &mut [u16],
+) -> Answer
+    requires { ⌜ (refusal ≡ index-refusal (now chars) (now lengths) (now index)) × (keys ≡ accepted refusal (keys-of (now index)) 0) ⌝ }
     ensures { λ r. ⌜ Search-says (now (chars .entry)) (now (lengths .entry)) (now (index .entry)) (now (string .entry)) r (now (output .entry)) (now (output .exit)) ⌝ }
 {
-    let refusal = refusal_of(chars, lengths, index);
     if refusal != 0 {
         return Answer { refusal, count: 0 };
     }
@@ -254,6 +297,27 @@ pub fn search_index<'a>(
             count: 0,
         };
     }
-    let starts = starts_of(index[0] as usize, long);
-    search_lines(chars, lengths, index, string, starts, output)
+    search_lines(chars, lengths, index, keys, string, output)
+}
+
+// Searches an index for a string: opens it, and searches the opened index.
+pub fn search_index<'a>(
+    chars: &'a [u16],
+    lengths: &'a [u16],
+    index: &'a [u16],
+    string: &'a [u16],
+    output: &mut [u16],
+) -> Answer
+    ensures { λ r. ⌜ Search-says (now (chars .entry)) (now (lengths .entry)) (now (index .entry)) (now (string .entry)) r (now (output .entry)) (now (output .exit)) ⌝ }
+{
+    let opened = open_index(chars, lengths, index);
+    search_opened(
+        chars,
+        lengths,
+        opened.numbers,
+        opened.refusal,
+        opened.keys,
+        string,
+        output,
+    )
 }

@@ -13,31 +13,26 @@ use Rattle.directory.proofs.tables.fill_lists.Statement.{statement}
 use Rattle.directory.proofs.tables.fill_lists.Tie as tie
 
 abbrev Inv-loop : tie.InvT-loop
-Inv-loop index lists₀ keys at₀ i₀ lists at i =
-    List-starts index i lists × (length lists ≡ length lists₀) × (at ≡ counts-from i 0 index) × (at ≤ 65535 * i) × (keys ≡ keys-of index) × Fits index
+Inv-loop index keys lists₀ at₀ i₀ lists at i =
+    List-starts index i lists × (length lists ≡ length lists₀) × (at ≡ counts-from i 0 index) × (at ≤ 65535 * i) × (keys ≡ keys-of index) × (keys ≤ 65535) × Fits index
 
 abbrev μ-loop : tie.MeasureT-loop
-μ-loop index lists₀ keys at₀ i₀ lists at i = keys - i
-
-shared-slice-read-keys : tie.Need-shared-slice-read-keys Inv-loop μ-loop
-shared-slice-read-keys c = search needs
-
-cast-keys : tie.Need-cast-keys Inv-loop μ-loop
-cast-keys c = search needs
+μ-loop index keys lists₀ at₀ i₀ lists at i = keys - i
 
 loop-holds : tie.Need-loop-holds Inv-loop μ-loop
 loop-holds c =
-    let a = c .before .args in (
-      list-starts-none (a .index .now) (a .lists .now) (c .before .pre .1),
+    let a = c .args in (
+      list-starts-none (a .index .now) (a .lists .now) (omega (arith, c .pre .1, c .pre .3)),
       refl,
       list-starts-first (a .index .now),
       omega arith,
-      refl,
-      c .before .pre .0,
+      c .pre .1,
+      c .pre .2,
+      c .pre .0,
     )
 
 cast-lists : tie.Need-cast-lists Inv-loop μ-loop
-cast-lists c = omega (arith, c .before .loop .inv .3, c .before .before .shared-slice-known .given 1)
+cast-lists c = omega (arith, c .before .loop .inv .3, c .before .loop .inv .5, c .loop-test .taken)
 
 mul-lists : tie.Need-mul-lists Inv-loop μ-loop
 mul-lists c = search needs
@@ -61,10 +56,10 @@ shared-slice-read-at : tie.Need-shared-slice-read-at Inv-loop μ-loop
 shared-slice-read-at c = search needs
 
 cast-at : tie.Need-cast-at Inv-loop μ-loop
-cast-at c = omega (arith, c .shared-slice-known2 .given (2 + 3 * c .before .before .loop .i + 2))
+cast-at c = omega (arith, c .shared-slice-known .given (2 + 3 * c .before .before .loop .i + 2))
 
 add-at-3 : tie.Need-add-at-3 Inv-loop μ-loop
-add-at-3 c = omega (arith, c .before .before .loop .inv .3, c .before .before .before .shared-slice-known .given 1, c .shared-slice-known2 .given (2 + 3 * c .before .before .loop .i + 2))
+add-at-3 c = omega (arith, c .before .before .loop .inv .3, c .before .before .loop .inv .5, c .before .loop-test .taken, c .shared-slice-known .given (2 + 3 * c .before .before .loop .i + 2))
 
 add-i : tie.Need-add-i Inv-loop μ-loop
 add-i c = search needs
@@ -74,14 +69,15 @@ loop-less c = search needs
 
 loop-again : tie.Need-loop-again Inv-loop μ-loop
 loop-again c =
-    let a = c .before .before .before .before .args in
+    let a = c .before .before .before .args in
     let l = c .before .before .loop in (
-      list-starts-next (a .index .now) (l .i) (l .lists) (l .inv .0) (c .before .loop-test .taken) (l .at) (l .inv .2),
+      list-starts-next (a .index .now) (l .i) (l .lists) (l .inv .0) (omega (arith, c .before .loop-test .taken, l .inv .4)) (l .at) (l .inv .2),
       length-set (l .lists) (l .i) (l .at) ∙ l .inv .1,
       omega (arith, l .inv .2, counts-next (l .i) (a .index .now)),
-      omega (arith, l .inv .3, c .shared-slice-known2 .given (2 + 3 * l .i + 2)),
-      refl,
+      omega (arith, l .inv .3, c .shared-slice-known .given (2 + 3 * l .i + 2)),
+      l .inv .4,
       l .inv .5,
+      l .inv .6,
     )
 
 same-length : tie.Need-same-length Inv-loop μ-loop
@@ -89,9 +85,9 @@ same-length c = c .before .loop .inv .1
 
 returns : tie.Need-returns Inv-loop μ-loop
 returns c =
-    let a = c .before .before .before .args in
+    let a = c .before .before .args in
     let l = c .before .loop in
-    list-starts-all (a .index .now) (l .i) (l .lists) (l .inv .0) (c .loop-test .left)
+    list-starts-all (a .index .now) (l .i) (l .lists) (l .inv .0) (omega (arith, c .loop-test .left, l .inv .4))
 
 pub fill-lists-spec : {M : Type 1} → statement M
 fill-lists-spec =
@@ -99,8 +95,6 @@ fill-lists-spec =
     (tie.spec
     Inv-loop
     μ-loop
-    shared-slice-read-keys
-    cast-keys
     loop-holds
     cast-lists
     mul-lists

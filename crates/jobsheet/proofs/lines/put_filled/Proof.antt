@@ -1,0 +1,86 @@
+-- `put_filled` meets its contract: the tables are filled, then come the lines of the index, and after them those of the finds, in a slice
+-- that holds both. Assumes nothing.
+use native.Mathlib.Omega.{arith}
+use borrow.Author.Needs.{needs}
+use Rattle.basics.specs.Placed.{Writing, writing-last}
+use Rattle.spec.specs.Dictionary.{lexicon, words-from}
+use Rattle.spec.specs.JobAnswer.{found-lines}
+use Rattle.laws.specs.AcceptedCalls.{usable-whole}
+use Rattle.laws.specs.JobAnswering.{shown, index-lines-fit, then-finds}
+use Rattle.jobsheet.proofs.lines.put_filled.Statement.{statement}
+use Rattle.jobsheet.proofs.lines.put_filled.Tie as tie
+
+slice-aggregate-fill-words : tie.Need-slice-aggregate-fill-words
+slice-aggregate-fill-words c = search needs
+
+fill-words-requires : tie.Need-fill-words-requires
+fill-words-requires c κs = search needs
+
+fill-lists-requires : tie.Need-fill-lists-requires
+fill-lists-requires c κs = search needs
+
+put-index-lines-requires : tie.Need-put-index-lines-requires
+put-index-lines-requires c κs =
+    let s = c .before .before .before .before .before .before .before .before .before .before .before .before .before .before .before .before in
+    let a = s .args in (
+      usable-whole (a .chars .now) (a .lengths .now) (a .index .now) (s .pre .0 .0),
+      index-lines-fit (a .chars .now) (a .lengths .now) (a .index .now) (a .strings .now) (a .counts .now) (a .out .now) (s .pre .0 .0)
+          (λ i. omega (arith, c .before .before .before .before .before .before .before .before .before .before .before .before .before .shared-slice-known3 .given i)) (s .pre .1 .0) (s .pre .1 .2),
+    )
+
+-- what is left to be printed when the lines of the index are
+at-finds :
+    (c : tie.After-put-index-lines) → let a = c .before .before .before .before .before .before .before .before .before .before .before .before .before .before .before .before .before .args in
+    Writing (shown (a .chars .now) (a .lengths .now) (a .index .now) (a .strings .now) (a .counts .now)) 0 (a .out .now)
+    (found-lines (lexicon (a .chars .now) (a .lengths .now)) (a .index .now) (words-from (a .counts .now) (a .strings .now)))
+    (c .put-index-lines .result) (c .put-index-lines .last .0)
+at-finds c =
+    let s = c .before .before .before .before .before .before .before .before .before .before .before .before .before .before .before .before .before in
+    let a = s .args in
+    then-finds (a .chars .now) (a .lengths .now) (a .index .now) (a .strings .now) (a .counts .now) (a .out .now) (s .pre .0 .0)
+    (λ i. omega (arith, c .before .before .before .before .before .before .before .before .before .before .before .before .before .before .shared-slice-known3 .given i)) (s .pre .1 .0) (s .pre .1 .2)
+    (c .put-index-lines .result) (c .put-index-lines .last .0) (c .put-index-lines .ensures)
+
+slice-aggregate-put-finds : tie.Need-slice-aggregate-put-finds
+slice-aggregate-put-finds c = search needs
+
+put-finds-requires : tie.Need-put-finds-requires
+put-finds-requires c κs =
+    let s = c .before .before .before .before .before .before .before .before .before .before .before .before .before .before .before .before .before .before .before .before .before .before .before in (
+      (
+        record { can = s .pre .0 .1; words = c .before .before .before .before .before .before .before .before .before .before .before .before .before .fill-words .ensures; lists = c .before .before .before .before .before .before .before .before .before .before .fill-lists .ensures },
+        s .pre .1 .0,
+        omega (arith, s .pre .0 .0 .short, s .pre .1 .1),
+      ),
+      at-finds (c .before .before .before .before .before .before) .room,
+    )
+
+same-length : tie.Need-same-length
+same-length c = search needs
+
+same-length-2 : tie.Need-same-length-2
+same-length-2 c = search needs
+
+same-length-3 : tie.Need-same-length-3
+same-length-3 c = search needs
+
+returns : tie.Need-returns
+returns c =
+    let a = c .before .before .before .before .before .before .before .before .before .before .before .before .before .before .before .before .before .before .before .before .before .before .before .before .before .before .before .before .args in
+    writing-last (found-lines (lexicon (a .chars .now) (a .lengths .now)) (a .index .now) (words-from (a .counts .now) (a .strings .now)))
+    (at-finds (c .before .before .before .before .before .before .before .before .before .before .before)) (c .before .before .before .before .put-finds .ensures)
+
+pub put-filled-spec : {M : Type 1} → statement M
+put-filled-spec =
+    tie.close
+    (tie.spec
+    slice-aggregate-fill-words
+    fill-words-requires
+    fill-lists-requires
+    put-index-lines-requires
+    slice-aggregate-put-finds
+    put-finds-requires
+    same-length
+    same-length-2
+    same-length-3
+    returns)
