@@ -1,0 +1,13 @@
+-- `mopekihua_admit` meets its contract, which is that of the call it makes. Assumes nothing.
+use borrow.Author.Needs.{needs}
+use Rattle.mopekihua.proofs.mopekihua_admit.Statement.{statement}
+use Rattle.mopekihua.proofs.mopekihua_admit.Tie as tie
+
+admit-requires : tie.Need-admit-requires
+admit-requires c κs = search needs
+
+returns : tie.Need-returns
+returns c = c .admit .ensures
+
+pub mopekihua-admit-spec : {M : Type 1} → statement M
+mopekihua-admit-spec = tie.close (tie.spec admit-requires returns)

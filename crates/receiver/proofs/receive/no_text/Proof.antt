@@ -1,0 +1,16 @@
+-- `no_text` meets its contract, which is that of the call it makes at 9. Assumes nothing.
+use borrow.Author.Needs.{needs}
+use Rattle.receiver.proofs.receive.no_text.Statement.{statement}
+use Rattle.receiver.proofs.receive.no_text.Tie as tie
+
+refuse-requires : tie.Need-refuse-requires
+refuse-requires c κs = search needs
+
+same-length : tie.Need-same-length
+same-length c = search needs
+
+returns : tie.Need-returns
+returns c = c .before .before .refuse .ensures
+
+pub no-text-spec : {M : Type 1} → statement M
+no-text-spec = tie.close (tie.spec refuse-requires same-length returns)
