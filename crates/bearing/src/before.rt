@@ -36,7 +36,7 @@ fn begins_before(key: &[u16], string: &[u16]) -> bool
 }
 
 // Flags those of the first `ends` lines whose keys agree with the string at an offset below 0.
-pub fn flag_before<'a>(
+pub(crate) fn flag_before<'a>(
     chars: &'a [u16],
     lengths: &[u16],
     index: &'a [u16],

@@ -106,7 +106,7 @@ fn flag_offset(
 }
 
 // Flags the lines whose keys agree with the string at an offset from 0 to the string's last place.
-pub fn flag_within(
+pub(crate) fn flag_within(
     chars: &[u16],
     lengths: &[u16],
     index: &[u16],

@@ -23,7 +23,7 @@ pub struct Size {
 }
 
 // How many lines are flagged, and how many positions they have.
-pub fn size_flagged(
+pub(crate) fn size_flagged(
     chars: &[u16],
     lengths: &[u16],
     index: &[u16],
@@ -49,7 +49,7 @@ pub fn size_flagged(
 }
 
 // Writes the directory lines that are flagged, from `from` on.
-pub fn write_directory(
+fn write_directory(
     chars: &[u16],
     lengths: &[u16],
     index: &[u16],
@@ -118,7 +118,7 @@ fn write_positions(
 }
 
 // Writes the cut-down index, which has been sized, to the front of the output.
-pub fn write_cut(
+pub(crate) fn write_cut(
     chars: &[u16],
     lengths: &[u16],
     index: &[u16],

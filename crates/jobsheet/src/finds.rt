@@ -35,7 +35,7 @@ fn put_find<'a>(
 }
 
 // The lines of all finds. Their strings are run together, and `counts` says how many characters each has.
-pub fn put_finds<'a>(
+pub(crate) fn put_finds<'a>(
     chars: &'a [u16],
     lengths: &[u16],
     index: &'a [u16],

@@ -125,7 +125,7 @@ fn put_built<'a>(
 }
 
 // The same with slices of its own for the index and the positions.
-pub fn put_printed<'a>(
+pub(crate) fn put_printed<'a>(
     chars: &'a [u16],
     lengths: &'a [u16],
     text: &[u16],

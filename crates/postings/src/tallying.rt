@@ -17,7 +17,7 @@ use opening::opened::open_index;
 use spec::TallyAnswer;
 
 // How many characters a key spells.
-pub fn key_length(chars: &[u16], lengths: &[u16], kind: u16, value: u16) -> usize
+fn key_length(chars: &[u16], lengths: &[u16], kind: u16, value: u16) -> usize
     requires { ⌜ Is-admitted (now chars) (now lengths) × Is-key (lexicon (now chars) (now lengths)) (key kind value) ⌝ }
     ensures { λ r. ⌜ r ≡ length (spells (lexicon (now (chars .entry)) (now (lengths .entry))) (key kind value)) ⌝ }
 {

@@ -65,7 +65,7 @@ fn raise_words_back<'a>(
 }
 
 // The first stage. A lone character does not start before the string.
-pub fn raise_firsts<'a>(
+pub(crate) fn raise_firsts<'a>(
     chars: &'a [u16],
     lengths: &[u16],
     index: &'a [u16],

@@ -91,7 +91,7 @@ fn goes_on(low: usize, high: usize, depth: usize, left: usize) -> bool
 }
 
 // The same by all lines of words, of which there are `ends`: narrowed until few are left, each of which is tried.
-pub fn raise_words<'a>(
+pub(crate) fn raise_words<'a>(
     chars: &'a [u16],
     lengths: &[u16],
     index: &'a [u16],
@@ -160,7 +160,7 @@ pub fn raise_words<'a>(
 }
 
 // The same by all lines of lone characters, which follow those of words: the string's character has at most one of them.
-pub fn raise_lone<'a>(
+pub(crate) fn raise_lone<'a>(
     chars: &'a [u16],
     lengths: &[u16],
     index: &'a [u16],

@@ -57,7 +57,7 @@ fn mark(
 }
 
 // The same for one key at one offset, if it agrees with the string there.
-pub fn raise_key(
+pub(crate) fn raise_key(
     key: &[u16],
     string: &[u16],
     places: &[u16],

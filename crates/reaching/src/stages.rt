@@ -58,7 +58,7 @@ fn raise_stage<'a>(
 }
 
 // The later stages in rising order, to the end of the string or to a stage that no start gets to.
-pub fn raise_stages<'a>(
+pub(crate) fn raise_stages<'a>(
     chars: &'a [u16],
     lengths: &[u16],
     index: &'a [u16],

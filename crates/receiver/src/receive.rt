@@ -14,7 +14,7 @@ use scanning::work::refuse;
 use spec::Answer;
 
 // The first refusal of an opened index that needs no painting, or 0: its own, or a work slice too short.
-pub fn delivery_refusal(index: &[u16], refusal: u32, work: usize) -> u32
+pub(crate) fn delivery_refusal(index: &[u16], refusal: u32, work: usize) -> u32
     requires { ⌜ (refusal ≡ 0 → 1 ≤ length (now index)) ⌝ }
     ensures { λ r. ⌜ r ≡ or-work-short refusal (now (index .entry)) work ⌝ }
 {
@@ -28,7 +28,7 @@ pub fn delivery_refusal(index: &[u16], refusal: u32, work: usize) -> u32
 }
 
 // Answers that no text has the index.
-pub fn no_text(work: &mut [u16]) -> Answer
+pub(crate) fn no_text(work: &mut [u16]) -> Answer
     ensures { λ r. ⌜ Refuses 9 r (now (work .entry)) (now (work .exit)) ⌝ }
 {
     refuse(work, 9)

@@ -126,7 +126,7 @@ fn text_with(
 }
 
 // The same with a match table of its own.
-pub fn text_of(chars: &[u16], lengths: &[u16], index: &[u16], work: &mut [u16]) -> bool
+pub(crate) fn text_of(chars: &[u16], lengths: &[u16], index: &[u16], work: &mut [u16]) -> bool
     requires { ⌜ delivery-refusal (now chars) (now lengths) (now index) (length (now work)) ≡ 0 ⌝ }
     ensures { λ r. ⌜ Tried (lexicon (now (chars .entry)) (now (lengths .entry))) (now (index .entry)) r (now (work .exit)) ⌝ }
 {

@@ -143,7 +143,7 @@ fn visits_more(
 
 // Whether the search of so many starts visits more positions than painting the text costs. Where the string does not fit into the
 // text there is nothing to search.
-pub fn is_dense(
+pub(crate) fn is_dense(
     chars: &[u16],
     lengths: &[u16],
     index: &[u16],

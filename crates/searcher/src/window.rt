@@ -70,7 +70,7 @@ fn reach_if_dense(
 }
 
 // Searches the starts of a cleared window, from the first position on.
-pub fn search_cleared<'a>(
+pub(crate) fn search_cleared<'a>(
     chars: &'a [u16],
     lengths: &[u16],
     index: &'a [u16],
