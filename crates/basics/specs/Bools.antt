@@ -11,6 +11,21 @@ use borrow.Author.Tests.{leb-true, leb-false}
 pub clash {ℓ} : {X : Type ℓ} {b : Bool} → b ≡ true → b ≡ false → X
 clash t f = absurd (subst T (sym t ∙ f) tt)
 
+-- a test is true exactly if a fact holds
+pub record Reflects (t : Bool) (B : Type 0) : Type 0 where
+  pub holds : t ≡ true → B
+  pub fails : t ≡ false → B → ⊥
+
+pub reflects-yes : {B : Type 0} → B → Reflects true B
+reflects-yes h = record { holds = λ t. h; fails = λ f. clash refl f }
+
+pub reflects-no : {B : Type 0} → (B → ⊥) → Reflects false B
+reflects-no none = record { holds = λ t. clash t refl; fails = λ f. none }
+
+-- tests and facts that come to the same
+pub reflects-same : {A B : Type 0} (t : Bool) → (A → B) → (B → A) → Reflects t A → Reflects t B
+reflects-same t there back r = record { holds = λ e. there (r .holds e); fails = λ f b. r .fails f (back b) }
+
 pub true-or-false : (b : Bool) → (b ≡ true) ⊎ (b ≡ false)
 true-or-false true = inl refl
 true-or-false false = inr refl

@@ -8,7 +8,7 @@ use native.Mathlib.Omega.{arith}
 use lib.Dec.{ltb, leb, eqb}
 use lib.ListN.{length}
 use borrow.Author.Tests.{ltb-true, ltb-false, leb-true, leb-false, eqb-true, eqb-false, not-false}
-use Rattle.basics.specs.Bools.{clash, false-put, not-get}
+use Rattle.basics.specs.Bools.{Reflects, clash, false-put, not-get}
 use Rattle.basics.specs.Member.{In}
 use Rattle.spec.specs.Dictionary.{longest-text, Lexicon, total, words-from, too-large, length-good, lengths-good, lengths-wrong, ascend, disordered}
 use Rattle.spec.specs.Index.{readable}
@@ -17,10 +17,6 @@ use Rattle.spec.specs.JobSheet.{some-string-wrong}
 use Rattle.spec.specs.Demands.{Too-large, Lengths-wrong, Disordered, Text-too-long, Unreadable, String-wrong, Work-short, Output-short}
 
 -- TESTS AND FACTS
-
-pub record Reflects (t : Bool) (B : Type 0) : Type 0 where
-  pub holds : t ≡ true → B
-  pub fails : t ≡ false → B → ⊥
 
 pub reflects-put : (t : Bool) (B : Type 0) → Reflects t B → B → t ≡ true
 reflects-put true B is b = refl

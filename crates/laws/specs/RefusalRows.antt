@@ -9,7 +9,7 @@ use native.Mathlib.Omega.{arith}
 use lib.Dec.{ltb}
 use lib.ListN.{length}
 use borrow.Author.Tests.{eq-eqb, ne-eqb, not-false}
-use Rattle.basics.specs.Bools.{clash, not-get, and-put}
+use Rattle.basics.specs.Bools.{Reflects, clash, not-get, and-put}
 use Rattle.basics.specs.Member.{In}
 use Rattle.spec.specs.Dictionary.{longest-text, lexicon, all-chars, too-large, lengths-wrong, disordered, dictionary-refusal, admitted}
 use Rattle.spec.specs.Numbers.{index-of}
@@ -21,7 +21,7 @@ use Rattle.spec.specs.Beyond.{Demand-three}
 use Rattle.spec.specs.Demands.{Too-large, Lengths-wrong, Disordered, Text-too-long, Unreadable, String-wrong, Work-short, Output-short, Recovery-short, No-text, Has-text, Row, row, Meets, Accepts, Refuses, Decides, dictionary-rows, build-rows, index-rows, reception-rows, recovery-rows, find-rows, parts-rows}
 use Rattle.laws.specs.IndexRefusal.{index-accepted}
 use Rattle.laws.specs.Promises.{demand-three}
-use Rattle.laws.specs.Reflects.{Reflects, reflects-lt, reflects-and, reflects-too-large, reflects-lengths-wrong, reflects-disordered, reflects-text, reflects-unreadable, reflects-string, reflects-finds, reflects-work, reflects-output}
+use Rattle.laws.specs.Reflects.{reflects-lt, reflects-and, reflects-too-large, reflects-lengths-wrong, reflects-disordered, reflects-text, reflects-unreadable, reflects-string, reflects-finds, reflects-work, reflects-output}
 
 -- ROWS IN ORDER
 
