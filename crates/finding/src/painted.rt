@@ -1,23 +1,26 @@
 // A window of starts told by the text that the entries show, for strings that would otherwise be laid against very many entries.
 //
-// The text is painted over a character that the string has not. If every entry stands in it, the string is found exactly where it
-// stands in that text, which one pass tells whatever the characters are. If two entries contradict one another there is no such
-// text, and the window is left as it was.
+// The text is painted over a sentinel, the least number that is no character of the string. If every entry stands in it, the string is
+// found exactly where it stands in that text, which one pass tells whatever the characters are. If two entries contradict one another,
+// one of them does not stand in it, and the window is left as it was.
 ghost use mathlib.Core.Path.{_≡_};
 ghost use mathlib.Core.Bool.{true, false};
-ghost use Prim.Native.Nat.{suc, _+_, _≤_};
+ghost use Prim.Native.Nat.{ℕ, suc, _+_, _≤_};
 ghost use lib.ListN.{length};
+ghost use Rattle.basics.specs.Absent.{Least-absent};
+ghost use Rattle.basics.specs.Bools.{Reflects};
 ghost use Rattle.spec.specs.Dictionary.{lexicon};
-ghost use Rattle.spec.specs.Index.{n-of};
+ghost use Rattle.spec.specs.Index.{n-of, lines-in};
+ghost use Rattle.laws.specs.Facts.{All-stand};
 ghost use Rattle.laws.specs.Tables.{Can-read, Word-starts};
 ghost use Rattle.laws.specs.StandingWalk.{Standing};
-ghost use Rattle.laws.specs.PaintedSearch.{Finds};
+ghost use Rattle.laws.specs.PaintedSearch.{painted-over, Finds};
 use painting::shown::paint_shown;
 use standing::ground::ground_of;
 use standing::repeats::fill_repeats;
 use standing::standing::fill_standing;
 
-// How many characters of the string stand at each start of a text.
+// The length of the longest prefix of the string at each start of a text.
 fn reach_standing(text: &[u16], string: &[u16], reach: &mut [u16])
     requires { ⌜ (length (now string) ≤ 256) × (length (now reach) + length (now string) ≤ suc (length (now text))) ⌝ }
     ensures { λ r. ⌜ Standing (now (string .entry)) (now (text .entry)) (now (reach .exit)) ⌝ }
@@ -27,7 +30,7 @@ fn reach_standing(text: &[u16], string: &[u16], reach: &mut [u16])
     fill_standing(text, string, &repeats, reach);
 }
 
-// Tells the window by the painted text, with room for the text lent. Answers whether it could.
+// Paints the text into the room lent for it, and answers whether every entry stands there. The window is told exactly then.
 pub fn reach_painted(
     chars: &[u16],
     lengths: &[u16],
@@ -40,12 +43,11 @@ pub fn reach_painted(
     requires { ⌜ Can-read (now chars) (now lengths) (now index) × Word-starts (now lengths) (length (now lengths)) (now words) × (length (now string) ≤ 256) × (length (now text) ≡ n-of (now index)) × (length (now reach) + length (now string) ≤ suc (n-of (now index))) ⌝ }
     ensures told { λ r. ⌜ (r ≡ true → Finds (lexicon (now (chars .entry)) (now (lengths .entry))) (now (index .entry)) (now (string .entry)) (now (reach .exit))) ⌝ }
     ensures kept { λ r. ⌜ (r ≡ false → now (reach .exit) ≡ now (reach .entry)) ⌝ }
+    ensures painted { λ r. ⌜ ((g : ℕ) → Least-absent (now (string .entry)) g → (now (text .exit) ≡ painted-over (lexicon (now (chars .entry)) (now (lengths .entry))) (lines-in (now (index .entry))) (n-of (now (index .entry))) g) × Reflects r (All-stand (lexicon (now (chars .entry)) (now (lengths .entry))) (lines-in (now (index .entry))) (painted-over (lexicon (now (chars .entry)) (now (lengths .entry))) (lines-in (now (index .entry))) (n-of (now (index .entry))) g))) ⌝ }
+    ensures reached { λ r. ⌜ (r ≡ true → Standing (now (string .entry)) (now (text .exit)) (now (reach .exit))) ⌝ }
 {
     let ground = ground_of(string);
-    if 257 <= ground {
-        return false;
-    }
-    if !paint_shown(chars, lengths, words, index, ground as u16, text) {
+    if !paint_shown(chars, lengths, words, index, ground, text) {
         return false;
     }
     reach_standing(text, string, reach);

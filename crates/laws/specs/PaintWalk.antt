@@ -1,11 +1,12 @@
 -- Painting a readable index line by line, as a loop does it. Assumes nothing.
 use mathlib.Core.Path.{_≡_, refl, sym, ap, _∙_}
-use mathlib.Core.Bool.{true}
+use mathlib.Core.Bool.{Bool, true}
 use mathlib.Core.List.{List, [], _∷_, _++_}
 use Prim.Native.Nat.{ℕ, _+_, _*_, _-_, _≤_, _<_}
 use native.Mathlib.Omega.{arith}
 use lib.ListN.{length, getD, take, drop}
 use lib.Seq.{sets}
+use Rattle.basics.specs.Bools.{Reflects}
 use Rattle.basics.specs.Member.{in-getD}
 use Rattle.spec.specs.Dictionary.{Lexicon, longest-text, lexicon}
 use Rattle.spec.specs.Words.{Key, key, spells, Entry, entry}
@@ -116,9 +117,9 @@ module _ (cs ls xs : List ℕ) (can : Can-read cs ls xs) (i begin end : ℕ) (li
     word-painted next e = e ∙ ap (λ (s : List ℕ). paint-places s (take (end - begin) (drop begin xs)) us) spelt
 
     pub word-stood :
-        (ts : List ℕ) → Stand-each part ts (take (end - begin) (drop begin xs)) →
-        Stand-each (spells (lexicon cs ls) (key-at xs i)) ts (take (end - begin) (drop begin xs))
-    word-stood ts h = rw spelt at h
+        (ts : List ℕ) (r : Bool) → Reflects r (Stand-each part ts (take (end - begin) (drop begin xs))) →
+        Reflects r (Stand-each (spells (lexicon cs ls) (key-at xs i)) ts (take (end - begin) (drop begin xs)))
+    word-stood ts r h = rw spelt at h
 
   -- a lone character, which is one mark
   module _ (lone : kind-at xs i ≡ 0 → ⊥) where
@@ -137,9 +138,9 @@ module _ (cs ls xs : List ℕ) (can : Can-read cs ls xs) (i begin end : ℕ) (li
     lone-painted next e = rw spelt-lone (e ∙ sym (paint-mark (value-at xs i) (take (end - begin) (drop begin xs)) us))
 
     pub lone-stood :
-        (ts : List ℕ) → Stand-each (value-at xs i ∷ []) ts (take (end - begin) (drop begin xs)) →
-        Stand-each (spells (lexicon cs ls) (key-at xs i)) ts (take (end - begin) (drop begin xs))
-    lone-stood ts h = rw spelt-lone h
+        (ts : List ℕ) (r : Bool) → Reflects r (Stand-each (value-at xs i ∷ []) ts (take (end - begin) (drop begin xs))) →
+        Reflects r (Stand-each (spells (lexicon cs ls) (key-at xs i)) ts (take (end - begin) (drop begin xs)))
+    lone-stood ts r h = rw spelt-lone h
 
 -- THE LINES
 

@@ -1,11 +1,14 @@
 -- A string looked for in the text that entries paint over a ground character which the string has not: where every entry stands
 -- in what was painted, the string is found exactly where it stands. Assumes nothing.
 use mathlib.Core.Path.{_≡_, sym, ap, _∙_, subst}
+use mathlib.Core.Bool.{Bool}
 use mathlib.Core.Logic.{_⊎_, inl, inr}
 use mathlib.Core.List.{List}
 use Prim.Native.Nat.{ℕ, suc, _+_, _-_, _≤_, _<_}
 use native.Mathlib.Omega.{arith}
 use lib.ListN.{length, getD, replicate, length-replicate, getD-replicate}
+use Rattle.basics.specs.Absent.{Least-absent, least-one}
+use Rattle.basics.specs.Bools.{Reflects}
 use Rattle.basics.specs.Member.{In}
 use Rattle.basics.specs.Steps.{those-from}
 use Rattle.spec.specs.declared.Answer.{Answer}
@@ -75,7 +78,7 @@ pub painted-finds :
     (lex : Lexicon) (xs : List ℕ) (n g : ℕ) (ts s rs : List ℕ) → Painted-shows lex (lines-in xs) n g ts →
     ((i : ℕ) → i < length s → getD s i 0 ≡ g → ⊥) → length rs + length s ≤ suc n → Standing s ts rs → Finds lex xs s rs
 painted-finds lex xs n g ts s rs shown other room told =
-    found-standing s ts rs told
+    found-standing s ts rs (omega (arith, room, ap length (shown .is), length-painted lex (lines-in xs) n g)) told
     ∙ ap (λ (l : List ℕ). those-from (length rs) 1 (stands s l)) (shown .is)
     ∙ sym
     (painted-found lex (lines-in xs) n g (subst (All-stand lex (lines-in xs)) (shown .is) (shown .all)) s other (length rs)
@@ -87,6 +90,15 @@ pub painted-ground :
     now ≡ paint lex (flat lex ls) mid → now ≡ painted-over lex ls n g
 painted-ground lex ls n g old mid now filled long e =
     e ∙ ap (paint lex (flat lex ls)) (filled ∙ ap (λ (k : ℕ). replicate {A = ℕ} k g) long)
+
+-- The ground is the least number that the string has not, whichever way it is named.
+pub painted-once :
+    (lex : Lexicon) (ls : List Line) (n : ℕ) (s ts : List ℕ) (h : ℕ) (t r : Bool) → Least-absent s h → ts ≡ painted-over lex ls n h →
+    Reflects t (All-stand lex ls ts) → t ≡ r → (g : ℕ) → Least-absent s g →
+    (ts ≡ painted-over lex ls n g) × Reflects r (All-stand lex ls (painted-over lex ls n g))
+painted-once lex ls n s ts h t r least is shown answer g also =
+    let same : ts ≡ painted-over lex ls n g = is ∙ ap (painted-over lex ls n) (least-one s h g least also) in
+    (same, subst (λ (us : List ℕ). Reflects r (All-stand lex ls us)) same (subst (λ (b : Bool). Reflects b (All-stand lex ls ts)) answer shown))
 
 -- WHAT A SEARCH SAYS
 

@@ -1,6 +1,6 @@
 -- Whether the entries of an index stand in a text, as loops tell it: the characters at one place, a string at the places of a list,
 -- and the lines one after the other. Assumes nothing.
-use mathlib.Core.Path.{_≡_, refl, sym, ap, _∙_}
+use mathlib.Core.Path.{_≡_, refl, sym, ap, _∙_, subst}
 use mathlib.Core.Logic.{_⊎_, inl, inr, ⊎-elim}
 use mathlib.Core.List.{List, [], _∷_}
 use Prim.Native.Nat.{ℕ, zero, suc, _+_, _*_, _-_, _≤_, _<_}
@@ -9,7 +9,7 @@ use lib.ListN.{length, getD, take, drop, length-take, length-drop}
 use lib.Seq.{getD-take, getD-drop}
 use borrow.Author.Count.{below-more}
 use Rattle.basics.specs.Bools.{le-or-lt}
-use Rattle.basics.specs.Member.{In, in-place, in-append-get}
+use Rattle.basics.specs.Member.{In, in-getD, in-place, in-append-get}
 use Rattle.spec.specs.Dictionary.{Lexicon}
 use Rattle.spec.specs.Words.{spells}
 use Rattle.spec.specs.Numbers.{Line, line}
@@ -17,8 +17,9 @@ use Rattle.spec.specs.Index.{header, keys-of, count-at, key-at, counts-from, li
 use Rattle.laws.specs.Strings.{Stand}
 use Rattle.laws.specs.Standing.{stand-at, stand-put, stand-char}
 use Rattle.laws.specs.Facts.{entries-at, flat, Rise, All-stand}
-use Rattle.laws.specs.Flat.{entries-at-get}
+use Rattle.laws.specs.Flat.{posting, entries-at-get, flat-put}
 use Rattle.laws.specs.Opened.{list-start, line-of, lines-next, lines-none, counts-next}
+use Rattle.laws.specs.LineNumbers.{line-of-is, line-of-in}
 use Rattle.laws.specs.LinePass.{Line-lies, lies-places}
 
 -- ONE PLACE
@@ -80,6 +81,12 @@ module _ (s : List ℕ) where
             ∙ stand-at s ts (p - d) (d + i) before (omega arith)
             ∙ ap (λ (j : ℕ). getD ts j 0) z
 
+-- and where it stands, every part is right
+pub stand-part : (s ts : List ℕ) (p : ℕ) → Stand s ts p → (a : ℕ) → Equal-part s a (length s) ts (p - 1)
+stand-part s ts p st a x lo hi =
+    let z : p + x - 1 ≡ p - 1 + x = omega (arith, st .from) in
+    stand-at s ts p x st hi ∙ ap (λ (j : ℕ). getD ts j 0) z
+
 -- a step back from b to a
 pub stand-back : (s ts : List ℕ) (a b : ℕ) → a ≤ b → Stand s ts a → Stand s ts (b - (b - a))
 stand-back s ts a b lo h = let z : b - (b - a) ≡ a = omega arith in rw z h
@@ -109,6 +116,11 @@ pub stand-mark : (m : ℕ) (ts : List ℕ) (p : ℕ) → 1 ≤ p → p ≤ lengt
 stand-mark m ts p lo hi e =
     let z : suc (p - 1) ≡ p = omega arith in
     rw (z, e) at (stand-char ts (p - 1) (omega arith))
+
+pub mark-stands : (m : ℕ) (ts : List ℕ) (p : ℕ) → Stand (m ∷ []) ts p → getD ts (p - 1) 0 ≡ m
+mark-stands m ts p st =
+    let z : p + 0 - 1 ≡ p - 1 = omega arith in
+    ap (λ (j : ℕ). getD ts j 0) (sym z) ∙ sym (stand-at (m ∷ []) ts p 0 st (omega arith))
 
 -- places that rise
 rise-next : (a : ℕ) (ps : List ℕ) → Rise a ps → (i : ℕ) → suc i < length ps → getD ps i 0 < getD ps (suc i) 0
@@ -170,3 +182,17 @@ module _ (lex : Lexicon) (xs ts : List ℕ) where
     pub showing-end : keys-of xs ≤ i → All-stand lex (lines-in xs) ts
     unfolding flat
     showing-end past = h .left (rw (lines-none xs i past) (λ e m. absurd m))
+
+-- the entries of one line, where all stand
+pub line-shown :
+    (lex : Lexicon) (xs ts : List ℕ) (at i end : ℕ) → Line-lies xs i at end → All-stand lex (lines-in xs) ts →
+    Stand-each (spells lex (key-at xs i)) ts (take (end - at) (drop at xs))
+unfolding line
+line-shown lex xs ts at i end lies all =
+    let here : In (line-of xs i) (lines-in xs) =
+    subst (λ (l : Line). In l (lines-in xs)) (line-of-is xs i (lies .below)) (line-of-in xs i (lies .below)) in
+    rw (lies-places xs i at end lies)
+    (λ j b.
+    let p : ℕ = getD (line-of xs i .places) j 0 in
+    all (posting lex (key-at xs i) p)
+    (flat-put lex (lines-in xs) (line-of xs i) p here (in-getD (line-of xs i .places) j 0 b)))

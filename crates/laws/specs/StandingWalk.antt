@@ -2,12 +2,13 @@
 -- of the string, what is compared beyond it, and what the table of all starts says. Assumes nothing.
 use mathlib.Core.Path.{_≡_, refl, sym, ap, _∙_, subst}
 use mathlib.Core.Bool.{true}
-use mathlib.Core.Logic.{⊎-elim}
+use mathlib.Core.Logic.{_⊎_, inl, inr, ⊎-elim}
 use mathlib.Core.List.{List}
 use Prim.Native.Nat.{ℕ, suc, _+_, _-_, _≤_, _<_}
 use native.Mathlib.Omega.{arith}
 use lib.Dec.{leb}
 use lib.ListN.{length, getD, set, length-set}
+use lib.Seq.{getD-set-other}
 use borrow.Author.Count.{below-more}
 use borrow.Author.Tests.{le-leb, leb-true}
 use Rattle.basics.specs.Bools.{iff-eq, le-or-lt}
@@ -32,30 +33,35 @@ pub record Ends-at (s ts : List ℕ) (at most n : ℕ) : Type 0 where
   pub bound : n ≤ most
   pub ends : n < most → getD ts (at + n) 0 ≡ getD s n 0 → ⊥
 
+-- which n that is, is decided
+pub ends-one : (s ts : List ℕ) (at most n k : ℕ) → Ends-at s ts at most n → Ends-at s ts at most k → n ≡ k
+ends-one s ts at most n k p q =
+    ⊎-elim
+    (λ (a : n ≤ k).
+    ⊎-elim (λ (b : k ≤ n). omega arith) (λ (b : n < k). absurd (p .ends (omega (arith, q .bound)) (q .lies .equal n b))) (le-or-lt k n))
+    (λ (a : k < n). absurd (q .ends (omega (arith, p .bound)) (p .lies .equal k a))) (le-or-lt n k)
+
 -- WHAT THE TABLES SAY
 
--- v is the length of a front of s that lies in s itself from j on
+-- v is the length of the longest front of s that lies in s itself from j on
 abbrev pub Repeat : (s : List ℕ) → (j v : ℕ) → Type 0
-Repeat s j v = 1 ≤ j → Front-at s s j v
+Repeat s j v = 1 ≤ j → Ends-at s s j (length s - j) v
 
--- at each place of s after its first
+-- the Z-array: at each place of s after its first
 abbrev pub Repeats : (s repeats : List ℕ) → Type 0
 Repeats s zs = (j : ℕ) → j < length s → Repeat s j (getD zs j 0)
 
--- v tells whether s stands at the start j, which counts from 0
-abbrev pub Tells : (s ts : List ℕ) → (j v : ℕ) → Type 0
-Tells s ts j v = leb (length s) v ≡ stands s ts (suc j)
+-- v is the length of the longest front of s that lies in ts at the start j, which counts from 0
+abbrev pub Longest : (s ts : List ℕ) → (j v : ℕ) → Type 0
+Longest s ts j v = Ends-at s ts j (length s) v
 
 -- at each start
 abbrev pub Standing : (s ts reach : List ℕ) → Type 0
-Standing s ts rs = (j : ℕ) → j < length rs → Tells s ts j (getD rs j 0)
+Standing s ts rs = (j : ℕ) → j < length rs → Longest s ts j (getD rs j 0)
 
--- the starts found in such a table are those at which s stands
-pub found-standing :
-    (s ts rs : List ℕ) → Standing s ts rs → found-in (length s) 1 rs ≡ those-from (length rs) 1 (λ p. stands s ts p)
-found-standing s ts rs told =
-    found-in-those (length s) 1 rs (λ p. stands s ts p)
-    (λ j b. let z : suc j ≡ 1 + j = omega arith in told j b ∙ ap (λ (p : ℕ). stands s ts p) z)
+-- a table is as it was but from place `from` to place `to`
+abbrev pub Kept-but : (from to : ℕ) → (old now : List ℕ) → Type 0
+Kept-but from to old xs = (j : ℕ) → (j < from) ⊎ (to ≤ j) → getD xs j 0 ≡ getD old j 0
 
 -- COMPARING
 
@@ -95,6 +101,16 @@ ends-stands s ts j n h within = iff-eq (leb (length s) n) (stands s ts (suc j)) 
     back t =
         ⊎-elim (λ (b : length s ≤ n). le-leb (length s) n b)
         (λ (b : n < length s). absurd (same (stands-get s ts (suc j) t) b)) (le-or-lt (length s) n)
+
+-- the starts found in such a table are those at which s stands
+pub found-standing :
+    (s ts rs : List ℕ) → length rs + length s ≤ suc (length ts) → Standing s ts rs →
+    found-in (length s) 1 rs ≡ those-from (length rs) 1 (λ p. stands s ts p)
+found-standing s ts rs room told =
+    found-in-those (length s) 1 rs (λ p. stands s ts p)
+    (λ j b.
+    let z : suc j ≡ 1 + j = omega arith in
+    ends-stands s ts j (getD rs j 0) (told j b) (omega (arith, b, room)) ∙ ap (λ (p : ℕ). stands s ts p) z)
 
 -- A STRETCH THAT IS A FRONT
 
@@ -150,7 +166,7 @@ module _ (first : ℕ) (s ts : List ℕ) where
       known-lies k zs n told inside within known =
           ⊎-elim
           (λ (b : right ≤ at). subst (Front-at s ts at) (sym (known .none b)) (front-none s ts at within))
-          (λ (b : at < right). repeated b (told (at - left) (inside b) (omega (arith, h .begun b .1)))) (le-or-lt right at)
+          (λ (b : at < right). repeated b (told (at - left) (inside b) (omega (arith, h .begun b .1)) .lies)) (le-or-lt right at)
         where
           repeated : at < right → Front-at s s (at - left) (getD zs (at - left) 0) → Front-at s ts at n
           repeated b f =
@@ -167,16 +183,17 @@ module _ (first : ℕ) (s ts : List ℕ) where
 
 -- FILLING A TABLE
 
--- each place of the table below `at` says P of what lies there, and a stretch is kept beside it
+-- each place of the table below `at` says P of what lies there, the others are as they were, and a stretch is kept beside it
 pub record Filling (first : ℕ) (s ts : List ℕ) (P : ℕ → ℕ → Type 0) (old xs : List ℕ) (at left right : ℕ) : Type 0 where
   pub from : first ≤ at
   pub stretch : Stretch first s ts at left right
   pub told : (j : ℕ) → j < at → P j (getD xs j 0)
+  pub rest : Kept-but first at old xs
   pub long : length xs ≡ length old
 
 module _ (first : ℕ) (s ts : List ℕ) (P : ℕ → ℕ → Type 0) (old : List ℕ) where
   pub filling-start : ((j : ℕ) → j < first → P j (getD old j 0)) → Filling first s ts P old old first 0 0
-  filling-start h = record { from = omega arith; stretch = stretch-start first s ts; told = h; long = refl }
+  filling-start h = record { from = omega arith; stretch = stretch-start first s ts; told = h; rest = λ j b. refl; long = refl }
 
   module _
       (xs : List ℕ)
@@ -185,12 +202,21 @@ module _ (first : ℕ) (s ts : List ℕ) (P : ℕ → ℕ → Type 0) (old : Lis
       (room : at < length old)
       (here : P at n)
     where
+      elsewhere : (j : ℕ) → (j < first) ⊎ (at + 1 ≤ j) → j ≡ at → ⊥
+      elsewhere j (inl b) e = omega (arith, h .from)
+      elsewhere j (inr b) e = omega arith
+
+      still : (j : ℕ) → (j < first) ⊎ (at + 1 ≤ j) → (j < first) ⊎ (at ≤ j)
+      still j (inl b) = inl b
+      still j (inr b) = inr (omega arith)
+
       kept : (a b : ℕ) → Stretch first s ts (at + 1) a b → Filling first s ts P old (set xs at n) (at + 1) a b
       kept a b st =
           record {
             from = omega (arith, h .from);
             stretch = st;
             told = set-more 0 P xs at n (omega (arith, h .long)) (h .told) here;
+            rest = λ j out. getD-set-other xs at j n 0 (elsewhere j out) ∙ h .rest j (still j out);
             long = length-set xs at n ∙ h .long;
           }
 
@@ -200,3 +226,12 @@ module _ (first : ℕ) (s ts : List ℕ) (P : ℕ → ℕ → Type 0) (old : Lis
 
       pub filling-new : Front-at s ts at n → Filling first s ts P old (set xs at n) (at + 1) at (at + n)
       filling-new f = kept at (at + n) (stretch-new first s ts at n (h .from) f)
+
+-- a table for the string's own places is as it was outside them
+pub filled-rest :
+    (s ts : List ℕ) (P : ℕ → ℕ → Type 0) (old xs : List ℕ) (at left right : ℕ) → Filling 1 s ts P old xs at left right →
+    (1 < at → at ≤ length s) → Kept-but 1 (length s) old xs
+filled-rest s ts P old xs at left right h short j (inl b) = h .rest j (inl b)
+filled-rest s ts P old xs at left right h short j (inr b) =
+    ⊎-elim (λ (one : at ≤ 1). ⊎-elim (λ (c : 1 ≤ j). h .rest j (inr (omega arith))) (λ (c : j < 1). h .rest j (inl c)) (le-or-lt 1 j))
+    (λ (more : 1 < at). h .rest j (inr (omega (arith, short more)))) (le-or-lt at 1)

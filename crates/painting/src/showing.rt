@@ -5,10 +5,10 @@
 // later position are right already, and only as many as the two positions lie apart are left to compare. So a word of equal
 // characters at every position costs one comparison a position.
 ghost use mathlib.Core.Path.{_≡_};
-ghost use mathlib.Core.Bool.{true};
 ghost use mathlib.Core.List.{[], _∷_};
 ghost use Prim.Native.Nat.{suc, _+_, _-_, _≤_};
 ghost use lib.ListN.{length, take, drop};
+ghost use Rattle.basics.specs.Bools.{Reflects};
 ghost use Rattle.spec.specs.Dictionary.{lexicon};
 ghost use Rattle.spec.specs.Words.{spells};
 ghost use Rattle.spec.specs.Index.{n-of, key-at, lines-in};
@@ -22,7 +22,7 @@ ghost use Rattle.laws.specs.ShowWalk.{Equal-part, Period, Stand-each};
 // Whether the characters of a string from `from` on are those of the text, if the string starts at `at`.
 fn equal_from(string: &[u16], from: usize, text: &[u16], at: usize) -> bool
     requires { ⌜ at + length (now string) ≤ length (now text) ⌝ }
-    ensures { λ r. ⌜ (r ≡ true → Equal-part (now (string .entry)) from (length (now (string .entry))) (now (text .entry)) at) ⌝ }
+    ensures { λ r. ⌜ Reflects r (Equal-part (now (string .entry)) from (length (now (string .entry))) (now (text .entry)) at) ⌝ }
 {
     let mut i = from;
     while i < string.len() {
@@ -54,7 +54,7 @@ fn period_of(string: &[u16], known: usize, step: usize) -> usize
 // Whether a string stands at `place`, which lies `step` after a place where it stands.
 fn stands_again(string: &[u16], period: usize, step: usize, place: usize, text: &[u16]) -> bool
     requires { ⌜ Period (now string) period × (step ≤ place) × Stand (now string) (now text) (place - step) × (place + length (now string) ≤ suc (length (now text))) ⌝ }
-    ensures { λ r. ⌜ (r ≡ true → Stand (now (string .entry)) (now (text .entry)) place) ⌝ }
+    ensures { λ r. ⌜ Reflects r (Stand (now (string .entry)) (now (text .entry)) place) ⌝ }
 {
     if step == period {
         return equal_from(string, string.len() - period, text, place - 1);
@@ -65,7 +65,7 @@ fn stands_again(string: &[u16], period: usize, step: usize, place: usize, text: 
 // Whether a string stands at each of these positions.
 fn stands_at_each(string: &[u16], places: &[u16], text: &[u16]) -> bool
     requires { ⌜ Lie-within (length (now string)) (length (now text)) (now places) × (1 ≤ length (now places)) × Rise 1 (now places) ⌝ }
-    ensures { λ r. ⌜ (r ≡ true → Stand-each (now (string .entry)) (now (text .entry)) (now (places .entry))) ⌝ }
+    ensures { λ r. ⌜ Reflects r (Stand-each (now (string .entry)) (now (text .entry)) (now (places .entry))) ⌝ }
 {
     if !equal_from(string, 0, text, places[0] as usize - 1) {
         return false;
@@ -87,7 +87,7 @@ fn stands_at_each(string: &[u16], places: &[u16], text: &[u16]) -> bool
 // Whether the text has a character at each of these positions.
 fn marks_at_each(mark: u16, places: &[u16], text: &[u16]) -> bool
     requires { ⌜ Lie-within 1 (length (now text)) (now places) ⌝ }
-    ensures { λ r. ⌜ (r ≡ true → Stand-each (mark ∷ []) (now (text .entry)) (now (places .entry))) ⌝ }
+    ensures { λ r. ⌜ Reflects r (Stand-each (mark ∷ []) (now (text .entry)) (now (places .entry))) ⌝ }
 {
     let mut i = 0;
     while i < places.len() {
@@ -111,7 +111,7 @@ fn line_stands(
     text: &[u16],
 ) -> bool
     requires { ⌜ Can-read (now chars) (now lengths) (now index) × Word-starts (now lengths) (length (now lengths)) (now starts) × Line-lies (now index) line begin end × (length (now text) ≡ n-of (now index)) ⌝ }
-    ensures { λ r. ⌜ (r ≡ true → Stand-each (spells (lexicon (now (chars .entry)) (now (lengths .entry))) (key-at (now (index .entry)) line)) (now (text .entry)) (take (end - begin) (drop begin (now (index .entry))))) ⌝ }
+    ensures { λ r. ⌜ Reflects r (Stand-each (spells (lexicon (now (chars .entry)) (now (lengths .entry))) (key-at (now (index .entry)) line)) (now (text .entry)) (take (end - begin) (drop begin (now (index .entry))))) ⌝ }
 {
     let value = index[2 + 3 * line + 1];
     if index[2 + 3 * line] != 0 {
@@ -132,7 +132,7 @@ pub(crate) fn shows(
     text: &[u16],
 ) -> bool
     requires { ⌜ Can-read (now chars) (now lengths) (now index) × Word-starts (now lengths) (length (now lengths)) (now starts) × (length (now text) ≡ n-of (now index)) ⌝ }
-    ensures { λ r. ⌜ (r ≡ true → All-stand (lexicon (now (chars .entry)) (now (lengths .entry))) (lines-in (now (index .entry))) (now (text .entry))) ⌝ }
+    ensures { λ r. ⌜ Reflects r (All-stand (lexicon (now (chars .entry)) (now (lengths .entry))) (lines-in (now (index .entry))) (now (text .entry))) ⌝ }
 {
     let keys = index[1] as usize;
     let mut begin = 2 + 3 * keys;

@@ -2,12 +2,13 @@
 //
 // Where two entries contradict one another, one of them does not stand in what was painted.
 ghost use mathlib.Core.Path.{_≡_};
-ghost use mathlib.Core.Bool.{true};
 ghost use lib.ListN.{length, replicate};
+ghost use Rattle.basics.specs.Bools.{Reflects};
 ghost use Rattle.spec.specs.Dictionary.{lexicon};
 ghost use Rattle.spec.specs.Index.{n-of, lines-in};
+ghost use Rattle.laws.specs.Facts.{All-stand};
 ghost use Rattle.laws.specs.Tables.{Can-read, Word-starts};
-ghost use Rattle.laws.specs.PaintedSearch.{Painted-shows};
+ghost use Rattle.laws.specs.PaintedSearch.{painted-over};
 use crate::painting::paint_entries;
 use crate::showing::shows;
 
@@ -32,7 +33,7 @@ pub fn paint_shown(
     text: &mut [u16],
 ) -> bool
     requires { ⌜ Can-read (now chars) (now lengths) (now index) × Word-starts (now lengths) (length (now lengths)) (now starts) × (length (now text) ≡ n-of (now index)) ⌝ }
-    ensures { λ r. ⌜ (r ≡ true → Painted-shows (lexicon (now (chars .entry)) (now (lengths .entry))) (lines-in (now (index .entry))) (n-of (now (index .entry))) ground (now (text .exit))) ⌝ }
+    ensures { λ r. ⌜ (now (text .exit) ≡ painted-over (lexicon (now (chars .entry)) (now (lengths .entry))) (lines-in (now (index .entry))) (n-of (now (index .entry))) ground) × Reflects r (All-stand (lexicon (now (chars .entry)) (now (lengths .entry))) (lines-in (now (index .entry))) (now (text .exit))) ⌝ }
 {
     fill(text, ground);
     paint_entries(chars, lengths, starts, index, text);

@@ -1,14 +1,15 @@
-// A number that is no character of a string.
+// The least number that is no character of a string.
 //
-// The numbers from 0 on are tried, each against the whole string. A string of up to 256 characters leaves one of the first 257 free.
-ghost use mathlib.Core.Path.{_≡_};
-ghost use mathlib.Core.Bool.{false};
-ghost use Prim.Native.Nat.{ℕ, _≤_, _<_};
-ghost use lib.ListN.{length, getD};
+// The numbers from 0 on are tried, each against the whole string. A string of n characters leaves one of the first n + 1 free.
+ghost use Prim.Native.Nat.{_≤_};
+ghost use lib.ListN.{length};
+ghost use Rattle.basics.specs.Bools.{Reflects};
+ghost use Rattle.basics.specs.Member.{In};
+ghost use Rattle.basics.specs.Absent.{Least-absent};
 
 // Whether a string has a character.
 fn has_char(string: &[u16], character: u16) -> bool
-    ensures { λ r. ⌜ (r ≡ false → (i : ℕ) → i < length (now (string .entry)) → getD (now (string .entry)) i 0 ≡ character → ⊥) ⌝ }
+    ensures { λ r. ⌜ Reflects r (In character (now (string .entry))) ⌝ }
 {
     let mut i = 0;
     while i < string.len() {
@@ -20,15 +21,13 @@ fn has_char(string: &[u16], character: u16) -> bool
     false
 }
 
-// A number below 257 that is no character of the string, or 257 if none was found.
-pub fn ground_of(string: &[u16]) -> usize
-    ensures { λ r. ⌜ (r < 257 → (i : ℕ) → i < length (now (string .entry)) → getD (now (string .entry)) i 0 ≡ r → ⊥) × (r ≤ 257) ⌝ }
+// The least number that is no character of the string.
+pub fn ground_of(string: &[u16]) -> u16
+    requires { ⌜ length (now string) ≤ 256 ⌝ }
+    ensures { λ r. ⌜ Least-absent (now (string .entry)) r ⌝ }
 {
-    let mut ground = 0;
-    while ground < 257 {
-        if !has_char(string, ground as u16) {
-            return ground;
-        }
+    let mut ground = 0u16;
+    while has_char(string, ground) {
         ground += 1;
     }
     ground

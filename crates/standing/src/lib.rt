@@ -1,4 +1,4 @@
-// The starts at which a string stands in a text, and a number that is none of its characters.
+// The starts at which a string stands in a text, and the least number that is none of its characters.
 pub mod front;
 pub mod ground;
 pub mod repeats;

@@ -1,17 +1,17 @@
-// The repeats of a string: at each place after its first, how many characters from there on are those of its front.
+// The Z-array of a string: at i > 0, the length of the longest prefix that also starts at i.
 //
-// This is the table that Z search begins with. The cost is linear in the string, since each comparison but the last at a place moves
+// The cost is linear in the string, since each comparison but the last at a place moves
 // the furthest end reached.
 ghost use Prim.Native.Nat.{_≤_};
 ghost use lib.ListN.{length};
-ghost use Rattle.laws.specs.StandingWalk.{Repeats};
+ghost use Rattle.laws.specs.StandingWalk.{Repeats, Kept-but};
 use crate::front::extend;
 use crate::front::known_from;
 
-// For each place of the string after its first, how many characters from there on are those of its front.
+// Fills the Z-array. The first number, and those past the string's length, are left as they were.
 pub fn fill_repeats(string: &[u16], repeats: &mut [u16])
     requires { ⌜ (length (now string) ≤ 256) × (length (now string) ≤ length (now repeats)) ⌝ }
-    ensures { λ r. ⌜ Repeats (now (string .entry)) (now (repeats .exit)) ⌝ }
+    ensures { λ r. ⌜ Repeats (now (string .entry)) (now (repeats .exit)) × Kept-but 1 (length (now (string .entry))) (now (repeats .entry)) (now (repeats .exit)) ⌝ }
 {
     let mut left = 0;
     let mut right = 0;

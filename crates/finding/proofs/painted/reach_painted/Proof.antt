@@ -1,23 +1,20 @@
--- `reach_painted` meets its contract: it answers true only past both tests. Assumes nothing.
+-- `reach_painted` meets its contract: it answers whether every entry stands in what was painted, and tells the window if so. Assumes
+-- nothing.
 use mathlib.Core.Path.{refl}
+use mathlib.Core.Bool.{true, false}
 use native.Mathlib.Omega.{arith}
-use borrow.Author.Tests.{not-false}
-use Rattle.basics.specs.Bools.{clash}
-use Rattle.spec.specs.Dictionary.{lexicon}
-use Rattle.spec.specs.Index.{n-of}
-use Rattle.laws.specs.PaintedSearch.{painted-finds}
 use borrow.Author.Needs.{needs}
+use borrow.Author.Tests.{not-true, not-false}
+use Rattle.basics.specs.Bools.{clash}
+use Rattle.basics.specs.Absent.{absent-at}
+use Rattle.spec.specs.Dictionary.{lexicon}
+use Rattle.spec.specs.Index.{n-of, lines-in}
+use Rattle.laws.specs.PaintedSearch.{painted-finds, painted-once}
 use Rattle.finding.proofs.painted.reach_painted.Statement.{statement}
 use Rattle.finding.proofs.painted.reach_painted.Tie as tie
 
 ground-of-requires : tie.Need-ground-of-requires
 ground-of-requires c κs = search needs
-
-returns : tie.Need-returns
-returns c = (λ t. clash t refl, λ t. refl)
-
-cast-paint-shown : tie.Need-cast-paint-shown
-cast-paint-shown c = search needs
 
 paint-shown-requires : tie.Need-paint-shown-requires
 paint-shown-requires c κs = search needs
@@ -25,8 +22,22 @@ paint-shown-requires c κs = search needs
 same-length : tie.Need-same-length
 same-length c = search needs
 
-returns-2 : tie.Need-returns-2
-returns-2 c = (λ t. clash t refl, λ t. refl)
+returns : tie.Need-returns
+returns c =
+    let a = c .before .before .before .before .before .before .before .before .before .before .before .before .before .args in
+    let ground = c .before .before .before .before .before .ground-of in
+    let shown = c .before .before .before .paint-shown in (
+      λ t. clash t refl,
+      (
+        λ f. refl,
+        (
+          painted-once (lexicon (a .chars .now) (a .lengths .now)) (lines-in (a .index .now)) (n-of (a .index .now)) (a .string .now)
+              (shown .last .1 .1 .1 .1 .1 .0) (ground .result) (shown .result) false (ground .ensures) (shown .ensures .0)
+              (shown .ensures .1) (not-true (shown .result) (c .if1 .taken)),
+          λ t. clash t refl,
+        ),
+      ),
+    )
 
 reach-standing-requires : tie.Need-reach-standing-requires
 reach-standing-requires c κs = search needs
@@ -37,19 +48,27 @@ same-length-2 c = search needs
 same-length-3 : tie.Need-same-length-3
 same-length-3 c = search needs
 
-returns-3 : tie.Need-returns-3
-returns-3 c =
-    let s = c .before .before .before .before .before .before .before .before .before .before .before .before .before .before .before .before .before .before .before in
+returns-2 : tie.Need-returns-2
+returns-2 c =
+    let s = c .before .before .before .before .before .before .before .before .before .before .before .before .before .before .before .before .before .before in
     let a = s .args in
-    let ground = c .before .before .before .before .before .before .before .before .before .before .before .ground-of in
+    let ground = c .before .before .before .before .before .before .before .before .before .before .ground-of in
     let shown = c .before .before .before .before .before .before .before .before .paint-shown in
+    let yes-all = not-false (shown .result) (c .before .before .before .before .before .if1 .left) in
     let told = c .before .before .reach-standing in (
       λ t.
           painted-finds (lexicon (a .chars .now) (a .lengths .now)) (a .index .now) (n-of (a .index .now)) (ground .result)
-          (shown .last .1 .1 .1 .1 .1 .0) (a .string .now) (told .last .1 .1 .0)
-          (shown .ensures (not-false (shown .result) (c .before .before .before .before .before .if2 .left))) (ground .ensures .0 (omega (arith, c .before .before .before .before .before .before .before .before .before .before .if1 .left)))
-          (omega (arith, s .pre .4, told .kept .1 .1 .0)) (told .ensures),
-      λ f. clash refl f,
+          (shown .last .1 .1 .1 .1 .1 .0) (a .string .now) (told .last .1 .1 .0) (record { is = shown .ensures .0; all = shown .ensures .1 .holds yes-all })
+          (absent-at (a .string .now) (ground .result) (ground .ensures .absent)) (omega (arith, s .pre .4, told .kept .1 .1 .0)) (told .ensures),
+      (
+        λ f. clash refl f,
+        (
+          painted-once (lexicon (a .chars .now) (a .lengths .now)) (lines-in (a .index .now)) (n-of (a .index .now)) (a .string .now)
+              (shown .last .1 .1 .1 .1 .1 .0) (ground .result) (shown .result) true (ground .ensures) (shown .ensures .0)
+              (shown .ensures .1) yes-all,
+          λ t. told .ensures,
+        ),
+      ),
     )
 
 pub reach-painted-spec : {M : Type 1} → statement M
@@ -57,12 +76,10 @@ reach-painted-spec =
     tie.close
     (tie.spec
     ground-of-requires
-    returns
-    cast-paint-shown
     paint-shown-requires
     same-length
-    returns-2
+    returns
     reach-standing-requires
     same-length-2
     same-length-3
-    returns-3)
+    returns-2)

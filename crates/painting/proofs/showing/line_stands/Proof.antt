@@ -62,7 +62,7 @@ returns : tie.Need-returns
 returns c =
     let s = c .before .before .before .before .before .before .before .before .before .before in
     let a = s .args in
-    λ t. lone-stood (a .chars .now) (a .lengths .now) (a .index .now) (s .pre .0) (a .line) (a .begin) (a .end) (s .pre .2) (a .text .now) (s .pre .3) (c .before .before .if1 .taken) (a .text .now) (c .marks-at-each .ensures t)
+    lone-stood (a .chars .now) (a .lengths .now) (a .index .now) (s .pre .0) (a .line) (a .begin) (a .end) (s .pre .2) (a .text .now) (s .pre .3) (c .before .before .if1 .taken) (a .text .now) (c .marks-at-each .result) (c .marks-at-each .ensures)
 
 cast-word : tie.Need-cast-word
 cast-word c = omega (arith, c .before .shared-slice-known7 .given (2 + 3 * c .before .before .before .before .before .before .before .before .args .line + 1))
@@ -143,7 +143,7 @@ returns-2 : tie.Need-returns-2
 returns-2 c =
     let s = c .before .before .before .before .before .before .before .before .before .before .before .before .before in
     let a = s .args in
-    λ t. word-stood (a .chars .now) (a .lengths .now) (a .index .now) (s .pre .0) (a .line) (a .begin) (a .end) (s .pre .2) (a .text .now) (s .pre .3) (c .before .before .before .before .before .if1 .left) (a .starts .now) (s .pre .1) (a .text .now) (c .stands-at-each .ensures t)
+    word-stood (a .chars .now) (a .lengths .now) (a .index .now) (s .pre .0) (a .line) (a .begin) (a .end) (s .pre .2) (a .text .now) (s .pre .3) (c .before .before .before .before .before .if1 .left) (a .starts .now) (s .pre .1) (a .text .now) (c .stands-at-each .result) (c .stands-at-each .ensures)
 
 pub line-stands-spec : {M : Type 1} → statement M
 line-stands-spec =

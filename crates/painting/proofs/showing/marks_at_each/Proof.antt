@@ -4,10 +4,9 @@ use Prim.Native.Nat.{_-_}
 use native.Mathlib.Omega.{arith}
 use borrow.Author.Needs.{needs}
 use lib.ListN.{length, getD}
-use mathlib.Core.Path.{refl}
 use mathlib.Core.List.{[], _∷_}
-use Rattle.basics.specs.Bools.{clash}
-use Rattle.laws.specs.ShowWalk.{Stand-first, stand-first-none, stand-first-next, stand-first-end, stand-mark}
+use Rattle.basics.specs.Bools.{reflects-yes, reflects-no}
+use Rattle.laws.specs.ShowWalk.{Stand-first, stand-first-none, stand-first-next, stand-first-end, stand-mark, mark-stands}
 use Rattle.painting.proofs.showing.marks_at_each.Statement.{statement}
 use Rattle.painting.proofs.showing.marks_at_each.Tie as tie
 
@@ -43,7 +42,13 @@ shared-slice-read-if1-2 c =
     omega (arith, s .pre .from (l .i) below, s .pre .to (l .i) below)
 
 returns : tie.Need-returns Inv-loop μ-loop
-returns c = λ t. clash t refl
+returns c =
+    let a = c .before .before .before .before .before .args in
+    let l = c .before .before .before .before .loop in
+    reflects-no
+    (λ each.
+    c .if1 .taken
+    (mark-stands (a .mark) (a .text .now) (getD (a .places .now) (l .i) 0) (each (l .i) (c .before .before .before .loop-test .taken))))
 
 add-i : tie.Need-add-i Inv-loop μ-loop
 add-i c = search needs
@@ -62,7 +67,7 @@ loop-again c =
 returns-2 : tie.Need-returns-2 Inv-loop μ-loop
 returns-2 c =
     let a = c .before .before .args in
-    λ t. stand-first-end (a .mark ∷ []) (a .text .now) (a .places .now) (c .before .loop .i) (c .loop-test .left) (c .before .loop .inv)
+    reflects-yes (stand-first-end (a .mark ∷ []) (a .text .now) (a .places .now) (c .before .loop .i) (c .loop-test .left) (c .before .loop .inv))
 
 pub marks-at-each-spec : {M : Type 1} → statement M
 marks-at-each-spec =

@@ -1,15 +1,14 @@
 -- `shows` meets its contract. The invariant: the entries of the lines before `line` stand. The measure is how many lines are left.
 -- Assumes nothing.
-use mathlib.Core.Path.{refl}
 use Prim.Native.Nat.{_+_, _*_, _-_}
 use native.Mathlib.Omega.{arith}
 use borrow.Author.Needs.{needs}
-use borrow.Author.Tests.{not-false}
+use borrow.Author.Tests.{not-true, not-false}
 use lib.ListN.{getD}
-use Rattle.basics.specs.Bools.{clash}
+use Rattle.basics.specs.Bools.{reflects-yes, reflects-no}
 use Rattle.spec.specs.Dictionary.{lexicon}
 use Rattle.laws.specs.LinePass.{lies-room}
-use Rattle.laws.specs.ShowWalk.{Showing, showing-start, showing-lies, showing-step, showing-end}
+use Rattle.laws.specs.ShowWalk.{Showing, showing-start, showing-lies, showing-step, showing-end, line-shown}
 use Rattle.painting.proofs.showing.shows.Statement.{statement}
 use Rattle.painting.proofs.showing.shows.Tie as tie
 use Rattle.painting.proofs.showing.line_stands.Reads as line-stands-reads
@@ -68,7 +67,14 @@ line-stands-requires c κs =
     (s .pre .0, s .pre .1, showing-lies (lexicon (a .chars .now) (a .lengths .now)) (a .index .now) (a .text .now) (l .begin) (l .line) (l .inv) (c .before .loop-test .taken), s .pre .2)
 
 returns : tie.Need-returns Inv-loop μ-loop
-returns c = λ t. clash t refl
+returns c =
+    let a = c .before .before .before .before .before .before .before .before .before .before .before .args in
+    let l = c .before .before .before .before .loop in
+    let lies = showing-lies (lexicon (a .chars .now) (a .lengths .now)) (a .index .now) (a .text .now) (l .begin) (l .line) (l .inv) (c .before .before .before .loop-test .taken) in
+    reflects-no
+    (λ all.
+    c .before .line-stands .ensures .fails (not-true (c .before .line-stands .result) (c .if1 .taken))
+    (line-shown (lexicon (a .chars .now) (a .lengths .now)) (a .index .now) (a .text .now) (l .begin) (l .line) (l .begin + getD (a .index .now) (2 + 3 * l .line + 2) 0) lies all))
 
 add-line : tie.Need-add-line Inv-loop μ-loop
 add-line c = search needs
@@ -81,13 +87,13 @@ loop-again c =
     let a = c .before .before .before .before .before .before .before .before .before .before .before .args in
     let l = c .before .before .before .before .loop in
     showing-step (lexicon (a .chars .now) (a .lengths .now)) (a .index .now) (a .text .now) (l .begin) (l .line) (l .inv) (l .begin + getD (a .index .now) (2 + 3 * l .line + 2) 0) (showing-lies (lexicon (a .chars .now) (a .lengths .now)) (a .index .now) (a .text .now) (l .begin) (l .line) (l .inv) (c .before .before .before .loop-test .taken))
-    (c .before .line-stands .ensures (not-false (c .before .line-stands .result) (c .if1 .left)))
+    (c .before .line-stands .ensures .holds (not-false (c .before .line-stands .result) (c .if1 .left)))
 
 returns-2 : tie.Need-returns-2 Inv-loop μ-loop
 returns-2 c =
     let a = c .before .before .before .before .before .before .before .before .args in
     let l = c .before .loop in
-    λ t. showing-end (lexicon (a .chars .now) (a .lengths .now)) (a .index .now) (a .text .now) (l .begin) (l .line) (l .inv) (c .loop-test .left)
+    reflects-yes (showing-end (lexicon (a .chars .now) (a .lengths .now)) (a .index .now) (a .text .now) (l .begin) (l .line) (l .inv) (c .loop-test .left))
 
 pub shows-spec : {M : Type 1} → statement M
 shows-spec =

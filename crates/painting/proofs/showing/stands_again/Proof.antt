@@ -3,8 +3,10 @@
 use mathlib.Core.Path.{_≡_, subst}
 use Prim.Native.Nat.{ℕ, _-_}
 use native.Mathlib.Omega.{arith}
+use lib.ListN.{length}
+use Rattle.basics.specs.Bools.{reflects-same}
 use Rattle.laws.specs.Strings.{Stand}
-use Rattle.laws.specs.ShowWalk.{stand-all, stand-again}
+use Rattle.laws.specs.ShowWalk.{stand-all, stand-part, stand-again}
 use borrow.Author.Needs.{needs}
 use Rattle.painting.proofs.showing.stands_again.Statement.{statement}
 use Rattle.painting.proofs.showing.stands_again.Tie as tie
@@ -24,7 +26,9 @@ returns c =
     let s = c .before .before .before .before in
     let a = s .args in
     let apart : a .step ≡ a .period = c .before .if1 .taken in
-    λ t. stand-again (a .string .now) (a .text .now) (a .place) (omega (arith, s .pre .2 .from)) (s .pre .3) (a .period) (s .pre .0) (omega (arith, s .pre .1)) (subst (λ (d : ℕ). Stand (a .string .now) (a .text .now) (a .place - d)) apart (s .pre .2)) (c .equal-from .ensures t)
+    reflects-same (c .equal-from .result)
+    (stand-again (a .string .now) (a .text .now) (a .place) (omega (arith, s .pre .2 .from)) (s .pre .3) (a .period) (s .pre .0) (omega (arith, s .pre .1)) (subst (λ (d : ℕ). Stand (a .string .now) (a .text .now) (a .place - d)) apart (s .pre .2)))
+    (λ st. stand-part (a .string .now) (a .text .now) (a .place) st (length (a .string .now) - a .period)) (c .equal-from .ensures)
 
 sub-equal-from-3 : tie.Need-sub-equal-from-3
 sub-equal-from-3 c = search needs
@@ -36,7 +40,8 @@ returns-2 : tie.Need-returns-2
 returns-2 c =
     let s = c .before .before .before .before in
     let a = s .args in
-    λ t. stand-all (a .string .now) (a .text .now) (a .place) (omega (arith, s .pre .2 .from)) (s .pre .3) (c .equal-from2 .ensures t)
+    reflects-same (c .equal-from2 .result) (stand-all (a .string .now) (a .text .now) (a .place) (omega (arith, s .pre .2 .from)) (s .pre .3))
+    (λ st. stand-part (a .string .now) (a .text .now) (a .place) st 0) (c .equal-from2 .ensures)
 
 pub stands-again-spec : {M : Type 1} → statement M
 stands-again-spec =

@@ -2,12 +2,11 @@
 -- how many positions are left. Assumes nothing.
 use Prim.Native.Nat.{_-_, _≤_}
 use native.Mathlib.Omega.{arith}
-use borrow.Author.Tests.{not-false}
+use borrow.Author.Tests.{not-true, not-false}
 use borrow.Author.Needs.{needs}
 use lib.ListN.{length, getD}
-use mathlib.Core.Path.{refl}
-use Rattle.basics.specs.Bools.{clash}
-use Rattle.laws.specs.ShowWalk.{Period, period-whole, stand-all, stand-back, Stand-first, stand-first-none, stand-first-next, stand-first-end, rise-after}
+use Rattle.basics.specs.Bools.{reflects-yes, reflects-no}
+use Rattle.laws.specs.ShowWalk.{Period, period-whole, stand-all, stand-part, stand-back, Stand-first, stand-first-none, stand-first-next, stand-first-end, rise-after}
 use Rattle.painting.proofs.showing.stands_at_each.Statement.{statement}
 use Rattle.painting.proofs.showing.stands_at_each.Tie as tie
 use Rattle.painting.proofs.showing.equal_from.Reads as equal-from-reads
@@ -35,7 +34,13 @@ equal-from-requires c κs =
     omega (arith, s .pre .0 .from 0 (s .pre .1), s .pre .0 .to 0 (s .pre .1))
 
 returns : tie.Need-returns Inv-loop μ-loop
-returns c = λ t. clash t refl
+returns c =
+    let s = c .before .before .before .before .before .before in
+    let a = s .args in
+    reflects-no
+    (λ each.
+    c .before .equal-from .ensures .fails (not-true (c .before .equal-from .result) (c .if1 .taken))
+    (stand-part (a .string .now) (a .text .now) (getD (a .places .now) 0 0) (each 0 (s .pre .1)) 0))
 
 loop-holds : tie.Need-loop-holds Inv-loop μ-loop
 loop-holds c =
@@ -44,7 +49,7 @@ loop-holds c =
       omega arith,
       period-whole (a .string .now),
       stand-first-next (a .string .now) (a .text .now) (a .places .now) 0 (stand-first-none (a .string .now) (a .text .now) (a .places .now))
-          (stand-all (a .string .now) (a .text .now) (getD (a .places .now) 0 0) (s .pre .0 .from 0 (s .pre .1)) (s .pre .0 .to 0 (s .pre .1)) (c .before .equal-from .ensures (not-false (c .before .equal-from .result) (c .if1 .left)))),
+          (stand-all (a .string .now) (a .text .now) (getD (a .places .now) 0 0) (s .pre .0 .from 0 (s .pre .1)) (s .pre .0 .to 0 (s .pre .1)) (c .before .equal-from .ensures .holds (not-false (c .before .equal-from .result) (c .if1 .left)))),
     )
 
 mul-place : tie.Need-mul-place Inv-loop μ-loop
@@ -91,7 +96,12 @@ stands-again-requires c κs =
     )
 
 returns-2 : tie.Need-returns-2 Inv-loop μ-loop
-returns-2 c = λ t. clash t refl
+returns-2 c =
+    let l = c .before .before .before .before .before .before .loop in
+    reflects-no
+    (λ each.
+    c .before .stands-again .ensures .fails (not-true (c .before .stands-again .result) (c .if2 .taken))
+    (each (l .i) (c .before .before .before .before .before .loop-test .taken)))
 
 add-i : tie.Need-add-i Inv-loop μ-loop
 add-i c = search needs
@@ -105,13 +115,13 @@ loop-again c =
     let l = c .before .before .before .before .before .before .loop in (
       omega arith,
       c .before .before .period-of .ensures,
-      stand-first-next (a .string .now) (a .text .now) (a .places .now) (l .i) (l .inv .2) (c .before .stands-again .ensures (not-false (c .before .stands-again .result) (c .if2 .left))),
+      stand-first-next (a .string .now) (a .text .now) (a .places .now) (l .i) (l .inv .2) (c .before .stands-again .ensures .holds (not-false (c .before .stands-again .result) (c .if2 .left))),
     )
 
 returns-3 : tie.Need-returns-3 Inv-loop μ-loop
 returns-3 c =
     let a = c .before .before .before .before .before .before .before .before .args in
-    λ t. stand-first-end (a .string .now) (a .text .now) (a .places .now) (c .before .loop .i) (c .loop-test .left) (c .before .loop .inv .2)
+    reflects-yes (stand-first-end (a .string .now) (a .text .now) (a .places .now) (c .before .loop .i) (c .loop-test .left) (c .before .loop .inv .2))
 
 pub stands-at-each-spec : {M : Type 1} → statement M
 stands-at-each-spec =

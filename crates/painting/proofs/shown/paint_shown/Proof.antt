@@ -23,13 +23,11 @@ returns c =
     let s = c .before .before .before .before .before .before .before .before .before .before .before .before .before .before .before in
     let a = s .args in
     let filled = c .before .before .before .before .before .before .before .before .fill in
-    let painted = c .before .before .before .before .paint-entries in
-    λ t. record {
-      is =
-          painted-ground (lexicon (a .chars .now) (a .lengths .now)) (lines-in (a .index .now)) (n-of (a .index .now)) (a .ground)
-          (a .text .now) (filled .last .0) (painted .last .1 .1 .1 .1 .0) (filled .ensures) (s .pre .2) (painted .ensures);
-      all = c .shows .ensures t;
-    }
+    let painted = c .before .before .before .before .paint-entries in (
+      painted-ground (lexicon (a .chars .now) (a .lengths .now)) (lines-in (a .index .now)) (n-of (a .index .now)) (a .ground)
+          (a .text .now) (filled .last .0) (painted .last .1 .1 .1 .1 .0) (filled .ensures) (s .pre .2) (painted .ensures),
+      c .shows .ensures,
+    )
 
 pub paint-shown-spec : {M : Type 1} → statement M
 paint-shown-spec =

@@ -1,40 +1,48 @@
--- `ground_of` meets its contract. The invariant is the bound, and the measure is how many numbers are left. Assumes nothing.
-use Prim.Native.Nat.{_-_, _≤_}
+-- `ground_of` meets its contract. The invariant: every lower number is a character of the string, so there are at most as many as
+-- characters. The measure is how many characters are left. Assumes nothing.
+use Prim.Native.Nat.{suc, _+_, _-_}
 use native.Mathlib.Omega.{arith}
 use borrow.Author.Needs.{needs}
-use borrow.Author.Tests.{not-true}
+use lib.ListN.{length}
+use Rattle.basics.specs.Absent.{Lower-in, lower-none, lower-next, lower-few}
 use Rattle.standing.proofs.ground.ground_of.Statement.{statement}
 use Rattle.standing.proofs.ground.ground_of.Tie as tie
 
 abbrev Inv-loop : tie.InvT-loop
-Inv-loop string ground₀ ground = ground ≤ 257
+Inv-loop string ground₀ ground = Lower-in string ground
 
 abbrev μ-loop : tie.MeasureT-loop
-μ-loop string ground₀ ground = 257 - ground
+μ-loop string ground₀ ground = suc (length string) - ground
 
 loop-holds : tie.Need-loop-holds Inv-loop μ-loop
-loop-holds c = omega arith
-
-cast-has-char : tie.Need-cast-has-char Inv-loop μ-loop
-cast-has-char c = omega arith
+loop-holds c = lower-none (c .before .args .string .now)
 
 has-char-requires : tie.Need-has-char-requires Inv-loop μ-loop
 has-char-requires c κs = search needs
 
-returns : tie.Need-returns Inv-loop μ-loop
-returns c = (λ b. c .before .has-char .ensures (not-true (c .before .has-char .result) (c .if1 .taken)), omega arith)
+-- a number that is a character counts to the lower ones
+more :
+    (c : tie.Then1 Inv-loop μ-loop) → Lower-in (c .before .before .before .before .args .string .now) (c .before .before .loop .ground + 1)
+more c =
+    lower-next (c .before .before .before .before .args .string .now) (c .before .before .loop .ground) (c .before .before .loop .inv)
+    (c .before .has-char .ensures .holds (c .if1 .taken))
 
 add-ground : tie.Need-add-ground Inv-loop μ-loop
-add-ground c = omega arith
+add-ground c =
+    let s = c .before .before .before .before in
+    omega (arith, s .pre, lower-few (s .args .string .now) (c .before .before .loop .ground + 1) (more c))
 
 loop-less : tie.Need-loop-less Inv-loop μ-loop
-loop-less c = omega arith
+loop-less c =
+    let s = c .before .before .before .before in
+    omega (arith, lower-few (s .args .string .now) (c .before .before .loop .ground + 1) (more c))
 
 loop-again : tie.Need-loop-again Inv-loop μ-loop
-loop-again c = omega arith
+loop-again c = more c
 
-returns-2 : tie.Need-returns-2 Inv-loop μ-loop
-returns-2 c = (λ b. absurd (omega (arith, c .loop-test .left)), c .before .loop .inv)
+returns : tie.Need-returns Inv-loop μ-loop
+returns c =
+    record { absent = c .before .has-char .ensures .fails (c .if1 .left); lower = c .before .before .loop .inv }
 
 pub ground-of-spec : {M : Type 1} → statement M
 ground-of-spec =
@@ -43,10 +51,8 @@ ground-of-spec =
     Inv-loop
     μ-loop
     loop-holds
-    cast-has-char
     has-char-requires
-    returns
     add-ground
     loop-less
     loop-again
-    returns-2)
+    returns)

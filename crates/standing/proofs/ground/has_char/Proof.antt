@@ -1,12 +1,13 @@
 -- `has_char` meets its contract. The invariant: the character is none of the first i. The measure is how many are left. Assumes
 -- nothing.
-use mathlib.Core.Path.{_≡_, refl}
+use mathlib.Core.Path.{_≡_, subst}
 use Prim.Native.Nat.{ℕ, _-_, _≤_, _<_}
 use native.Mathlib.Omega.{arith}
 use borrow.Author.Count.{below-more}
 use borrow.Author.Needs.{needs}
 use lib.ListN.{length, getD}
-use Rattle.basics.specs.Bools.{clash}
+use Rattle.basics.specs.Bools.{reflects-yes, reflects-no}
+use Rattle.basics.specs.Member.{In, in-getD, in-place}
 use Rattle.standing.proofs.ground.has_char.Statement.{statement}
 use Rattle.standing.proofs.ground.has_char.Tie as tie
 
@@ -27,7 +28,12 @@ shared-slice-read-if1 : tie.Need-shared-slice-read-if1 Inv-loop μ-loop
 shared-slice-read-if1 c = search needs
 
 returns : tie.Need-returns Inv-loop μ-loop
-returns c = λ wrong. clash refl wrong
+returns c =
+    let s = c .before .before .before .before in
+    let l = c .before .before .before .loop in
+    reflects-yes
+    (subst (λ (x : ℕ). In x (s .args .string .now)) (c .if1 .taken)
+    (in-getD (s .args .string .now) (l .i) 0 (c .before .before .loop-test .taken)))
 
 add-i : tie.Need-add-i Inv-loop μ-loop
 add-i c = search needs
@@ -39,7 +45,12 @@ loop-again : tie.Need-loop-again Inv-loop μ-loop
 loop-again c = (omega arith, below-more _ _ (c .before .before .before .loop .inv .1) (c .if1 .left))
 
 returns-2 : tie.Need-returns-2 Inv-loop μ-loop
-returns-2 c = λ none k h. c .before .loop .inv .1 k (omega (arith, c .loop-test .left))
+returns-2 c =
+    let a = c .before .before .args in
+    reflects-no
+    (λ m.
+    let place = in-place (a .character) (a .string .now) 0 m in
+    c .before .loop .inv .1 (place .0) (omega (arith, place .1, c .loop-test .left)) (place .2))
 
 pub has-char-spec : {M : Type 1} → statement M
 has-char-spec =

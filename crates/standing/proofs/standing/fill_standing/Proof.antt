@@ -1,15 +1,15 @@
--- `fill_standing` meets its contract. The invariant: each start before `at` tells whether the string stands there, and the text from `left`
+-- `fill_standing` meets its contract. The invariant: each start before `at` says how long a front lies there, and the text from `left`
 -- to `right` is a front of the string. The measure is how many starts are left. Assumes nothing.
 use Prim.Native.Nat.{_+_, _-_, _≤_}
 use native.Mathlib.Omega.{arith}
 use borrow.Author.Needs.{needs}
 use lib.ListN.{length}
-use Rattle.laws.specs.StandingWalk.{Front-at, Tells, Filling, filling-start, filling-on, filling-new, stretch-short, known-lies, ends-stands}
+use Rattle.laws.specs.StandingWalk.{Front-at, Longest, Filling, filling-start, filling-on, filling-new, stretch-short, known-lies}
 use Rattle.standing.proofs.standing.fill_standing.Statement.{statement}
 use Rattle.standing.proofs.standing.fill_standing.Tie as tie
 
 abbrev Inv-loop : tie.InvT-loop
-Inv-loop text string repeats reach₀ left₀ right₀ at₀ reach left right at = Filling 0 string text (Tells string text) reach₀ reach at left right
+Inv-loop text string repeats reach₀ left₀ right₀ at₀ reach left right at = Filling 0 string text (Longest string text) reach₀ reach at left right
 
 abbrev μ-loop : tie.MeasureT-loop
 μ-loop text string repeats reach₀ left₀ right₀ at₀ reach left right at = length reach₀ - at
@@ -17,7 +17,7 @@ abbrev μ-loop : tie.MeasureT-loop
 loop-holds : tie.Need-loop-holds Inv-loop μ-loop
 loop-holds c =
     let a = c .before .before .before .before .args in
-    filling-start 0 (a .string .now) (a .text .now) (Tells (a .string .now) (a .text .now)) (a .reach .now) (λ j b. absurd (omega arith))
+    filling-start 0 (a .string .now) (a .text .now) (Longest (a .string .now) (a .text .now)) (a .reach .now) (λ j b. absurd (omega arith))
 
 known-from-requires : tie.Need-known-from-requires Inv-loop μ-loop
 known-from-requires c κs =
@@ -68,9 +68,9 @@ loop-again c =
     let long = c .before .extend .result in
     let end = c .before .extend .ensures in
     let below = c .before .before .before .loop-test .taken in
-    filling-new 0 (s .args .string .now) (s .args .text .now) (Tells (s .args .string .now) (s .args .text .now)) (s .args .reach .now) (l .reach)
+    filling-new 0 (s .args .string .now) (s .args .text .now) (Longest (s .args .string .now) (s .args .text .now)) (s .args .reach .now) (l .reach)
     (l .at) (l .left) (l .right) long (l .inv) (omega (arith, below, l .inv .long))
-    (ends-stands (s .args .string .now) (s .args .text .now) (l .at) long end (omega (arith, below, l .inv .long, s .pre .3))) (end .lies)
+    end (end .lies)
 
 loop-less-2 : tie.Need-loop-less-2 Inv-loop μ-loop
 loop-less-2 c = search needs
@@ -82,9 +82,9 @@ loop-again-2 c =
     let long = c .before .extend .result in
     let end = c .before .extend .ensures in
     let below = c .before .before .before .loop-test .taken in
-    filling-on 0 (s .args .string .now) (s .args .text .now) (Tells (s .args .string .now) (s .args .text .now)) (s .args .reach .now) (l .reach)
+    filling-on 0 (s .args .string .now) (s .args .text .now) (Longest (s .args .string .now) (s .args .text .now)) (s .args .reach .now) (l .reach)
     (l .at) (l .left) (l .right) long (l .inv) (omega (arith, below, l .inv .long))
-    (ends-stands (s .args .string .now) (s .args .text .now) (l .at) long end (omega (arith, below, l .inv .long, s .pre .3)))
+    end
 
 same-length : tie.Need-same-length Inv-loop μ-loop
 same-length c = c .before .loop .inv .long
