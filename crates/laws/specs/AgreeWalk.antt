@@ -74,7 +74,7 @@ module _ (s e : List ℕ) (at : ℕ) where
 -- THE OFFSET
 
 module _ (k s : List ℕ) (o : ℤ) where
-  pub agrees-at-starts : agrees s (string-start o) k (key-start o) ≡ agrees-at k s o
+  agrees-at-starts : agrees s (string-start o) k (key-start o) ≡ agrees-at k s o
   unfolding agrees-at
   agrees-at-starts = refl
 

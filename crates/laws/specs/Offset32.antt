@@ -1,10 +1,10 @@
 -- An offset held in 32 bits, and the two natural starts that it is turned into: the string's is one more than the negated successor
--- of an offset below zero, the key's is an offset above zero itself. Back from a start to its offset. Assumes nothing.
+-- of an offset below zero, the key's is an offset above zero itself. Back from two starts to their offset. Assumes nothing.
 use mathlib.Core.Path.{_≡_, refl, sym, ap, subst, _∙_}
-use mathlib.Core.Bool.{true, false}
+use mathlib.Core.Bool.{Bool, true, false, cond}
 use Prim.Native.Nat.{ℕ, zero, suc, _+_, _-_, _≤_, _<_, _^_}
 use native.Mathlib.Omega.{arith}
-use lib.Dec.{T}
+use lib.Dec.{T, ltb}
 use lib.IntN.{ℤ, pos, negsuc, negℤ, natAbs, _+ℤ_, _-ℤ_}
 use lib.Signed.{ltZ, nonNeg}
 use mir.Syntax.{w32, w64}
@@ -12,7 +12,7 @@ use mir.Val.{Fits, SFits, toZ, ofZ}
 use mir.ValLaws.{toZ-ofZ}
 use borrow.Author.Tests.{lt-ltb, ltb-true, ltb-false}
 use Rattle.basics.specs.Bools.{clash}
-use Rattle.spec.specs.Search.{string-start, key-start}
+use Rattle.spec.specs.Search.{offset, string-start, key-start}
 
 -- what the bits of z read as
 abbrev pub held : ℤ → ℤ
@@ -121,42 +121,29 @@ not-above (pos o) f t =
     omega arith
 not-above (negsuc n) f t = refl
 
--- FROM A START TO ITS OFFSET
+-- FROM TWO STARTS TO THEIR OFFSET
 
-from-zero : (o : ℕ) → pos 0 -ℤ pos o ≡ negℤ (pos o)
-from-zero zero = refl
-from-zero (suc m) =
-    let less : suc m - suc 0 ≡ m = omega arith in
-    rw (lt-ltb 0 (suc m) (omega arith), less)
+pub start-fits : (o : ℕ) → o < 2 ^ 31 → SFits w32 (pos o)
+start-fits o small = record { sfits = small }
 
-negated-starts : (o : ℕ) → (string-start (negℤ (pos o)) ≡ o) × (key-start (negℤ (pos o)) ≡ 0)
-unfolding string-start key-start
-negated-starts zero = (refl, refl)
-negated-starts (suc m) = (refl, refl)
+difference-fits : (b a : ℕ) → b < 2 ^ 31 → a < 2 ^ 31 → SFits w32 (pos b -ℤ pos a)
+difference-fits b zero small-b small-a = record { sfits = omega arith }
+difference-fits b (suc a) small-b small-a = by-test (ltb b (suc a))
+  where
+    by-test : (t : Bool) → SFits w32 (cond t (negsuc (suc a - suc b)) (pos (b - suc a)))
+    by-test true = record { sfits = omega arith }
+    by-test false = record { sfits = omega arith }
 
--- a start of the key is its own offset, one of the string is negated
-module _ (start : ℕ) (small : start < 2 ^ 31) where
-  pub start-fits : SFits w32 (pos start)
-  start-fits = record { sfits = small }
+-- the difference of two starts, each held in 32 bits, is the offset
+module _ (b a : ℕ) (small-b : b < 2 ^ 31) (small-a : a < 2 ^ 31) where
+  difference : toZ w32 b -ℤ toZ w32 a ≡ pos b -ℤ pos a
+  difference =
+      ap (λ (z : ℤ). z -ℤ toZ w32 a) (toZ-ofZ w32 (pos b) (start-fits b small-b))
+      ∙ ap (λ (z : ℤ). pos b -ℤ z) (toZ-ofZ w32 (pos a) (start-fits a small-a))
 
-  read : toZ w32 start ≡ pos start
-  read = toZ-ofZ w32 (pos start) start-fits
+  pub offset-fits32 : SFits w32 (toZ w32 b -ℤ toZ w32 a)
+  offset-fits32 = subst (SFits w32) (sym difference) (difference-fits b a small-b small-a)
 
-  minus : pos 0 -ℤ toZ w32 start ≡ negℤ (pos start)
-  minus = ap (λ (z : ℤ). pos 0 -ℤ z) read ∙ from-zero start
-
-  pub minus-fits : SFits w32 (pos 0 -ℤ toZ w32 start)
-  minus-fits = subst (SFits w32) (sym minus) (negated-fits start small)
-
-  held-minus : held (pos 0 -ℤ toZ w32 start) ≡ negℤ (pos start)
-  held-minus = toZ-ofZ w32 (pos 0 -ℤ toZ w32 start) minus-fits ∙ minus
-
-  pub key-starts-at : (string-start (toZ w32 start) ≡ 0) × (key-start (toZ w32 start) ≡ start)
-  unfolding string-start key-start
-  key-starts-at = (ap string-start read, ap key-start read)
-
-  pub string-starts-at :
-      (string-start (held (pos 0 -ℤ toZ w32 start)) ≡ start) × (key-start (held (pos 0 -ℤ toZ w32 start)) ≡ 0)
-  string-starts-at =
-      let h = negated-starts start in
-      (ap string-start held-minus ∙ h .0, ap key-start held-minus ∙ h .1)
+  pub offset-held : offset b a ≡ held (toZ w32 b -ℤ toZ w32 a)
+  unfolding offset
+  offset-held = sym (toZ-ofZ w32 (toZ w32 b -ℤ toZ w32 a) offset-fits32 ∙ difference)

@@ -27,7 +27,7 @@ fn agrees_after(first: &[u16], second: &[u16], at: usize) -> bool
 }
 
 // Where the string starts at an offset, the first of the two at 0.
-pub fn string_start(offset: i32) -> usize
+fn string_start(offset: i32) -> usize
     ensures { λ r. ⌜ r ≡ string-start offset ⌝ }
 {
     if offset < 0 {
@@ -39,7 +39,7 @@ pub fn string_start(offset: i32) -> usize
 }
 
 // Where the key starts there.
-pub fn key_start(offset: i32) -> usize
+fn key_start(offset: i32) -> usize
     ensures { λ r. ⌜ r ≡ key-start offset ⌝ }
 {
     if 0 < offset { offset as usize } else { 0 }

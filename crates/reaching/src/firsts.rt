@@ -31,7 +31,7 @@ fn raise_back(
         let at = i;
         i += 1;
         if key[at] == string[0] {
-            top = raise_key(key, string, places, -(at as i32), first, reach, top);
+            top = raise_key(key, string, places, at, 0, first, reach, top);
         }
     }
     top

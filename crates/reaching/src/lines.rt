@@ -40,7 +40,7 @@ fn raise_line<'a>(
 {
     let key = key_of(chars, lengths, index, words, line);
     let places = places_of(index, lists, line);
-    raise_key(key, string, places, key_start as i32, first, reach, most)
+    raise_key(key, string, places, 0, key_start, first, reach, most)
 }
 
 // The same by the lines `from` to `to` - 1.

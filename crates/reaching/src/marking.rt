@@ -1,17 +1,14 @@
 // One key at one offset against the string: each start of a window at which an entry of the key then lies is raised.
 //
-// An offset is two natural starts, one of them 0. An entry that starts within what is reached raises the reach to its end. Differences
+// The offset is two natural starts, one of them 0. An entry that starts within what is reached raises the reach to its end. Differences
 // wrap, so that one test tells whether a number lies in a range: below its start the difference is very large.
 ghost use mathlib.Core.Path.{_≡_};
 ghost use Prim.Native.Nat.{max};
 ghost use lib.ListN.{length};
-ghost use Rattle.spec.specs.Search.{string-start, key-start};
 ghost use Rattle.laws.specs.Window.{Within, Reaches};
 ghost use Rattle.laws.specs.WindowSearch.{places-all, key-all};
 ghost use Rattle.laws.specs.Marking.{Offset-fits};
 use postings::agreement::agrees_at;
-use postings::agreement::key_start;
-use postings::agreement::string_start;
 use std::num::wrapping_sub_usize;
 
 // The greater of two numbers.
@@ -61,20 +58,21 @@ pub(crate) fn raise_key(
     key: &[u16],
     string: &[u16],
     places: &[u16],
-    offset: i32,
+    string_start: usize,
+    key_start: usize,
     first: usize,
     reach: &mut [u16],
     most: usize,
 ) -> usize
-    requires { ⌜ Offset-fits (length (now key)) (string-start offset) (key-start offset) first × Within most (now reach) ⌝ }
-    ensures { λ r. ⌜ Reaches (key-all (string-start offset) (key-start offset) (now (string .entry)) (now (key .entry)) first (now (places .entry)) (now (reach .entry))) (now (reach .exit)) r ⌝ }
+    requires { ⌜ Offset-fits (length (now key)) «string_start» «key_start» first × Within most (now reach) ⌝ }
+    ensures { λ r. ⌜ Reaches (key-all «string_start» «key_start» (now (string .entry)) (now (key .entry)) first (now (places .entry)) (now (reach .entry))) (now (reach .exit)) r ⌝ }
 {
-    if agrees_at(key, string, offset) {
+    if agrees_at(key, string, key_start as i32 - string_start as i32) {
         mark(
             places,
             key.len(),
-            string_start(offset),
-            key_start(offset),
+            string_start,
+            key_start,
             first,
             reach,
             most,

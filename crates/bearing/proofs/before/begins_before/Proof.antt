@@ -1,18 +1,16 @@
 -- `begins_before` meets its contract. The invariant: the key does not agree where the string starts at one of its places before i.
 -- The measure is how many are left. Assumes nothing.
-use mathlib.Core.Path.{_≡_, refl, sym, _∙_}
+use mathlib.Core.Path.{_≡_, refl, sym, ap, _∙_}
 use Prim.Native.Nat.{_-_, _<_, _^_}
 use native.Mathlib.Omega.{arith}
-use mir.Syntax.{w32}
-use mir.Val.{toZ}
-use lib.IntN.{pos, _-ℤ_}
 use borrow.Author.Needs.{needs}
 use lib.ListN.{length}
 use Rattle.basics.specs.Bools.{clash}
-use Rattle.spec.specs.Search.{agrees}
+use Rattle.spec.specs.Search.{agrees, agrees-at}
+use Rattle.laws.specs.Offset.{agrees-offset}
+use Rattle.laws.specs.Offset32.{start-fits, offset-fits32, offset-held}
 use Rattle.laws.specs.Agree.{agrees-get}
-use Rattle.laws.specs.AgreeWalk.{key-starts-apart, agrees-at-starts}
-use Rattle.laws.specs.Offset32.{held, start-fits, minus-fits, string-starts-at}
+use Rattle.laws.specs.AgreeWalk.{key-starts-apart}
 use Rattle.laws.specs.Bears.{bears-put}
 use Rattle.laws.specs.FlagWalks.{Apart-before, before-start, before-next, before-end}
 use Rattle.bearing.proofs.before.begins_before.Statement.{statement}
@@ -35,8 +33,9 @@ agreed :
 agreed c =
     let a = c .before .before .before .before .before .before .before .before .args in
     let i = c .before .before .before .before .loop .i in
-    let h = string-starts-at i (small (c .before .before .before)) in
-    rw (h .0, h .1) at (agrees-at-starts (a .key .now) (a .string .now) (held (pos 0 -ℤ toZ w32 i)) ∙ sym (c .agrees-at .ensures))
+    agrees-offset (a .string .now) i (a .key .now) 0
+    ∙ ap (agrees-at (a .key .now) (a .string .now)) (offset-held 0 i (omega arith) (small (c .before .before .before)))
+    ∙ sym (c .agrees-at .ensures)
 
 shared-slice-read-front : tie.Need-shared-slice-read-front Inv-loop μ-loop
 shared-slice-read-front c = search needs
@@ -57,7 +56,7 @@ cast-agrees-at : tie.Need-cast-agrees-at Inv-loop μ-loop
 cast-agrees-at c = start-fits (c .before .before .before .loop .i) (small (c .before .before))
 
 sub-agrees-at : tie.Need-sub-agrees-at Inv-loop μ-loop
-sub-agrees-at c = minus-fits (c .before .before .before .loop .i) (small (c .before .before))
+sub-agrees-at c = offset-fits32 0 (c .before .before .before .loop .i) (omega arith) (small (c .before .before))
 
 agrees-at-requires : tie.Need-agrees-at-requires Inv-loop μ-loop
 agrees-at-requires c κs = tt

@@ -1,9 +1,8 @@
 -- `raise_back` meets its contract. The invariant: i offsets are done. The measure is how many are left. Assumes nothing.
-use Prim.Native.Nat.{_-_, _<_, _^_}
+use Prim.Native.Nat.{_-_}
 use native.Mathlib.Omega.{arith}
 use borrow.Author.Needs.{needs}
 use lib.ListN.{length}
-use Rattle.laws.specs.Offset32.{start-fits, minus-fits, string-starts-at}
 use Rattle.laws.specs.Raising.{Backing, backing-start, backing-step, backing-pass, backing-end}
 use Rattle.reaching.proofs.firsts.raise_back.Statement.{statement}
 use Rattle.reaching.proofs.firsts.raise_back.Tie as tie
@@ -14,9 +13,6 @@ Inv-loop key string places first reach₀ most top₀ i₀ reach top i =
 
 abbrev μ-loop : tie.MeasureT-loop
 μ-loop key string places first reach₀ most top₀ i₀ reach top i = length key - i
-
-small : (c : tie.In-loop Inv-loop μ-loop) → c .before .loop .i < 2 ^ 31
-small c = omega (arith, c .loop-test .taken, c .before .before .before .before .before .before .pre .0)
 
 loop-holds : tie.Need-loop-holds Inv-loop μ-loop
 loop-holds c =
@@ -36,17 +32,10 @@ shared-slice-read-if1 c = c .before .loop-test .taken
 shared-slice-read-if1-2 : tie.Need-shared-slice-read-if1-2 Inv-loop μ-loop
 shared-slice-read-if1-2 c = c .before .before .before .before .before .before .before .before .pre .1
 
-cast-raise-key : tie.Need-cast-raise-key Inv-loop μ-loop
-cast-raise-key c = start-fits (c .before .before .before .before .loop .i) (small (c .before .before .before))
-
-sub-raise-key : tie.Need-sub-raise-key Inv-loop μ-loop
-sub-raise-key c = minus-fits (c .before .before .before .before .loop .i) (small (c .before .before .before))
-
 raise-key-requires : tie.Need-raise-key-requires Inv-loop μ-loop
 raise-key-requires c κs =
     let s = c .before .before .before .before .before .before .before .before .before .before in
-    let h = string-starts-at (c .before .before .before .before .before .loop .i) (small (c .before .before .before .before)) in
-    (record { shared = omega (arith, h, c .before .before .before .before .loop-test .taken); end-small = omega (arith, h, s .pre .0); first-small = s .pre .2 }, c .before .before .before .before .before .loop .inv .way .bounded)
+    (record { shared = omega (arith, c .before .before .before .before .loop-test .taken); end-small = omega (arith, s .pre .0); first-small = s .pre .2 }, c .before .before .before .before .before .loop .inv .way .bounded)
 
 loop-less : tie.Need-loop-less Inv-loop μ-loop
 loop-less c = omega (arith, c .before .before .before .before .before .before .before .loop-test .taken)
@@ -55,10 +44,9 @@ loop-again : tie.Need-loop-again Inv-loop μ-loop
 loop-again c =
     let a = c .before .before .before .before .before .before .before .before .before .before .before .before .before .args in
     let l = c .before .before .before .before .before .before .before .before .loop in
-    let h = string-starts-at (l .i) (small (c .before .before .before .before .before .before .before)) in
     backing-step (a .string .now) (a .key .now) (a .first) (a .places .now) (a .reach .now) (l .reach) (l .top) (l .i) (l .inv)
-    (c .before .before .before .before .before .before .before .loop-test .taken) (c .before .before .raise-key .last .1 .1 .1 .1 .1 .0) (c .before .before .raise-key .result)
-    (c .before .before .raise-key .kept .1 .1 .1 .1 .1 .0) (rw (h .0, h .1) at (c .before .before .raise-key .ensures))
+    (c .before .before .before .before .before .before .before .loop-test .taken) (c .before .before .raise-key .last .1 .1 .1 .1 .1 .1 .0) (c .before .before .raise-key .result)
+    (c .before .before .raise-key .kept .1 .1 .1 .1 .1 .1 .0) (c .before .before .raise-key .ensures)
 
 loop-less-2 : tie.Need-loop-less-2 Inv-loop μ-loop
 loop-less-2 c = omega (arith, c .before .before .before .loop-test .taken)
@@ -91,8 +79,6 @@ raise-back-spec =
     mul-if1
     shared-slice-read-if1
     shared-slice-read-if1-2
-    cast-raise-key
-    sub-raise-key
     raise-key-requires
     loop-less
     loop-again
