@@ -1,10 +1,10 @@
 // The positions found: the starts of a window whose reach passes the string, counted and written.
 ghost use mathlib.Core.Path.{_≡_};
 ghost use Prim.Native.Nat.{_+_, _≤_};
-ghost use lib.ListN.{length};
+ghost use lib.ListN.{length, drop};
 ghost use Rattle.spec.specs.Calls.{in-front};
 ghost use Rattle.laws.specs.Window.{found-in};
-ghost use Rattle.laws.specs.Finding.{count-in};
+ghost use Rattle.laws.specs.Finding.{count-in, Next-found};
 
 // How many starts reach `long` and more.
 pub(crate) fn count_found(reach: &[u16], long: usize) -> usize
@@ -17,6 +17,18 @@ pub(crate) fn count_found(reach: &[u16], long: usize) -> usize
         i += 1;
     }
     count
+}
+
+// The first start from `from` on that reaches `long` and more, where there is one.
+fn next_found(reach: &[u16], long: usize, from: usize) -> usize
+    requires { ⌜ 1 ≤ count-in long (drop from (now reach)) ⌝ }
+    ensures { λ r. ⌜ Next-found long (now (reach .entry)) from r ⌝ }
+{
+    let mut i = from;
+    while (reach[i] as usize) < long {
+        i += 1;
+    }
+    i
 }
 
 // Writes the starts that reach `long` and more, of which there are `count`, to the front of the output.
@@ -33,12 +45,9 @@ pub(crate) fn write_found(
     let mut written = 0;
     let mut i = 0;
     while written < count {
-        let reached = reach[i] as usize;
-        let start = first + i;
-        i += 1;
-        if long <= reached {
-            output[written] = start as u16;
-            written += 1;
-        }
+        let here = next_found(reach, long, i);
+        output[written] = (first + here) as u16;
+        written += 1;
+        i = here + 1;
     }
 }

@@ -72,6 +72,67 @@ none-found m most q [] w h = refl
 none-found m most q (r ∷ rs) w h =
     rw (lt-leb m r (omega (arith, w 0 (omega arith)))) (none-found m most (suc q) rs (λ j b. w (suc j) (omega arith)) h)
 
+-- THE NEXT START
+
+-- the start at i is found or not, before those after it
+cut :
+    (m q : ℕ) (rs : List ℕ) (i : ℕ) → i < length rs →
+    found-in m (q + i) (drop i rs)
+    ≡ cond (leb m (getD rs i 0)) ((q + i) ∷ found-in m (q + (i + 1)) (drop (i + 1) rs))
+    (found-in m (q + (i + 1)) (drop (i + 1) rs))
+unfolding found-in
+cut m q rs i below =
+    let z : q + suc i ≡ suc (q + i) = omega arith in
+    rw (add-one i, z, drop-cons rs i 0)
+
+-- r is the first start from `from` on whose reach is at least m
+pub record Next-found (m : ℕ) (rs : List ℕ) (from r : ℕ) : Type 0 where
+  pub onward : from ≤ r
+  pub within : r < length rs
+  pub near : m ≤ getD rs r 0
+  pub passed : (q : ℕ) → found-in m (q + from) (drop from rs) ≡ found-in m (q + r) (drop r rs)
+
+-- from `from` up to i none is found, and one is still to come
+pub record Passing (m : ℕ) (rs : List ℕ) (from i : ℕ) : Type 0 where
+  pub onward : from ≤ i
+  pub some : 1 ≤ count-in m (drop i rs)
+  pub passed : (q : ℕ) → found-in m (q + from) (drop from rs) ≡ found-in m (q + i) (drop i rs)
+
+module _ (m : ℕ) (rs : List ℕ) (from : ℕ) where
+  pub passing-start : 1 ≤ count-in m (drop from rs) → Passing m rs from from
+  passing-start some = record { onward = omega arith; some = some; passed = λ q. refl }
+
+  module _ (i : ℕ) (h : Passing m rs from i) where
+    pub passing-below : i < length rs
+    unfolding count-in
+    passing-below = ⊎-elim (λ (past : length rs ≤ i). absurd (none past)) (λ (b : i < length rs). b) (le-or-lt (length rs) i)
+      where
+        none : length rs ≤ i → ⊥
+        none past =
+            let z : count-in m (drop i rs) ≡ 0 = rw (drop-of-length-le rs past) in
+            omega (arith, h .some)
+
+    pub passing-step : getD rs i 0 < m → Passing m rs from (i + 1)
+    passing-step far =
+        record {
+          onward = omega (arith, h .onward);
+          some =
+              omega (
+                arith,
+                h .some,
+                count-found m (0 + i) (drop i rs),
+                count-found m (0 + (i + 1)) (drop (i + 1) rs),
+                ap length (same 0),
+              );
+          passed = λ q. h .passed q ∙ same q;
+        }
+      where
+        same : (q : ℕ) → found-in m (q + i) (drop i rs) ≡ found-in m (q + (i + 1)) (drop (i + 1) rs)
+        same q = rw (lt-leb m (getD rs i 0) far) at (cut m q rs i passing-below)
+
+    pub passing-end : m ≤ getD rs i 0 → Next-found m rs from i
+    passing-end near = record { onward = h .onward; within = passing-below; near = near; passed = h .passed }
+
 -- WRITING
 
 empty-of : (l : List ℕ) → length l ≡ 0 → l ≡ []
@@ -98,15 +159,19 @@ module _ (m q : ℕ) (rs old : List ℕ) where
       }
 
   module _ (out : List ℕ) (written i : ℕ) (h : Finding m q rs old out written i) where
-    -- what is still to be written is at a start still to be passed
-    pub finding-more : written < length (found-in m q rs) → i < length rs
-    unfolding found-in
-    finding-more some = ⊎-elim (λ (past : length rs ≤ i). absurd (none past)) (λ (b : i < length rs). b) (le-or-lt (length rs) i)
-      where
-        none : length rs ≤ i → ⊥
-        none past =
-            let z : length (found-in m (q + i) (drop i rs)) ≡ 0 = rw (drop-of-length-le rs past) in
-            omega (arith, h .left)
+    -- what is still to be written is at a start still to come
+    pub finding-more : written < length (found-in m q rs) → 1 ≤ count-in m (drop i rs)
+    finding-more some = omega (arith, h .left, count-found m (q + i) (drop i rs))
+
+    pub finding-next : (r : ℕ) → Next-found m rs i r → Finding m q rs old out written r
+    finding-next r n =
+        record {
+          within = omega (arith, n .within);
+          ahead = ap (λ (l : List ℕ). take written out ++ l) (sym (n .passed q)) ∙ h .ahead;
+          rest = h .rest;
+          long = h .long;
+          left = omega (arith, h .left, ap length (n .passed q));
+        }
 
     pub finding-end : length (found-in m q rs) ≤ written → out ≡ in-front (found-in m q rs) old
     unfolding in-front
@@ -122,52 +187,30 @@ module _ (m q : ℕ) (rs old : List ℕ) where
         ∙ ap (λ (l : List ℕ). found-in m q rs ++ l) (h .rest)
         ∙ ap (λ (n : ℕ). found-in m q rs ++ drop n old) count
 
-    module _ (below : i < length rs) where
-      cut :
-          found-in m (q + i) (drop i rs)
-          ≡ cond (leb m (getD rs i 0)) ((q + i) ∷ found-in m (q + (i + 1)) (drop (i + 1) rs))
-          (found-in m (q + (i + 1)) (drop (i + 1) rs))
-      unfolding found-in
-      cut =
-          let z : q + suc i ≡ suc (q + i) = omega arith in
-          rw (add-one i, z, drop-cons rs i 0)
+    module _ (below : i < length rs) (near : m ≤ getD rs i 0) where
+      here : found-in m (q + i) (drop i rs) ≡ (q + i) ∷ found-in m (q + (i + 1)) (drop (i + 1) rs)
+      here = rw (le-leb m (getD rs i 0) near) at (cut m q rs i below)
 
-      pub finding-skip : getD rs i 0 < m → Finding m q rs old out written (i + 1)
-      finding-skip far =
-          let same : found-in m (q + i) (drop i rs) ≡ found-in m (q + (i + 1)) (drop (i + 1) rs) =
-          rw (lt-leb m (getD rs i 0) far) at cut in
+      finding-room : length (found-in m q rs) ≤ length old → written < length out
+      finding-room room = omega (arith, h .left, h .long, ap length here)
+
+      pub finding-write :
+          length (found-in m q rs) ≤ length old → Finding m q rs old (set out written (q + i)) (written + 1) (i + 1)
+      finding-write room =
           record {
             within = omega arith;
-            ahead = ap (λ (l : List ℕ). take written out ++ l) (sym same) ∙ h .ahead;
-            rest = h .rest;
-            long = h .long;
-            left = omega (arith, h .left, ap length same);
+            ahead =
+                rw (
+                  add-one written,
+                  take-suc-set out written (q + i) (finding-room room),
+                  append-assoc (take written out) ((q + i) ∷ []) (found-in m (q + (i + 1)) (drop (i + 1) rs)),
+                )
+                (ap (λ (l : List ℕ). take written out ++ l) (sym here) ∙ h .ahead);
+            rest =
+                drop-set-lt (written + 1) out written (q + i) (omega arith)
+                ∙ sym (drop-drop 1 written out)
+                ∙ ap (λ (l : List ℕ). drop 1 l) (h .rest)
+                ∙ drop-drop 1 written old;
+            long = length-set out written (q + i) ∙ h .long;
+            left = omega (arith, h .left, ap length here);
           }
-
-      module _ (near : m ≤ getD rs i 0) where
-        here : found-in m (q + i) (drop i rs) ≡ (q + i) ∷ found-in m (q + (i + 1)) (drop (i + 1) rs)
-        here = rw (le-leb m (getD rs i 0) near) at cut
-
-        pub finding-room : length (found-in m q rs) ≤ length old → written < length out
-        finding-room room = omega (arith, h .left, h .long, ap length here)
-
-        pub finding-write :
-            length (found-in m q rs) ≤ length old → Finding m q rs old (set out written (q + i)) (written + 1) (i + 1)
-        finding-write room =
-            record {
-              within = omega arith;
-              ahead =
-                  rw (
-                    add-one written,
-                    take-suc-set out written (q + i) (finding-room room),
-                    append-assoc (take written out) ((q + i) ∷ []) (found-in m (q + (i + 1)) (drop (i + 1) rs)),
-                  )
-                  (ap (λ (l : List ℕ). take written out ++ l) (sym here) ∙ h .ahead);
-              rest =
-                  drop-set-lt (written + 1) out written (q + i) (omega arith)
-                  ∙ sym (drop-drop 1 written out)
-                  ∙ ap (λ (l : List ℕ). drop 1 l) (h .rest)
-                  ∙ drop-drop 1 written old;
-              long = length-set out written (q + i) ∙ h .long;
-              left = omega (arith, h .left, ap length here);
-            }

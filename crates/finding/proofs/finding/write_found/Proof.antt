@@ -1,10 +1,10 @@
--- `write_found` meets its contract. The invariant: the starts found before the ith are written. The measure is how many starts are
--- left. Assumes nothing.
+-- `write_found` meets its contract. The invariant: the starts found before the ith are written. The measure is how many are left to
+-- write. Assumes nothing.
 use Prim.Native.Nat.{_-_}
 use native.Mathlib.Omega.{arith}
 use borrow.Author.Needs.{needs}
 use lib.ListN.{length}
-use Rattle.laws.specs.Finding.{Finding, finding-start, finding-more, finding-end, finding-skip, finding-room, finding-write}
+use Rattle.laws.specs.Finding.{Finding, finding-start, finding-more, finding-next, finding-end, finding-write}
 use Rattle.finding.proofs.finding.write_found.Statement.{statement}
 use Rattle.finding.proofs.finding.write_found.Tie as tie
 
@@ -13,103 +13,67 @@ Inv-loop reach long first count output₀ written₀ i₀ output written i =
     Finding long first reach output₀ output written i
 
 abbrev μ-loop : tie.MeasureT-loop
-μ-loop reach long first count output₀ written₀ i₀ output written i = length reach - i
+μ-loop reach long first count output₀ written₀ i₀ output written i = count - written
 
 loop-holds : tie.Need-loop-holds Inv-loop μ-loop
-loop-holds c = finding-start (c .args .long) (c .args .first) (c .args .reach .now) (c .args .output .now)
+loop-holds c =
+    let a = c .before .before .args in
+    finding-start (a .long) (a .first) (a .reach .now) (a .output .now)
 
-mul-reached : tie.Need-mul-reached Inv-loop μ-loop
-mul-reached c =
-    let s = c .before .before in
+next-found-requires : tie.Need-next-found-requires Inv-loop μ-loop
+next-found-requires c κs =
+    let s = c .before .before .before .before in
     let a = s .args in
     let l = c .before .loop in
-    omega (arith, s .good, finding-more (a .long) (a .first) (a .reach .now) (a .output .now) (l .output) (l .written) (l .i) (l .inv) (omega (arith, s .pre .0)))
+    finding-more (a .long) (a .first) (a .reach .now) (a .output .now) (l .output) (l .written) (l .i) (l .inv) (omega (arith, s .pre .0, c .loop-test .taken))
 
-shared-slice-read-reached : tie.Need-shared-slice-read-reached Inv-loop μ-loop
-shared-slice-read-reached c =
-    let s = c .before .before .before in
-    let a = s .args in
-    let l = c .before .before .loop in
-    finding-more (a .long) (a .first) (a .reach .now) (a .output .now) (l .output) (l .written) (l .i) (l .inv) (omega (arith, s .pre .0))
-
-cast-reached : tie.Need-cast-reached Inv-loop μ-loop
-cast-reached c = omega (arith, c .shared-slice-known .given (c .before .before .loop .i))
-
-add-start : tie.Need-add-start Inv-loop μ-loop
-add-start c =
-    let s = c .before .before .before in
-    let a = s .args in
-    let l = c .before .before .loop in
-    omega (arith, s .pre .2, finding-more (a .long) (a .first) (a .reach .now) (a .output .now) (l .output) (l .written) (l .i) (l .inv) (omega (arith, s .pre .0)))
-
-add-i : tie.Need-add-i Inv-loop μ-loop
-add-i c =
-    let s = c .before .before .before in
-    let a = s .args in
-    let l = c .before .before .loop in
-    omega (arith, s .pre .2, finding-more (a .long) (a .first) (a .reach .now) (a .output .now) (l .output) (l .written) (l .i) (l .inv) (omega (arith, s .pre .0)))
+add-output : tie.Need-add-output Inv-loop μ-loop
+add-output c =
+    let s = c .before .before .before .before .before in
+    omega (arith, s .pre .2, c .next-found .ensures .within)
 
 cast-output : tie.Need-cast-output Inv-loop μ-loop
 cast-output c =
-    let s = c .before .before .before .before in
-    let a = s .args in
-    let l = c .before .before .before .loop in
-    omega (arith, s .pre .2, finding-more (a .long) (a .first) (a .reach .now) (a .output .now) (l .output) (l .written) (l .i) (l .inv) (omega (arith, s .pre .0)))
+    let s = c .before .before .before .before .before in
+    omega (arith, s .pre .2, c .next-found .ensures .within)
 
 mul-output : tie.Need-mul-output Inv-loop μ-loop
 mul-output c =
-    let s = c .before .before .before .before in
-    let a = s .args in
-    let l = c .before .before .before .loop in
-    omega (arith, s .pre .0, s .pre .1, s .good)
+    let s = c .before .before .before .before .before in
+    omega (arith, s .pre .1, s .good, c .before .loop-test .taken)
 
 slice-write-output : tie.Need-slice-write-output Inv-loop μ-loop
 slice-write-output c =
-    let s = c .before .before .before .before in
-    let a = s .args in
-    let l = c .before .before .before .loop in
-    finding-room (a .long) (a .first) (a .reach .now) (a .output .now) (l .output) (l .written) (l .i) (l .inv) (finding-more (a .long) (a .first) (a .reach .now) (a .output .now) (l .output) (l .written) (l .i) (l .inv) (omega (arith, s .pre .0))) (c .if1 .taken) (omega (arith, s .pre .0, s .pre .1))
+    let s = c .before .before .before .before .before in
+    omega (arith, s .pre .1, c .before .before .loop .inv .long, c .before .loop-test .taken)
 
 add-written : tie.Need-add-written Inv-loop μ-loop
 add-written c = search needs
 
+add-i : tie.Need-add-i Inv-loop μ-loop
+add-i c =
+    let s = c .before .before .before .before .before in
+    omega (arith, s .pre .2, c .next-found .ensures .within)
+
 loop-less : tie.Need-loop-less Inv-loop μ-loop
-loop-less c =
-    let s = c .before .before .before .before in
-    let a = s .args in
-    let l = c .before .before .before .loop in
-    omega (arith, finding-more (a .long) (a .first) (a .reach .now) (a .output .now) (l .output) (l .written) (l .i) (l .inv) (omega (arith, s .pre .0)))
+loop-less c = omega (arith, c .before .loop-test .taken)
 
 loop-again : tie.Need-loop-again Inv-loop μ-loop
 loop-again c =
-    let s = c .before .before .before .before in
+    let s = c .before .before .before .before .before in
     let a = s .args in
-    let l = c .before .before .before .loop in
-    finding-write (a .long) (a .first) (a .reach .now) (a .output .now) (l .output) (l .written) (l .i) (l .inv)
-    (finding-more (a .long) (a .first) (a .reach .now) (a .output .now) (l .output) (l .written) (l .i) (l .inv) (omega (arith, s .pre .0))) (c .if1 .taken)
+    let l = c .before .before .loop in
+    let n = c .next-found in
+    let next = finding-next (a .long) (a .first) (a .reach .now) (a .output .now) (l .output) (l .written) (l .i) (l .inv) (n .result) (n .ensures) in
+    finding-write (a .long) (a .first) (a .reach .now) (a .output .now) (l .output) (l .written) (n .result) next (n .ensures .within) (n .ensures .near)
     (omega (arith, s .pre .0, s .pre .1))
-
-loop-less-2 : tie.Need-loop-less-2 Inv-loop μ-loop
-loop-less-2 c =
-    let s = c .before .before .before .before in
-    let a = s .args in
-    let l = c .before .before .before .loop in
-    omega (arith, finding-more (a .long) (a .first) (a .reach .now) (a .output .now) (l .output) (l .written) (l .i) (l .inv) (omega (arith, s .pre .0)))
-
-loop-again-2 : tie.Need-loop-again-2 Inv-loop μ-loop
-loop-again-2 c =
-    let s = c .before .before .before .before in
-    let a = s .args in
-    let l = c .before .before .before .loop in
-    finding-skip (a .long) (a .first) (a .reach .now) (a .output .now) (l .output) (l .written) (l .i) (l .inv)
-    (finding-more (a .long) (a .first) (a .reach .now) (a .output .now) (l .output) (l .written) (l .i) (l .inv) (omega (arith, s .pre .0))) (c .if1 .left)
 
 same-length : tie.Need-same-length Inv-loop μ-loop
 same-length c = c .before .loop .inv .long
 
 returns : tie.Need-returns Inv-loop μ-loop
 returns c =
-    let s = c .before .before in
+    let s = c .before .before .before .before in
     let a = s .args in
     let l = c .before .loop in
     finding-end (a .long) (a .first) (a .reach .now) (a .output .now) (l .output) (l .written) (l .i) (l .inv) (omega (arith, s .pre .0, c .loop-test .left))
@@ -121,18 +85,14 @@ write-found-spec =
     Inv-loop
     μ-loop
     loop-holds
-    mul-reached
-    shared-slice-read-reached
-    cast-reached
-    add-start
-    add-i
+    next-found-requires
+    add-output
     cast-output
     mul-output
     slice-write-output
     add-written
+    add-i
     loop-less
     loop-again
-    loop-less-2
-    loop-again-2
     same-length
     returns)
