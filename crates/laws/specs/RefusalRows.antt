@@ -15,10 +15,10 @@ use Rattle.spec.specs.Dictionary.{longest-text, lexicon, all-chars, too-large, 
 use Rattle.spec.specs.Numbers.{index-of}
 use Rattle.spec.specs.Index.{n-of}
 use Rattle.spec.specs.Reception.{recovered, received}
-use Rattle.spec.specs.Calls.{text-too-long, unreadable, string-wrong, work-short, output-short, no-text, or-else, build-refusal, index-refusal, reception-refusal, recovery-refusal, find-refusal}
+use Rattle.spec.specs.Calls.{text-too-long, unreadable, string-wrong, work-short, output-short, no-text, or-else, build-refusal, index-refusal, reception-refusal, recovery-refusal, string-refusal, find-refusal}
 use Rattle.spec.specs.JobSheet.{run-together, lengths-of, some-string-wrong, contents-refusal}
 use Rattle.spec.specs.Beyond.{Demand-three}
-use Rattle.spec.specs.Demands.{Too-large, Lengths-wrong, Disordered, Text-too-long, Unreadable, String-wrong, Work-short, Output-short, Recovery-short, No-text, Has-text, Row, row, Meets, Accepts, Refuses, Decides, dictionary-rows, build-rows, index-rows, reception-rows, recovery-rows, find-rows, parts-rows}
+use Rattle.spec.specs.Demands.{Too-large, Lengths-wrong, Disordered, Text-too-long, Unreadable, String-wrong, Work-short, Output-short, Recovery-short, No-text, Has-text, Row, row, Meets, Accepts, Refuses, Decides, dictionary-rows, build-rows, index-rows, reception-rows, recovery-rows, string-rows, find-rows, parts-rows}
 use Rattle.laws.specs.IndexRefusal.{index-accepted}
 use Rattle.laws.specs.Promises.{demand-three}
 use Rattle.laws.specs.Reflects.{reflects-lt, reflects-and, reflects-too-large, reflects-lengths-wrong, reflects-disordered, reflects-text, reflects-unreadable, reflects-string, reflects-finds, reflects-work, reflects-output}
@@ -171,13 +171,19 @@ module _ (cs ls xs : List ℕ) where
   pub index-rising : Rising 1 (index-rows cs ls xs)
   index-rising = (omega arith, (omega arith, (omega arith, (omega arith, tt))))
 
+  pub string-first : (s : List ℕ) → First (string-rows cs ls xs s) (string-refusal cs ls xs s)
+  unfolding string-refusal
+  string-first s =
+      first-then 1 (index-rows cs ls xs) _ (omega arith) index-rising _ _ index-first
+      (λ a. first-cond 6 (String-wrong s) (string-wrong s) _ _ (reflects-string s) (λ f. first-none))
+
+  pub string-rising : (s : List ℕ) → Rising 1 (string-rows cs ls xs s)
+  string-rising s = (omega arith, (omega arith, (omega arith, (omega arith, (omega arith, tt)))))
+
   pub find-first : (s ys o : List ℕ) → First (find-rows cs ls xs s ys o) (find-refusal cs ls xs s (length ys) (length o))
   unfolding find-refusal
   find-first s ys o =
-      first-then 1 (index-rows cs ls xs) _ (omega arith) index-rising _ _ index-first
-      (λ a.
-      first-cond 6 (String-wrong s) (string-wrong s) _ _ (reflects-string s)
-      (λ f. output-first ys o))
+      first-then 1 (string-rows cs ls xs s) _ (omega arith) (string-rising s) _ _ (string-first s) (λ a. output-first ys o)
 
 module _ (ws fs : List (List ℕ)) where
   pub parts-first : First (parts-rows ws fs) (contents-refusal ws fs)

@@ -1,4 +1,4 @@
--- Results that are sized before they are written, and the refusals of search and the cut-down index. Assumes nothing.
+-- Results that are sized before they are written, and the refusals of the operations on an index and a string. Assumes nothing.
 use mathlib.Core.Path.{_≡_, refl, sym, _∙_}
 use mathlib.Core.Bool.{true, false, cond, _||_}
 use mathlib.Core.List.{List}
@@ -9,7 +9,7 @@ use lib.ListN.{length}
 use borrow.Author.Tests.{lt-ltb, le-ltb, eq-eqb, ne-eqb}
 use Rattle.basics.specs.Bools.{or-left, or-right, or-none}
 use Rattle.spec.specs.declared.Answer.{Answer}
-use Rattle.spec.specs.Calls.{string-wrong, output-short, or-else, index-refusal, find-refusal, in-front, Puts}
+use Rattle.spec.specs.Calls.{string-wrong, output-short, or-else, index-refusal, string-refusal, find-refusal, in-front, Puts}
 use Rattle.laws.specs.Answering.{accepted-yes, accepted-no, answers-accepted, answers-refused}
 
 -- a string that may be searched for
@@ -40,32 +40,54 @@ module _ (ys : List ℕ) (r : Answer) (o : List ℕ) where
       rw (le-ltb (length o) (length ys) enough)
       (answers-accepted 0 (length ys) r number refl count, is ∙ sym (accepted-yes 0 (in-front ys o) o refl))
 
--- SEARCH AND THE CUT-DOWN INDEX: 1, 2, 3, 5, then 6, then 8
+-- THE REFUSALS BEFORE A RESULT: 1, 2, 3, 5, then 6
+
+module _ (cs ls xs s : List ℕ) where
+  pub string-refused : (index-refusal cs ls xs ≡ 0 → ⊥) → string-refusal cs ls xs s ≡ index-refusal cs ls xs
+  unfolding string-refusal or-else
+  string-refused some = rw (ne-eqb (index-refusal cs ls xs) 0 some)
+
+  module _ (accepts : index-refusal cs ls xs ≡ 0) where
+    string-six : string-wrong s ≡ true → string-refusal cs ls xs s ≡ 6
+    unfolding string-refusal or-else
+    string-six t = rw (accepts, t)
+
+    pub string-empty : length s ≡ 0 → string-refusal cs ls xs s ≡ 6
+    unfolding string-wrong
+    string-empty e = string-six (or-left (ltb 256 (length s)) (eq-eqb (length s) 0 e))
+
+    pub string-long : 256 < length s → string-refusal cs ls xs s ≡ 6
+    unfolding string-wrong
+    string-long h = string-six (or-right (eqb (length s) 0) (lt-ltb 256 (length s) h))
+
+    pub string-accepted : Is-string s → string-refusal cs ls xs s ≡ 0
+    unfolding string-refusal or-else string-wrong
+    string-accepted is =
+        let good : (eqb (length s) 0 || ltb 256 (length s)) ≡ false =
+        or-none (ne-eqb (length s) 0 (λ (e : length s ≡ 0). omega (arith, is .some))) (le-ltb 256 (length s) (is .short)) in
+        rw (accepts, good)
+
+-- SEARCH AND THE CUT-DOWN INDEX: these, then 8
 
 module _ (cs ls xs s ys : List ℕ) (r : Answer) (o : List ℕ) where
+  finds-stopped :
+      (n : ℕ) → string-refusal cs ls xs s ≡ n → (n ≡ 0 → ⊥) → r .refusal ≡ n → r .count ≡ 0 →
+      Puts (find-refusal cs ls xs s (length ys) (length o)) ys r o o
+  unfolding find-refusal or-else
+  finds-stopped n is some number none = rw (is, ne-eqb n 0 some) (refused n ys r o some number none)
+
   pub finds-refused :
       (index-refusal cs ls xs ≡ 0 → ⊥) → r .refusal ≡ index-refusal cs ls xs → r .count ≡ 0 →
       Puts (find-refusal cs ls xs s (length ys) (length o)) ys r o o
-  unfolding find-refusal or-else
-  finds-refused some number none =
-      rw (ne-eqb (index-refusal cs ls xs) 0 some) (refused (index-refusal cs ls xs) ys r o some number none)
+  finds-refused some = finds-stopped (index-refusal cs ls xs) (string-refused cs ls xs s some) some
 
   module _ (accepts : index-refusal cs ls xs ≡ 0) where
-    wrong : string-wrong s ≡ true → r .refusal ≡ 6 → r .count ≡ 0 → Puts (find-refusal cs ls xs s (length ys) (length o)) ys r o o
-    unfolding find-refusal or-else
-    wrong t number none = rw (accepts, t) (refused 6 ys r o (λ (e : _≡_ {A = ℕ} 6 0). omega arith) number none)
-
     pub finds-empty : length s ≡ 0 → r .refusal ≡ 6 → r .count ≡ 0 → Puts (find-refusal cs ls xs s (length ys) (length o)) ys r o o
-    unfolding string-wrong
-    finds-empty e number none = wrong (or-left (ltb 256 (length s)) (eq-eqb (length s) 0 e)) number none
+    finds-empty e = finds-stopped 6 (string-empty cs ls xs s accepts e) (λ (z : _≡_ {A = ℕ} 6 0). omega arith)
 
     pub finds-long : 256 < length s → r .refusal ≡ 6 → r .count ≡ 0 → Puts (find-refusal cs ls xs s (length ys) (length o)) ys r o o
-    unfolding string-wrong
-    finds-long h number none = wrong (or-right (eqb (length s) 0) (lt-ltb 256 (length s) h)) number none
+    finds-long h = finds-stopped 6 (string-long cs ls xs s accepts h) (λ (z : _≡_ {A = ℕ} 6 0). omega arith)
 
     pub finds-sized : Is-string s → (z : List ℕ) → Sized ys r o z → Puts (find-refusal cs ls xs s (length ys) (length o)) ys r o z
-    unfolding find-refusal or-else string-wrong Sized
-    finds-sized is z h =
-        let good : (eqb (length s) 0 || ltb 256 (length s)) ≡ false =
-        or-none (ne-eqb (length s) 0 (λ (e : length s ≡ 0). omega (arith, is .some))) (le-ltb 256 (length s) (is .short)) in
-        rw (accepts, good) h
+    unfolding find-refusal or-else Sized
+    finds-sized is z h = rw (string-accepted cs ls xs s accepts is) h

@@ -11,9 +11,11 @@ use Rattle.spec.specs.Numbers.{index-of}
 use Rattle.spec.specs.Index.{n-of, entries-of, readable}
 use Rattle.spec.specs.Reception.{recovered, received}
 use Rattle.spec.specs.Search.{find}
+use Rattle.spec.specs.First.{first-position}
 use Rattle.spec.specs.Cut.{cut-down}
 use Rattle.spec.specs.Tally.{tally}
 use Rattle.spec.specs.declared.Answer.{Answer}
+use Rattle.spec.specs.declared.FirstAnswer.{FirstAnswer}
 use Rattle.spec.specs.declared.TallyAnswer.{TallyAnswer}
 
 -- THE LINES OF THE REFUSAL TABLE beside 1 to 3, which `dictionary-refusal` has
@@ -69,10 +71,13 @@ reception-refusal cs ls xs w =
 unfoldable pub recovery-refusal : (chars lengths index : List ℕ) → (output work : ℕ) → ℕ
 recovery-refusal cs ls xs o w = or-else (reception-refusal cs ls xs w) (cond (output-short (n-of xs) o) 8 0)
 
+-- 1 to 3, 5, 6: what every operation on an index and a string tests first
+unfoldable pub string-refusal : (chars lengths index string : List ℕ) → ℕ
+string-refusal cs ls xs s = or-else (index-refusal cs ls xs) (cond (string-wrong s) 6 0)
+
 -- search and the cut-down index, with the length of their result
 unfoldable pub find-refusal : (chars lengths index string : List ℕ) → (result output : ℕ) → ℕ
-find-refusal cs ls xs s r o =
-    or-else (index-refusal cs ls xs) (cond (string-wrong s) 6 (cond (output-short r o) 8 0))
+find-refusal cs ls xs s r o = or-else (string-refusal cs ls xs s) (cond (output-short r o) 8 0)
 
 -- ANSWERS AND SLICES
 
@@ -119,6 +124,12 @@ Search-says cs ls xs s r o z =
 unfoldable pub Cut-says : (chars lengths index string : List ℕ) → Answer → (out out-now : List ℕ) → Type 0
 Cut-says cs ls xs s r o z =
     let cut = cut-down (lexicon cs ls) xs s in Puts (find-refusal cs ls xs s (length cut) (length o)) cut r o z
+
+-- Document 02: "the first found position, or that there is none", which is 0. "No output slice is lent, so 8 cannot occur."
+unfoldable pub First-says : (chars lengths index string : List ℕ) → FirstAnswer → Type 0
+First-says cs ls xs s r =
+    let n = string-refusal cs ls xs s in
+    (r .refusal ≡ n) × (r .position ≡ accepted n (first-position (lexicon cs ls) xs s) 0)
 
 -- "A refusal gives its number and 32 zeros."
 unfoldable pub Tally-says : (chars lengths index : List ℕ) → TallyAnswer → Type 0

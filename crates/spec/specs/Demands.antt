@@ -128,8 +128,11 @@ recovery-rows cs ls xs o w =
     index-rows cs ls xs
     ++ (row 7 (Work-short (n-of xs) w) ∷ row 8 (Recovery-short (lexicon cs ls) xs o) ∷ row 9 (No-text (lexicon cs ls) xs) ∷ [])
 
+abbrev pub string-rows : (chars lengths index string : List ℕ) → List Row
+string-rows cs ls xs s = index-rows cs ls xs ++ (row 6 (String-wrong s) ∷ [])
+
 abbrev pub find-rows : (chars lengths index string result out : List ℕ) → List Row
-find-rows cs ls xs s found o = index-rows cs ls xs ++ (row 6 (String-wrong s) ∷ row 8 (Output-short found o) ∷ [])
+find-rows cs ls xs s found o = string-rows cs ls xs s ++ (row 8 (Output-short found o) ∷ [])
 
 -- for a job sheet's words and finds: "Every find is tested"
 abbrev pub parts-rows : (words finds : List (List ℕ)) → List Row

@@ -5,6 +5,7 @@ pub mod Numbers
 pub mod Index
 pub mod Reception
 pub mod Search
+pub mod First
 pub mod Cut
 pub mod Tally
 pub mod Calls

@@ -15,3 +15,10 @@ pub struct TallyAnswer {
     pub count: usize,
     pub by_length: [u64; 32],
 }
+
+// The answer of first: position is the first found position of an accepted call, 0 where there is none and beside a refusal.
+#[repr(C)]
+pub struct FirstAnswer {
+    pub refusal: u32,
+    pub position: u32,
+}
