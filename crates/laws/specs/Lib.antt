@@ -111,6 +111,7 @@ pub mod WordLines
 pub mod Finding
 pub mod Sizing
 pub mod Searching
+pub mod FirstAnswers
 pub mod Judging
 pub mod Flagging
 pub mod FlagWalks
