@@ -57,6 +57,24 @@ under-put lex xs k p m =
       r .2,
     )
 
+-- an entry of one slice is an entry of another where its position stands under its key there too
+pub under-flat :
+    (lex : Lexicon) (xs ys : List ℕ) (e : Entry) → (Under (e .key-of) (e .at) xs → Under (e .key-of) (e .at) ys) →
+    In e (flat lex (lines-in xs)) → In e (flat lex (lines-in ys))
+under-flat lex xs ys e there m =
+    let whole = flat-measured lex (lines-in xs) e m in
+    rw whole (under-get lex ys (e .key-of) (e .at) (there (under-put lex xs (e .key-of) (e .at) (rw whole at m))))
+
+-- Readable slices with equal n and the same entries are equal.
+pub under-unique :
+    (g : ℕ) (lex : Lexicon) (xs ys : List ℕ) → readable g lex xs ≡ true → readable g lex ys ≡ true → n-of xs ≡ n-of ys →
+    ((k : Key) (p : ℕ) → Under k p xs → Under k p ys) → ((k : Key) (p : ℕ) → Under k p ys → Under k p xs) → xs ≡ ys
+under-unique g lex xs ys can also n there back =
+    readable-unique g lex xs ys can also n
+    (lines-unique lex (n-of ys) (lines-in xs) (lines-in ys) (rw n at (readable-get g lex xs can .lines))
+    (readable-get g lex ys also .lines) (λ e m. under-flat lex xs ys e (there (e .key-of) (e .at)) m)
+    (λ e m. under-flat lex ys xs e (back (e .key-of) (e .at)) m))
+
 module _ (lex : Lexicon) (good : Good-lexicon lex) (ts : List ℕ) (chars : Chars ts) where
   sorted-sound : Sound lex (length ts) (sorted (entries lex ts))
   sorted-sound e m = entries-sound lex good ts chars e (in-sorted-get e (entries lex ts) m)

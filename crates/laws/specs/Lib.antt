@@ -50,6 +50,9 @@ pub mod Parts
 pub mod Bears
 pub mod CutSame
 pub mod CutReadable
+pub mod FirstPositions
+pub mod IndexTo
+pub mod FirstPromises
 pub mod Cover
 pub mod Reach
 pub mod ReachRaises

@@ -72,6 +72,12 @@ module _ (lex : Lexicon) (ls : List Line) (s : List ℕ) where
   found-from-put n q p lo hi t = rw (found-from-those lex ls s n q) (those-from-put n q (found-at lex ls s) p lo hi t)
 
 module _ (lex : Lexicon) (xs s : List ℕ) where
+  pub find-rise : Rise 1 (find lex xs s)
+  unfolding find
+  find-rise =
+      rw (found-from-those lex (lines-in xs) s (suc (n-of xs) - length s) 1)
+      (those-from-rise (suc (n-of xs) - length s) 1 (found-at lex (lines-in xs) s))
+
   pub find-get : (p : ℕ) → In p (find lex xs s) → Is-found lex (lines-in xs) (n-of xs) s p
   unfolding find
   find-get p m =

@@ -12,15 +12,16 @@ use Rattle.spec.specs.Numbers.{index-of}
 use Rattle.spec.specs.Index.{lines-in, readable}
 use Rattle.spec.specs.Reception.{recovered, received}
 use Rattle.spec.specs.Search.{string-start, key-start, agrees-at, offset, find}
+use Rattle.spec.specs.First.{first-position}
 use Rattle.spec.specs.Cut.{cut-down}
 use Rattle.spec.specs.Promise.{places, Query, Received-exactly, One-text, Search-exact, Cut-same, Recovers, Tally-sums}
-use Rattle.spec.specs.Beyond.{Among, Accounts, Received-by-count, Only-readable, Text-of, Exactly-places, Serves, Demand-three, Cut-any, Fewer-find-less, Bears-by-offset}
+use Rattle.spec.specs.Beyond.{Among, Accounts, Received-by-count, Only-readable, Text-of, Exactly-places, First-stands, Serves, Demand-three, Cut-any, Fewer-find-less, Bears-by-offset}
 use Rattle.laws.specs.Strings.{stands-get, stands-put}
 use Rattle.laws.specs.Facts.{Good-lexicon}
 use Rattle.laws.specs.Chars.{all-chars-get, is-text-get, is-text-put}
 use Rattle.laws.specs.Lexicon.{admitted-lexicon}
-use Rattle.laws.specs.Flat.{posting, Fewer, flat-measured}
-use Rattle.laws.specs.IndexOf.{entry-whole, among-get, under-get, under-put, index-tells, tells-index}
+use Rattle.laws.specs.Flat.{posting, Fewer}
+use Rattle.laws.specs.IndexOf.{entry-whole, among-get, under-get, under-put, under-flat, index-tells, tells-index}
 use Rattle.laws.specs.TallySum.{tally-sums}
 use Rattle.laws.specs.Recover.{length-recovered}
 use Rattle.laws.specs.Agree.{agrees-get, agrees-put}
@@ -29,6 +30,7 @@ use Rattle.laws.specs.Places.{places-ascend, places-get, places-put, fin
 use Rattle.laws.specs.Bears.{bears-get, bears-put}
 use Rattle.laws.specs.CutSame.{covered-fewer, find-bearing}
 use Rattle.laws.specs.CutReadable.{n-of-cut, lines-in-cut, cut-readable}
+use Rattle.laws.specs.FirstPositions.{first-heads-find, first-stands}
 use Rattle.laws.specs.Criterion.{counted-index, index-taken, received-all, received-count}
 use Rattle.laws.specs.Received.{Received, received-get, readable-chars, readable-small, index-recovered, index-can-read, is-index-received, is-index-recovered, index-find, index-injective}
 
@@ -107,10 +109,7 @@ fewer-find-less lex xs ys n fewer s p m =
     })
   where
     all : Fewer lex (lines-in xs) (lines-in ys)
-    all e i =
-        let whole = flat-measured lex (lines-in xs) e i in
-        rw whole
-        (under-get lex ys (e .key-of) (e .at) (fewer (e .key-of) (e .at) (under-put lex xs (e .key-of) (e .at) (rw whole at i))))
+    all e = under-flat lex xs ys e (fewer (e .key-of) (e .at))
 
 -- DEMAND THREE AS ONE STATEMENT
 
@@ -145,11 +144,11 @@ demand-three g cs ls xs a = (serves, has-text)
         record {
           text = text;
           only-text = λ us h. sym (is-index-recovered lex good us (is-text-get g us (h .is-a-text) .0) xs (h .index-is));
-          search-exact = λ s q. exactly-places s (recovered lex xs) (find lex xs s) (q .nonempty) (found s q);
+          search-exact = exact;
           cut-readable = λ s q. cut-any g lex xs s can .0;
-          cut-exact =
-              λ s q.
-              exactly-places s (recovered lex xs) (find lex (cut-down lex xs s) s) (q .nonempty) (cut-any g lex xs s can .1 ∙ found s q);
+          cut-exact = cut-exact;
+          first-exact = λ s q. first-exact xs s (exact s q);
+          cut-first-exact = λ s q. first-exact (cut-down lex xs s) s (cut-exact s q);
         }
       where
         text : Text-of g lex xs (recovered lex xs)
@@ -162,6 +161,18 @@ demand-three g cs ls xs a = (serves, has-text)
         found s q =
             ap (λ (ys : List ℕ). find lex ys s) (sym (text .index-is))
             ∙ index-find lex good (recovered lex xs) (is-text-get g (recovered lex xs) (text .is-a-text) .0) s (q .nonempty)
+
+        exact : (s : List ℕ) → Query s → Exactly-places s (recovered lex xs) (find lex xs s)
+        exact s q = exactly-places s (recovered lex xs) (find lex xs s) (q .nonempty) (found s q)
+
+        cut-exact : (s : List ℕ) → Query s → Exactly-places s (recovered lex xs) (find lex (cut-down lex xs s) s)
+        cut-exact s q =
+            exactly-places s (recovered lex xs) (find lex (cut-down lex xs s) s) (q .nonempty) (cut-any g lex xs s can .1 ∙ found s q)
+
+        first-exact :
+            (ys s : List ℕ) → Exactly-places s (recovered lex xs) (find lex ys s) →
+            First-stands s (recovered lex xs) (first-position lex ys s)
+        first-exact ys s h = first-stands s (recovered lex xs) (find lex ys s) (first-position lex ys s) h (first-heads-find lex ys s)
 
 -- RECEPTION BY COUNTING
 

@@ -1,7 +1,7 @@
 -- Statements beyond those of Promise: the third demand as one statement over delivered numbers, and sentences of document 01 that
 -- Promise does not put as a type. Each is a type; its proof stands in the crate `laws`. Assumes nothing.
 use mathlib.Core.Path.{_≡_}
-use mathlib.Core.Bool.{true}
+use mathlib.Core.Bool.{true, false}
 use mathlib.Core.List.{List}
 use Prim.Native.Nat.{ℕ, _≤_, _<_}
 use lib.Dec.{ltb}
@@ -15,6 +15,7 @@ use Rattle.spec.specs.Numbers.{Line, index-of}
 use Rattle.spec.specs.Index.{n-of, entries-of, lines-in, readable}
 use Rattle.spec.specs.Reception.{recovered, received}
 use Rattle.spec.specs.Search.{in-offsets, agrees-at, find}
+use Rattle.spec.specs.First.{first-position}
 use Rattle.spec.specs.Cut.{bears, cut-down}
 use Rattle.spec.specs.Promise.{places, Query}
 
@@ -59,6 +60,13 @@ pub record Exactly-places (s ts ps : List ℕ) : Type 0 where
   pub ascending : Ascend ltb ps
   pub once : (i j : ℕ) → i < length ps → j < length ps → getD ps i 0 ≡ getD ps j 0 → i ≡ j
 
+-- p is the first position at which s stands in ts, 0 if it stands nowhere.
+pub record First-stands (s ts : List ℕ) (p : ℕ) : Type 0 where
+  pub none : p ≡ 0 → (a : ℕ) → stands s ts a ≡ false
+  pub nowhere : ((a : ℕ) → stands s ts a ≡ false) → p ≡ 0
+  pub at-it : 1 ≤ p → stands s ts p ≡ true
+  pub least : (a : ℕ) → stands s ts a ≡ true → p ≤ a
+
 -- What is had of numbers xs that text ts has as its index.
 pub record Serves (g : ℕ) (lex : Lexicon) (xs ts : List ℕ) : Type 0 where
   pub text : Text-of g lex xs ts
@@ -66,6 +74,8 @@ pub record Serves (g : ℕ) (lex : Lexicon) (xs ts : List ℕ) : Type 0 where
   pub search-exact : (s : List ℕ) → Query s → Exactly-places s ts (find lex xs s)
   pub cut-readable : (s : List ℕ) → Query s → readable g lex (cut-down lex xs s) ≡ true
   pub cut-exact : (s : List ℕ) → Query s → Exactly-places s ts (find lex (cut-down lex xs s) s)
+  pub first-exact : (s : List ℕ) → Query s → First-stands s ts (first-position lex xs s)
+  pub cut-first-exact : (s : List ℕ) → Query s → First-stands s ts (first-position lex (cut-down lex xs s) s)
 
 -- Whatever numbers are delivered, they are received exactly if some text of their stated length has them as its index. Then the
 -- recovered text is that text, and everything of the demand is had of it.

@@ -11,6 +11,7 @@ pub mod Tally
 pub mod Calls
 pub mod Promise
 pub mod Beyond
+pub mod FirstPromise
 pub mod Published
 pub mod JobSheet
 pub mod JobAnswer
