@@ -19,7 +19,8 @@ use Rattle.spec.specs.Cut.{cut-down}
 use Rattle.spec.specs.Promise.{Query}
 use Rattle.spec.specs.Beyond.{Text-of, Exactly-places, Serves, Demand-three}
 use Rattle.spec.specs.Calls.{Cut-says}
-use Rattle.spec.specs.Demands.{Written, Untouched, Unreadable, String-wrong, Work-short, Output-short, Recovery-short, No-text, Row, row, Meets, Accepts, Refuses, Decides, dictionary-rows, index-rows, reception-rows, recovery-rows, find-rows, Received-for, Recovered-for, Found-for, Cut-for, Delivered}
+use Rattle.spec.specs.RefusalTable.{Written, Untouched, Unreadable, String-wrong, Work-short, Output-short, Recovery-short, No-text, Row, row, Meets, Accepts, Refuses, Decides, dictionary-rows, index-rows, reception-rows, recovery-rows, find-rows}
+use Rattle.spec.specs.Demands.{Received-for, Recovered-for, Found-for, Cut-for, Delivered}
 use Rattle.laws.specs.Received.{received-get}
 use Rattle.laws.specs.Promises.{demand-three}
 use Rattle.laws.specs.RefusalRows.{first-decides, dictionary-first, dictionary-rising}

@@ -19,7 +19,9 @@ use Rattle.spec.specs.Search.{find}
 use Rattle.spec.specs.Cut.{cut-down}
 use Rattle.spec.specs.Tally.{tally}
 use Rattle.spec.specs.Calls.{output-short, zeros, Answers, in-front, Puts, build-refusal, index-refusal, reception-refusal, recovery-refusal, find-refusal, Admit-says, Build-says, Receive-says, Recover-says, Search-says, Cut-says, Tally-says}
-use Rattle.spec.specs.Demands.{Written, Untouched, Cleared, Output-short, Row, row, Meets, Decides, dictionary-rows, build-rows, index-rows, reception-rows, recovery-rows, find-rows, Answered, First-demand}
+use Rattle.spec.specs.RefusalTable.{Written, Untouched, Cleared, Output-short, Row, row, Meets, Decides, dictionary-rows, build-rows, index-rows, reception-rows, recovery-rows, find-rows}
+use Rattle.spec.specs.ProgramDemand.{Answered}
+use Rattle.spec.specs.Demands.{First-demand}
 use Rattle.spec.specs.JobAnswer.{job-answer, Job-says}
 use Rattle.laws.specs.Answering.{accepted-yes, accepted-no}
 use Rattle.laws.specs.Recover.{length-recovered}

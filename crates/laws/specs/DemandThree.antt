@@ -12,7 +12,8 @@ use Rattle.spec.specs.Dictionary.{longest-text, lexicon, all-chars, admitted}
 use Rattle.spec.specs.Index.{n-of, readable}
 use Rattle.spec.specs.Reception.{recovered, received}
 use Rattle.spec.specs.Beyond.{Demand-three}
-use Rattle.spec.specs.Demands.{Unreadable, Work-short, No-text, row, Accepts, dictionary-rows, reception-rows, Delivered, Third-demand}
+use Rattle.spec.specs.RefusalTable.{Unreadable, Work-short, No-text, row, Accepts, dictionary-rows, reception-rows}
+use Rattle.spec.specs.Demands.{Delivered, Third-demand}
 use Rattle.laws.specs.Promises.{demand-three}
 use Rattle.laws.specs.DemandOne.{first-demand}
 use Rattle.laws.specs.Delivery.{accepts-zero, none-left, none-admitted, received-for, delivered}

@@ -10,7 +10,8 @@ use Rattle.basics.specs.Bools.{at-most}
 use Rattle.spec.specs.Dictionary.{longest-text, lexicon, is-text, admitted}
 use Rattle.spec.specs.Numbers.{index-of}
 use Rattle.spec.specs.Beyond.{Text-of}
-use Rattle.spec.specs.Demands.{Written, Untouched, Text-too-long, Work-short, Output-short, row, Accepts, dictionary-rows, build-rows, Built, Second-demand}
+use Rattle.spec.specs.RefusalTable.{Written, Untouched, Text-too-long, Work-short, Output-short, row, Accepts, dictionary-rows, build-rows}
+use Rattle.spec.specs.Demands.{Built, Second-demand}
 use Rattle.laws.specs.Chars.{all-chars-get, is-text-put}
 use Rattle.laws.specs.IndexOf.{n-of-index}
 use Rattle.laws.specs.DemandOne.{first-demand}

@@ -13,7 +13,8 @@ use Rattle.spec.specs.Dictionary.{lexicon}
 use Rattle.spec.specs.JobSheet.{word-head, lines, words-on, text-on, finds-on, in-form, in-counts, run-together, lengths-of, sheet-too-long, sheet-wrong, contents-refusal, sheet-refusal}
 use Rattle.spec.specs.JobAnswer.{answer-lines, refused-line, lexicon-on, printed, job-answer}
 use Rattle.spec.specs.SheetForms.{Sheet-of, Within-counts}
-use Rattle.spec.specs.Demands.{Too-large, Sheet-too-long, Sheet-broken, Accepts, Refuses, parts-rows, Refused-long, Refused-broken, Tested-parts, Prints}
+use Rattle.spec.specs.RefusalTable.{Too-large, Accepts, Refuses}
+use Rattle.spec.specs.ProgramDemand.{Sheet-too-long, Sheet-broken, parts-rows, Refused-long, Refused-broken, Tested-parts, Prints}
 use Rattle.laws.specs.Answering.{accepted-yes}
 use Rattle.laws.specs.Reflects.{reflects-put, reflects-not, reflects-lt}
 use Rattle.laws.specs.RefusalRows.{first-decides, decides, decided-number, parts-first, parts-rising}

@@ -14,7 +14,7 @@ use Rattle.spec.specs.Dictionary.{longest-text, Lexicon, total, words-from, too
 use Rattle.spec.specs.Index.{readable}
 use Rattle.spec.specs.Calls.{text-too-long, unreadable, string-wrong, work-short, output-short}
 use Rattle.spec.specs.JobSheet.{some-string-wrong}
-use Rattle.spec.specs.Demands.{Too-large, Lengths-wrong, Disordered, Text-too-long, Unreadable, String-wrong, Work-short, Output-short}
+use Rattle.spec.specs.RefusalTable.{Too-large, Lengths-wrong, Disordered, Text-too-long, Unreadable, String-wrong, Work-short, Output-short}
 
 -- TESTS AND FACTS
 

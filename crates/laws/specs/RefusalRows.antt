@@ -18,7 +18,8 @@ use Rattle.spec.specs.Reception.{recovered, received}
 use Rattle.spec.specs.Calls.{text-too-long, unreadable, string-wrong, work-short, output-short, no-text, or-else, build-refusal, index-refusal, reception-refusal, recovery-refusal, string-refusal, find-refusal}
 use Rattle.spec.specs.JobSheet.{run-together, lengths-of, some-string-wrong, contents-refusal}
 use Rattle.spec.specs.Beyond.{Demand-three}
-use Rattle.spec.specs.Demands.{Too-large, Lengths-wrong, Disordered, Text-too-long, Unreadable, String-wrong, Work-short, Output-short, Recovery-short, No-text, Has-text, Row, row, Meets, Accepts, Refuses, Decides, dictionary-rows, build-rows, index-rows, reception-rows, recovery-rows, string-rows, find-rows, parts-rows}
+use Rattle.spec.specs.RefusalTable.{Too-large, Lengths-wrong, Disordered, Text-too-long, Unreadable, String-wrong, Work-short, Output-short, Recovery-short, No-text, Has-text, Row, row, Meets, Accepts, Refuses, Decides, dictionary-rows, build-rows, index-rows, reception-rows, recovery-rows, string-rows, find-rows}
+use Rattle.spec.specs.ProgramDemand.{parts-rows}
 use Rattle.laws.specs.IndexRefusal.{index-accepted}
 use Rattle.laws.specs.Promises.{demand-three}
 use Rattle.laws.specs.Reflects.{reflects-lt, reflects-and, reflects-too-large, reflects-lengths-wrong, reflects-disordered, reflects-text, reflects-unreadable, reflects-string, reflects-finds, reflects-work, reflects-output}

@@ -17,6 +17,8 @@ pub mod JobSheet
 pub mod JobAnswer
 pub mod Bytes
 pub mod SheetForms
+pub mod RefusalTable
+pub mod ProgramDemand
 pub mod Demands
 pub mod Models
 pub mod Examples
