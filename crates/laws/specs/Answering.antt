@@ -4,7 +4,16 @@ use mathlib.Core.List.{List}
 use Prim.Native.Nat.{ℕ}
 use borrow.Author.Tests.{eq-eqb, ne-eqb}
 use Rattle.spec.specs.declared.Answer.{Answer}
-use Rattle.spec.specs.Calls.{accepted, Answers, zeros}
+use Rattle.spec.specs.Calls.{or-else, accepted, Answers, zeros}
+
+-- the first of two refusals, or the second
+pub or-else-some : (a b : ℕ) → (a ≡ 0 → ⊥) → or-else a b ≡ a
+unfolding or-else
+or-else-some a b some = rw (ne-eqb a 0 some)
+
+pub or-else-none : (a b : ℕ) → a ≡ 0 → or-else a b ≡ b
+unfolding or-else
+or-else-none a b none = rw (eq-eqb a 0 none)
 
 module _ {ℓ} {A : Type ℓ} (n : ℕ) (x y : A) where
   pub accepted-yes : n ≡ 0 → accepted n x y ≡ x

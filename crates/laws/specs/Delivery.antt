@@ -1,7 +1,7 @@
 -- What the calls say of numbers that a text has as its index, under an admitted dictionary: reception and recovery accept, and so do
--- searches and cuts, and searches of what was cut down. Assumes nothing.
-use mathlib.Core.Path.{_≡_, sym, ap, _∙_, subst}
-use mathlib.Core.Bool.{true}
+-- searches, first and cuts, and searches and first of what was cut down. Assumes nothing.
+use mathlib.Core.Path.{_≡_, refl, sym, ap, _∙_, subst}
+use mathlib.Core.Bool.{Bool, true, false}
 use mathlib.Core.Logic.{inl, inr, ⊎-elim}
 use mathlib.Core.List.{List, [], _∷_, _++_}
 use Prim.Native.Nat.{ℕ, _≤_, _<_}
@@ -15,18 +15,24 @@ use Rattle.spec.specs.Dictionary.{longest-text, lexicon, all-chars, dictionary-
 use Rattle.spec.specs.Index.{n-of, readable}
 use Rattle.spec.specs.Reception.{recovered, received}
 use Rattle.spec.specs.Search.{find}
+use Rattle.spec.specs.First.{first-position}
 use Rattle.spec.specs.Cut.{cut-down}
 use Rattle.spec.specs.Promise.{Query}
-use Rattle.spec.specs.Beyond.{Text-of, Exactly-places, Serves, Demand-three}
+use Rattle.spec.specs.Beyond.{Text-of, Exactly-places, First-stands, Serves, Demand-three}
 use Rattle.spec.specs.Calls.{Cut-says}
-use Rattle.spec.specs.RefusalTable.{Written, Untouched, Unreadable, String-wrong, Work-short, Output-short, Recovery-short, No-text, Row, row, Meets, Accepts, Refuses, Decides, dictionary-rows, index-rows, reception-rows, recovery-rows, find-rows}
-use Rattle.spec.specs.Demands.{Received-for, Recovered-for, Found-for, Cut-for, Delivered}
+use Rattle.spec.specs.RefusalTable.{Written, Untouched, Unreadable, String-wrong, Work-short, Output-short, Recovery-short, No-text, Row, row, Meets, Accepts, Refuses, Decides, dictionary-rows, index-rows, reception-rows, recovery-rows, string-rows, find-rows}
+use Rattle.spec.specs.Demands.{Received-for, Recovered-for, Found-for, First-for, Cut-for, Delivered}
 use Rattle.laws.specs.Received.{received-get}
 use Rattle.laws.specs.Promises.{demand-three}
 use Rattle.laws.specs.RefusalRows.{first-decides, dictionary-first, dictionary-rising}
 use Rattle.laws.specs.DemandOne.{first-demand}
 
 -- ROWS THAT ARE NOT MET
+
+-- a Boolean that can't be false is true
+pub true-put : (b : Bool) → (b ≡ false → ⊥) → b ≡ true
+true-put true h = refl
+true-put false h = absurd (h refl)
 
 abbrev pub None-met : List Row → Type 0
 None-met rows = (k : ℕ) → Meets rows k → ⊥
@@ -38,10 +44,10 @@ module _ (rows : List Row) (n : ℕ) (A B : Type 0) (d : Decides rows n A B) whe
   pub accepts-none : None-met rows → Accepts rows n A
   accepts-none none = ⊎-elim (λ (h : Accepts rows n A). h) (λ (h : Refuses rows n B). absurd (none n (h .met))) d
 
-none-nil : None-met []
+pub none-nil : None-met []
 none-nil k m = m
 
-none-row : (n : ℕ) (W : Type 0) (rows : List Row) → (W → ⊥) → None-met rows → None-met (row n W ∷ rows)
+pub none-row : (n : ℕ) (W : Type 0) (rows : List Row) → (W → ⊥) → None-met rows → None-met (row n W ∷ rows)
 none-row n W rows unmet none k (inl m) = unmet (m .1)
 none-row n W rows unmet none k (inr m) = none k m
 
@@ -85,15 +91,20 @@ module _ (cs ls : List ℕ) (adm : admitted cs ls ≡ true) where
       none-both (dictionary-rows cs ls) (row 5 (Unreadable (lexicon cs ls) xs) ∷ []) (admitted-none cs ls adm)
       (none-row 5 (Unreadable (lexicon cs ls) xs) [] (λ f. clash can f) none-nil)
 
-  -- readable numbers, a query and output enough meet no line of a search or cut-down
+  -- readable numbers and a query meet no line of first
+  none-string : (xs s : List ℕ) → readable longest-text (lexicon cs ls) xs ≡ true → Query s → None-met (string-rows cs ls xs s)
+  none-string xs s can q =
+      none-both (index-rows cs ls xs) (row 6 (String-wrong s) ∷ []) (none-index xs can)
+      (none-row 6 (String-wrong s) []
+      (⊎-elim (λ (e : length s ≡ 0). omega (arith, q .nonempty)) (λ (l : 256 < length s). omega (arith, q .short))) none-nil)
+
+  -- with output enough they meet no line of a search or cut-down
   none-find :
       (xs s result o : List ℕ) → readable longest-text (lexicon cs ls) xs ≡ true → Query s → length result ≤ length o →
       None-met (find-rows cs ls xs s result o)
   none-find xs s result o can q room =
-      none-both (index-rows cs ls xs) (row 6 (String-wrong s) ∷ row 8 (Output-short result o) ∷ []) (none-index xs can)
-      (none-row 6 (String-wrong s) (row 8 (Output-short result o) ∷ [])
-      (⊎-elim (λ (e : length s ≡ 0). omega (arith, q .nonempty)) (λ (l : 256 < length s). omega (arith, q .short)))
-      (none-row 8 (Output-short result o) [] (λ l. omega (arith, room)) none-nil))
+      none-both (string-rows cs ls xs s) (row 8 (Output-short result o) ∷ []) (none-string xs s can q)
+      (none-row 8 (Output-short result o) [] (λ l. omega (arith, room)) none-nil)
 
   -- any readable numbers whose search gives the places of a text
   found-for :
@@ -109,6 +120,16 @@ module _ (cs ls : List ℕ) (adm : admitted cs ls ≡ true) where
         subst (λ (ps : List ℕ). Written ps r o z) (exactly .are-places) (h .result),
         subst (Exactly-places s ts) (sym (h .result .front)) exactly,
       )
+
+  -- any readable numbers whose first position is where the string stands first
+  first-for :
+      (xs ts s : List ℕ) → readable longest-text (lexicon cs ls) xs ≡ true → Query s →
+      First-stands s ts (first-position (lexicon cs ls) xs s) → First-for cs ls xs ts s
+  first-for xs ts s can q stands r says =
+      let h =
+      accepts-none (string-rows cs ls xs s) (r .refusal) (r .position ≡ first-position (lexicon cs ls) xs s) (r .position ≡ 0)
+      (first-demand .firsts cs ls xs s r says) (none-string xs s can q) in
+      (h .number, subst (First-stands s ts) (sym (h .result)) stands)
 
   module _ (xs ts : List ℕ) (text : Text-of longest-text (lexicon cs ls) xs ts) where
     is-received : received longest-text (lexicon cs ls) xs ≡ true
@@ -156,10 +177,13 @@ module _ (cs ls : List ℕ) (adm : admitted cs ls ≡ true) where
 
     -- numbers equal to the cut-down index serve for it
     cut-found :
-        (s ys : List ℕ) → Query s → ys ≡ cut-down (lexicon cs ls) xs s → Found-for cs ls ys ts s
+        (s ys : List ℕ) → Query s → ys ≡ cut-down (lexicon cs ls) xs s → Found-for cs ls ys ts s × First-for cs ls ys ts s
     cut-found s ys q e =
-        subst (λ (zs : List ℕ). Found-for cs ls zs ts s) (sym e)
-        (found-for (cut-down (lexicon cs ls) xs s) ts s (serves .cut-readable s q) q (serves .cut-exact s q))
+        let cut = cut-down (lexicon cs ls) xs s in
+        subst (λ (zs : List ℕ). Found-for cs ls zs ts s × First-for cs ls zs ts s) (sym e) (
+          found-for cut ts s (serves .cut-readable s q) q (serves .cut-exact s q),
+          first-for cut ts s (serves .cut-readable s q) q (serves .cut-first-exact s q),
+        )
 
     cut-for : (s : List ℕ) → Query s → Cut-for cs ls xs ts s
     cut-for s q r o z room says =
@@ -167,7 +191,7 @@ module _ (cs ls : List ℕ) (adm : admitted cs ls ≡ true) where
         let h =
         accepts-none (find-rows cs ls xs s cut o) (r .refusal) (Written cut r o z) (Untouched r o z)
         (first-demand .cuts cs ls xs s r o z says) (none-find xs s cut o can q room) in
-        (h .number, h .result, cut-found s (take (r .count) z) q (h .result .front))
+        let found = cut-found s (take (r .count) z) q (h .result .front) in (h .number, h .result, found .0, found .1)
 
     -- what an accepted call of cut wrote is the cut-down index
     cut-written :
@@ -185,6 +209,7 @@ module _ (cs ls : List ℕ) (adm : admitted cs ls ≡ true) where
           only-text = serves .only-text;
           is-recovered = recovered-for;
           searched = λ s q. found-for xs ts s can q (serves .search-exact s q);
+          first = λ s q. first-for xs ts s can q (serves .first-exact s q);
           cut = cut-for;
           accepted-cut = λ s q r o z says zero. cut-found s (take (r .count) z) q (cut-written s r o z says zero);
         }

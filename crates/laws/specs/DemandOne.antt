@@ -10,22 +10,24 @@ use lib.ListN.{length, drop, replicate, length-append, length-drop}
 use lib.Seq.{take-append-seam, drop-append-seam}
 use Rattle.basics.specs.Bools.{true-or-false, at-most}
 use Rattle.spec.specs.declared.Answer.{Answer}
+use Rattle.spec.specs.declared.FirstAnswer.{FirstAnswer}
 use Rattle.spec.specs.declared.TallyAnswer.{TallyAnswer}
 use Rattle.spec.specs.Dictionary.{longest-text, lexicon, all-chars, dictionary-refusal}
 use Rattle.spec.specs.Numbers.{index-of}
 use Rattle.spec.specs.Index.{n-of, entries-of, readable}
 use Rattle.spec.specs.Reception.{recovered}
 use Rattle.spec.specs.Search.{find}
+use Rattle.spec.specs.First.{first-position}
 use Rattle.spec.specs.Cut.{cut-down}
 use Rattle.spec.specs.Tally.{tally}
-use Rattle.spec.specs.Calls.{output-short, zeros, Answers, in-front, Puts, build-refusal, index-refusal, reception-refusal, recovery-refusal, find-refusal, Admit-says, Build-says, Receive-says, Recover-says, Search-says, Cut-says, Tally-says}
-use Rattle.spec.specs.RefusalTable.{Written, Untouched, Cleared, Output-short, Row, row, Meets, Decides, dictionary-rows, build-rows, index-rows, reception-rows, recovery-rows, find-rows}
+use Rattle.spec.specs.Calls.{output-short, zeros, Answers, in-front, Puts, build-refusal, index-refusal, reception-refusal, recovery-refusal, string-refusal, find-refusal, Admit-says, Build-says, Receive-says, Recover-says, Search-says, Cut-says, First-says, Tally-says}
+use Rattle.spec.specs.RefusalTable.{Written, Untouched, Cleared, Output-short, Row, row, Meets, Decides, dictionary-rows, build-rows, index-rows, reception-rows, recovery-rows, string-rows, find-rows}
 use Rattle.spec.specs.ProgramDemand.{Answered}
 use Rattle.spec.specs.Demands.{First-demand}
 use Rattle.spec.specs.JobAnswer.{job-answer, Job-says}
 use Rattle.laws.specs.Answering.{accepted-yes, accepted-no}
 use Rattle.laws.specs.Recover.{length-recovered}
-use Rattle.laws.specs.RefusalRows.{First, Rising, decides, output-first, dictionary-first, dictionary-rising, build-first, index-first, index-rising, reception-first, recovery-first, find-first}
+use Rattle.laws.specs.RefusalRows.{First, Rising, decides, output-first, dictionary-first, dictionary-rising, build-first, index-first, index-rising, reception-first, recovery-first, string-first, string-rising, find-first}
 use Rattle.laws.specs.ProgramRows.{prints, prints-only}
 
 -- WHAT COMES BACK
@@ -139,6 +141,17 @@ module _ (cs ls xs : List ℕ) where
       (omega arith, (omega arith, (omega arith, (omega arith, (omega arith, (omega arith, tt)))))) ys r o z puts
       (λ none h. none 8 (inr (inr (inr (inr (inr (inl (refl, h))))))))
 
+  first-position-decides :
+      (s : List ℕ) (r : FirstAnswer) → First-says cs ls xs s r →
+      Decides (string-rows cs ls xs s) (r .refusal) (r .position ≡ first-position (lexicon cs ls) xs s) (r .position ≡ 0)
+  unfolding First-says
+  first-position-decides s r says =
+      let n : ℕ = string-refusal cs ls xs s in
+      decides (string-rows cs ls xs s) n (r .refusal) (string-first cs ls xs s) (string-rising cs ls xs s) (says .0)
+      (r .position ≡ first-position (lexicon cs ls) xs s) (r .position ≡ 0)
+      (λ none e. says .1 ∙ accepted-yes n (first-position (lexicon cs ls) xs s) 0 e)
+      (λ some. says .1 ∙ accepted-no n (first-position (lexicon cs ls) xs s) 0 some)
+
   tally-decides :
       (r : TallyAnswer) → Tally-says cs ls xs r →
       Decides (index-rows cs ls xs) (r .refusal) ((r .count ≡ entries-of xs) × (r .«by_length» ≡ tally (lexicon cs ls) xs))
@@ -179,6 +192,7 @@ first-demand =
       recovers = recover-decides;
       searches = λ cs ls xs s r o z says. find-decides cs ls xs s (find (lexicon cs ls) xs s) r o z says;
       cuts = λ cs ls xs s r o z says. find-decides cs ls xs s (cut-down (lexicon cs ls) xs s) r o z says;
+      firsts = first-position-decides;
       tallies = tally-decides;
       prints = job-decides;
     }

@@ -1,7 +1,7 @@
 -- The third demand: reception accepts exactly the numbers that some text has as its index, and then searches answer as if the text
 -- were there. Assumes nothing.
 use mathlib.Core.Path.{_≡_, refl}
-use mathlib.Core.Bool.{Bool, true, false}
+use mathlib.Core.Bool.{true}
 use mathlib.Core.Logic.{inl, inr}
 use mathlib.Core.List.{List, [], _∷_}
 use Prim.Native.Nat.{ℕ}
@@ -16,12 +16,7 @@ use Rattle.spec.specs.RefusalTable.{Unreadable, Work-short, No-text, row, Accep
 use Rattle.spec.specs.Demands.{Delivered, Third-demand}
 use Rattle.laws.specs.Promises.{demand-three}
 use Rattle.laws.specs.DemandOne.{first-demand}
-use Rattle.laws.specs.Delivery.{accepts-zero, none-left, none-admitted, received-for, delivered}
-
--- a Boolean that can't be false is true
-true-put : (b : Bool) → (b ≡ false → ⊥) → b ≡ true
-true-put true h = refl
-true-put false h = absurd (h refl)
+use Rattle.laws.specs.Delivery.{true-put, accepts-zero, none-left, none-admitted, received-for, delivered}
 
 module _ (cs ls xs : List ℕ) (w : List ℕ) (chars : all-chars cs ≡ true) (r : Answer)
     (h : Accepts (reception-rows cs ls xs w) (r .refusal) (r .count ≡ n-of xs)) where

@@ -124,6 +124,7 @@ pub mod RefusalRows
 pub mod ProgramRows
 pub mod DemandOne
 pub mod Delivery
+pub mod FirstCalls
 pub mod PublishedIndex
 pub mod DemandTwo
 pub mod DemandThree

@@ -20,6 +20,7 @@ use Rattle.spec.specs.JobSheet.{run-together, lengths-of, some-string-wrong, co
 use Rattle.spec.specs.Beyond.{Demand-three}
 use Rattle.spec.specs.RefusalTable.{Too-large, Lengths-wrong, Disordered, Text-too-long, Unreadable, String-wrong, Work-short, Output-short, Recovery-short, No-text, Has-text, Row, row, Meets, Accepts, Refuses, Decides, dictionary-rows, build-rows, index-rows, reception-rows, recovery-rows, string-rows, find-rows}
 use Rattle.spec.specs.ProgramDemand.{parts-rows}
+use Rattle.laws.specs.Answering.{or-else-some, or-else-none}
 use Rattle.laws.specs.IndexRefusal.{index-accepted}
 use Rattle.laws.specs.Promises.{demand-three}
 use Rattle.laws.specs.Reflects.{reflects-lt, reflects-and, reflects-too-large, reflects-lengths-wrong, reflects-disordered, reflects-text, reflects-unreadable, reflects-string, reflects-finds, reflects-work, reflects-output}
@@ -112,14 +113,6 @@ unfolding First
 first-cond k B true rows n is rest = inl (is .holds refl, refl)
 first-cond k B false rows n is rest = inr (is .fails refl, rest refl)
 
-or-else-some : (a b : ℕ) → 1 ≤ a → or-else a b ≡ a
-unfolding or-else
-or-else-some a b h = rw (ne-eqb a 0 (λ (e : a ≡ 0). omega arith))
-
-or-else-none : (a b : ℕ) → a ≡ 0 → or-else a b ≡ b
-unfolding or-else
-or-else-none a b e = rw (eq-eqb a 0 e)
-
 -- rows before others
 first-then :
     (a : ℕ) (rows more : List Row) → 1 ≤ a → Rising a rows → (m n : ℕ) → First rows m → (m ≡ 0 → First more n) →
@@ -127,7 +120,7 @@ first-then :
 unfolding First
 first-then a [] more some up m n e rest = subst (First more) (sym (or-else-none m n e)) (rest e)
 first-then a (l ∷ ls) more some up m n (inl (w, e)) rest =
-    inl (w, e ∙ sym (or-else-some m n (omega (arith, up .0, e))))
+    inl (w, e ∙ sym (or-else-some m n (λ z. omega (arith, up .0, e))))
 first-then a (l ∷ ls) more some up m n (inr (unmet, f)) rest =
     inr (unmet, first-then (suc (l .returned)) ls more (omega arith) (up .1) m n f rest)
 

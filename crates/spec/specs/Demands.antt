@@ -13,16 +13,18 @@ use Rattle.spec.specs.Numbers.{index-of}
 use Rattle.spec.specs.Index.{n-of, entries-of, readable}
 use Rattle.spec.specs.Reception.{recovered}
 use Rattle.spec.specs.Search.{find}
+use Rattle.spec.specs.First.{first-position}
 use Rattle.spec.specs.Cut.{cut-down}
 use Rattle.spec.specs.Tally.{tally}
 use Rattle.spec.specs.Promise.{places, Query}
-use Rattle.spec.specs.Beyond.{Under, Text-of, Exactly-places}
+use Rattle.spec.specs.Beyond.{Under, Text-of, Exactly-places, First-stands}
 use Rattle.spec.specs.Published.{Item, item, maximal-items}
 use Rattle.spec.specs.JobAnswer.{Job-says}
-use Rattle.spec.specs.Calls.{Admit-says, Build-says, Receive-says, Recover-says, Search-says, Cut-says, Tally-says}
-use Rattle.spec.specs.RefusalTable.{Written, Untouched, Cleared, Has-text, dictionary-rows, build-rows, index-rows, reception-rows, recovery-rows, find-rows, Decides}
+use Rattle.spec.specs.Calls.{Admit-says, Build-says, Receive-says, Recover-says, Search-says, Cut-says, First-says, Tally-says}
+use Rattle.spec.specs.RefusalTable.{Written, Untouched, Cleared, Has-text, dictionary-rows, build-rows, index-rows, reception-rows, recovery-rows, string-rows, find-rows, Decides}
 use Rattle.spec.specs.ProgramDemand.{Answered}
 use Rattle.spec.specs.declared.Answer.{Answer}
+use Rattle.spec.specs.declared.FirstAnswer.{FirstAnswer}
 use Rattle.spec.specs.declared.TallyAnswer.{TallyAnswer}
 
 -- THE FIRST DEMAND: "Every operation accepts exactly the inputs that no line of the refusal table meets and ends with the stated
@@ -50,6 +52,9 @@ pub record First-demand : Type 0 where
       (cs ls xs s : List ℕ) (r : Answer) (o z : List ℕ) → Cut-says cs ls xs s r o z →
       let kept = cut-down (lexicon cs ls) xs s in
       Decides (find-rows cs ls xs s kept o) (r .refusal) (Written kept r o z) (Untouched r o z)
+  pub firsts :
+      (cs ls xs s : List ℕ) (r : FirstAnswer) → First-says cs ls xs s r →
+      Decides (string-rows cs ls xs s) (r .refusal) (r .position ≡ first-position (lexicon cs ls) xs s) (r .position ≡ 0)
   pub tallies :
       (cs ls xs : List ℕ) (r : TallyAnswer) → Tally-says cs ls xs r →
       Decides (index-rows cs ls xs) (r .refusal)
@@ -105,12 +110,18 @@ Found-for cs ls xs ts s =
     (r : Answer) (o z : List ℕ) → length (places s ts) ≤ length o → Search-says cs ls xs s r o z →
     (r .refusal ≡ 0) × Written (places s ts) r o z × Exactly-places s ts (take (r .count) z)
 
--- Every call of cut for s with enough output accepts, and writes the cut-down index, whose searches for s answer in the same way.
+-- Every call of first for s accepts, and answers the first position at which s stands in ts, 0 if it stands nowhere.
+abbrev pub First-for : (chars lengths index text string : List ℕ) → Type 0
+First-for cs ls xs ts s =
+    (r : FirstAnswer) → First-says cs ls xs s r → (r .refusal ≡ 0) × First-stands s ts (r .position)
+
+-- Every call of cut for s with enough output accepts, and writes the cut-down index, whose searches for s, and first, answer in the same
+-- way.
 abbrev pub Cut-for : (chars lengths index text string : List ℕ) → Type 0
 Cut-for cs ls xs ts s =
     let kept = cut-down (lexicon cs ls) xs s in
     (r : Answer) (o z : List ℕ) → length kept ≤ length o → Cut-says cs ls xs s r o z →
-    (r .refusal ≡ 0) × Written kept r o z × Found-for cs ls (take (r .count) z) ts s
+    (r .refusal ≡ 0) × Written kept r o z × Found-for cs ls (take (r .count) z) ts s × First-for cs ls (take (r .count) z) ts s
 
 -- What is had of numbers xs that text ts has as its index. `accepted-cut` asks nothing of the output: that the call answered 0 is
 -- enough.
@@ -119,10 +130,11 @@ pub record Delivered (cs ls xs ts : List ℕ) : Type 0 where
   pub only-text : (us : List ℕ) → Text-of longest-text (lexicon cs ls) xs us → us ≡ ts
   pub is-recovered : Recovered-for cs ls xs ts
   pub searched : (s : List ℕ) → Query s → Found-for cs ls xs ts s
+  pub first : (s : List ℕ) → Query s → First-for cs ls xs ts s
   pub cut : (s : List ℕ) → Query s → Cut-for cs ls xs ts s
   pub accepted-cut :
       (s : List ℕ) → Query s → (r : Answer) (o z : List ℕ) → Cut-says cs ls xs s r o z → r .refusal ≡ 0 →
-      Found-for cs ls (take (r .count) z) ts s
+      Found-for cs ls (take (r .count) z) ts s × First-for cs ls (take (r .count) z) ts s
 
 -- Reception, called with enough work space, accepts exactly if the dictionary is admitted and some text has the numbers; then they
 -- are readable, and everything is had of them.
