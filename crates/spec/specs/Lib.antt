@@ -22,4 +22,5 @@ pub mod ProgramDemand
 pub mod Demands
 pub mod Models
 pub mod Examples
+pub mod FirstExamples
 pub mod JobExamples
