@@ -145,7 +145,7 @@ pub record Examples : Type 0 where
   pub tried : Tried
 
 -- in a text of no characters a string of at least one has no place to lie
-no-place : (m : ℕ) → 1 - suc m ≡ 0
+pub no-place : (m : ℕ) → 1 - suc m ≡ 0
 no-place m = omega arith
 
 pub examples : Examples

@@ -1,20 +1,19 @@
 -- The first found position and the index up to a position, tried on examples, each row proved by computation. Assumes nothing.
 use mathlib.Core.Path.{_≡_, refl}
-use mathlib.Core.Bool.{true}
+use mathlib.Core.Bool.{true, false}
 use mathlib.Core.List.{List, [], _∷_}
-use Prim.Native.Nat.{ℕ, suc, _-_}
-use native.Mathlib.Omega.{arith}
+use Prim.Native.Nat.{ℕ}
 use lib.ListN.{length, replicate}
 use Rattle.spec.specs.Dictionary.{longest-text, lexicon, dictionary-refusal, is-char, words-from, total, too-large, length-good, lengths-good, lengths-wrong, word-before, ascend, disordered}
 use Rattle.spec.specs.Words.{key, same, listed, is-word, spells, stands, entry, contains, same-key, same-entry, key-entries, word-entries, lone-entries, complete, in-another, maximal, entries}
 use Rattle.spec.specs.Numbers.{index-of, key-before, entry-before, into, sorted, line, with-entry, lines-of, directory, positions, numbers}
 use Rattle.spec.specs.Index.{entries-of, readable, counts-from, lines-from, lines-in, kinds-good, key-good, keys-ascend, rise-from, last-of, line-good, lines-good, lengths-fit}
-use Rattle.spec.specs.Reception.{lies-on}
+use Rattle.spec.specs.Reception.{lies-on, shown-by, or-shown, shown, char-or, recovered-from, recovered, received}
 use Rattle.spec.specs.Search.{find, overlaps, equal-from, agrees, covers, covered, all-covered, found-from}
 use Rattle.spec.specs.First.{first-of, first-position, positions-to, with-line, lines-to, index-to}
 use Rattle.spec.specs.Cut.{bears, cut-down, lies-from, lies-in, joins-from, joins, bearing}
 use Rattle.spec.specs.Calls.{string-wrong, index-refusal, string-refusal, unreadable, or-else}
-use Rattle.spec.specs.Examples.{a, b, c, d, x, A-chars, A-lengths, A, B, abcdab, axa, two-lone}
+use Rattle.spec.specs.Examples.{a, b, c, d, x, A-chars, A-lengths, A, B, abcdab, axa, two-lone, no-place}
 
 -- word bcd and lone c at 1, lone d at 2 of three characters: no text has it
 abbrev pub bcd-and-lone : List ℕ
@@ -46,6 +45,7 @@ pub record First-tried : Type 0 where
   pub one-less-none : first-position A (index-to 1 (index-of A axa)) (a ∷ x ∷ []) ≡ 0
   pub one-less-later :
       (readable longest-text A bcd-and-lone ≡ true)
+      × (received longest-text A bcd-and-lone ≡ false)
       × (first-position A (index-to 2 bcd-and-lone) (c ∷ d ∷ []) ≡ 1)
       × (first-position A (index-to 1 bcd-and-lone) (c ∷ d ∷ []) ≡ 2)
   -- REFUSALS: 5 before 6, and a string of 1 to 256 characters
@@ -54,12 +54,8 @@ pub record First-tried : Type 0 where
   pub refuses-empty : string-refusal A-chars A-lengths two-lone [] ≡ 6
   pub five-first : string-refusal A-chars A-lengths [] [] ≡ 5
 
--- in a text of no characters a string of at least one has no position to lie at
-no-start : (m : ℕ) → 1 - suc m ≡ 0
-no-start m = omega arith
-
 pub first-tried : First-tried
-unfolding is-char words-from lexicon total too-large length-good lengths-good lengths-wrong word-before ascend disordered dictionary-refusal key same listed is-word spells stands entry contains same-key same-entry key-entries word-entries lone-entries complete in-another maximal entries key-before entry-before into sorted line with-entry lines-of directory positions numbers index-of counts-from entries-of lines-from lines-in kinds-good key-good keys-ascend rise-from last-of line-good lines-good lengths-fit readable lies-on overlaps equal-from agrees covers covered all-covered found-from find first-of first-position positions-to with-line lines-to index-to lies-from lies-in joins-from joins bears bearing cut-down string-wrong unreadable or-else index-refusal string-refusal
+unfolding is-char words-from lexicon total too-large length-good lengths-good lengths-wrong word-before ascend disordered dictionary-refusal key same listed is-word spells stands entry contains same-key same-entry key-entries word-entries lone-entries complete in-another maximal entries key-before entry-before into sorted line with-entry lines-of directory positions numbers index-of counts-from entries-of lines-from lines-in kinds-good key-good keys-ascend rise-from last-of line-good lines-good lengths-fit readable lies-on shown-by or-shown shown char-or recovered-from recovered received overlaps equal-from agrees covers covered all-covered found-from find first-of first-position positions-to with-line lines-to index-to lies-from lies-in joins-from joins bears bearing cut-down string-wrong unreadable or-else index-refusal string-refusal
 first-tried =
     record {
       of-two = refl;
@@ -69,7 +65,7 @@ first-tried =
       at-the-end = refl;
       none = refl;
       longer-string = refl;
-      empty-text = λ h s. rw (no-start (length s));
+      empty-text = λ h s. rw (no-place (length s));
       no-text = refl;
       no-text-later = refl;
       cut-down-end = refl;
@@ -81,7 +77,7 @@ first-tried =
       stops = refl;
       stops-at-last = refl;
       one-less-none = refl;
-      one-less-later = (refl, refl, refl);
+      one-less-later = (refl, refl, refl, refl);
       accepts-256 = refl;
       refuses-257 = refl;
       refuses-empty = refl;
