@@ -38,7 +38,7 @@ pub record First-tried : Type 0 where
   pub all-dropped : index-to 0 (index-of A abcdab) ≡ 6 ∷ 0 ∷ []
   pub none-dropped : index-to 5 (index-of A abcdab) ≡ index-of A abcdab
   pub dropped-readable : readable longest-text A (index-to 2 (index-of A abcdab)) ≡ true
-  -- WHERE A READER MAY STOP: ab is found at 1 and needs entries to 2, the string a x of axa too
+  -- WHERE A READER MAY STOP: ab in abcdab and ax in axa are found at 1, with m = 2: entries to 2 are enough
   pub stops : first-position A (index-to 2 (index-of A abcdab)) (a ∷ b ∷ []) ≡ 1
   pub stops-at-last : first-position A (index-to 2 (index-of A axa)) (a ∷ x ∷ []) ≡ 1
   -- one less and nothing is found, or, in an index that no text has, a later position
