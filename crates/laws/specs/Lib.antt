@@ -110,6 +110,7 @@ pub mod Raising
 pub mod Halving
 pub mod Ranging
 pub mod Narrowing
+pub mod FrontLines
 pub mod WordLines
 pub mod Finding
 pub mod Sizing

@@ -4,7 +4,7 @@ use mathlib.Core.Path.{_≡_, sym, ap, _∙_}
 use mathlib.Core.Bool.{true, false}
 use mathlib.Core.Logic.{⊎-elim}
 use mathlib.Core.List.{List, [], _∷_}
-use Prim.Native.Nat.{ℕ, zero, suc, _+_, _*_, _≤_, _<_}
+use Prim.Native.Nat.{ℕ, zero, suc, _+_, _*_, _-_, _≤_, _<_}
 use native.Mathlib.Nat.{add-zero}
 use native.Mathlib.Omega.{arith}
 use lib.ListN.{length, getD, drop}
@@ -108,6 +108,28 @@ module _ (cs ls xs : List ℕ) (can : Can-read cs ls xs) where
         rw (spells-word (lexicon cs ls) (key-at xs i) p, spells-word (lexicon cs ls) (key-at xs j) q)
         (ascend-get (lexicon cs ls .words) (can .words-rise) (value-at xs i) (value-at xs j) (values-before i j h r (p ∙ sym q))
         (omega (arith, word-below cs ls xs can j r q, length-words ls cs)))
+
+    value-least : (i : ℕ) → i < w → i ≤ value-at xs i
+    value-least zero b = omega arith
+    value-least (suc i) b =
+        omega (
+          arith,
+          value-least i (omega arith),
+          values-before i (suc i) (omega arith) (omega (arith, split .within)) (split .words i (omega arith) ∙ sym (split .words (suc i) b)),
+        )
+
+    -- no more than the dictionary has words
+    pub word-lines-few : w ≤ 4096
+    word-lines-few = ⊎-elim (λ (none : w ≤ 0). omega arith) (λ (some : 0 < w). last some) (le-or-lt w 0)
+      where
+        last : 0 < w → w ≤ 4096
+        last some =
+            omega (
+              arith,
+              value-least (w - 1) (omega arith),
+              word-below cs ls xs can (w - 1) (omega (arith, split .within)) (split .words (w - 1) (omega arith)),
+              can .few-words,
+            )
 
     -- LONE CHARACTERS
 
