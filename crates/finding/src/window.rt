@@ -1,14 +1,18 @@
 // The positions found in a window of starts: raised, counted, and written once their number is known to fit.
 ghost use mathlib.Core.Path.{_≡_};
-ghost use Prim.Native.Nat.{_+_, _≤_};
+ghost use Prim.Native.Nat.{_+_, _-_, _≤_};
 ghost use lib.ListN.{length, replicate};
 ghost use Rattle.spec.specs.Dictionary.{lexicon};
+ghost use Rattle.spec.specs.Index.{lines-in};
 ghost use Rattle.laws.specs.Tables.{Opened};
-ghost use Rattle.laws.specs.Window.{found-in};
+ghost use Rattle.laws.specs.Window.{Within, Reaches, found-in};
+ghost use Rattle.laws.specs.WindowSearch.{first-all, stages-all};
 ghost use Rattle.laws.specs.Sizing.{Is-string, Sized};
 ghost use Rattle.laws.specs.Searching.{Window-says};
 use crate::finding::count_found;
 use crate::finding::write_found;
+use directory::narrowing::words_end;
+use reaching::fronts::fill_fronts;
 use reaching::window::raise_window;
 use spec::Answer;
 
@@ -28,6 +32,37 @@ pub fn answer_window(reach: &[u16], long: usize, first: usize, output: &mut [u16
     Answer { refusal: 0, count }
 }
 
+// Raises a window by every key at every offset. The list of lines that this takes is written to room that is lent.
+fn raise_listing<'a>(
+    chars: &'a [u16],
+    lengths: &[u16],
+    index: &'a [u16],
+    words: &[u16],
+    lists: &[u32],
+    string: &[u16],
+    lines: &mut [u16],
+    first: usize,
+    reach: &mut [u16],
+) -> usize
+    requires { ⌜ Opened (now chars) (now lengths) (now index) (now words) (now lists) × Is-string (now string) × (4096 ≤ length (now lines)) × (first ≤ 65536) × Within 0 (now reach) ⌝ }
+    ensures { λ r. ⌜ Reaches (stages-all (length (now (string .entry)) - 1) 1 (lexicon (now (chars .entry)) (now (lengths .entry))) (lines-in (now (index .entry))) (now (string .entry)) first (first-all (lexicon (now (chars .entry)) (now (lengths .entry))) (lines-in (now (index .entry))) (now (string .entry)) first (now (reach .entry)))) (now (reach .exit)) r ⌝ }
+{
+    let ends = words_end(index);
+    let count = fill_fronts(chars, lengths, index, words, string, ends, lines);
+    raise_window(
+        chars,
+        lengths,
+        index,
+        words,
+        lists,
+        string,
+        ends,
+        &lines[..count],
+        first,
+        reach,
+    )
+}
+
 // Searches the starts of a cleared window.
 pub fn search_window<'a>(
     chars: &'a [u16],
@@ -43,7 +78,18 @@ pub fn search_window<'a>(
     requires { ⌜ Opened (now chars) (now lengths) (now index) (now words) (now lists) × Is-string (now string) × (first + length (now reach) ≤ 65536) × (now reach ≡ replicate (length (now reach)) 0) ⌝ }
     ensures { λ r. ⌜ Window-says (lexicon (now (chars .entry)) (now (lengths .entry))) (now (index .entry)) (now (string .entry)) (length (now (reach .entry))) first r (now (output .entry)) (now (output .exit)) ⌝ }
 {
-    let most = raise_window(chars, lengths, index, words, lists, string, first, reach);
+    let mut lines = [0u16; 4096];
+    let most = raise_listing(
+        chars,
+        lengths,
+        index,
+        words,
+        lists,
+        string,
+        &mut lines,
+        first,
+        reach,
+    );
     let long = string.len();
     if most < long {
         return Answer {

@@ -144,6 +144,10 @@ module _ (lex : Lexicon) (xs s : List ℕ) where
       let m = those-from-get w 0 (is-front lex xs s) (getD listed j 0) (in-getD listed j 0 (omega (arith, ap length e))) in
       rw e (omega (arith, m .1))
 
+  pub front-short : (w : ℕ) → length (front-lines lex xs s w) ≤ w
+  unfolding front-lines
+  front-short w = those-short w 0 (is-front lex xs s)
+
 -- WALKING A LIST OF LINES
 
 -- the steps of the first j listed numbers are done, `rs` stands where `old` stood, and no reach is above `top`
@@ -179,9 +183,7 @@ Fronts lex xs s w old now count i = Writing (front-lines lex xs s w) old now (th
 module _ (lex : Lexicon) (xs s : List ℕ) (w : ℕ) (old : List ℕ) where
   pub fronts-start : w ≤ length old → Fronts lex xs s w old old 0 0
   unfolding front-lines
-  fronts-start room =
-      rw (sub-zero w)
-      (starts old (those-from w 0 (is-front lex xs s)) 0 (omega (arith, those-short w 0 (is-front lex xs s))))
+  fronts-start room = rw (sub-zero w) (starts old (front-lines lex xs s w) 0 (omega (arith, front-short lex xs s w)))
 
   module _ (now : List ℕ) (count i : ℕ) (h : Fronts lex xs s w old now count i) where
     module _ (some : i < w) where

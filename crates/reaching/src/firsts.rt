@@ -1,13 +1,16 @@
-// The first stage: every key at each offset at which it does not start after the string.
+// The first stage: every key at each offset at which it does not start after the string. Of the lines of words, those listed are
+// walked: the others do not agree there.
+ghost use mathlib.Core.Path.{_≡_};
 ghost use Prim.Native.Nat.{_≤_};
 ghost use lib.ListN.{length};
 ghost use Rattle.spec.specs.Dictionary.{lexicon};
-ghost use Rattle.spec.specs.Index.{keys-of, lines-in};
+ghost use Rattle.spec.specs.Index.{lines-in};
 ghost use Rattle.laws.specs.Window.{Within, Reaches};
 ghost use Rattle.laws.specs.WindowSearch.{back-all, first-all};
 ghost use Rattle.laws.specs.Tables.{Opened};
-ghost use Rattle.laws.specs.Ranging.{run, first-at};
+ghost use Rattle.laws.specs.Ranging.{first-at};
 ghost use Rattle.laws.specs.Narrowing.{Split};
+ghost use Rattle.laws.specs.FrontLines.{Has-lines, front-lines, run-list};
 use crate::lines::raise_lone;
 use crate::marking::raise_key;
 use directory::lines::key_of;
@@ -37,7 +40,7 @@ fn raise_back(
     top
 }
 
-// The same by the first `ends` lines.
+// The same by the listed lines.
 fn raise_words_back<'a>(
     chars: &'a [u16],
     lengths: &[u16],
@@ -45,21 +48,22 @@ fn raise_words_back<'a>(
     words: &[u16],
     lists: &[u32],
     string: &[u16],
-    ends: usize,
+    lines: &[u16],
     first: usize,
     reach: &mut [u16],
     most: usize,
 ) -> usize
-    requires { ⌜ Opened (now chars) (now lengths) (now index) (now words) (now lists) × (ends ≤ keys-of (now index)) × (1 ≤ length (now string)) × (first ≤ 65536) × Within most (now reach) ⌝ }
-    ensures { λ r. ⌜ Reaches (run (first-at (lexicon (now (chars .entry)) (now (lengths .entry))) (now (index .entry)) (now (string .entry)) first) 0 ends (now (reach .entry))) (now (reach .exit)) r ⌝ }
+    requires { ⌜ Opened (now chars) (now lengths) (now index) (now words) (now lists) × Has-lines (now index) (now lines) × (1 ≤ length (now string)) × (first ≤ 65536) × Within most (now reach) ⌝ }
+    ensures { λ r. ⌜ Reaches (run-list (first-at (lexicon (now (chars .entry)) (now (lengths .entry))) (now (index .entry)) (now (string .entry)) first) (now (lines .entry)) (now (reach .entry))) (now (reach .exit)) r ⌝ }
 {
     let mut top = most;
-    let mut line = 0;
-    while line < ends {
+    let mut i = 0;
+    while i < lines.len() {
+        let line = lines[i] as usize;
         let key = key_of(chars, lengths, index, words, line);
         let places = places_of(index, lists, line);
         top = raise_back(key, string, places, first, reach, top);
-        line += 1;
+        i += 1;
     }
     top
 }
@@ -73,11 +77,12 @@ pub(crate) fn raise_firsts<'a>(
     lists: &[u32],
     string: &[u16],
     ends: usize,
+    lines: &[u16],
     first: usize,
     reach: &mut [u16],
     most: usize,
 ) -> usize
-    requires { ⌜ Opened (now chars) (now lengths) (now index) (now words) (now lists) × Split (now index) ends × (1 ≤ length (now string)) × (length (now string) ≤ 256) × (first ≤ 65536) × Within most (now reach) ⌝ }
+    requires { ⌜ Opened (now chars) (now lengths) (now index) (now words) (now lists) × Split (now index) ends × (now lines ≡ front-lines (lexicon (now chars) (now lengths)) (now index) (now string) ends) × (1 ≤ length (now string)) × (length (now string) ≤ 256) × (first ≤ 65536) × Within most (now reach) ⌝ }
     ensures { λ r. ⌜ Reaches (first-all (lexicon (now (chars .entry)) (now (lengths .entry))) (lines-in (now (index .entry))) (now (string .entry)) first (now (reach .entry))) (now (reach .exit)) r ⌝ }
 {
     let top = raise_words_back(
@@ -87,7 +92,7 @@ pub(crate) fn raise_firsts<'a>(
         words,
         lists,
         string,
-        ends,
+        lines,
         first,
         reach,
         most,

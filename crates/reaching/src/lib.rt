@@ -2,6 +2,7 @@
 //
 // First come the offsets at which a key does not start after the string, then the others in rising order.
 mod firsts;
+pub mod fronts;
 mod lines;
 mod marking;
 mod stages;

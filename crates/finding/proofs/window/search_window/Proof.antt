@@ -9,21 +9,24 @@ use borrow.Author.Needs.{needs}
 use Rattle.finding.proofs.window.search_window.Statement.{statement}
 use Rattle.finding.proofs.window.search_window.Tie as tie
 
-raise-window-requires : tie.Need-raise-window-requires
-raise-window-requires c κs =
-    let s = c .before .before .before .before .before .before .before .before .before in
-    (s .pre .0, s .pre .1 .some, s .pre .1 .short, omega (arith, s .pre .2), cleared-within (length (s .args .reach .now)) (s .args .reach .now) (s .pre .3))
+slice-aggregate-raise-listing : tie.Need-slice-aggregate-raise-listing
+slice-aggregate-raise-listing c = search needs
+
+raise-listing-requires : tie.Need-raise-listing-requires
+raise-listing-requires c κs =
+    let s = c .before .before .before .before .before .before .before .before .before .before in
+    (s .pre .0, s .pre .1, omega arith, omega (arith, s .pre .2), cleared-within (length (s .args .reach .now)) (s .args .reach .now) (s .pre .3))
 
 same-length : tie.Need-same-length
 same-length c = search needs
 
 returns : tie.Need-returns
 returns c =
-    let s = c .before .before .before .before .before .before .before .before .before .before .before .before .before in
+    let s = c .before .before .before .before .before .before .before .before .before .before .before .before .before .before .before in
     let a = s .args in
-    let window = c .before .before .before .raise-window in
+    let window = c .before .before .before .before .raise-listing in
     says-none (lexicon (a .chars .now) (a .lengths .now)) (a .index .now) (a .string .now) (length (a .reach .now)) (a .first) (a .output .now)
-    (window .last .1 .1 .1 .1 .1 .1 .1 .0) (window .result) (a .reach .now) (s .pre .3) (window .ensures) (c .if1 .taken) (record { refusal = 0; count = 0 }) refl refl
+    (window .last .1 .1 .1 .1 .1 .1 .1 .1 .0) (window .result) (a .reach .now) (s .pre .3) (window .ensures) (c .if1 .taken) (record { refusal = 0; count = 0 }) refl refl
 
 answer-window-requires : tie.Need-answer-window-requires
 answer-window-requires c κs = search needs
@@ -36,18 +39,19 @@ same-length-3 c = search needs
 
 returns-2 : tie.Need-returns-2
 returns-2 c =
-    let s = c .before .before .before .before .before .before .before .before .before .before .before .before .before .before .before .before .before .before in
+    let s = c .before .before .before .before .before .before .before .before .before .before .before .before .before .before .before .before .before .before .before .before in
     let a = s .args in
-    let window = c .before .before .before .before .before .before .before .before .raise-window in
+    let window = c .before .before .before .before .before .before .before .before .before .raise-listing in
     let answered = c .before .before .answer-window in
     says-answered (lexicon (a .chars .now) (a .lengths .now)) (a .index .now) (a .string .now) (length (a .reach .now)) (a .first) (a .output .now)
-    (window .last .1 .1 .1 .1 .1 .1 .1 .0) (window .result) (a .reach .now) (s .pre .3) (window .ensures) (answered .result) (answered .last .1 .1 .1 .0) (answered .ensures)
+    (window .last .1 .1 .1 .1 .1 .1 .1 .1 .0) (window .result) (a .reach .now) (s .pre .3) (window .ensures) (answered .result) (answered .last .1 .1 .1 .0) (answered .ensures)
 
 pub search-window-spec : {M : Type 1} → statement M
 search-window-spec =
     tie.close
     (tie.spec
-    raise-window-requires
+    slice-aggregate-raise-listing
+    raise-listing-requires
     same-length
     returns
     answer-window-requires

@@ -1,74 +1,86 @@
--- `raise_words_back` meets its contract. The invariant: the lines before `line` are done. The measure is how many are left. Assumes nothing.
+-- `raise_words_back` meets its contract. The invariant: the first i listed lines are done. The measure is how many are left. Assumes
+-- nothing.
 use Prim.Native.Nat.{_-_}
 use native.Mathlib.Omega.{arith}
 use borrow.Author.Needs.{needs}
+use lib.ListN.{length, getD}
 use Rattle.spec.specs.Dictionary.{lexicon}
 use Rattle.laws.specs.Tables.{spelt-short}
-use Rattle.laws.specs.Ranging.{Left, left-start, left-step, left-end, first-at, first-done}
+use Rattle.laws.specs.Ranging.{first-at, first-done}
+use Rattle.laws.specs.FrontLines.{Listed, listed-start, listed-step, listed-end}
 use Rattle.reaching.proofs.firsts.raise_words_back.Statement.{statement}
 use Rattle.reaching.proofs.firsts.raise_words_back.Tie as tie
 
 abbrev Inv-loop : tie.InvT-loop
-Inv-loop chars lengths index words lists string ends first reach₀ most top₀ line₀ reach top line =
-    Left (first-at (lexicon chars lengths) index string first) 0 ends reach₀ reach top line ends
+Inv-loop chars lengths index words lists string lines first reach₀ most top₀ i₀ reach top i =
+    Listed (first-at (lexicon chars lengths) index string first) lines reach₀ reach top i
 
 abbrev μ-loop : tie.MeasureT-loop
-μ-loop chars lengths index words lists string ends first reach₀ most top₀ line₀ reach top line = ends - line
+μ-loop chars lengths index words lists string lines first reach₀ most top₀ i₀ reach top i = length lines - i
 
 loop-holds : tie.Need-loop-holds Inv-loop μ-loop
 loop-holds c =
-    let s = c .before .before .before .before .before .before .before in
+    let s = c .before .before .before .before .before .before .before .before in
     let a = s .args in
-    left-start (first-at (lexicon (a .chars .now) (a .lengths .now)) (a .index .now) (a .string .now) (a .first)) 0 (a .ends) (a .reach .now) (a .most) (s .pre .4)
+    listed-start (first-at (lexicon (a .chars .now) (a .lengths .now)) (a .index .now) (a .string .now) (a .first)) (a .lines .now) (a .reach .now) (a .most) (s .pre .4)
+
+mul-line : tie.Need-mul-line Inv-loop μ-loop
+mul-line c = search needs
+
+shared-slice-read-line : tie.Need-shared-slice-read-line Inv-loop μ-loop
+shared-slice-read-line c = c .before .loop-test .taken
+
+cast-line : tie.Need-cast-line Inv-loop μ-loop
+cast-line c = omega (arith, c .shared-slice-known8 .given (c .before .before .loop .i))
 
 key-of-requires : tie.Need-key-of-requires Inv-loop μ-loop
 key-of-requires c κs =
-    let s = c .before .before .before .before .before .before .before .before .before in
-    (s .pre .0 .can, s .pre .0 .words, omega (arith, c .loop-test .taken, s .pre .1))
+    let s = c .before .before .before .before .before .before .before .before .before .before .before in
+    (s .pre .0 .can, s .pre .0 .words, s .pre .1 (c .before .before .loop .i) (c .before .loop-test .taken))
 
 places-of-requires : tie.Need-places-of-requires Inv-loop μ-loop
 places-of-requires c κs =
-    let s = c .before .before .before .before .before .before .before .before .before .before in
-    (s .pre .0 .can .fits, s .pre .0 .lists, omega (arith, c .before .loop-test .taken, s .pre .1))
+    let s = c .before .before .before .before .before .before .before .before .before .before .before .before in
+    (s .pre .0 .can .fits, s .pre .0 .lists, s .pre .1 (c .before .before .before .loop .i) (c .before .before .loop-test .taken))
 
 raise-back-requires : tie.Need-raise-back-requires Inv-loop μ-loop
 raise-back-requires c κs =
-    let s = c .before .before .before .before .before .before .before .before .before .before .before .before in
-    let a = s .args in (
-      spelt-short (a .chars .now) (a .lengths .now) (a .index .now) (s .pre .0 .can) (c .before .before .before .before .loop .line)
-          (omega (arith, c .before .before .before .loop-test .taken, s .pre .1)) (c .before .before .key-of .result .now) (c .before .before .key-of .ensures),
+    let s = c .before .before .before .before .before .before .before .before .before .before .before .before .before .before in
+    let a = s .args in
+    let l = c .before .before .before .before .before .loop in (
+      spelt-short (a .chars .now) (a .lengths .now) (a .index .now) (s .pre .0 .can) (getD (a .lines .now) (l .i) 0)
+          (s .pre .1 (l .i) (c .before .before .before .before .loop-test .taken)) (c .before .before .key-of .result .now) (c .before .before .key-of .ensures),
       s .pre .2,
       s .pre .3,
-      c .before .before .before .before .loop .inv .bounded,
+      l .inv .bounded,
     )
 
-add-line : tie.Need-add-line Inv-loop μ-loop
-add-line c =
-    let s = c .before .before .before .before .before .before .before .before .before .before .before .before .before .before .before in
-    omega (arith, c .before .before .before .before .before .before .loop-test .taken, s .pre .1, s .pre .0 .can .keys-small)
+add-i : tie.Need-add-i Inv-loop μ-loop
+add-i c = omega (arith, c .before .before .before .before .before .before .before .loop-test .taken, c .before .before .before .before .before .before .before .before .before .before .before .before .before .before .before .before .before .good)
 
 loop-less : tie.Need-loop-less Inv-loop μ-loop
 loop-less c = search needs
 
 loop-again : tie.Need-loop-again Inv-loop μ-loop
 loop-again c =
-    let s = c .before .before .before .before .before .before .before .before .before .before .before .before .before .before .before in
+    let s = c .before .before .before .before .before .before .before .before .before .before .before .before .before .before .before .before .before in
     let a = s .args in
-    let l = c .before .before .before .before .before .before .before .loop in
-    left-step (first-at (lexicon (a .chars .now) (a .lengths .now)) (a .index .now) (a .string .now) (a .first)) 0 (a .ends) (a .reach .now) (l .reach) (l .top) (l .line) (a .ends) (l .inv) (c .before .before .before .before .before .before .loop-test .taken)
-    (c .before .before .raise-back .last .1 .1 .1 .1 .0) (c .before .before .raise-back .result) (c .before .before .raise-back .kept .1 .1 .1 .1 .0)
-    (first-done (lexicon (a .chars .now) (a .lengths .now)) (a .index .now) (a .string .now) (a .first) (l .line)
+    let l = c .before .before .before .before .before .before .before .before .loop in
+    let raised = c .before .before .raise-back in
+    listed-step (first-at (lexicon (a .chars .now) (a .lengths .now)) (a .index .now) (a .string .now) (a .first)) (a .lines .now) (a .reach .now) (l .reach) (l .top) (l .i) (l .inv)
+    (c .before .before .before .before .before .before .before .loop-test .taken) (raised .last .1 .1 .1 .1 .0) (raised .result) (raised .kept .1 .1 .1 .1 .0)
+    (first-done (lexicon (a .chars .now) (a .lengths .now)) (a .index .now) (a .string .now) (a .first) (getD (a .lines .now) (l .i) 0)
     (c .before .before .before .before .before .key-of .result .now) (c .before .before .before .before .places-of .result .now) (c .before .before .before .before .before .key-of .ensures) (c .before .before .before .before .places-of .ensures) (l .reach)
-    (c .before .before .raise-back .last .1 .1 .1 .1 .0) (c .before .before .raise-back .result) (c .before .before .raise-back .ensures))
+    (raised .last .1 .1 .1 .1 .0) (raised .result) (raised .ensures))
 
 same-length : tie.Need-same-length Inv-loop μ-loop
 same-length c = c .before .loop .inv .long
 
 returns : tie.Need-returns Inv-loop μ-loop
 returns c =
-    let a = c .before .before .before .before .before .before .before .before .before .args in
+    let a = c .before .before .before .before .before .before .before .before .before .before .args in
     let l = c .before .loop in
-    left-end (first-at (lexicon (a .chars .now) (a .lengths .now)) (a .index .now) (a .string .now) (a .first)) 0 (a .ends) (a .reach .now) (l .reach) (l .top) (l .line) (a .ends) (l .inv) (c .loop-test .left)
+    listed-end (first-at (lexicon (a .chars .now) (a .lengths .now)) (a .index .now) (a .string .now) (a .first)) (a .lines .now) (a .reach .now) (l .reach) (l .top) (l .i) (l .inv) (c .loop-test .left)
 
 pub raise-words-back-spec : {M : Type 1} → statement M
 raise-words-back-spec =
@@ -77,10 +89,13 @@ raise-words-back-spec =
     Inv-loop
     μ-loop
     loop-holds
+    mul-line
+    shared-slice-read-line
+    cast-line
     key-of-requires
     places-of-requires
     raise-back-requires
-    add-line
+    add-i
     loop-less
     loop-again
     same-length

@@ -2,42 +2,28 @@
 use Rattle.spec.specs.Dictionary.{lexicon}
 use Rattle.spec.specs.Index.{lines-in}
 use Rattle.laws.specs.Raising.{stages-after}
-use Rattle.laws.specs.Narrowing.{kinds-rise, split-found}
 use borrow.Author.Needs.{needs}
 use Rattle.reaching.proofs.window.raise_window.Statement.{statement}
 use Rattle.reaching.proofs.window.raise_window.Tie as tie
 
-words-end-requires : tie.Need-words-end-requires
-words-end-requires c κs =
-    let s = c .before .before .before .before .before .before .before in
-    let a = s .args in
-    (s .pre .0 .can .fits, kinds-rise (a .chars .now) (a .lengths .now) (a .index .now) (s .pre .0 .can))
-
 raise-firsts-requires : tie.Need-raise-firsts-requires
-raise-firsts-requires c κs =
-    let s = c .before .before .before .before .before .before .before .before .before in
-    let a = s .args in
-    (s .pre .0, split-found (a .chars .now) (a .lengths .now) (a .index .now) (s .pre .0 .can) (c .before .words-end .result) (c .before .words-end .ensures), s .pre .1, s .pre .2, s .pre .3, s .pre .4)
+raise-firsts-requires c κs = search needs
 
 raise-stages-requires : tie.Need-raise-stages-requires
-raise-stages-requires c κs =
-    let s = c .before .before .before .before .before .before .before .before .before .before .before .before .before in
-    let a = s .args in
-    (s .pre .0, split-found (a .chars .now) (a .lengths .now) (a .index .now) (s .pre .0 .can) (c .before .before .before .before .before .words-end .result) (c .before .before .before .before .before .words-end .ensures), s .pre .1, s .pre .2, s .pre .3, c .before .before .before .raise-firsts .ensures .bounded)
+raise-stages-requires c κs = search needs
 
 same-length : tie.Need-same-length
 same-length c = search needs
 
 returns : tie.Need-returns
 returns c =
-    let s = c .before .before .before .before .before .before .before .before .before .before .before .before .before .before .before .before in
-    let a = s .args in
+    let a = c .before .before .before .before .before .before .before .before .before .before .before .before .before .before .before .before .args in
     let firsts = c .before .before .before .before .before .before .raise-firsts in
     let stages = c .before .before .raise-stages in
     stages-after (lexicon (a .chars .now) (a .lengths .now)) (lines-in (a .index .now)) (a .string .now) (a .first) (a .reach .now)
-    (firsts .last .1 .1 .1 .1 .1 .1 .1 .1 .0) (stages .last .1 .1 .1 .1 .1 .1 .1 .1 .0) (firsts .result) (stages .result) (firsts .ensures) (stages .ensures)
+    (firsts .last .1 .1 .1 .1 .1 .1 .1 .1 .1 .0) (stages .last .1 .1 .1 .1 .1 .1 .1 .1 .0) (firsts .result) (stages .result) (firsts .ensures) (stages .ensures)
 
 pub raise-window-spec : {M : Type 1} → statement M
 raise-window-spec =
     tie.close
-    (tie.spec words-end-requires raise-firsts-requires raise-stages-requires same-length returns)
+    (tie.spec raise-firsts-requires raise-stages-requires same-length returns)
