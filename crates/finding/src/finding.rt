@@ -3,8 +3,24 @@ ghost use mathlib.Core.Path.{_≡_};
 ghost use Prim.Native.Nat.{_+_, _≤_};
 ghost use lib.ListN.{length, drop};
 ghost use Rattle.spec.specs.Calls.{in-front};
+ghost use Rattle.spec.specs.First.{first-of};
 ghost use Rattle.laws.specs.Window.{found-in};
 ghost use Rattle.laws.specs.Finding.{count-in, Next-found};
+
+// The first start that reaches `long` and more, counted from `first`; 0 where none does.
+pub fn first_found(reach: &[u16], long: usize, first: usize) -> usize
+    requires { ⌜ first + length (now reach) ≤ 65536 ⌝ }
+    ensures { λ r. ⌜ r ≡ first-of (found-in long first (now (reach .entry))) ⌝ }
+{
+    let mut i = 0;
+    while i < reach.len() {
+        if long <= reach[i] as usize {
+            return first + i;
+        }
+        i += 1;
+    }
+    0
+}
 
 // How many starts reach `long` and more.
 pub(crate) fn count_found(reach: &[u16], long: usize) -> usize

@@ -9,10 +9,13 @@ ghost use Rattle.laws.specs.Window.{Within, Reaches, found-in};
 ghost use Rattle.laws.specs.WindowSearch.{first-all, stages-all};
 ghost use Rattle.laws.specs.Sizing.{Is-string, Sized};
 ghost use Rattle.laws.specs.Searching.{Window-says};
+ghost use Rattle.laws.specs.Narrowing.{Split};
+ghost use Rattle.laws.specs.FrontLines.{front-lines};
+ghost use Rattle.laws.specs.FirstFound.{First-in};
 use crate::finding::count_found;
+use crate::finding::first_found;
 use crate::finding::write_found;
-use directory::narrowing::words_end;
-use reaching::fronts::fill_fronts;
+use reaching::fronts::list_fronts;
 use reaching::window::raise_window;
 use spec::Answer;
 
@@ -47,8 +50,8 @@ fn raise_listing<'a>(
     requires { ⌜ Opened (now chars) (now lengths) (now index) (now words) (now lists) × Is-string (now string) × (4096 ≤ length (now lines)) × (first ≤ 65536) × Within 0 (now reach) ⌝ }
     ensures { λ r. ⌜ Reaches (stages-all (length (now (string .entry)) - 1) 1 (lexicon (now (chars .entry)) (now (lengths .entry))) (lines-in (now (index .entry))) (now (string .entry)) first (first-all (lexicon (now (chars .entry)) (now (lengths .entry))) (lines-in (now (index .entry))) (now (string .entry)) first (now (reach .entry)))) (now (reach .exit)) r ⌝ }
 {
-    let ends = words_end(index);
-    let count = fill_fronts(chars, lengths, index, words, string, ends, lines);
+    let fronts = list_fronts(chars, lengths, index, words, string, lines);
+    let count = fronts.count;
     raise_window(
         chars,
         lengths,
@@ -56,7 +59,7 @@ fn raise_listing<'a>(
         words,
         lists,
         string,
-        ends,
+        fronts.ends,
         &lines[..count],
         first,
         reach,
@@ -98,4 +101,39 @@ pub fn search_window<'a>(
         };
     }
     answer_window(reach, long, first, output)
+}
+
+// The first found of the starts of a cleared window; 0 where none is.
+pub fn first_in_window<'a>(
+    chars: &'a [u16],
+    lengths: &[u16],
+    index: &'a [u16],
+    words: &[u16],
+    lists: &[u32],
+    string: &[u16],
+    ends: usize,
+    lines: &[u16],
+    first: usize,
+    reach: &mut [u16],
+) -> usize
+    requires { ⌜ Opened (now chars) (now lengths) (now index) (now words) (now lists) × Is-string (now string) × Split (now index) ends × (now lines ≡ front-lines (lexicon (now chars) (now lengths)) (now index) (now string) ends) × (first + length (now reach) ≤ 65536) × (now reach ≡ replicate (length (now reach)) 0) ⌝ }
+    ensures { λ r. ⌜ First-in (lexicon (now (chars .entry)) (now (lengths .entry))) (now (index .entry)) (now (string .entry)) (length (now (reach .entry))) first r ⌝ }
+{
+    let most = raise_window(
+        chars,
+        lengths,
+        index,
+        words,
+        lists,
+        string,
+        ends,
+        lines,
+        first,
+        reach,
+    );
+    let long = string.len();
+    if most < long {
+        return 0;
+    }
+    first_found(reach, long, first)
 }

@@ -75,7 +75,7 @@ none-found m most q (r ∷ rs) w h =
 -- THE NEXT START
 
 -- the start at i is found or not, before those after it
-cut :
+pub cut :
     (m q : ℕ) (rs : List ℕ) (i : ℕ) → i < length rs →
     found-in m (q + i) (drop i rs)
     ≡ cond (leb m (getD rs i 0)) ((q + i) ∷ found-in m (q + (i + 1)) (drop (i + 1) rs))

@@ -146,3 +146,4 @@ pub mod JobParts
 pub mod AnswerLength
 pub mod StandingWalk
 pub mod PaintedSearch
+pub mod FirstFound

@@ -38,8 +38,8 @@ module _ (lex : Lexicon) (xs s : List ℕ) (n q : ℕ) (o : List ℕ) where
 
   module _ (rs : List ℕ) (most : ℕ) (old : List ℕ) (clear : old ≡ replicate n 0)
       (done : Reaches (stages-all (length s - 1) 1 lex (lines-in xs) s q (first-all lex (lines-in xs) s q old)) rs most) where
-    in-window : found-in (length s) q rs ≡ found
-    unfolding found
+    -- what the window shows is what the starts find
+    pub in-window : found-in (length s) q rs ≡ found-from n q lex (lines-in xs) s
     in-window =
         ap (found-in (length s) q)
         (done .is

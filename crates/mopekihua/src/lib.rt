@@ -5,8 +5,9 @@
 ghost use mathlib.Core.Path.{_≡_};
 ghost use mathlib.Core.Bool.{true};
 ghost use Rattle.spec.specs.Dictionary.{all-chars};
-ghost use Rattle.spec.specs.Calls.{Admit-says, Build-says, Cut-says, Receive-says, Recover-says, Search-says, Tally-says};
+ghost use Rattle.spec.specs.Calls.{Admit-says, Build-says, Cut-says, First-says, Receive-says, Recover-says, Search-says, Tally-says};
 use spec::Answer;
+use spec::FirstAnswer;
 use spec::TallyAnswer;
 
 // Admits a dictionary, lent as all characters run together and a list of lengths. Refusals 1, 2, 3; accepted it answers the number
@@ -78,6 +79,20 @@ pub extern "C" fn mopekihua_search<'a>(
     ensures { λ r. ⌜ Search-says (now (chars .entry)) (now (lengths .entry)) (now (index .entry)) (now (string .entry)) r (now (output .entry)) (now (output .exit)) ⌝ }
 {
     searcher::search::search_index(chars, lengths, index, string, output)
+}
+
+// The first position that a search for a string finds in an index, received or not; 0 where it finds none. Refusals 1, 2, 3, 5, 6. No
+// slice is written, so 8 cannot occur.
+#[no_mangle]
+pub extern "C" fn mopekihua_first<'a>(
+    chars: &'a [u16],
+    lengths: &'a [u16],
+    index: &'a [u16],
+    string: &'a [u16],
+) -> FirstAnswer
+    ensures { λ r. ⌜ First-says (now (chars .entry)) (now (lengths .entry)) (now (index .entry)) (now (string .entry)) r ⌝ }
+{
+    searcher::first::first_index(chars, lengths, index, string)
 }
 
 // Cuts an index down to the keys that bear on a string. Refusals 1, 2, 3, 5, 6, 8, which leave the output as it was; accepted it answers

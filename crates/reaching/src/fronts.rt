@@ -3,13 +3,15 @@
 // Which they are does not depend on the window: whoever searches several windows for one string lists them once.
 ghost use mathlib.Core.Path.{_≡_};
 ghost use Prim.Native.Nat.{_≤_};
-ghost use lib.ListN.{length};
+ghost use lib.ListN.{length, take};
 ghost use Rattle.spec.specs.Dictionary.{lexicon};
 ghost use Rattle.spec.specs.Index.{keys-of};
 ghost use Rattle.spec.specs.Calls.{in-front};
 ghost use Rattle.laws.specs.Tables.{Can-read, Word-starts};
+ghost use Rattle.laws.specs.Narrowing.{Split};
 ghost use Rattle.laws.specs.FrontLines.{agrees-in-front, front-lines};
 use directory::lines::key_of;
+use directory::narrowing::words_end;
 use postings::agreement::agrees_at;
 
 // Whether a key agrees with the string at an offset of 0 or below.
@@ -32,7 +34,7 @@ fn agrees_in_front(key: &[u16], string: &[u16]) -> bool
 }
 
 // Lists those of the first `ends` lines whose keys do, at the front of `lines`. Answers how many they are.
-pub fn fill_fronts<'a>(
+fn fill_fronts<'a>(
     chars: &'a [u16],
     lengths: &[u16],
     index: &'a [u16],
@@ -56,4 +58,27 @@ pub fn fill_fronts<'a>(
         }
     }
     count
+}
+
+// How many lines are those of words, and how many of these are listed.
+pub struct Fronts {
+    pub ends: usize,
+    pub count: usize,
+}
+
+// Lists all such lines at the front of `lines`: there are no more lines of words than words.
+pub fn list_fronts<'a>(
+    chars: &'a [u16],
+    lengths: &[u16],
+    index: &'a [u16],
+    words: &[u16],
+    string: &[u16],
+    lines: &mut [u16],
+) -> Fronts
+    requires { ⌜ Can-read (now chars) (now lengths) (now index) × Word-starts (now lengths) (length (now lengths)) (now words) × (1 ≤ length (now string)) × (4096 ≤ length (now lines)) ⌝ }
+    ensures { λ r. ⌜ Split (now (index .entry)) (r .ends) × (r .count ≤ length (now (lines .exit))) × (take (r .count) (now (lines .exit)) ≡ front-lines (lexicon (now (chars .entry)) (now (lengths .entry))) (now (index .entry)) (now (string .entry)) (r .ends)) ⌝ }
+{
+    let ends = words_end(index);
+    let count = fill_fronts(chars, lengths, index, words, string, ends, lines);
+    Fronts { ends, count }
 }

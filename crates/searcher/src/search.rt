@@ -153,7 +153,7 @@ fn search_starts<'a>(
 }
 
 // How many starts there are at which a string of this length fits into n characters.
-fn starts_of(n: usize, long: usize) -> usize
+pub(crate) fn starts_of(n: usize, long: usize) -> usize
     requires { ⌜ n ≤ 65535 ⌝ }
     ensures { λ r. ⌜ r ≡ suc n - long ⌝ }
 {

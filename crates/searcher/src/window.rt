@@ -34,7 +34,7 @@ fn reach_in_front(
 }
 
 // The same with room for the text of its own, which only this way clears.
-fn reach_by_text(
+pub(crate) fn reach_by_text(
     chars: &[u16],
     lengths: &[u16],
     index: &[u16],

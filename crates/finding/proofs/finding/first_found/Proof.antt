@@ -1,0 +1,70 @@
+-- `first_found` meets its contract. The invariant: none of the first i starts is found. The measure is how many are left. Assumes nothing.
+use Prim.Native.Nat.{_-_}
+use native.Mathlib.Omega.{arith}
+use borrow.Author.Needs.{needs}
+use lib.ListN.{length}
+use Rattle.laws.specs.FirstFound.{None-before, none-before-start, none-before-step, first-here, first-none}
+use Rattle.finding.proofs.finding.first_found.Statement.{statement}
+use Rattle.finding.proofs.finding.first_found.Tie as tie
+
+abbrev Inv-loop : tie.InvT-loop
+Inv-loop reach long first i₀ i = None-before long first reach i
+
+abbrev μ-loop : tie.MeasureT-loop
+μ-loop reach long first i₀ i = length reach - i
+
+loop-holds : tie.Need-loop-holds Inv-loop μ-loop
+loop-holds c = none-before-start (c .args .long) (c .args .first) (c .args .reach .now)
+
+mul-if1 : tie.Need-mul-if1 Inv-loop μ-loop
+mul-if1 c = search needs
+
+shared-slice-read-if1 : tie.Need-shared-slice-read-if1 Inv-loop μ-loop
+shared-slice-read-if1 c = search needs
+
+cast-if1 : tie.Need-cast-if1 Inv-loop μ-loop
+cast-if1 c = omega (arith, c .shared-slice-known .given (c .before .before .loop .i))
+
+add-result : tie.Need-add-result Inv-loop μ-loop
+add-result c = search needs
+
+returns : tie.Need-returns Inv-loop μ-loop
+returns c =
+    let a = c .before .before .before .before .args in
+    let l = c .before .before .before .loop in
+    first-here (a .long) (a .first) (a .reach .now) (l .i) (l .inv) (c .before .before .loop-test .taken) (c .if1 .taken)
+
+add-i : tie.Need-add-i Inv-loop μ-loop
+add-i c = search needs
+
+loop-less : tie.Need-loop-less Inv-loop μ-loop
+loop-less c = search needs
+
+loop-again : tie.Need-loop-again Inv-loop μ-loop
+loop-again c =
+    let a = c .before .before .before .before .args in
+    let l = c .before .before .before .loop in
+    none-before-step (a .long) (a .first) (a .reach .now) (l .i) (l .inv) (c .before .before .loop-test .taken) (c .if1 .left)
+
+returns-2 : tie.Need-returns-2 Inv-loop μ-loop
+returns-2 c =
+    let a = c .before .before .args in
+    let l = c .before .loop in
+    first-none (a .long) (a .first) (a .reach .now) (l .i) (l .inv) (c .loop-test .left)
+
+pub first-found-spec : {M : Type 1} → statement M
+first-found-spec =
+    tie.close
+    (tie.spec
+    Inv-loop
+    μ-loop
+    loop-holds
+    mul-if1
+    shared-slice-read-if1
+    cast-if1
+    add-result
+    returns
+    add-i
+    loop-less
+    loop-again
+    returns-2)

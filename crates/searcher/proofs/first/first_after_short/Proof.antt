@@ -1,0 +1,49 @@
+-- `first_after_short` meets its contract: where none of 8,192 starts is found, the first found is that of the rest. Assumes nothing.
+use Prim.Native.Nat.{_-_}
+use native.Mathlib.Omega.{arith}
+use Rattle.spec.specs.Dictionary.{lexicon}
+use Rattle.laws.specs.FirstFound.{first-in-first, first-in-second}
+use borrow.Author.Needs.{needs}
+use Rattle.searcher.proofs.first.first_after_short.Statement.{statement}
+use Rattle.searcher.proofs.first.first_after_short.Tie as tie
+
+first-in-middle-requires : tie.Need-first-in-middle-requires
+first-in-middle-requires c κs = search needs
+
+returns : tie.Need-returns
+returns c = search needs
+
+first-in-middle-requires-2 : tie.Need-first-in-middle-requires-2
+first-in-middle-requires-2 c κs = search needs
+
+returns-2 : tie.Need-returns-2
+returns-2 c =
+    let a = c .before .before .before .before .before .before .before .before .before .before .args in
+    let near = c .before .first-in-middle2 in
+    first-in-first (lexicon (a .chars .now) (a .lengths .now)) (a .index .now) (a .string .now) (a .starts) 8192 (a .starts - 8192) 1025 (omega (arith, c .before .before .if1 .left)) (near .result) (near .ensures)
+    (c .if2 .taken)
+
+sub-first-in-long : tie.Need-sub-first-in-long
+sub-first-in-long c = search needs
+
+first-in-long-requires : tie.Need-first-in-long-requires
+first-in-long-requires c κs = search needs
+
+returns-3 : tie.Need-returns-3
+returns-3 c =
+    let a = c .before .before .before .before .before .before .before .before .before .before .before .args in
+    let near = c .before .before .first-in-middle2 in
+    first-in-second (lexicon (a .chars .now) (a .lengths .now)) (a .index .now) (a .string .now) (a .starts) 8192 (a .starts - 8192) 1025 (omega (arith, c .before .before .before .if1 .left)) (near .result) (near .ensures)
+    (omega arith) (c .before .if2 .left) (c .first-in-long .result) (c .first-in-long .ensures)
+
+pub first-after-short-spec : {M : Type 1} → statement M
+first-after-short-spec =
+    tie.close
+    (tie.spec
+    first-in-middle-requires
+    returns
+    first-in-middle-requires-2
+    returns-2
+    sub-first-in-long
+    first-in-long-requires
+    returns-3)

@@ -1,0 +1,21 @@
+-- `first_in_dense` meets its contract: room for 65,536 starts is enough. Assumes nothing.
+use native.Mathlib.Omega.{arith}
+use Rattle.laws.specs.Searching.{cleared-room}
+use borrow.Author.Needs.{needs}
+use Rattle.searcher.proofs.first.first_in_dense.Statement.{statement}
+use Rattle.searcher.proofs.first.first_in_dense.Tie as tie
+
+slice-aggregate-first-by-text-in : tie.Need-slice-aggregate-first-by-text-in
+slice-aggregate-first-by-text-in c = search needs
+
+first-by-text-in-requires : tie.Need-first-by-text-in-requires
+first-by-text-in-requires c κs =
+    let s = c .before .before .before .before .before .before .before in
+    (s .pre .0, s .pre .1, cleared-room 65536 (s .args .starts) (omega (arith, s .pre .2)), s .pre .3)
+
+returns : tie.Need-returns
+returns c = search needs
+
+pub first-in-dense-spec : {M : Type 1} → statement M
+first-in-dense-spec =
+    tie.close (tie.spec slice-aggregate-first-by-text-in first-by-text-in-requires returns)

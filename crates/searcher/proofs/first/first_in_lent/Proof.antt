@@ -1,0 +1,51 @@
+-- `first_in_lent` meets its contract: the window is the front of what is lent, and is cleared as that is. Assumes nothing.
+use mathlib.Core.Path.{sym}
+use native.Mathlib.Omega.{arith}
+use lib.ListN.{length, take}
+use lib.Seq.{length-take-le}
+use Rattle.spec.specs.Dictionary.{lexicon}
+use Rattle.laws.specs.Searching.{cleared-part}
+use Rattle.laws.specs.FirstFound.{first-in-count}
+use borrow.Author.Needs.{needs}
+use Rattle.searcher.proofs.first.first_in_lent.Statement.{statement}
+use Rattle.searcher.proofs.first.first_in_lent.Tie as tie
+
+slice-relend-prefix-first-in-window : tie.Need-slice-relend-prefix-first-in-window
+slice-relend-prefix-first-in-window c = search needs
+
+slice-aggregate-first-in-window : tie.Need-slice-aggregate-first-in-window
+slice-aggregate-first-in-window c =
+    let s = c .before .before .before .before .before .before .before .before .before in sym (length-take-le (s .args .starts) (s .args .reach .now) (s .pre .5))
+
+first-in-window-requires : tie.Need-first-in-window-requires
+first-in-window-requires c κs =
+    let s = c .before .before .before .before .before .before .before .before .before in
+    let a = s .args in (
+      s .pre .0,
+      s .pre .1,
+      s .pre .2,
+      s .pre .3,
+      omega (arith, s .pre .4, length-take-le (a .starts) (a .reach .now) (s .pre .5)),
+      cleared-part (length (a .reach .now)) (a .starts) (a .reach .now) (s .pre .6) (s .pre .5),
+    )
+
+same-length : tie.Need-same-length
+same-length c = search needs
+
+returns : tie.Need-returns
+returns c =
+    let s = c .before .before .before .before .before .before .before .before .before .before .before .before in
+    let a = s .args in
+    let found = c .before .before .first-in-window in
+    first-in-count (lexicon (a .chars .now) (a .lengths .now)) (a .index .now) (a .string .now) (length (take (a .starts) (a .reach .now))) (a .first)
+    (a .starts) (found .result) (length-take-le (a .starts) (a .reach .now) (s .pre .5)) (found .ensures)
+
+pub first-in-lent-spec : {M : Type 1} → statement M
+first-in-lent-spec =
+    tie.close
+    (tie.spec
+    slice-relend-prefix-first-in-window
+    slice-aggregate-first-in-window
+    first-in-window-requires
+    same-length
+    returns)

@@ -1,0 +1,37 @@
+-- `first_listing` meets its contract: the lines are listed, once for all windows. Assumes nothing.
+use mathlib.Core.Path.{sym}
+use lib.Seq.{length-take-le}
+use borrow.Author.Needs.{needs}
+use Rattle.searcher.proofs.first.first_listing.Statement.{statement}
+use Rattle.searcher.proofs.first.first_listing.Tie as tie
+
+list-fronts-requires : tie.Need-list-fronts-requires
+list-fronts-requires c κs = search needs
+
+slice-reshare-prefix-first-by-windows : tie.Need-slice-reshare-prefix-first-by-windows
+slice-reshare-prefix-first-by-windows c = search needs
+
+slice-aggregate-first-by-windows : tie.Need-slice-aggregate-first-by-windows
+slice-aggregate-first-by-windows c =
+    let listed = c .before .before .before .list-fronts in
+    sym (length-take-le (listed .result .count) (listed .last .1 .1 .1 .1 .1 .0) (listed .ensures .1))
+
+first-by-windows-requires : tie.Need-first-by-windows-requires
+first-by-windows-requires c κs = search needs
+
+same-length : tie.Need-same-length
+same-length c = search needs
+
+returns : tie.Need-returns
+returns c = search needs
+
+pub first-listing-spec : {M : Type 1} → statement M
+first-listing-spec =
+    tie.close
+    (tie.spec
+    list-fronts-requires
+    slice-reshare-prefix-first-by-windows
+    slice-aggregate-first-by-windows
+    first-by-windows-requires
+    same-length
+    returns)
