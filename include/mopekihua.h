@@ -102,6 +102,15 @@ typedef struct {
     uint64_t by_length[32];
 } mopekihua_tally_answer;
 
+/* What the search for the first position answers. */
+typedef struct {
+    /* 0 (MOPEKIHUA_ACCEPTED), or the number of the refusal. */
+    uint32_t refusal;
+    /* The first position found, from 1 to 65,535; 0 where there is none, and
+     * beside a refusal. */
+    uint32_t position;
+} mopekihua_first_answer;
+
 /*
  * Admits a dictionary: says whether it is one that the other operations take.
  *
@@ -286,6 +295,45 @@ mopekihua_answer mopekihua_search(const uint16_t *chars, size_t chars_len,
                                   const uint16_t *index, size_t index_len,
                                   const uint16_t *string, size_t string_len,
                                   uint16_t *output, size_t output_len);
+
+/*
+ * Finds the first position of a string in an index, without the text: for the
+ * question whether a string is left anywhere.
+ *
+ * The dictionary is lent as to mopekihua_admit, the index as to
+ * mopekihua_tally. A position is found as for mopekihua_search, and the answer
+ * is the first number that mopekihua_search writes for an output that is long
+ * enough. If a text has this index, it is the first position at which the
+ * string stands in it; the index need not be that of a text.
+ *
+ * Answers, the first that applies:
+ *   MOPEKIHUA_DICTIONARY_TOO_LARGE, MOPEKIHUA_LENGTHS_WRONG,
+ *   MOPEKIHUA_WORDS_NOT_ASCENDING   as mopekihua_admit answers
+ *   MOPEKIHUA_INDEX_NOT_READABLE    the index is not readable, as for
+ *                                   mopekihua_tally
+ *   MOPEKIHUA_STRING_LENGTH_WRONG   string_len is 0 or above 256
+ *   MOPEKIHUA_ACCEPTED              position is the first position found, or 0
+ *                                   where none is found
+ *
+ * An answer p above 0 does not depend on later entries: the index without those
+ * that start after p + string_len - 1, and without keys left empty, gives the
+ * same p.
+ *
+ * The dictionary and the index are tested in full. The search that follows
+ * stops early: it takes the starts in windows, from the front, and goes no
+ * further than the first window that has a position found. Where none is found
+ * it costs about as much as mopekihua_search.
+ *
+ * Nothing is written, and no output is lent, so MOPEKIHUA_OUTPUT_TOO_SHORT is
+ * not answered. For slices lent as said above the call always returns, whatever
+ * they hold.
+ */
+mopekihua_first_answer mopekihua_first(const uint16_t *chars, size_t chars_len,
+                                       const uint16_t *lengths,
+                                       size_t lengths_len,
+                                       const uint16_t *index, size_t index_len,
+                                       const uint16_t *string,
+                                       size_t string_len);
 
 /*
  * Cuts an index down to what a search for one string needs: the same n, and
