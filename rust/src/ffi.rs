@@ -42,6 +42,31 @@ impl TallyAnswer {
     }
 }
 
+/// `mopekihua_first_answer`.
+#[repr(C)]
+pub(crate) struct FirstAnswer {
+    /// 0 where the call was accepted.
+    pub(crate) refusal: u32,
+    /// 0 where no position is found, and beside a refusal.
+    pub(crate) position: u32,
+}
+
+impl FirstAnswer {
+    /// The position, if one is found, or the refusal by its name.
+    ///
+    /// # Panics
+    ///
+    /// On a position that no text has, which the proved library never answers.
+    pub(crate) fn into_result(self) -> Result<Option<u16>, Refusal> {
+        let position = accepted(self.refusal, self.position)?;
+        match u16::try_from(position) {
+            Ok(0) => Ok(None),
+            Ok(position) => Ok(Some(position)),
+            Err(_) => panic!("libmopekihua.a answered {position}, which is no position of a text"),
+        }
+    }
+}
+
 /// The value where the number is 0, else the refusal by its name.
 ///
 /// # Panics
@@ -102,5 +127,6 @@ functions! {
     receive calls mopekihua_receive(chars, lengths, index; work) -> Answer;
     recover calls mopekihua_recover(chars, lengths, index; output, work) -> Answer;
     search calls mopekihua_search(chars, lengths, index, string; output) -> Answer;
+    first calls mopekihua_first(chars, lengths, index, string;) -> FirstAnswer;
     cut calls mopekihua_cut(chars, lengths, index, string; output) -> Answer;
 }

@@ -115,6 +115,23 @@ impl Index {
         self.0.search(query)
     }
 
+    /// The first position at which the string stands in the text, if it stands
+    /// there at all: the head of what [`search`](Index::search) gives.
+    ///
+    /// ```
+    /// use mopekihua::{Dictionary, Index, Query};
+    ///
+    /// // Is the superseded door left anywhere?
+    /// let dictionary = Dictionary::new(["SD", "WD", "事務室", "機械室"])?;
+    /// let index = Index::build(&dictionary, "事務室WD2 機械室SD3 廊下WD2")?;
+    /// assert_eq!(index.first(&Query::new("WD2")?), Some(4));
+    /// assert_eq!(index.first(&Query::new("WD5")?), None);
+    /// # Ok::<(), mopekihua::Error>(())
+    /// ```
+    pub fn first(&self, query: &Query) -> Option<u16> {
+        self.0.first(query)
+    }
+
     /// What a search for this string needs: see [`ReadableIndex::cut`].
     pub fn cut(&self, query: &Query) -> ReadableIndex {
         self.0.cut(query)

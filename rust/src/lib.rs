@@ -77,8 +77,9 @@
 //!
 //! [`receive`] says whether some text has such an index, and [`recover`] gives
 //! that text. [`tally`] counts the entries of a readable index by their lengths,
-//! and [`search`] finds a string in it without the text. [`cut`] leaves what a
-//! search for one string needs.
+//! and [`search`] finds a string in it without the text. [`first`] finds its first
+//! position alone, which tells whether the string is left anywhere. [`cut`] leaves
+//! what a search for one string needs.
 //!
 //! # What is proved and what is not
 //!
@@ -123,7 +124,7 @@ pub use query::Query;
 pub use readable::{Key, Line, ReadableIndex};
 pub use reception::{receive, receive_with, recover, recover_into};
 pub use refusal::Refusal;
-pub use searching::{search, search_into};
+pub use searching::{first, search, search_into};
 pub use tally::{Tally, tally};
 
 /// Admits a dictionary, and answers its number of words.

@@ -1,6 +1,6 @@
 //! Indexes that are readable, whether a text has them or not.
 
-use crate::{Dictionary, Index, Query, Refusal, Tally, cut, recover, search, tally};
+use crate::{Dictionary, Index, Query, Refusal, Tally, cut, first, recover, search, tally};
 
 /// Numbers that are [readable](crate#indexes) as an index with a dictionary.
 ///
@@ -138,6 +138,28 @@ impl ReadableIndex {
     /// in it.
     pub fn search(&self, query: &Query) -> Vec<u16> {
         always(search(
+            self.dictionary.chars(),
+            self.dictionary.lengths(),
+            &self.numbers,
+            query.characters(),
+        ))
+    }
+
+    /// The first position at which the string is found, if there is one: the
+    /// head of what [`search`](Self::search) gives.
+    ///
+    /// ```
+    /// use mopekihua::{Dictionary, Query, ReadableIndex};
+    ///
+    /// // The word 図面 at 1 and at 3, in a text of 5 characters.
+    /// let dictionary = Dictionary::new(["図", "図面", "面"])?;
+    /// let index = ReadableIndex::read(&dictionary, [5, 1, 0, 1, 2, 1, 3])?;
+    /// assert_eq!(index.first(&Query::new("面")?), Some(2));
+    /// assert_eq!(index.first(&Query::new("面面")?), None);
+    /// # Ok::<(), mopekihua::Error>(())
+    /// ```
+    pub fn first(&self, query: &Query) -> Option<u16> {
+        always(first(
             self.dictionary.chars(),
             self.dictionary.lengths(),
             &self.numbers,

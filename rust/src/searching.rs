@@ -1,4 +1,4 @@
-//! Finding a string in an index.
+//! Finding a string in an index: all positions, or the first.
 
 use crate::output::{stated_length, written};
 use crate::{Refusal, ffi};
@@ -75,4 +75,54 @@ pub fn search(
     written(stated_length(index), |output| {
         search_into(chars, lengths, index, string, output)
     })
+}
+
+/// Finds the first position of a string in an index; `None` where there is none.
+/// It tells whether the string is left anywhere.
+///
+/// `chars` and `lengths` are a dictionary as for [`admit`](crate::admit). A
+/// position is found as for [`search_into`], and the answer is the first of those
+/// that [`search`] gives. If a text has this index, it is the first position at
+/// which the string stands in it. The index need not be that of a text.
+///
+/// An answer p does not depend on later entries: the index without those that
+/// start after p + m - 1, for m the length of the string, and without keys left
+/// empty gives the same p.
+///
+/// Nothing is written or allocated. The dictionary and the index are tested in
+/// full. The search that follows stops early: it takes the starts in windows,
+/// from the front, and goes no further than the first window that has a position
+/// found. Where none is found it costs about as much as [`search_into`].
+///
+/// # Errors
+///
+/// The first that applies:
+///
+/// - those of [`admit`](crate::admit);
+/// - [`Refusal::IndexNotReadable`]: the index is not
+///   [readable](crate#indexes) with this dictionary;
+/// - [`Refusal::StringLengthWrong`]: the string is empty or longer than 256.
+///
+/// # Examples
+///
+/// ```
+/// // The words ab, abc and bcd, and the index of abcdab.
+/// let chars: Vec<u16> = "ababcbcd".encode_utf16().collect();
+/// let index = [6, 3, 0, 0, 1, 0, 1, 1, 0, 2, 1, 5, 1, 2];
+/// let first = |string: &str| {
+///     let string: Vec<u16> = string.encode_utf16().collect();
+///     mopekihua::first(&chars, &[2, 3, 3], &index, &string)
+/// };
+/// assert_eq!(first("ab"), Ok(Some(1)));
+/// assert_eq!(first("dab"), Ok(Some(4)));
+/// assert_eq!(first("ba"), Ok(None));
+/// assert_eq!(first(""), Err(mopekihua::Refusal::StringLengthWrong));
+/// ```
+pub fn first(
+    chars: &[u16],
+    lengths: &[u16],
+    index: &[u16],
+    string: &[u16],
+) -> Result<Option<u16>, Refusal> {
+    ffi::first(chars, lengths, index, string).into_result()
 }

@@ -159,11 +159,13 @@ fn an_index_of_a_text() {
         );
         for long in 1..subject.text.len().min(6) {
             let start = random.within(0, subject.text.len() - long);
-            let string = &subject.text[start..start + long];
-            let query = Query::new(string).expect("a short string");
-            let places = oracle::places_in_text(&subject.text, string);
-            assert_eq!(index.search(&query), places);
-            assert_eq!(index.cut(&query).search(&query), places);
+            for string in [&subject.text[start..start + long], &[7; 1]] {
+                let query = Query::new(string).expect("a short string");
+                let places = oracle::places_in_text(&subject.text, string);
+                assert_eq!(index.search(&query), places);
+                assert_eq!(index.first(&query), places.first().copied());
+                assert_eq!(index.cut(&query).search(&query), places);
+            }
         }
         assert_eq!(
             ReadableIndex::from(index.clone()).into_numbers(),
@@ -216,8 +218,8 @@ fn an_index_from_elsewhere() {
     );
 }
 
-/// Its tally, its lines, a search and a cut-down index are those of the
-/// definition.
+/// Its tally, its lines, a search, the first position and a cut-down index are
+/// those of the definition.
 #[track_caller]
 fn assert_answers(readable: &ReadableIndex, dictionary: &Lent) {
     let numbers = readable.numbers();
@@ -246,9 +248,11 @@ fn assert_answers(readable: &ReadableIndex, dictionary: &Lent) {
         let query = Query::new(line.spelt).expect("a key is no longer than a query");
         let found = readable.search(&query);
         assert_eq!(found, oracle::find(&opened, line.spelt));
+        assert_eq!(readable.first(&query), found.first().copied());
         let less = readable.cut(&query);
         assert_eq!(less.numbers(), oracle::cut_down(&opened, line.spelt));
         assert_eq!(less.search(&query), found);
+        assert_eq!(less.first(&query), found.first().copied());
         assert_eq!(less.dictionary(), readable.dictionary());
     }
 }

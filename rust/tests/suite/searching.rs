@@ -1,19 +1,11 @@
 //! Search at each of its limits. Every answer is written out from the
 //! definition, and is also the one that the oracle gives.
 
-use crate::support::delivery::Delivery;
+use crate::support::delivery::{Delivery, delivery};
 use crate::support::dictionary::Dictionary;
 use crate::support::oracle::{Key, numbers};
 use crate::support::searching::{assert_lowest_number, search};
 use crate::support::text::{Subject, spelt};
-
-/// The index of a text.
-fn delivery(words: &str, text: &str) -> Delivery {
-    Delivery::of_text(&Subject {
-        dictionary: Dictionary::spelt(words),
-        text: spelt(text),
-    })
-}
 
 /// These positions are found, in an output just as long, in a longer one, and
 /// by the call that allocates; an output one short is refused.

@@ -3,13 +3,21 @@
 use super::dictionary::Dictionary;
 use super::oracle::{self, Key, Line};
 use super::random::Random;
-use super::text::Subject;
+use super::text::{Subject, spelt};
 
 /// A dictionary and an index that is readable with it.
 #[derive(Clone, Debug)]
 pub struct Delivery {
     pub dictionary: Dictionary,
     pub index: Vec<u16>,
+}
+
+/// The index of a text, with these words.
+pub fn delivery(words: &str, text: &str) -> Delivery {
+    Delivery::of_text(&Subject {
+        dictionary: Dictionary::spelt(words),
+        text: spelt(text),
+    })
 }
 
 impl Delivery {
@@ -46,5 +54,15 @@ impl Delivery {
         }
         let index = oracle::numbers(n as u16, &lines);
         Delivery { dictionary, index }
+    }
+
+    /// The same entries behind as many positions that none covers.
+    pub fn moved(mut self, by: u16) -> Delivery {
+        let directory = 2 + 3 * usize::from(self.index[1]);
+        self.index[0] += by;
+        for position in &mut self.index[directory..] {
+            *position += by;
+        }
+        self
     }
 }

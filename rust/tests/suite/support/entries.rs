@@ -79,6 +79,23 @@ pub fn keys(words: &[Vec<u16>], characters: &[u16]) -> impl Iterator<Item = Key>
     word_keys.chain(lone.into_iter().map(Key::Lone))
 }
 
+/// The readable index without its entries that start after this position, and
+/// without the keys that this leaves empty.
+pub fn starting_up_to(index: &[u16], last: usize) -> Vec<u16> {
+    let (directory, mut positions) = index[2..].split_at(3 * usize::from(index[1]));
+    let (mut lines, mut kept) = (Vec::new(), Vec::new());
+    for line in directory.chunks(3) {
+        let (under, after) = positions.split_at(usize::from(line[2]));
+        let count = under.partition_point(|&position| usize::from(position) <= last);
+        if count > 0 {
+            lines.push([line[0], line[1], count as u16]);
+            kept.extend(&under[..count]);
+        }
+        positions = after;
+    }
+    [&[index[0], lines.len() as u16], lines.as_flattened(), &kept].concat()
+}
+
 /// The readable index with this n and these entries.
 pub fn numbers(n: u16, entries: impl IntoIterator<Item = Entry>) -> Vec<u16> {
     let mut lines = BTreeMap::<Key, Vec<u16>>::new();

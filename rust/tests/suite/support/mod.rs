@@ -8,6 +8,7 @@ pub mod damage;
 pub mod delivery;
 pub mod dictionary;
 pub mod entries;
+pub mod first;
 pub mod index_damage;
 pub mod lent;
 pub mod lists;

@@ -5,6 +5,7 @@ use mopekihua::Refusal;
 
 use super::call::{Written, assert_call};
 use super::dictionary::Dictionary;
+use super::first::assert_first;
 use super::oracle;
 use super::text::spelt;
 
@@ -43,7 +44,8 @@ fn as_slice(answer: &Result<Vec<u16>, u32>) -> Result<&[u16], u32> {
     answer.as_deref().map_err(|&number| number)
 }
 
-/// The library finds these positions or refuses.
+/// The library finds these positions or refuses. The first of them is what it
+/// gives where only that is asked for, which no output is too short for.
 #[track_caller]
 pub fn assert_finds(
     dictionary: &Dictionary,
@@ -54,6 +56,10 @@ pub fn assert_finds(
 ) {
     let lent = [&dictionary.chars, &dictionary.lengths, index, string];
     assert_answers(mopekihua::search_into, lent, output_len, expected);
+    if expected != Err(8) {
+        let head = expected.map(|positions| positions.first().copied());
+        assert_first(dictionary, index, string, head);
+    }
 }
 
 /// The library gives these numbers or refuses. They stand in front of what the
@@ -77,18 +83,24 @@ pub fn assert_lowest_number(
     answer: impl Fn(&Dictionary, &[u16], &[u16], usize) -> Result<Vec<u16>, u32>,
     size: usize,
 ) {
+    for_good_and_refused(|dictionary, index, string, refused| {
+        for (len, refused_output) in [(size, None), (size - 1, Some(8)), (0, Some(8))] {
+            let answer = answer(dictionary, index, string, len);
+            assert_eq!(answer.err(), refused.or(refused_output));
+        }
+    });
+}
+
+/// Dictionaries, indexes and strings, good ones and some for each number that
+/// refuses one, put together in all ways, each with the lowest number.
+pub fn for_good_and_refused(mut lend: impl FnMut(&Dictionary, &[u16], &[u16], Option<u32>)) {
     let abcdab: &[u16] = &[6, 3, 0, 0, 1, 0, 1, 1, 0, 2, 1, 5, 1, 2];
+    let long = "a".repeat(257);
     for (dictionary, refused_dictionary) in &Dictionary::good_and_refused() {
         for (index, refused_index) in [(abcdab, None), (&abcdab[1..], Some(5)), (&[], Some(5))] {
-            for (string, refused_string) in [("ab", None), ("", Some(6))] {
-                for (len, refused_output) in [(size, None), (size - 1, Some(8)), (0, Some(8))] {
-                    let expected = refused_dictionary
-                        .or(refused_index)
-                        .or(refused_string)
-                        .or(refused_output);
-                    let answer = answer(dictionary, index, &spelt(string), len);
-                    assert_eq!(answer.err(), expected);
-                }
+            for (string, refused_string) in [("ab", None), ("", Some(6)), (&long, Some(6))] {
+                let refused = refused_dictionary.or(refused_index).or(refused_string);
+                lend(dictionary, index, &spelt(string), refused);
             }
         }
     }

@@ -12,21 +12,38 @@ pub fn answer(
     output_len: usize,
     result: fn(&Opened, &[u16]) -> Vec<u16>,
 ) -> Result<Vec<u16>, u32> {
-    let opened = super::open(&dictionary.chars, &dictionary.lengths, numbers)?;
-    if string.is_empty() || string.len() > 256 {
-        return Err(6);
-    }
+    let opened = open_for(dictionary, numbers, string)?;
     super::put(result(&opened, string), output_len)
+}
+
+/// The first position found, if there is one, or the number of the refusal.
+pub fn first(dictionary: &Dictionary, numbers: &[u16], string: &[u16]) -> Result<Option<u16>, u32> {
+    let opened = open_for(dictionary, numbers, string)?;
+    Ok(found(&opened, string).next())
+}
+
+/// The index to be searched for this string, or the number of the refusal.
+fn open_for(dictionary: &Dictionary, numbers: &[u16], string: &[u16]) -> Result<Opened, u32> {
+    let opened = super::open(&dictionary.chars, &dictionary.lengths, numbers)?;
+    match string.len() {
+        1..=256 => Ok(opened),
+        _ => Err(6),
+    }
 }
 
 /// The positions of which each place of the string laid there is covered by an
 /// entry that agrees.
 pub fn find(opened: &Opened, string: &[u16]) -> Vec<u16> {
+    found(opened, string).collect()
+}
+
+/// The same, one by one.
+fn found(opened: &Opened, string: &[u16]) -> impl Iterator<Item = u16> {
     let mut entries = opened.entries();
     entries.sort();
     let last = (usize::from(opened.n) + 1).saturating_sub(string.len());
-    let found = |&laid: &usize| is_found(laid, string, &entries);
-    (1..=last).filter(found).map(|laid| laid as u16).collect()
+    let is_found = move |&laid: &usize| is_found(laid, string, &entries);
+    (1..=last).filter(is_found).map(|laid| laid as u16)
 }
 
 /// Whether a string laid at this position is found. The entries are sorted.
