@@ -88,6 +88,7 @@ fn some_len(needed: usize, below: bool, random: &mut Random) -> usize {
 /// What an accepted call answers and writes.
 #[derive(Default)]
 struct Accepted {
+    /// What is counted; for `first` the position, 0 where there is none.
     count: usize,
     by_length: [u64; 32],
     written: Vec<u16>,
@@ -139,13 +140,15 @@ fn defined(operation: Operation, drawn: &Drawn, work_len: usize) -> Result<Accep
         Operation::Search => {
             oracle::answer(dictionary, index, string, ample, oracle::find).map(Accepted::writes)
         }
+        Operation::First => oracle::first(dictionary, index, string)
+            .map(|first| Accepted::counts(first.map_or(0, usize::from))),
         Operation::Cut => {
             oracle::answer(dictionary, index, string, ample, oracle::cut_down).map(Accepted::writes)
         }
     }
 }
 
-/// The refusal, the count and the counts by length.
+/// The refusal, the count or position, and the counts by length.
 type Answer = (u32, usize, [u64; 32]);
 
 /// Makes the call with an output of this length and this work slice. Answers the
@@ -189,6 +192,10 @@ fn answered(
         Operation::Tally => {
             let tally = ffi::tally(chars, lengths, index);
             return (tally.refusal, tally.count, tally.by_length);
+        }
+        Operation::First => {
+            let first = ffi::first(chars, lengths, index, string);
+            return (first.refusal, first.position as usize, [0; 32]);
         }
     };
     (answer.refusal, answer.count, [0; 32])

@@ -38,9 +38,16 @@ impl Drawn {
         }
     }
 
-    /// A readable index that mostly no text has.
+    /// A readable index that mostly no text has. Some have their entries around
+    /// the last start of a window: `first` looks at 1,024 starts and then 8,192
+    /// before it looks at the rest.
     fn of_no_text(random: &mut Random) -> Drawn {
-        let Delivery { dictionary, index } = Delivery::random(random);
+        let delivery = Delivery::random(random);
+        let Delivery { dictionary, index } = match random.within(0, 9) {
+            0 => delivery.moved(1_024 - random.within(0, 6) as u16),
+            1 => delivery.moved(9_216 - random.within(0, 6) as u16),
+            _ => delivery,
+        };
         let alphabet = [&dictionary.chars[..], &[0x61]].concat();
         let length = random.within(1, 8);
         Drawn {
@@ -87,7 +94,8 @@ fn subject(random: &mut Random) -> Subject {
         0..5_000 => Subject::of_few_characters(random, 60),
         5_000..8_000 => Subject::of_japanese(random, 120),
         8_000..9_500 => Subject::of_japanese(random, 800),
-        9_500..9_600 => Subject::of_japanese(random, 3_000),
+        9_500..9_590 => Subject::of_japanese(random, 3_000),
+        9_590..9_600 => Subject::of_japanese(random, 12_000),
         9_600..9_800 => Subject::crowded(random, 300),
         9_800..9_998 => of_many_words(random),
         _ => Subject::of_longest_text(random),

@@ -1,4 +1,4 @@
-//! Random calls of all seven operations, compared with the plain reading of the
+//! Random calls of all operations, compared with the plain reading of the
 //! definitions: the whole answer of the C function, every number written, every
 //! number of the work slice, and what lies beside each slice. Half of the calls
 //! are lent damaged input.

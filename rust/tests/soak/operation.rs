@@ -1,4 +1,4 @@
-//! The seven operations.
+//! The operations.
 
 /// An operation of the library.
 #[derive(Clone, Copy, Debug, PartialEq, Eq)]
@@ -9,6 +9,7 @@ pub enum Operation {
     Receive,
     Recover,
     Search,
+    First,
     Cut,
 }
 
@@ -24,13 +25,14 @@ pub enum Part {
 }
 
 impl Operation {
-    pub const ALL: [Operation; 7] = [
+    pub const ALL: [Operation; 8] = [
         Operation::Admit,
         Operation::Build,
         Operation::Tally,
         Operation::Receive,
         Operation::Recover,
         Operation::Search,
+        Operation::First,
         Operation::Cut,
     ];
 
@@ -42,6 +44,7 @@ impl Operation {
             Operation::Receive => "receive",
             Operation::Recover => "recover",
             Operation::Search => "search",
+            Operation::First => "first",
             Operation::Cut => "cut",
         }
     }
@@ -55,6 +58,7 @@ impl Operation {
             Operation::Tally => &[Dictionary, Index],
             Operation::Receive => &[Dictionary, Index, Work],
             Operation::Recover => &[Dictionary, Index, Work, Output],
+            Operation::First => &[Dictionary, Index, String],
             Operation::Search | Operation::Cut => &[Dictionary, Index, String, Output],
         }
     }
@@ -67,6 +71,7 @@ impl Operation {
             Operation::Tally => &[1, 2, 3, 5],
             Operation::Receive => &[1, 2, 3, 5, 7, 9],
             Operation::Recover => &[1, 2, 3, 5, 7, 8, 9],
+            Operation::First => &[1, 2, 3, 5, 6],
             Operation::Search | Operation::Cut => &[1, 2, 3, 5, 6, 8],
         }
     }
