@@ -18,6 +18,7 @@ static const uint32_t refusals[OPERATIONS] = {
     [RECOVER] = DICTIONARY | BIT(5) | BIT(7) | BIT(8) | BIT(9),
     [SEARCH] = DICTIONARY | BIT(5) | BIT(6) | BIT(8),
     [CUT] = DICTIONARY | BIT(5) | BIT(6) | BIT(8),
+    [FIRST] = DICTIONARY | BIT(5) | BIT(6),
 };
 
 /*
@@ -60,6 +61,11 @@ static answer plain(mopekihua_answer given)
     return (answer){.refusal = given.refusal, .count = given.count};
 }
 
+static answer located(mopekihua_first_answer given)
+{
+    return (answer){.refusal = given.refusal, .count = given.position};
+}
+
 /* The call itself, of slices that begin there. */
 static answer made(enum operation operation, const loan *lent, uint16_t *at[])
 {
@@ -81,9 +87,12 @@ static answer made(enum operation operation, const loan *lent, uint16_t *at[])
     case SEARCH:
         return plain(mopekihua_search(DICTIONARY_LENT, LENT(INDEX), LENT(STRING),
                                       LENT(OUTPUT)));
-    default:
+    case CUT:
         return plain(mopekihua_cut(DICTIONARY_LENT, LENT(INDEX), LENT(STRING),
                                    LENT(OUTPUT)));
+    default:
+        return located(mopekihua_first(DICTIONARY_LENT, LENT(INDEX),
+                                       LENT(STRING)));
     }
 }
 
@@ -127,7 +136,7 @@ static void check_answer(enum operation operation, answer given)
         return;
     require(given.refusal < 32 && (refusals[operation] & BIT(given.refusal)),
             "a number that the operation does not refuse with");
-    require(given.count == 0, "a count beside a refusal");
+    require(given.count == 0, "a count or position beside a refusal");
     for (size_t i = 0; i < 32; i++)
         require(given.by_length[i] == 0, "a tally beside a refusal");
 }

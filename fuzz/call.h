@@ -1,4 +1,4 @@
-/* The seven operations, each held to what it says of every slice lent. */
+/* The operations, each held to what it says of every slice lent. */
 #ifndef FUZZ_CALL_H
 #define FUZZ_CALL_H
 
@@ -7,7 +7,9 @@
 
 #include "mopekihua.h"
 
-enum operation { ADMIT, BUILD, TALLY, RECEIVE, RECOVER, SEARCH, CUT, OPERATIONS };
+enum operation {
+    ADMIT, BUILD, TALLY, RECEIVE, RECOVER, SEARCH, CUT, FIRST, OPERATIONS
+};
 
 /* The slices that are lent, those to be written last. */
 enum part { CHARS, LENGTHS, TEXT, INDEX, STRING, OUTPUT, WORK, PARTS };
@@ -25,7 +27,10 @@ typedef struct {
     slice parts[PARTS];
 } loan;
 
-/* The answer of any operation; by_length is 0 but for the tally. */
+/*
+ * The answer of any operation; by_length is 0 but for the tally. For the first
+ * position count is that position.
+ */
 typedef mopekihua_tally_answer answer;
 
 /* Stops with these words unless the condition holds. */

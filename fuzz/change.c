@@ -67,3 +67,37 @@ size_t change_index(uint16_t *index, size_t len, change change)
     index[change.place % len] += change.number;
     return len;
 }
+
+/* How many of a list's positions lie at this one or before it. */
+static size_t count_up_to(const uint16_t *positions, size_t len, size_t last)
+{
+    size_t count = 0;
+
+    while (count < len && positions[count] <= last)
+        count++;
+    return count;
+}
+
+size_t copy_up_to(uint16_t *copy, const uint16_t *index, size_t last)
+{
+    size_t header = 2 + 3 * (size_t)index[1], len = 2;
+    const uint16_t *list = index + header;
+
+    for (size_t line = 2; line < header; list += index[line + 2], line += 3) {
+        size_t count = count_up_to(list, index[line + 2], last);
+        if (count == 0)
+            continue;
+        copy[len++] = index[line];
+        copy[len++] = index[line + 1];
+        copy[len++] = (uint16_t)count;
+    }
+    copy[0] = index[0];
+    copy[1] = (uint16_t)((len - 2) / 3);
+    list = index + header;
+    for (size_t line = 2; line < header; list += index[line + 2], line += 3) {
+        size_t count = count_up_to(list, index[line + 2], last);
+        memcpy(copy + len, list, count * sizeof *copy);
+        len += count;
+    }
+    return len;
+}

@@ -1,4 +1,4 @@
-/* Changes to an index, most of which leave it readable and the index of no text. */
+/* Other indexes made of one, most of them readable and the index of no text. */
 #ifndef FUZZ_CHANGE_H
 #define FUZZ_CHANGE_H
 
@@ -13,5 +13,11 @@ typedef struct {
 
 /* Makes a change in place. Answers the new length, at most one more. */
 size_t change_index(uint16_t *index, size_t len, change change);
+
+/*
+ * Copies a readable index without its entries that start after this position,
+ * and without the keys that this leaves empty. Answers the length of the copy.
+ */
+size_t copy_up_to(uint16_t *copy, const uint16_t *index, size_t last);
 
 #endif

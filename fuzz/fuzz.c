@@ -8,7 +8,9 @@
  * - the index of a text is received, the text is recovered from it, and the
  *   positions found are those at which the string stands in the text;
  * - an index is received exactly if it is built from the text that it shows;
- * - the cut-down index finds what the index finds, and the tally adds up.
+ * - the cut-down index finds what the index finds, and the tally adds up;
+ * - the first position is the head of what search finds, and the same without
+ *   the entries that start behind the string laid there.
  */
 #include <string.h>
 
@@ -135,6 +137,32 @@ static int is_of_shown(const loan *lent)
     return holds(lent->parts[INDEX], other, rebuilt.count);
 }
 
+/* The head of what search finds; 0 where it finds nothing. */
+static size_t head_found(const loan *lent)
+{
+    answer found = ample(SEARCH, *lent, other);
+
+    require(found.refusal == 0, "a search is refused");
+    return found.count > 0 ? other[0] : 0;
+}
+
+/* The first position in a readable index. */
+static void check_first(const loan *lent)
+{
+    slice index = lent->parts[INDEX], string = lent->parts[STRING];
+    answer first = ample(FIRST, *lent, result);
+
+    require(first.refusal == 0 && first.count == head_found(lent),
+            "the first position is not the head of those found");
+    if (first.count == 0)
+        return;
+    size_t end = first.count + string.len - 1;
+    size_t len = copy_up_to(other, index.numbers, end);
+    answer again = ample(FIRST, with(*lent, INDEX, other, len), result);
+    require(again.refusal == 0 && again.count == first.count,
+            "the first position hangs on entries that start later");
+}
+
 /* A readable index, whether a text has it or not. */
 static void check_readable(const loan *lent)
 {
@@ -163,6 +191,7 @@ static void check_readable(const loan *lent)
     require(found_again.refusal == 0 &&
                 holds((slice){result, found.count}, again, found_again.count),
             "the cut-down index finds other positions");
+    check_first(lent);
 }
 
 /*
@@ -181,18 +210,20 @@ static uint32_t lowest(enum operation operation, const loan *lent)
     uint32_t index = ample(TALLY, *lent, result).refusal;
     if (operation == TALLY || index != 0)
         return index;
-    if (operation == SEARCH || operation == CUT)
+    if (operation == SEARCH || operation == CUT || operation == FIRST)
         return string_len == 0 || string_len > LONGEST_STRING ? 6 : 0;
     return is_of_shown(lent) ? 0 : 9;
 }
 
-/* What an accepted call counts, where that is not what it writes. */
+/* What an accepted call answers, where that is not how much it writes. */
 static int counts_right(enum operation operation, const loan *lent, answer given)
 {
     if (operation == ADMIT)
         return given.count == lent->parts[LENGTHS].len;
     if (operation == RECEIVE || operation == RECOVER)
         return given.count == stated_length(operation, lent);
+    if (operation == FIRST)
+        return given.count == head_found(lent);
     return 1;
 }
 
@@ -206,7 +237,7 @@ static void check_asked(const input *in, loan lent)
 
     require(whole.refusal == expected, "another refusal than the lowest");
     require(whole.refusal != 0 || counts_right(operation, &lent, whole),
-            "another count");
+            "another count or position");
     if (takes_work(operation)) {
         lent.parts[WORK].len = room_for(in->work, work_needed);
         if (lent.parts[WORK].len < work_needed && (expected == 0 || expected > 7))

@@ -24,7 +24,12 @@ enum { TWO_LETTERS, FOUR_LETTERS, KANA, ANY_NUMBER };
 enum { SORTED = 4, DELIVERED = 8, LENGTH_CHANGED = 16 };
 
 /* Sizes that stand for a limit. */
-enum { LONG_TEXT = 0x9D, MANY_WORDS = 0x9E, MANY_CHARS = 0x9F };
+enum {
+    LATE_TEXT = 0x9C,
+    LONG_TEXT = 0x9D,
+    MANY_WORDS = 0x9E,
+    MANY_CHARS = 0x9F
+};
 
 /* Strings that are not cut from the text. */
 enum { STRING_256 = 0xFD, STRING_257 = 0xFE, NO_STRING = 0xFF };
@@ -151,12 +156,29 @@ static void read_dictionary(uint8_t style, uint8_t size)
         lengths[byte() % lengths_len] += (uint16_t)(1 + byte());
 }
 
-/* The rest of the bytes; repeated up to about the longest, where asked for. */
+/*
+ * Another letter in front of the text, as many as the starts that
+ * mopekihua_first looks at before it goes on to further ones, or some fewer.
+ */
+static size_t put_in_front(uint8_t choice)
+{
+    size_t len = (choice & 0x80 ? 9216 : 1024) - (choice & 0x7F);
+
+    for (size_t i = 0; i < len; i++)
+        text[i] = 'z';
+    return len;
+}
+
+/*
+ * The rest of the bytes; where asked for, behind other letters, or repeated up
+ * to about the longest.
+ */
 static void read_text(uint8_t style, uint8_t size)
 {
     size_t long_text = size == LONG_TEXT ? LONGEST_TEXT - 6 + byte() % 12 : 0;
+    int is_late = size == LATE_TEXT && !(style & DELIVERED);
 
-    text_len = 0;
+    text_len = is_late ? put_in_front(byte()) : 0;
     while (bytes.next < bytes.end && text_len < LONGEST_TEXT)
         text[text_len++] = (style & DELIVERED) ? number() : letter(style);
     if (text_len == 0 && long_text > 0)
