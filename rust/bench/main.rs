@@ -4,7 +4,8 @@
 //! Ordinary rows are sheets of Japanese-like text with a dictionary of 4,096
 //! words, from a seeded generator. Adversarial rows are the inputs on which a
 //! careless algorithm gets slow; their last column says how much a character
-//! costs there beside an ordinary one.
+//! costs there beside an ordinary one. A line that starts with "beside" has
+//! another operation of the library in the column of plain Rust.
 //!
 //! Operations named on the command line are timed, or all:
 //! `cargo bench --bench speed -- build`.
@@ -34,6 +35,7 @@ const OPERATIONS: &[(&str, Print)] = &[
     ("receive", rows::reception::print_receive),
     ("recover", rows::reception::print_recover),
     ("search", rows::searching::print),
+    ("first", rows::first::print),
     ("cut", rows::cutting::print),
 ];
 

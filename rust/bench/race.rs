@@ -67,6 +67,17 @@ pub fn print_information(name: &str, time: f64, calls: usize) {
     );
 }
 
+/// The time of an operation beside that of another one of the library, which
+/// stands in the column of plain Rust.
+pub fn print_beside(name: &str, time: f64, other: f64, calls: usize) {
+    println!(
+        "    {name:<54} {:>11} {:>11} {:>6.2}",
+        per_call(time, calls),
+        per_call(other, calls),
+        time / other,
+    );
+}
+
 fn per_call(time: f64, calls: usize) -> String {
     format!("{:.2} µs", time / calls as f64 / 1_000.0)
 }

@@ -46,9 +46,15 @@ impl Case {
 
     /// Eight strings of these lengths from each text, as far as it is as long.
     pub fn searches(&self, low: usize, high: usize) -> Vec<Search> {
+        self.searches_in(low, high, 1)
+    }
+
+    /// The same from the first `part`-th of each text.
+    pub fn searches_in(&self, low: usize, high: usize, part: usize) -> Vec<Search> {
         let mut random = Random::seeded(256);
         let mut searches = Vec::new();
         for (number, text) in self.texts.iter().enumerate() {
+            let text = &text[..text.len() / part];
             for _ in 0..8 {
                 let long = random.within(low, high).min(text.len());
                 let start = random.within(0, text.len() - long);
@@ -56,6 +62,21 @@ impl Case {
                     text: number,
                     string: text[start..start + long].to_vec(),
                 });
+            }
+        }
+        searches
+    }
+
+    /// The same strings with one character each from elsewhere in the text, so
+    /// that they stand nowhere in it.
+    pub fn searches_for_none(&self, low: usize, high: usize) -> Vec<Search> {
+        let mut random = Random::seeded(65_535);
+        let mut searches = self.searches(low, high);
+        for Search { text, string } in &mut searches {
+            let text = &self.texts[*text];
+            while text.windows(string.len()).any(|window| window == string) {
+                let place = random.place(string.len());
+                string[place] = text[random.place(text.len())];
             }
         }
         searches

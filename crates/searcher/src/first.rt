@@ -412,8 +412,72 @@ fn first_of_starts<'a>(
     first_by_entries(chars, lengths, index, words, lists, string, starts)
 }
 
-// The first found position in a readable index, with its tables of starts filled: 0 where there is none.
+// The first found position in a readable index, with its tables of starts lent: 0 where there is none.
+fn first_tabled<'a>(
+    chars: &'a [u16],
+    lengths: &[u16],
+    index: &'a [u16],
+    words: &[u16],
+    lists: &[u32],
+    string: &[u16],
+) -> usize
+    requires { ⌜ Opened (now chars) (now lengths) (now index) (now words) (now lists) × Is-string (now string) ⌝ }
+    ensures { λ r. ⌜ r ≡ first-position (lexicon (now (chars .entry)) (now (lengths .entry))) (now (index .entry)) (now (string .entry)) ⌝ }
+{
+    let starts = starts_of(index[0] as usize, string.len());
+    first_of_starts(chars, lengths, index, words, lists, string, starts)
+}
+
+// The same with the tables filled first, one of them lent.
 fn first_filled<'a>(
+    chars: &'a [u16],
+    lengths: &[u16],
+    index: &'a [u16],
+    keys: usize,
+    string: &[u16],
+    lists: &mut [u32],
+) -> usize
+    requires { ⌜ Can-read (now chars) (now lengths) (now index) × (keys ≡ keys-of (now index)) × Is-string (now string) × (keys ≤ length (now lists)) ⌝ }
+    ensures { λ r. ⌜ r ≡ first-position (lexicon (now (chars .entry)) (now (lengths .entry))) (now (index .entry)) (now (string .entry)) ⌝ }
+{
+    let mut words = [0u16; 4096];
+    fill_words(lengths, &mut words);
+    fill_lists(index, keys, lists);
+    first_tabled(chars, lengths, index, &words, lists, string)
+}
+
+// With a table of 1,024 lines.
+fn first_few_lines<'a>(
+    chars: &'a [u16],
+    lengths: &[u16],
+    index: &'a [u16],
+    keys: usize,
+    string: &[u16],
+) -> usize
+    requires { ⌜ Can-read (now chars) (now lengths) (now index) × (keys ≡ keys-of (now index)) × Is-string (now string) × (keys ≤ 1024) ⌝ }
+    ensures { λ r. ⌜ r ≡ first-position (lexicon (now (chars .entry)) (now (lengths .entry))) (now (index .entry)) (now (string .entry)) ⌝ }
+{
+    let mut lists = [0u32; 1024];
+    first_filled(chars, lengths, index, keys, string, &mut lists)
+}
+
+// With a table of 8,192 lines.
+fn first_some_lines<'a>(
+    chars: &'a [u16],
+    lengths: &[u16],
+    index: &'a [u16],
+    keys: usize,
+    string: &[u16],
+) -> usize
+    requires { ⌜ Can-read (now chars) (now lengths) (now index) × (keys ≡ keys-of (now index)) × Is-string (now string) × (keys ≤ 8192) ⌝ }
+    ensures { λ r. ⌜ r ≡ first-position (lexicon (now (chars .entry)) (now (lengths .entry))) (now (index .entry)) (now (string .entry)) ⌝ }
+{
+    let mut lists = [0u32; 8192];
+    first_filled(chars, lengths, index, keys, string, &mut lists)
+}
+
+// With a table of 65,536 lines.
+fn first_many_lines<'a>(
     chars: &'a [u16],
     lengths: &[u16],
     index: &'a [u16],
@@ -423,12 +487,28 @@ fn first_filled<'a>(
     requires { ⌜ Can-read (now chars) (now lengths) (now index) × (keys ≡ keys-of (now index)) × Is-string (now string) ⌝ }
     ensures { λ r. ⌜ r ≡ first-position (lexicon (now (chars .entry)) (now (lengths .entry))) (now (index .entry)) (now (string .entry)) ⌝ }
 {
-    let mut words = [0u16; 4096];
     let mut lists = [0u32; 65536];
-    fill_words(lengths, &mut words);
-    fill_lists(index, keys, &mut lists);
-    let starts = starts_of(index[0] as usize, string.len());
-    first_of_starts(chars, lengths, index, &words, &lists, string, starts)
+    first_filled(chars, lengths, index, keys, string, &mut lists)
+}
+
+// With a table that is long enough.
+fn first_lines<'a>(
+    chars: &'a [u16],
+    lengths: &[u16],
+    index: &'a [u16],
+    keys: usize,
+    string: &[u16],
+) -> usize
+    requires { ⌜ Can-read (now chars) (now lengths) (now index) × (keys ≡ keys-of (now index)) × Is-string (now string) ⌝ }
+    ensures { λ r. ⌜ r ≡ first-position (lexicon (now (chars .entry)) (now (lengths .entry))) (now (index .entry)) (now (string .entry)) ⌝ }
+{
+    if keys <= 1024 {
+        return first_few_lines(chars, lengths, index, keys, string);
+    }
+    if keys <= 8192 {
+        return first_some_lines(chars, lengths, index, keys, string);
+    }
+    first_many_lines(chars, lengths, index, keys, string)
 }
 
 // The first found position in an opened index, or the refusal.
@@ -462,7 +542,7 @@ fn first_opened<'a>(
             position: 0,
         };
     }
-    let position = first_filled(chars, lengths, index, keys, string) as u32;
+    let position = first_lines(chars, lengths, index, keys, string) as u32;
     FirstAnswer {
         refusal: 0,
         position,

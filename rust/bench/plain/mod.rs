@@ -5,6 +5,7 @@ pub mod admission;
 pub mod building;
 pub mod cutting;
 pub mod directory;
+pub mod first;
 pub mod matching;
 pub mod painted;
 pub mod reading;

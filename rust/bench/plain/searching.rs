@@ -28,7 +28,8 @@ fn find(query: Query, reach: &mut [u16], output: &mut [u16]) -> Result<usize, u3
     let directory = Directory::new(query.chars, query.lengths, query.index);
     let n = usize::from(query.index[0]);
     if !(is_dense(&directory, n, string) && reach_painted(&directory, n, string, reach)) {
-        reach_laid(&directory, string, reach);
+        let fronts = Fronts::new(&directory, string);
+        reach_laid(&directory, string, &fronts, 1, reach);
     }
     let whole = string.len() as u16;
     let count = reach.iter().filter(|&&reach| reach >= whole).count();
@@ -42,15 +43,54 @@ fn find(query: Query, reach: &mut [u16], output: &mut [u16]) -> Result<usize, u3
     Ok(count)
 }
 
-/// Raises the reach of each start by every key that agrees, from the string's
-/// front to its end.
-fn reach_laid(directory: &Directory, string: &[u16], reach: &mut [u16]) {
+/// The lines of words that agree with the string and begin at its front or
+/// before it: the same for every window.
+pub struct Fronts {
+    lines: [u16; 4_096],
+    count: usize,
+}
+
+impl Fronts {
+    pub fn new(directory: &Directory, string: &[u16]) -> Fronts {
+        let mut fronts = Fronts {
+            lines: [0; 4_096],
+            count: 0,
+        };
+        for line in 0..directory.lines.words {
+            if agreeing(directory.lines.word(line), string)
+                .next()
+                .is_some()
+            {
+                fronts.lines[fronts.count] = line as u16;
+                fronts.count += 1;
+            }
+        }
+        fronts
+    }
+}
+
+/// How many characters of the word lie before the string where it agrees.
+fn agreeing(word: &[u16], string: &[u16]) -> impl Iterator<Item = usize> {
+    (0..word.len()).filter(|&back| word[back] == string[0] && agree(&word[back..], string))
+}
+
+/// Raises the reach of each start of a window, whose first is `first`, by every
+/// key that agrees, from the string's front to its end. Answers how far any
+/// start reaches.
+pub fn reach_laid(
+    directory: &Directory,
+    string: &[u16],
+    fronts: &Fronts,
+    first: usize,
+    reach: &mut [u16],
+) -> usize {
     let mut cover = Cover {
         reach,
+        first,
         most: 0,
         whole: string.len(),
     };
-    cover_front(directory, string, &mut cover);
+    cover_front(directory, string, fronts, &mut cover);
     for offset in 1..string.len() {
         if usize::from(cover.most) < offset {
             break;
@@ -60,17 +100,17 @@ fn reach_laid(directory: &Directory, string: &[u16], reach: &mut [u16]) {
             cover.raise(directory.places(line), offset, long);
         });
     }
+    usize::from(cover.most)
 }
 
 /// Keys that agree with the string and begin at its front or before it.
-fn cover_front(directory: &Directory, string: &[u16], cover: &mut Cover) {
+fn cover_front(directory: &Directory, string: &[u16], fronts: &Fronts, cover: &mut Cover) {
     let lines = &directory.lines;
-    for line in 0..lines.words {
+    for &line in &fronts.lines[..fronts.count] {
+        let line = usize::from(line);
         let word = lines.word(line);
-        for back in 0..word.len() {
-            if word[back] == string[0] && agree(&word[back..], string) {
-                cover.lay(directory.places(line), back, word.len() - back);
-            }
+        for back in agreeing(word, string) {
+            cover.lay(directory.places(line), back, word.len() - back);
         }
     }
     if let Some(line) = lines.lone(string[0]) {
@@ -84,9 +124,11 @@ pub fn agree(one: &[u16], other: &[u16]) -> bool {
     one[..shared] == other[..shared]
 }
 
-/// How many characters of the string are covered from its front, for each start.
+/// How many characters of the string are covered from its front, for each start
+/// of a window.
 struct Cover<'a> {
     reach: &'a mut [u16],
+    first: usize,
     most: u16,
     whole: usize,
 }
@@ -96,15 +138,12 @@ impl Cover<'_> {
     /// characters after their start.
     fn lay(&mut self, positions: &[u16], back: usize, long: usize) {
         let covered = long.min(self.whole) as u16;
-        let reach = &mut *self.reach;
-        let mut some = false;
+        let positions = in_window(positions, self.first, back, 0, self.reach.len());
         for &position in positions {
-            if let Some(reach) = reach.get_mut(usize::from(position) - 1 + back) {
-                *reach = (*reach).max(covered);
-                some = true;
-            }
+            let reach = &mut self.reach[usize::from(position) + back - self.first];
+            *reach = (*reach).max(covered);
         }
-        if some {
+        if !positions.is_empty() {
             self.most = self.most.max(covered);
         }
     }
@@ -114,20 +153,34 @@ impl Cover<'_> {
     fn raise(&mut self, positions: &[u16], offset: usize, long: usize) {
         let covered = (offset + long).min(self.whole) as u16;
         let least = offset as u16;
-        let reach = &mut *self.reach;
         let mut some = false;
-        for &position in positions {
-            let start = usize::from(position).wrapping_sub(offset + 1);
-            if let Some(reach) = reach.get_mut(start) {
-                // From `least` up, and below `covered`.
-                if reach.wrapping_sub(least) < covered - least {
-                    *reach = covered;
-                    some = true;
-                }
+        for &position in in_window(positions, self.first, 0, offset, self.reach.len()) {
+            let reach = &mut self.reach[usize::from(position) - offset - self.first];
+            // From `least` up, and below `covered`.
+            if reach.wrapping_sub(least) < covered - least {
+                *reach = covered;
+                some = true;
             }
         }
         if some {
             self.most = self.most.max(covered);
         }
+    }
+}
+
+/// The positions of entries that begin `back` characters before, or `offset`
+/// after, one of `starts` starts from `first` on.
+fn in_window(positions: &[u16], first: usize, back: usize, offset: usize, starts: usize) -> &[u16] {
+    let from = lower_bound(positions, (first + offset).saturating_sub(back));
+    let to = lower_bound(positions, (first + offset + starts).saturating_sub(back));
+    &positions[from..to]
+}
+
+/// How many positions are below `least`: most often none or all.
+fn lower_bound(positions: &[u16], least: usize) -> usize {
+    match positions {
+        [first, ..] if usize::from(*first) >= least => 0,
+        [.., last] if usize::from(*last) < least => positions.len(),
+        _ => positions.partition_point(|&position| usize::from(position) < least),
     }
 }

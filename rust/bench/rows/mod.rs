@@ -3,6 +3,7 @@
 pub mod admission;
 pub mod building;
 pub mod cutting;
+pub mod first;
 pub mod reception;
 pub mod searching;
 mod strings;

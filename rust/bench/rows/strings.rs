@@ -32,7 +32,7 @@ impl Operation {
             let mut largest = 0.0;
             for (name, case) in &sheets.sizes {
                 let name = format!("{name}, strings of {low} to {high}");
-                largest = self.print_row(&name, case, (low, high), None);
+                largest = self.print_row(&name, case, &case.searches(low, high), None);
             }
             largest
         };
@@ -40,7 +40,7 @@ impl Operation {
         print_sizes(50, 256);
         let (_, largest) = &sheets.sizes[sheets.sizes.len() - 1];
         let name = "about 60,000 characters, strings of 256";
-        let long = self.print_row(name, largest, (256, 256), None);
+        let long = self.print_row(name, largest, &largest.searches(256, 256), None);
         for adversary in &adversary::cases() {
             let Adversary { name, case, .. } = adversary;
             for &(low, high) in adversary.short {
@@ -48,29 +48,29 @@ impl Operation {
                     0 => format!("{name}, {low}"),
                     _ => format!("{name}, {low} to {high}"),
                 };
-                self.print_row(&name, case, (low, high), Some(short));
+                self.print_row(&name, case, &case.searches(low, high), Some(short));
             }
-            self.print_row(&format!("{name}, 256"), case, (256, 256), Some(long));
+            let name = format!("{name}, 256");
+            self.print_row(&name, case, &case.searches(256, 256), Some(long));
         }
     }
 
-    /// Prints the row for strings of these lengths and what follows it, and
-    /// answers the cost of a character in nanoseconds.
-    fn print_row(
+    /// Prints the row for these strings and what follows it, and answers the
+    /// cost of a character in nanoseconds.
+    pub fn print_row(
         &self,
         name: &str,
         case: &Case,
-        (low, high): (usize, usize),
+        searches: &[Search],
         ordinary: Option<f64>,
     ) -> f64 {
-        let searches = case.searches(low, high);
         let indexes = case.indexes();
         // At most n positions are found, and a cut-down index is no longer than
         // the index.
         let longest = indexes.iter().map(Vec::len).max().unwrap_or(0);
         let row = Row {
             name,
-            inputs: &searches,
+            inputs: searches,
             chars: searches.iter().map(|one| case.texts[one.text].len()).sum(),
             ordinary,
             room: Room {
@@ -90,17 +90,17 @@ impl Operation {
         let (mut room, mut plain_room) = row.compare(proved, plain);
         let [whole, plain_whole, tests, plain_tests] = best_of([
             &mut || {
-                for search in black_box(&searches) {
+                for search in black_box(searches) {
                     let _ = black_box(proved(search, &mut room));
                 }
             },
             &mut || {
-                for search in black_box(&searches) {
+                for search in black_box(searches) {
                     let _ = black_box(plain(search, &mut plain_room));
                 }
             },
-            &mut || self.test(case, &indexes, &searches),
-            &mut || self.test_plainly(case, &indexes, &searches),
+            &mut || self.test(case, &indexes, searches),
+            &mut || self.test_plainly(case, &indexes, searches),
         ]);
         row.print_times(Race {
             proved: whole,
@@ -114,7 +114,7 @@ impl Operation {
             let name = "    index already tested";
             print_row(name, rest, searches.len(), row.chars, None);
         }
-        (self.beside)(case, &searches);
+        (self.beside)(case, searches);
         whole / row.chars as f64
     }
 

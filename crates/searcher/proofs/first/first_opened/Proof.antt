@@ -33,8 +33,8 @@ returns-3 c =
     first-long (a .chars .now) (a .lengths .now) (a .index .now) (a .string .now) (record { refusal = 6; position = 0 }) (sym (s .pre .0) ∙ c .before .before .if1 .left)
     (c .if3 .taken) refl refl
 
-first-filled-requires : tie.Need-first-filled-requires
-first-filled-requires c κs =
+first-lines-requires : tie.Need-first-lines-requires
+first-lines-requires c κs =
     let s = c .before .before .before .before .before .before .before in
     let a = s .args in
     let none = c .before .before .if1 .left in
@@ -50,16 +50,16 @@ first-filled-requires c κs =
 cast-position : tie.Need-cast-position
 cast-position c =
     let a = c .before .before .before .before .before .before .before .before .args in
-    omega (arith, c .first-filled .ensures, first-position-small (lexicon (a .chars .now) (a .lengths .now)) (a .index .now) (a .string .now), c .before .before .before .before .before .shared-slice-known3 .given 0)
+    omega (arith, c .first-lines .ensures, first-position-small (lexicon (a .chars .now) (a .lengths .now)) (a .index .now) (a .string .now), c .before .before .before .before .before .shared-slice-known3 .given 0)
 
 returns-4 : tie.Need-returns-4
 returns-4 c =
     let s = c .before .before .before .before .before .before .before .before in
     let a = s .args in
-    first-says (a .chars .now) (a .lengths .now) (a .index .now) (a .string .now) (record { refusal = 0; position = c .first-filled .result })
+    first-says (a .chars .now) (a .lengths .now) (a .index .now) (a .string .now) (record { refusal = 0; position = c .first-lines .result })
     (sym (s .pre .0) ∙ c .before .before .before .if1 .left) (record { some = omega (arith, c .before .before .if2 .left); short = c .before .if3 .left }) refl
-    (c .first-filled .ensures)
+    (c .first-lines .ensures)
 
 pub first-opened-spec : {M : Type 1} → statement M
 first-opened-spec =
-    tie.close (tie.spec returns returns-2 returns-3 first-filled-requires cast-position returns-4)
+    tie.close (tie.spec returns returns-2 returns-3 first-lines-requires cast-position returns-4)

@@ -1,0 +1,62 @@
+//! The first found position: windows of starts that grow, until one is found.
+
+use super::Query;
+use super::directory::Directory;
+use super::painted::{is_dense, reach_painted};
+use super::searching::{Fronts, reach_laid};
+
+/// The position, or 0 where there is none.
+pub fn first(query: Query) -> Result<usize, u32> {
+    query.admit()?;
+    let string = query.string;
+    let directory = Directory::new(query.chars, query.lengths, query.index);
+    let n = usize::from(query.index[0]);
+    let starts = (n + 1).saturating_sub(string.len());
+    let found = match is_dense(&directory, n, string) {
+        true => by_text(&directory, string, n, starts),
+        false => None,
+    };
+    Ok(found.unwrap_or_else(|| by_windows(&directory, string, starts)))
+}
+
+/// By the painted text, if the entries paint one.
+fn by_text(directory: &Directory, string: &[u16], n: usize, starts: usize) -> Option<usize> {
+    let mut reach = [0; 65_535];
+    let reach = &mut reach[..starts];
+    reach_painted(directory, n, string, reach).then(|| found(reach, string, 1))
+}
+
+/// By the entries, in windows of 1,024 starts, of 8,192, and the rest.
+fn by_windows(directory: &Directory, string: &[u16], starts: usize) -> usize {
+    let fronts = Fronts::new(directory, string);
+    let search = (directory, string, &fronts);
+    let near = in_window::<1_024>(search, 1, starts);
+    if near != 0 || starts <= 1_024 {
+        return near;
+    }
+    let middle = in_window::<8_192>(search, 1_025, starts - 1_024);
+    if middle != 0 || starts <= 9_216 {
+        return middle;
+    }
+    in_window::<65_535>(search, 9_217, starts - 9_216)
+}
+
+/// The first found of at most `N` starts from `first` on, 0 where there is none.
+fn in_window<const N: usize>(
+    (directory, string, fronts): (&Directory, &[u16], &Fronts),
+    first: usize,
+    starts: usize,
+) -> usize {
+    let mut reach = [0; N];
+    let reach = &mut reach[..starts.min(N)];
+    if reach_laid(directory, string, fronts, first, reach) < string.len() {
+        return 0;
+    }
+    found(reach, string, first)
+}
+
+fn found(reach: &[u16], string: &[u16], first: usize) -> usize {
+    let whole = string.len() as u16;
+    let start = reach.iter().position(|&reach| reach >= whole);
+    start.map_or(0, |start| first + start)
+}
