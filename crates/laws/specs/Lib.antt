@@ -103,12 +103,13 @@ pub mod SheetChars
 pub mod SheetRendering
 pub mod Window
 pub mod WindowSearch
-pub mod Marking
 pub mod Opened
 pub mod Tables
 pub mod Raising
 pub mod Halving
 pub mod Ranging
+pub mod ListRange
+pub mod Marking
 pub mod Narrowing
 pub mod FrontLines
 pub mod WordLines

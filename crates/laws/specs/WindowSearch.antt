@@ -3,7 +3,8 @@ use mathlib.Core.Path.{_≡_, refl, sym, ap, _∙_}
 use mathlib.Core.Bool.{true, false, cond}
 use mathlib.Core.Logic.{⊎-elim}
 use mathlib.Core.List.{List, [], _∷_}
-use Prim.Native.Nat.{ℕ, suc, _+_, _-_, _≤_, _<_, max}
+use Prim.Native.Nat.{ℕ, zero, suc, _+_, _-_, _≤_, _<_, max}
+use native.Mathlib.Nat.{add-zero}
 use native.Mathlib.Numerals.{add-one}
 use native.Mathlib.Omega.{arith}
 use lib.Dec.{leb}
@@ -92,6 +93,27 @@ module _ (i o l q : ℕ) (bs : List ℕ) (j : ℕ) where
   places-next some rs =
       rw (add-one j, drop-cons bs j 0)
       (sym (raised-then (λ p r. raise i o l p (getD bs j 0) r) (λ p r. reach-places i o l p (drop (suc j) bs) r) q rs))
+
+-- positions that are no starts of the window are passed over
+module _ (i o l q : ℕ) (bs rs : List ℕ) where
+  skip :
+      (n j : ℕ) → j + n ≤ length bs →
+      ((x : ℕ) → j ≤ x → x < j + n → q + o ≤ getD bs x 0 + i → length rs + (q + o) ≤ getD bs x 0 + i) →
+      places-all i o l q (drop j bs) rs ≡ places-all i o l q (drop (j + n) bs) rs
+  skip zero j within outside = rw (add-zero j)
+  skip (suc n) j within outside =
+      let z : j + 1 + n ≡ j + suc n = omega arith in
+      places-next i o l q bs j (omega arith) rs
+      ∙ ap (places-all i o l q (drop (j + 1) bs)) (raise-outside i o l q (getD bs j 0) rs (outside j (omega arith) (omega arith)))
+      ∙ rw z at (skip n (j + 1) (omega arith) (λ x a b. outside x (omega arith) (omega arith)))
+
+  pub places-skip :
+      (j k : ℕ) → j ≤ k → k ≤ length bs →
+      ((x : ℕ) → j ≤ x → x < k → q + o ≤ getD bs x 0 + i → length rs + (q + o) ≤ getD bs x 0 + i) →
+      places-all i o l q (drop j bs) rs ≡ places-all i o l q (drop k bs) rs
+  places-skip j k order within outside =
+      let z : j + (k - j) ≡ k = omega arith in
+      rw z at (skip (k - j) j (omega arith) (λ x a b. outside x a (omega arith)))
 
 -- ONE KEY AT ONE OFFSET
 

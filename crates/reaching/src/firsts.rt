@@ -9,6 +9,7 @@ ghost use Rattle.laws.specs.Window.{Within, Reaches};
 ghost use Rattle.laws.specs.WindowSearch.{back-all, first-all};
 ghost use Rattle.laws.specs.Tables.{Opened};
 ghost use Rattle.laws.specs.Ranging.{first-at};
+ghost use Rattle.laws.specs.ListRange.{Ascending};
 ghost use Rattle.laws.specs.Narrowing.{Split};
 ghost use Rattle.laws.specs.FrontLines.{Has-lines, front-lines, run-list};
 use crate::lines::raise_lone;
@@ -25,7 +26,7 @@ fn raise_back(
     reach: &mut [u16],
     most: usize,
 ) -> usize
-    requires { ⌜ (length (now key) ≤ 32) × (1 ≤ length (now string)) × (first ≤ 65536) × Within most (now reach) ⌝ }
+    requires { ⌜ (length (now key) ≤ 32) × (1 ≤ length (now string)) × (first ≤ 65536) × Within most (now reach) × Ascending (now places) ⌝ }
     ensures { λ r. ⌜ Reaches (back-all (length (now (key .entry))) 0 (now (string .entry)) (now (key .entry)) first (now (places .entry)) (now (reach .entry))) (now (reach .exit)) r ⌝ }
 {
     let mut top = most;

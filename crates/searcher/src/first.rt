@@ -1,7 +1,7 @@
 // The first found position of a string in an index, without its text.
 //
-// The starts are searched window by window, 1,024 of them, then 8,192, then the rest, and the search stops at the first window in which
-// one is found: no entry after that window is looked at. Where the estimate says that very many positions would be visited, the
+// The first 8,192 starts are searched, and the others only where none of these is found: no entry that lies behind the window is then
+// looked at. A local array is cleared when it is made, so a window of few starts has one of its own. Where the estimate says that very many positions would be visited, the
 // text that the entries show is looked through instead, as a whole search does.
 ghost use mathlib.Core.Path.{_≡_};
 ghost use Prim.Native.Nat.{suc, _+_, _-_, _≤_, _<_};
@@ -153,64 +153,6 @@ fn first_in_long<'a>(
     )
 }
 
-// The first found of the starts after the first 1,024: 8,192 of them, then the rest.
-fn first_after_short<'a>(
-    chars: &'a [u16],
-    lengths: &[u16],
-    index: &'a [u16],
-    words: &[u16],
-    lists: &[u32],
-    string: &[u16],
-    ends: usize,
-    lines: &[u16],
-    starts: usize,
-) -> usize
-    requires { ⌜ Opened (now chars) (now lengths) (now index) (now words) (now lists) × Is-string (now string) × Split (now index) ends × (now lines ≡ front-lines (lexicon (now chars) (now lengths)) (now index) (now string) ends) × (1025 + starts ≤ 65536) ⌝ }
-    ensures { λ r. ⌜ First-in (lexicon (now (chars .entry)) (now (lengths .entry))) (now (index .entry)) (now (string .entry)) starts 1025 r ⌝ }
-{
-    if starts <= 8192 {
-        return first_in_middle(
-            chars,
-            lengths,
-            index,
-            words,
-            lists,
-            string,
-            ends,
-            lines,
-            1025,
-            starts,
-        );
-    }
-    let near = first_in_middle(
-        chars,
-        lengths,
-        index,
-        words,
-        lists,
-        string,
-        ends,
-        lines,
-        1025,
-        8192,
-    );
-    if near != 0 {
-        return near;
-    }
-    first_in_long(
-        chars,
-        lengths,
-        index,
-        words,
-        lists,
-        string,
-        ends,
-        lines,
-        9217,
-        starts - 8192,
-    )
-}
-
 // The first found of all starts, by growing windows.
 fn first_by_windows<'a>(
     chars: &'a [u16],
@@ -240,7 +182,21 @@ fn first_by_windows<'a>(
             starts,
         );
     }
-    let near = first_in_short(
+    if starts <= 8192 {
+        return first_in_middle(
+            chars,
+            lengths,
+            index,
+            words,
+            lists,
+            string,
+            ends,
+            lines,
+            1,
+            starts,
+        );
+    }
+    let near = first_in_middle(
         chars,
         lengths,
         index,
@@ -250,12 +206,12 @@ fn first_by_windows<'a>(
         ends,
         lines,
         1,
-        1024,
+        8192,
     );
     if near != 0 {
         return near;
     }
-    first_after_short(
+    first_in_long(
         chars,
         lengths,
         index,
@@ -264,7 +220,8 @@ fn first_by_windows<'a>(
         string,
         ends,
         lines,
-        starts - 1024,
+        8193,
+        starts - 8192,
     )
 }
 

@@ -35,7 +35,7 @@ shared-slice-read-if1-2 c = c .before .before .before .before .before .before .b
 raise-key-requires : tie.Need-raise-key-requires Inv-loop μ-loop
 raise-key-requires c κs =
     let s = c .before .before .before .before .before .before .before .before .before .before in
-    (record { shared = omega (arith, c .before .before .before .before .loop-test .taken); end-small = omega (arith, s .pre .0); first-small = s .pre .2 }, c .before .before .before .before .before .loop .inv .way .bounded)
+    (record { shared = omega (arith, c .before .before .before .before .loop-test .taken); end-small = omega (arith, s .pre .0); first-small = s .pre .2 }, c .before .before .before .before .before .loop .inv .way .bounded, s .pre .4)
 
 loop-less : tie.Need-loop-less Inv-loop μ-loop
 loop-less c = omega (arith, c .before .before .before .before .before .before .before .loop-test .taken)

@@ -6,6 +6,7 @@ use borrow.Author.Needs.{needs}
 use lib.ListN.{length, getD}
 use Rattle.spec.specs.Dictionary.{lexicon}
 use Rattle.laws.specs.Tables.{spelt-short}
+use Rattle.laws.specs.ListRange.{listed-rise}
 use Rattle.laws.specs.Ranging.{first-at, first-done}
 use Rattle.laws.specs.FrontLines.{Listed, listed-start, listed-step, listed-end}
 use Rattle.reaching.proofs.firsts.raise_words_back.Statement.{statement}
@@ -53,6 +54,8 @@ raise-back-requires c κs =
       s .pre .2,
       s .pre .3,
       l .inv .bounded,
+      listed-rise (a .chars .now) (a .lengths .now) (a .index .now) (s .pre .0 .can) (getD (a .lines .now) (l .i) 0)
+          (s .pre .1 (l .i) (c .before .before .before .before .loop-test .taken)) (c .before .places-of .result .now) (c .before .places-of .ensures),
     )
 
 add-i : tie.Need-add-i Inv-loop μ-loop

@@ -4,6 +4,7 @@ use lib.ListN.{length}
 use Rattle.spec.specs.Dictionary.{lexicon}
 use Rattle.laws.specs.Tables.{spelt-short}
 use Rattle.laws.specs.Marking.{offset-fits}
+use Rattle.laws.specs.ListRange.{listed-rise}
 use Rattle.laws.specs.Ranging.{stage-done}
 use Rattle.reaching.proofs.lines.raise_line.Statement.{statement}
 use Rattle.reaching.proofs.lines.raise_line.Tie as tie
@@ -26,6 +27,7 @@ raise-key-requires c κs =
           (spelt-short (a .chars .now) (a .lengths .now) (a .index .now) (s .pre .0 .can) (a .line) (s .pre .2) (c .before .before .key-of .result .now) (c .before .before .key-of .ensures))
           (s .pre .1) (s .pre .3),
       s .pre .4,
+      listed-rise (a .chars .now) (a .lengths .now) (a .index .now) (s .pre .0 .can) (a .line) (s .pre .2) (c .before .places-of .result .now) (c .before .places-of .ensures),
     )
 
 same-length : tie.Need-same-length

@@ -1,182 +1,76 @@
--- `mark` meets its contract. The invariant: after i positions the rest of them leads to the window that all lead to. The measure is
--- how many positions are left. The tests of the wrapped differences are read by the laws of wrapping. Assumes nothing.
-use mathlib.Core.Path.{_≡_}
-use Prim.Native.Nat.{_+_, _-_}
-use native.Mathlib.Omega.{arith}
+-- `mark` meets its contract: the two lower bounds are the range of the window. Assumes nothing.
+use lib.ListN.{length}
+use Rattle.laws.specs.ListRange.{window-range}
 use borrow.Author.Needs.{needs}
-use lib.ListN.{length, getD}
-use Rattle.basics.specs.Wrapping.{wrap-below, wrap-above}
-use Rattle.laws.specs.Marking.{Marking, marking-start, marking-end, marking-outside, marking-passed, marking-raised}
 use Rattle.reaching.proofs.marking.mark.Statement.{statement}
 use Rattle.reaching.proofs.marking.mark.Tie as tie
+use Rattle.reaching.proofs.marking.mark.Reads as reads
+use Rattle.reaching.proofs.marking.mark.Lts as lts
+use Rattle.reaching.proofs.bounds.lower_bound.Reads as lower-bound-reads
+use Rattle.reaching.proofs.marking.mark_all.Reads as mark-all-reads
+use Rattle.reaching.proofs.marking.mark_range.Reads as mark-range-reads
+use Rattle.reaching.proofs.marking.saturating_sub.Reads as saturating-sub-reads
 
-abbrev Inv-loop : tie.InvT-loop
-Inv-loop places long string-start key-start first reach₀ most end gain peak from top₀ i₀ reach top i =
-    Marking places long string-start key-start first reach₀ most reach top i
+mark-all-requires : tie.Need-mark-all-requires
+mark-all-requires c κs = search needs
 
-abbrev μ-loop : tie.MeasureT-loop
-μ-loop places long string-start key-start first reach₀ most end gain peak from top₀ i₀ reach top i = length places - i
+same-length : tie.Need-same-length
+same-length c = search needs
 
-add-greater : tie.Need-add-greater Inv-loop μ-loop
-add-greater c = search needs
+returns : tie.Need-returns
+returns c = search needs
 
-sub-greater : tie.Need-sub-greater Inv-loop μ-loop
-sub-greater c = search needs
+add-base : tie.Need-add-base
+add-base c = search needs
 
-greater-requires : tie.Need-greater-requires Inv-loop μ-loop
-greater-requires c κs = search needs
+saturating-sub-requires : tie.Need-saturating-sub-requires
+saturating-sub-requires c κs = search needs
 
-sub-gain : tie.Need-sub-gain Inv-loop μ-loop
-sub-gain c = search needs
+lower-bound-requires : tie.Need-lower-bound-requires
+lower-bound-requires c κs = search needs
 
-greater-requires-2 : tie.Need-greater-requires-2 Inv-loop μ-loop
-greater-requires-2 c κs = search needs
+add-saturating-sub : tie.Need-add-saturating-sub
+add-saturating-sub c = search needs
 
-add-from : tie.Need-add-from Inv-loop μ-loop
-add-from c = search needs
+saturating-sub-requires-2 : tie.Need-saturating-sub-requires-2
+saturating-sub-requires-2 c κs = search needs
 
-loop-holds : tie.Need-loop-holds Inv-loop μ-loop
-loop-holds c =
-    let s = c .before .before .before .before in
+lower-bound-requires-2 : tie.Need-lower-bound-requires-2
+lower-bound-requires-2 c κs = search needs
+
+mark-range-requires : tie.Need-mark-range-requires
+mark-range-requires c κs =
+    let s = c .before .before .before .before .before .before .before .before in
     let a = s .args in
-    marking-start (a .places .now) (a .long) (a .string-start) (a .key-start) (a .first) (a .reach .now) (a .most) (s .pre .1)
+    let low = c .before .before .before .before .saturating-sub in
+    let high = c .before .before .saturating-sub2 in
+    let from = c .before .before .before .lower-bound in
+    let to = c .before .lower-bound2 in (
+      s .pre .0,
+      s .pre .1,
+      window-range (a .places .now) (a .string-start) (a .key-start) (a .first) (length (a .reach .now)) (from .result) (to .result)
+          (low .result) (high .result) (low .ensures) (high .ensures) (from .ensures) (to .ensures),
+    )
 
-mul-at : tie.Need-mul-at Inv-loop μ-loop
-mul-at c = search needs
+same-length-2 : tie.Need-same-length-2
+same-length-2 c = search needs
 
-shared-slice-read-at : tie.Need-shared-slice-read-at Inv-loop μ-loop
-shared-slice-read-at c = search needs
-
-cast-at : tie.Need-cast-at Inv-loop μ-loop
-cast-at c = omega (arith, c .shared-slice-known2 .given (c .before .before .loop .i))
-
-add-at : tie.Need-add-at Inv-loop μ-loop
-add-at c = omega (arith, c .shared-slice-known2 .given (c .before .before .loop .i))
-
-add-i : tie.Need-add-i Inv-loop μ-loop
-add-i c = search needs
-
-wrapping-sub-usize-requires : tie.Need-wrapping-sub-usize-requires Inv-loop μ-loop
-wrapping-sub-usize-requires c κs = search needs
-
-mul-wrapping-sub-usize : tie.Need-mul-wrapping-sub-usize Inv-loop μ-loop
-mul-wrapping-sub-usize c = search needs
-
-slice-read-wrapping-sub-usize : tie.Need-slice-read-wrapping-sub-usize Inv-loop μ-loop
-slice-read-wrapping-sub-usize c = search needs
-
-cast-wrapping-sub-usize : tie.Need-cast-wrapping-sub-usize Inv-loop μ-loop
-cast-wrapping-sub-usize c = omega (arith, c .slice-known2 .given (c .before .before .wrapping-sub-usize .result))
-
-wrapping-sub-usize-requires-2 : tie.Need-wrapping-sub-usize-requires-2 Inv-loop μ-loop
-wrapping-sub-usize-requires-2 c κs = search needs
-
-cast-reach : tie.Need-cast-reach Inv-loop μ-loop
-cast-reach c = omega (arith, c .before .before .before .before .before .before .before .before .before .greater .ensures, c .before .before .before .before .before .before .before .before .before .before .before .before .pre .0 .end-small)
-
-mul-reach : tie.Need-mul-reach Inv-loop μ-loop
-mul-reach c = search needs
-
-slice-write-reach : tie.Need-slice-write-reach Inv-loop μ-loop
-slice-write-reach c = search needs
-
-loop-less : tie.Need-loop-less Inv-loop μ-loop
-loop-less c = search needs
-
--- a start within the window is the position's own
-own :
-    (c : tie.Then1 Inv-loop μ-loop) →
-    let a = c .before .before .before .before .before .before .before .before .before .args in
-    c .before .wrapping-sub-usize .result + (a .first + a .key-start) ≡ getD (a .places .now) (c .before .before .before .before .loop .i) 0 + a .string-start
-own c =
-    let s = c .before .before .before .before .before .before .before .before .before in
-    let a = s .args in
-    let l = c .before .before .before .before .loop in
-    let w = c .before .wrapping-sub-usize in
-    wrap-below (w .result) (getD (a .places .now) (l .i) 0 + a .string-start) (a .first + a .key-start) (length (l .reach)) (w .ensures)
-    (omega (arith, s .pre .0)) (c .if1 .taken)
-
-loop-again : tie.Need-loop-again Inv-loop μ-loop
-loop-again c =
-    let s = c .before .before .before .before .before .before .before .before .before .before .before .before in
-    let a = s .args in
-    let l = c .before .before .before .before .before .before .before .loop in
-    let w = c .before .before .before .before .wrapping-sub-usize in
-    let v = c .before .wrapping-sub-usize2 in
-    let reached = getD (l .reach) (w .result) 0 in
-    let end = c .before .before .before .before .before .before .before .before .before .greater in
-    let peak = c .before .before .before .before .before .before .before .before .greater2 in
-    let above = wrap-below (v .result) reached (a .key-start) 65536 (v .ensures) (omega (arith, s .pre .0 .end-small)) (omega (arith, end .ensures, s .pre .0 .end-small, c .if2 .taken)) in
-    marking-raised (a .places .now) (a .long) (a .string-start) (a .key-start) (a .first) (a .reach .now) (a .most) (l .reach) (l .top) (l .i) (l .inv) (c .before .before .before .before .before .before .loop-test .taken) (w .result) (own (c .before .before .before)) (c .before .before .before .if1 .taken)
-    (end .result) (peak .result) (end .ensures) (peak .ensures) (omega (arith, above)) (omega (arith, above, end .ensures, c .if2 .taken))
-
-loop-less-2 : tie.Need-loop-less-2 Inv-loop μ-loop
-loop-less-2 c = search needs
-
-loop-again-2 : tie.Need-loop-again-2 Inv-loop μ-loop
-loop-again-2 c =
-    let s = c .before .before .before .before .before .before .before .before .before .before .before .before in
-    let a = s .args in
-    let l = c .before .before .before .before .before .before .before .loop in
-    let w = c .before .before .before .before .wrapping-sub-usize in
-    let v = c .before .wrapping-sub-usize2 in
-    let reached = getD (l .reach) (w .result) 0 in
-    let end = c .before .before .before .before .before .before .before .before .before .greater in
-    marking-passed (a .places .now) (a .long) (a .string-start) (a .key-start) (a .first) (a .reach .now) (a .most) (l .reach) (l .top) (l .i) (l .inv) (c .before .before .before .before .before .before .loop-test .taken) (w .result) (own (c .before .before .before)) (c .before .before .before .if1 .taken)
-    (λ near. omega (arith, end .ensures, wrap-above (v .result) reached (a .key-start) (end .result - a .key-start) (v .ensures) (v .ok) (omega (arith, s .pre .0 .end-small)) near (omega (arith, c .if2 .left))))
-
-loop-less-3 : tie.Need-loop-less-3 Inv-loop μ-loop
-loop-less-3 c = search needs
-
-loop-again-3 : tie.Need-loop-again-3 Inv-loop μ-loop
-loop-again-3 c =
-    let s = c .before .before .before .before .before .before .before .before .before in
-    let a = s .args in
-    let l = c .before .before .before .before .loop in
-    let w = c .before .wrapping-sub-usize in
-    marking-outside (a .places .now) (a .long) (a .string-start) (a .key-start) (a .first) (a .reach .now) (a .most) (l .reach) (l .top) (l .i) (l .inv) (c .before .before .before .loop-test .taken)
-    (λ from. wrap-above (w .result) (getD (a .places .now) (l .i) 0 + a .string-start) (a .first + a .key-start) (length (l .reach)) (w .ensures) (w .ok) (omega (arith, s .pre .0)) from (c .if1 .left))
-
-same-length : tie.Need-same-length Inv-loop μ-loop
-same-length c = c .before .loop .inv .way .long
-
-returns : tie.Need-returns Inv-loop μ-loop
-returns c =
-    let a = c .before .before .before .before .before .before .args in
-    let l = c .before .loop in
-    marking-end (a .places .now) (a .long) (a .string-start) (a .key-start) (a .first) (a .reach .now) (a .most) (l .reach) (l .top) (l .i) (l .inv) (c .loop-test .left)
+returns-2 : tie.Need-returns-2
+returns-2 c = search needs
 
 pub mark-spec : {M : Type 1} → statement M
 mark-spec =
     tie.close
     (tie.spec
-    Inv-loop
-    μ-loop
-    add-greater
-    sub-greater
-    greater-requires
-    sub-gain
-    greater-requires-2
-    add-from
-    loop-holds
-    mul-at
-    shared-slice-read-at
-    cast-at
-    add-at
-    add-i
-    wrapping-sub-usize-requires
-    mul-wrapping-sub-usize
-    slice-read-wrapping-sub-usize
-    cast-wrapping-sub-usize
-    wrapping-sub-usize-requires-2
-    cast-reach
-    mul-reach
-    slice-write-reach
-    loop-less
-    loop-again
-    loop-less-2
-    loop-again-2
-    loop-less-3
-    loop-again-3
+    mark-all-requires
     same-length
-    returns)
+    returns
+    add-base
+    saturating-sub-requires
+    lower-bound-requires
+    add-saturating-sub
+    saturating-sub-requires-2
+    lower-bound-requires-2
+    mark-range-requires
+    same-length-2
+    returns-2)

@@ -1,4 +1,4 @@
--- `first_by_windows` meets its contract: where none of 1,024 starts is found, the first found is that of the rest. Assumes nothing.
+-- `first_by_windows` meets its contract: where none of 8,192 starts is found, the first found is that of the rest. Assumes nothing.
 use Prim.Native.Nat.{_-_}
 use native.Mathlib.Omega.{arith}
 use Rattle.spec.specs.Dictionary.{lexicon}
@@ -13,28 +13,34 @@ first-in-short-requires c κs = search needs
 returns : tie.Need-returns
 returns c = search needs
 
-first-in-short-requires-2 : tie.Need-first-in-short-requires-2
-first-in-short-requires-2 c κs = search needs
+first-in-middle-requires : tie.Need-first-in-middle-requires
+first-in-middle-requires c κs = search needs
 
 returns-2 : tie.Need-returns-2
-returns-2 c =
-    let a = c .before .before .before .before .before .before .before .before .before .before .args in
-    let near = c .before .first-in-short2 in
-    first-in-first (lexicon (a .chars .now) (a .lengths .now)) (a .index .now) (a .string .now) (a .starts) 1024 (a .starts - 1024) 1 (omega (arith, c .before .before .if1 .left)) (near .result) (near .ensures)
-    (c .if2 .taken)
+returns-2 c = search needs
 
-sub-first-after-short : tie.Need-sub-first-after-short
-sub-first-after-short c = search needs
-
-first-after-short-requires : tie.Need-first-after-short-requires
-first-after-short-requires c κs = search needs
+first-in-middle-requires-2 : tie.Need-first-in-middle-requires-2
+first-in-middle-requires-2 c κs = search needs
 
 returns-3 : tie.Need-returns-3
 returns-3 c =
     let a = c .before .before .before .before .before .before .before .before .before .before .before .args in
-    let near = c .before .before .first-in-short2 in
-    first-in-second (lexicon (a .chars .now) (a .lengths .now)) (a .index .now) (a .string .now) (a .starts) 1024 (a .starts - 1024) 1 (omega (arith, c .before .before .before .if1 .left)) (near .result) (near .ensures)
-    (omega arith) (c .before .if2 .left) (c .first-after-short .result) (c .first-after-short .ensures)
+    let near = c .before .first-in-middle2 in
+    first-in-first (lexicon (a .chars .now) (a .lengths .now)) (a .index .now) (a .string .now) (a .starts) 8192 (a .starts - 8192) 1 (omega (arith, c .before .before .if2 .left)) (near .result) (near .ensures)
+    (c .if3 .taken)
+
+sub-first-in-long : tie.Need-sub-first-in-long
+sub-first-in-long c = search needs
+
+first-in-long-requires : tie.Need-first-in-long-requires
+first-in-long-requires c κs = search needs
+
+returns-4 : tie.Need-returns-4
+returns-4 c =
+    let a = c .before .before .before .before .before .before .before .before .before .before .before .before .args in
+    let near = c .before .before .first-in-middle2 in
+    first-in-second (lexicon (a .chars .now) (a .lengths .now)) (a .index .now) (a .string .now) (a .starts) 8192 (a .starts - 8192) 1 (omega (arith, c .before .before .before .if2 .left)) (near .result) (near .ensures)
+    (omega arith) (c .before .if3 .left) (c .first-in-long .result) (c .first-in-long .ensures)
 
 pub first-by-windows-spec : {M : Type 1} → statement M
 first-by-windows-spec =
@@ -42,8 +48,10 @@ first-by-windows-spec =
     (tie.spec
     first-in-short-requires
     returns
-    first-in-short-requires-2
+    first-in-middle-requires
     returns-2
-    sub-first-after-short
-    first-after-short-requires
-    returns-3)
+    first-in-middle-requires-2
+    returns-3
+    sub-first-in-long
+    first-in-long-requires
+    returns-4)
