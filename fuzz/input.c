@@ -158,11 +158,12 @@ static void read_dictionary(uint8_t style, uint8_t size)
 
 /*
  * Another letter in front of the text, as many as the starts that
- * mopekihua_first looks at before it goes on to further ones, or some fewer.
+ * mopekihua_first looks at before it goes on to further ones, or as its smaller
+ * table has, or some fewer.
  */
 static size_t put_in_front(uint8_t choice)
 {
-    size_t len = (choice & 0x80 ? 9216 : 1024) - (choice & 0x7F);
+    size_t len = (choice & 0x80 ? 8192 : 1024) - (choice & 0x7F);
 
     for (size_t i = 0; i < len; i++)
         text[i] = 'z';

@@ -39,13 +39,13 @@ impl Drawn {
     }
 
     /// A readable index that mostly no text has. Some have their entries around
-    /// the last start of a window: `first` looks at 1,024 starts and then 8,192
-    /// before it looks at the rest.
+    /// the last start of a window: `first` looks at 8,192 starts before it looks
+    /// at the rest, and has a smaller table for 1,024.
     fn of_no_text(random: &mut Random) -> Drawn {
         let delivery = Delivery::random(random);
         let Delivery { dictionary, index } = match random.within(0, 9) {
             0 => delivery.moved(1_024 - random.within(0, 6) as u16),
-            1 => delivery.moved(9_216 - random.within(0, 6) as u16),
+            1 => delivery.moved(8_192 - random.within(0, 6) as u16),
             _ => delivery,
         };
         let alphabet = [&dictionary.chars[..], &[0x61]].concat();

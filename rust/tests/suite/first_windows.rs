@@ -1,7 +1,7 @@
-//! The first position on long sheets. The library searches starts in windows:
-//! the first 1,024, the next 8,192, and the rest. Here strings come first at the
-//! seams between them and around these, cross them, and are covered by entries
-//! that start before them.
+//! The first position on long sheets. The library searches the first 8,192
+//! starts, and then the rest; up to 1,024 starts have a table of their own. Here
+//! strings come first at these seams and around them, cross them, and are covered
+//! by entries that start before them.
 
 use std::ops::RangeInclusive;
 
@@ -12,8 +12,8 @@ use crate::support::oracle::{self, Key, Line};
 use crate::support::random::Random;
 use crate::support::text::{Subject, random_over};
 
-/// The last start of the first window, and of the second.
-const SEAMS: [usize; 2] = [1_024, 9_216];
+/// The last start that the small table has, and the last of the first window.
+const SEAMS: [usize; 2] = [1_024, 8_192];
 
 /// The shortest string, some around the longest word, and the longest.
 const STRING_LENGTHS: [usize; 8] = [1, 2, 3, 31, 32, 33, 255, 256];
