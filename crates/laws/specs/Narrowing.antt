@@ -1,6 +1,6 @@
 -- The directory lines of an accepted index in order: words first, then lone characters, each part rising; and which of the lone
 -- characters can agree at an offset. Assumes nothing.
-use mathlib.Core.Path.{_≡_, sym, ap, _∙_}
+use mathlib.Core.Path.{_≡_, refl, sym, ap, _∙_}
 use mathlib.Core.Bool.{true, false}
 use mathlib.Core.Logic.{⊎-elim}
 use mathlib.Core.List.{List, [], _∷_}
@@ -26,7 +26,9 @@ use Rattle.laws.specs.Opened.{line-of, lines-next}
 use Rattle.laws.specs.Tables.{Can-read, key-is, word-below, in-front-of}
 use Rattle.laws.specs.Halving.{Rising, Cut}
 use Rattle.laws.specs.Window.{Within, Reaches}
-use Rattle.laws.specs.Ranging.{run, run-one, run-skip, run-still, Still, stage-at, stage-apart}
+use Rattle.laws.specs.WindowSearch.{places-all}
+use Rattle.laws.specs.Raising.{raises-all}
+use Rattle.laws.specs.Ranging.{run, run-one, run-skip, run-still, Still, places-at, stage-at, stage-apart, stage-done}
 
 -- KEYS RISE
 
@@ -172,6 +174,16 @@ module _ (cs ls xs : List ℕ) (can : Can-read cs ls xs) where
               let z : j ≡ 0 = omega arith in
               let y : o + 0 ≡ o = omega arith in
               rw z (rw y (sym (e ∙ is)))
+
+      -- so what its positions do is done by its line
+      pub lone-done :
+          (i : ℕ) → w ≤ i → i < keys-of xs → value-at xs i ≡ c → o < length s → (q : ℕ) (bs : List ℕ) → bs ≡ places-at xs i →
+          (old now : List ℕ) (most : ℕ) → Reaches (places-all 0 o 1 q bs old) now most →
+          Reaches (stage-at o (lexicon cs ls) xs s q i old) now most
+      lone-done i a b e below q bs places old now most r =
+          stage-done (lexicon cs ls) xs s q i (spells (lexicon cs ls) (key-at xs i)) bs refl places old now most o
+          (raises-all 0 o s (spells (lexicon cs ls) (key-at xs i)) q bs old (lone-agrees i a b e below) now most
+          (rw (lone-single i a b) r))
 
       module _ (r : ℕ) (cut : Cut (number-at xs 1) w (keys-of xs) c r) where
         -- of all lines only the one found can agree

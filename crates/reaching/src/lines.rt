@@ -14,6 +14,7 @@ ghost use Rattle.laws.specs.Window.{Within, Reaches};
 ghost use Rattle.laws.specs.Tables.{Opened};
 ghost use Rattle.laws.specs.Ranging.{run, stage-at};
 ghost use Rattle.laws.specs.Narrowing.{Split};
+use crate::marking::mark;
 use crate::marking::raise_key;
 use directory::lines::key_of;
 use directory::lines::places_of;
@@ -181,19 +182,8 @@ pub(crate) fn raise_lone<'a>(
     let line = first_line(index, ends, keys, 1, character as usize);
     if line < keys {
         if index[2 + 3 * line + 1] == character {
-            return raise_line(
-                chars,
-                lengths,
-                index,
-                words,
-                lists,
-                string,
-                key_start,
-                line,
-                first,
-                reach,
-                most,
-            );
+            let places = places_of(index, lists, line);
+            return mark(places, 1, 0, key_start, first, reach, most);
         }
     }
     most

@@ -105,7 +105,7 @@ fn mark_range(
 }
 
 // The same with the range found, if the list is not short.
-fn mark(
+pub(crate) fn mark(
     places: &[u16],
     long: usize,
     string_start: usize,

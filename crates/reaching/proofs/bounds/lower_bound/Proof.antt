@@ -6,9 +6,6 @@ use Rattle.laws.specs.Halving.{cut-first, cut-last}
 use borrow.Author.Needs.{needs}
 use Rattle.reaching.proofs.bounds.lower_bound.Statement.{statement}
 use Rattle.reaching.proofs.bounds.lower_bound.Tie as tie
-use Rattle.reaching.proofs.bounds.lower_bound.Reads as reads
-use Rattle.reaching.proofs.bounds.lower_bound.Lts as lts
-use Rattle.reaching.proofs.bounds.search_positions.Reads as search-positions-reads
 
 returns : tie.Need-returns
 returns c = search needs

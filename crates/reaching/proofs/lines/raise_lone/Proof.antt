@@ -2,8 +2,10 @@
 use mathlib.Core.Path.{refl}
 use native.Mathlib.Omega.{arith}
 use lib.ListN.{getD}
+use Rattle.laws.specs.Narrowing.{lone-rise, lone-done, lone-found, lone-none}
+use Rattle.laws.specs.ListRange.{listed-rise}
+use Rattle.laws.specs.Marking.{offset-fits}
 use borrow.Author.Needs.{needs}
-use Rattle.laws.specs.Narrowing.{lone-rise, lone-found, lone-none}
 use Rattle.reaching.proofs.lines.raise_lone.Statement.{statement}
 use Rattle.reaching.proofs.lines.raise_lone.Tie as tie
 
@@ -42,21 +44,35 @@ mul-if2-2 c = search needs
 shared-slice-read-if2 : tie.Need-shared-slice-read-if2
 shared-slice-read-if2 c = search needs
 
-raise-line-requires : tie.Need-raise-line-requires
-raise-line-requires c κs =
-    let s = c .before .before .before .before .before .before .before .before .before .before .before .before .before .before in
-    (s .pre .0, omega (arith, s .pre .2, s .pre .3), c .before .before .before .if1 .taken, s .pre .4, s .pre .5)
+places-of-requires : tie.Need-places-of-requires
+places-of-requires c κs = search needs
+
+mark-requires : tie.Need-mark-requires
+mark-requires c κs =
+    let s = c .before .before .before .before .before .before .before .before .before .before .before .before .before .before .before in
+    let a = s .args in (
+      offset-fits 1 (a .key-start) (a .first) (omega arith) (omega (arith, s .pre .2, s .pre .3)) (s .pre .4),
+      s .pre .5,
+      listed-rise (a .chars .now) (a .lengths .now) (a .index .now) (s .pre .0 .can) (c .before .before .before .before .before .first-line .result)
+          (c .before .before .before .before .if1 .taken) (c .before .places-of .result .now) (c .before .places-of .ensures),
+    )
 
 same-length : tie.Need-same-length
 same-length c = search needs
 
 returns : tie.Need-returns
 returns c =
-    let s = c .before .before .before .before .before .before .before .before .before .before .before .before .before .before .before .before .before in
+    let s = c .before .before .before .before .before .before .before .before .before .before .before .before .before .before .before .before .before .before in
     let a = s .args in
+    let line = c .before .before .before .before .before .before .before .before .first-line in
+    let some = c .before .before .before .before .before .before .before .if1 .taken in
+    let places = c .before .before .before .before .places-of in
+    let done = c .before .before .mark in
     lone-found (a .chars .now) (a .lengths .now) (a .index .now) (s .pre .0 .can) (a .ends) (s .pre .1) (a .string .now) (a .key-start)
-    (getD (a .string .now) (a .key-start) 0) refl (c .before .before .before .before .before .before .before .first-line .result) (c .before .before .before .before .before .before .before .first-line .ensures) (a .first) (c .before .before .before .before .before .before .if1 .taken)
-    (a .reach .now) (c .before .before .raise-line .last .1 .1 .1 .1 .1 .1 .1 .1 .1 .0) (c .before .before .raise-line .result) (c .before .before .raise-line .ensures)
+    (getD (a .string .now) (a .key-start) 0) refl (line .result) (line .ensures) (a .first) some (a .reach .now) (done .last .1 .1 .1 .1 .1 .0) (done .result)
+    (lone-done (a .chars .now) (a .lengths .now) (a .index .now) (s .pre .0 .can) (a .ends) (s .pre .1) (a .string .now) (a .key-start)
+    (getD (a .string .now) (a .key-start) 0) refl (line .result) (line .ensures .from) some (c .before .before .before .before .before .if2 .taken) (s .pre .2) (a .first)
+    (places .result .now) (places .ensures) (a .reach .now) (done .last .1 .1 .1 .1 .1 .0) (done .result) (done .ensures))
 
 returns-2 : tie.Need-returns-2
 returns-2 c =
@@ -89,7 +105,8 @@ raise-lone-spec =
     add-if2-2
     mul-if2-2
     shared-slice-read-if2
-    raise-line-requires
+    places-of-requires
+    mark-requires
     same-length
     returns
     returns-2

@@ -4,12 +4,6 @@ use Rattle.laws.specs.ListRange.{window-range}
 use borrow.Author.Needs.{needs}
 use Rattle.reaching.proofs.marking.mark.Statement.{statement}
 use Rattle.reaching.proofs.marking.mark.Tie as tie
-use Rattle.reaching.proofs.marking.mark.Reads as reads
-use Rattle.reaching.proofs.marking.mark.Lts as lts
-use Rattle.reaching.proofs.bounds.lower_bound.Reads as lower-bound-reads
-use Rattle.reaching.proofs.marking.mark_all.Reads as mark-all-reads
-use Rattle.reaching.proofs.marking.mark_range.Reads as mark-range-reads
-use Rattle.reaching.proofs.marking.saturating_sub.Reads as saturating-sub-reads
 
 mark-all-requires : tie.Need-mark-all-requires
 mark-all-requires c κs = search needs

@@ -9,11 +9,6 @@ use Rattle.laws.specs.Marking.{Marking, marking-start, marking-end, marking-out
 use borrow.Author.Needs.{needs}
 use Rattle.reaching.proofs.marking.mark_all.Statement.{statement}
 use Rattle.reaching.proofs.marking.mark_all.Tie as tie
-use Rattle.reaching.proofs.marking.mark_all.Reads as reads
-use Rattle.reaching.proofs.marking.mark_all.Lts as lts
-use Rattle.reaching.proofs.marking.greater.Reads as greater-reads
-use Rattle.reaching.proofs.marking.raise_start.Reads as raise-start-reads
-use Rattle.std.proofs.num.wrapping_sub_usize.Reads as wrapping-sub-usize-reads
 
 abbrev Inv-loop : tie.InvT-loop
 Inv-loop places long string-start key-start first reach₀ most end peak from top₀ i₀ reach top i =

@@ -9,10 +9,6 @@ use Rattle.laws.specs.Marking.{Marking, range-start, range-end, marking-passed,
 use borrow.Author.Needs.{needs}
 use Rattle.reaching.proofs.marking.mark_range.Statement.{statement}
 use Rattle.reaching.proofs.marking.mark_range.Tie as tie
-use Rattle.reaching.proofs.marking.mark_range.Reads as reads
-use Rattle.reaching.proofs.marking.mark_range.Lts as lts
-use Rattle.reaching.proofs.marking.greater.Reads as greater-reads
-use Rattle.reaching.proofs.marking.raise_start.Reads as raise-start-reads
 
 abbrev Inv-loop : tie.InvT-loop
 Inv-loop places from to long string-start key-start first reach₀ most end peak base top₀ i₀ reach top i =

@@ -7,9 +7,6 @@ use Rattle.laws.specs.Marking.{raises-here, raises-none}
 use borrow.Author.Needs.{needs}
 use Rattle.reaching.proofs.marking.raise_start.Statement.{statement}
 use Rattle.reaching.proofs.marking.raise_start.Tie as tie
-use Rattle.reaching.proofs.marking.raise_start.Reads as reads
-use Rattle.reaching.proofs.marking.raise_start.Lts as lts
-use Rattle.std.proofs.num.wrapping_sub_usize.Reads as wrapping-sub-usize-reads
 
 sub-gain : tie.Need-sub-gain
 sub-gain c = search needs
