@@ -26,19 +26,19 @@ fn by_text(directory: &Directory, string: &[u16], n: usize, starts: usize) -> Op
     reach_painted(directory, n, string, reach).then(|| found(reach, string, 1))
 }
 
-/// By the entries, in windows of 1,024 starts, of 8,192, and the rest.
+/// By the entries: the first 8,192 starts, then the rest. Fewer have a shorter
+/// array, so that a short sheet does not pay for clearing it.
 fn by_windows(directory: &Directory, string: &[u16], starts: usize) -> usize {
     let fronts = Fronts::new(directory, string);
     let search = (directory, string, &fronts);
-    let near = in_window::<1_024>(search, 1, starts);
-    if near != 0 || starts <= 1_024 {
+    if starts <= 1_024 {
+        return in_window::<1_024>(search, 1, starts);
+    }
+    let near = in_window::<8_192>(search, 1, starts);
+    if near != 0 || starts <= 8_192 {
         return near;
     }
-    let middle = in_window::<8_192>(search, 1_025, starts - 1_024);
-    if middle != 0 || starts <= 9_216 {
-        return middle;
-    }
-    in_window::<65_535>(search, 9_217, starts - 9_216)
+    in_window::<65_535>(search, 8_193, starts - 8_192)
 }
 
 /// The first found of at most `N` starts from `first` on, 0 where there is none.
