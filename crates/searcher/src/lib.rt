@@ -1,5 +1,8 @@
 // Search of an index without its text: every position, or the first.
 mod dense;
 pub mod first;
+mod first_starts;
+mod first_windows;
 pub mod search;
+mod starts;
 mod window;

@@ -1,156 +1,21 @@
-// Search of an index without its text.
+// Search of an index without its text: the tables of starts, and the call.
 //
-// The starts of one window are searched together. A local array is cleared when it is made, so each of the two that grow with the
-// index comes in three sizes. The tables of starts are the same for every string: whoever searches for many fills them once.
+// A local array is cleared when it is made, so the table that grows with the index comes in three sizes. The tables are the same for
+// every string: whoever searches for many fills them once.
 ghost use mathlib.Core.Path.{_≡_};
 ghost use Prim.Native.Nat.{suc, _-_, _≤_};
-ghost use lib.ListN.{length, replicate};
+ghost use lib.ListN.{length};
 ghost use Rattle.spec.specs.Dictionary.{lexicon};
 ghost use Rattle.spec.specs.Index.{keys-of};
 ghost use Rattle.spec.specs.Search.{find};
 ghost use Rattle.spec.specs.Calls.{index-refusal, accepted, Search-says};
 ghost use Rattle.laws.specs.Tables.{Can-read, Opened};
 ghost use Rattle.laws.specs.Sizing.{Is-string, Sized};
-ghost use Rattle.laws.specs.Searching.{Window-says};
-use crate::window::search_cleared;
+use crate::starts::search_starts;
 use directory::tables::fill_lists;
 use directory::tables::fill_words;
 use opening::opened::open_index;
 use spec::Answer;
-
-// Searches the starts at which the string fits, of which there are `starts`, in a cleared window that is lent.
-fn search_lent<'a>(
-    chars: &'a [u16],
-    lengths: &[u16],
-    index: &'a [u16],
-    words: &[u16],
-    lists: &[u32],
-    string: &[u16],
-    starts: usize,
-    reach: &mut [u16],
-    output: &mut [u16],
-) -> Answer
-    requires { ⌜ Opened (now chars) (now lengths) (now index) (now words) (now lists) × Is-string (now string) × (starts ≤ 65535) × (starts ≤ length (now reach)) × (now reach ≡ replicate (length (now reach)) 0) ⌝ }
-    ensures { λ r. ⌜ Window-says (lexicon (now (chars .entry)) (now (lengths .entry))) (now (index .entry)) (now (string .entry)) starts 1 r (now (output .entry)) (now (output .exit)) ⌝ }
-{
-    search_cleared(
-        chars,
-        lengths,
-        index,
-        words,
-        lists,
-        string,
-        &mut reach[..starts],
-        output,
-    )
-}
-
-// With a window of 1,024 starts.
-fn search_in_short<'a>(
-    chars: &'a [u16],
-    lengths: &[u16],
-    index: &'a [u16],
-    words: &[u16],
-    lists: &[u32],
-    string: &[u16],
-    starts: usize,
-    output: &mut [u16],
-) -> Answer
-    requires { ⌜ Opened (now chars) (now lengths) (now index) (now words) (now lists) × Is-string (now string) × (starts ≤ 1024) ⌝ }
-    ensures { λ r. ⌜ Window-says (lexicon (now (chars .entry)) (now (lengths .entry))) (now (index .entry)) (now (string .entry)) starts 1 r (now (output .entry)) (now (output .exit)) ⌝ }
-{
-    let mut reach = [0u16; 1024];
-    search_lent(
-        chars,
-        lengths,
-        index,
-        words,
-        lists,
-        string,
-        starts,
-        &mut reach,
-        output,
-    )
-}
-
-// With a window of 8,192 starts.
-fn search_in_middle<'a>(
-    chars: &'a [u16],
-    lengths: &[u16],
-    index: &'a [u16],
-    words: &[u16],
-    lists: &[u32],
-    string: &[u16],
-    starts: usize,
-    output: &mut [u16],
-) -> Answer
-    requires { ⌜ Opened (now chars) (now lengths) (now index) (now words) (now lists) × Is-string (now string) × (starts ≤ 8192) ⌝ }
-    ensures { λ r. ⌜ Window-says (lexicon (now (chars .entry)) (now (lengths .entry))) (now (index .entry)) (now (string .entry)) starts 1 r (now (output .entry)) (now (output .exit)) ⌝ }
-{
-    let mut reach = [0u16; 8192];
-    search_lent(
-        chars,
-        lengths,
-        index,
-        words,
-        lists,
-        string,
-        starts,
-        &mut reach,
-        output,
-    )
-}
-
-// With a window of 65,536 starts.
-fn search_in_long<'a>(
-    chars: &'a [u16],
-    lengths: &[u16],
-    index: &'a [u16],
-    words: &[u16],
-    lists: &[u32],
-    string: &[u16],
-    starts: usize,
-    output: &mut [u16],
-) -> Answer
-    requires { ⌜ Opened (now chars) (now lengths) (now index) (now words) (now lists) × Is-string (now string) × (starts ≤ 65535) ⌝ }
-    ensures { λ r. ⌜ Window-says (lexicon (now (chars .entry)) (now (lengths .entry))) (now (index .entry)) (now (string .entry)) starts 1 r (now (output .entry)) (now (output .exit)) ⌝ }
-{
-    let mut reach = [0u16; 65536];
-    search_lent(
-        chars,
-        lengths,
-        index,
-        words,
-        lists,
-        string,
-        starts,
-        &mut reach,
-        output,
-    )
-}
-
-// With a window that is long enough.
-fn search_starts<'a>(
-    chars: &'a [u16],
-    lengths: &[u16],
-    index: &'a [u16],
-    words: &[u16],
-    lists: &[u32],
-    string: &[u16],
-    starts: usize,
-    output: &mut [u16],
-) -> Answer
-    requires { ⌜ Opened (now chars) (now lengths) (now index) (now words) (now lists) × Is-string (now string) × (starts ≤ 65535) ⌝ }
-    ensures { λ r. ⌜ Window-says (lexicon (now (chars .entry)) (now (lengths .entry))) (now (index .entry)) (now (string .entry)) starts 1 r (now (output .entry)) (now (output .exit)) ⌝ }
-{
-    if starts <= 1024 {
-        return search_in_short(chars, lengths, index, words, lists, string, starts, output);
-    }
-    if starts <= 8192 {
-        return search_in_middle(chars, lengths, index, words, lists, string, starts, output);
-    }
-    search_in_long(chars, lengths, index, words, lists, string, starts, output)
-}
 
 // How many starts there are at which a string of this length fits into n characters.
 pub(crate) fn starts_of(n: usize, long: usize) -> usize

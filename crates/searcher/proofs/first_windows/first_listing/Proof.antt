@@ -2,8 +2,8 @@
 use mathlib.Core.Path.{sym}
 use lib.Seq.{length-take-le}
 use borrow.Author.Needs.{needs}
-use Rattle.searcher.proofs.first.first_listing.Statement.{statement}
-use Rattle.searcher.proofs.first.first_listing.Tie as tie
+use Rattle.searcher.proofs.first_windows.first_listing.Statement.{statement}
+use Rattle.searcher.proofs.first_windows.first_listing.Tie as tie
 
 list-fronts-requires : tie.Need-list-fronts-requires
 list-fronts-requires c κs = search needs

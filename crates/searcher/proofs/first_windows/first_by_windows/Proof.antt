@@ -4,8 +4,8 @@ use native.Mathlib.Omega.{arith}
 use Rattle.spec.specs.Dictionary.{lexicon}
 use Rattle.laws.specs.FirstFound.{first-in-first, first-in-second}
 use borrow.Author.Needs.{needs}
-use Rattle.searcher.proofs.first.first_by_windows.Statement.{statement}
-use Rattle.searcher.proofs.first.first_by_windows.Tie as tie
+use Rattle.searcher.proofs.first_windows.first_by_windows.Statement.{statement}
+use Rattle.searcher.proofs.first_windows.first_by_windows.Tie as tie
 
 first-in-short-requires : tie.Need-first-in-short-requires
 first-in-short-requires c κs = search needs

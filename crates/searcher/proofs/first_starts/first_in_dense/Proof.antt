@@ -2,8 +2,8 @@
 use native.Mathlib.Omega.{arith}
 use Rattle.laws.specs.Searching.{cleared-room}
 use borrow.Author.Needs.{needs}
-use Rattle.searcher.proofs.first.first_in_dense.Statement.{statement}
-use Rattle.searcher.proofs.first.first_in_dense.Tie as tie
+use Rattle.searcher.proofs.first_starts.first_in_dense.Statement.{statement}
+use Rattle.searcher.proofs.first_starts.first_in_dense.Tie as tie
 
 slice-aggregate-first-by-text-in : tie.Need-slice-aggregate-first-by-text-in
 slice-aggregate-first-by-text-in c = search needs

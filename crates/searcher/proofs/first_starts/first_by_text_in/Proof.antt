@@ -6,8 +6,8 @@ use lib.Seq.{length-take-le}
 use Rattle.spec.specs.Dictionary.{lexicon}
 use Rattle.laws.specs.FirstFound.{first-in-count}
 use borrow.Author.Needs.{needs}
-use Rattle.searcher.proofs.first.first_by_text_in.Statement.{statement}
-use Rattle.searcher.proofs.first.first_by_text_in.Tie as tie
+use Rattle.searcher.proofs.first_starts.first_by_text_in.Statement.{statement}
+use Rattle.searcher.proofs.first_starts.first_by_text_in.Tie as tie
 
 slice-relend-prefix-first-by-text : tie.Need-slice-relend-prefix-first-by-text
 slice-relend-prefix-first-by-text c = search needs

@@ -2,8 +2,8 @@
 use native.Mathlib.Omega.{arith}
 use Rattle.laws.specs.Searching.{cleared-room, cleared-whole}
 use borrow.Author.Needs.{needs}
-use Rattle.searcher.proofs.first.first_in_long.Statement.{statement}
-use Rattle.searcher.proofs.first.first_in_long.Tie as tie
+use Rattle.searcher.proofs.first_windows.first_in_long.Statement.{statement}
+use Rattle.searcher.proofs.first_windows.first_in_long.Tie as tie
 
 slice-aggregate-first-in-lent : tie.Need-slice-aggregate-first-in-lent
 slice-aggregate-first-in-lent c = search needs

@@ -1,7 +1,7 @@
 -- `first_of_starts` meets its contract: both ways find the same. Assumes nothing.
 use borrow.Author.Needs.{needs}
-use Rattle.searcher.proofs.first.first_of_starts.Statement.{statement}
-use Rattle.searcher.proofs.first.first_of_starts.Tie as tie
+use Rattle.searcher.proofs.first_starts.first_of_starts.Statement.{statement}
+use Rattle.searcher.proofs.first_starts.first_of_starts.Tie as tie
 
 is-dense-requires : tie.Need-is-dense-requires
 is-dense-requires c κs = search needs

@@ -6,8 +6,8 @@ use lib.Seq.{length-take-le}
 use Rattle.spec.specs.Dictionary.{lexicon}
 use Rattle.laws.specs.Searching.{cleared-part, says-count}
 use borrow.Author.Needs.{needs}
-use Rattle.searcher.proofs.search.search_lent.Statement.{statement}
-use Rattle.searcher.proofs.search.search_lent.Tie as tie
+use Rattle.searcher.proofs.starts.search_lent.Statement.{statement}
+use Rattle.searcher.proofs.starts.search_lent.Tie as tie
 
 slice-relend-prefix-search-cleared : tie.Need-slice-relend-prefix-search-cleared
 slice-relend-prefix-search-cleared c = search needs

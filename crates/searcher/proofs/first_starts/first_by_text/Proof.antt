@@ -3,8 +3,8 @@ use lib.ListN.{length}
 use Rattle.spec.specs.Dictionary.{lexicon}
 use Rattle.laws.specs.FirstFound.{first-in-told, first-in-count}
 use borrow.Author.Needs.{needs}
-use Rattle.searcher.proofs.first.first_by_text.Statement.{statement}
-use Rattle.searcher.proofs.first.first_by_text.Tie as tie
+use Rattle.searcher.proofs.first_starts.first_by_text.Statement.{statement}
+use Rattle.searcher.proofs.first_starts.first_by_text.Tie as tie
 
 reach-by-text-requires : tie.Need-reach-by-text-requires
 reach-by-text-requires c κs = search needs

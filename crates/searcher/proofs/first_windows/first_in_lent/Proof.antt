@@ -7,8 +7,8 @@ use Rattle.spec.specs.Dictionary.{lexicon}
 use Rattle.laws.specs.Searching.{cleared-part}
 use Rattle.laws.specs.FirstFound.{first-in-count}
 use borrow.Author.Needs.{needs}
-use Rattle.searcher.proofs.first.first_in_lent.Statement.{statement}
-use Rattle.searcher.proofs.first.first_in_lent.Tie as tie
+use Rattle.searcher.proofs.first_windows.first_in_lent.Statement.{statement}
+use Rattle.searcher.proofs.first_windows.first_in_lent.Tie as tie
 
 slice-relend-prefix-first-in-window : tie.Need-slice-relend-prefix-first-in-window
 slice-relend-prefix-first-in-window c = search needs

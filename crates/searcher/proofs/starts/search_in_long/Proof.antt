@@ -2,8 +2,8 @@
 use Rattle.laws.specs.Searching.{cleared-room, cleared-whole}
 use native.Mathlib.Omega.{arith}
 use borrow.Author.Needs.{needs}
-use Rattle.searcher.proofs.search.search_in_long.Statement.{statement}
-use Rattle.searcher.proofs.search.search_in_long.Tie as tie
+use Rattle.searcher.proofs.starts.search_in_long.Statement.{statement}
+use Rattle.searcher.proofs.starts.search_in_long.Tie as tie
 
 slice-aggregate-search-lent : tie.Need-slice-aggregate-search-lent
 slice-aggregate-search-lent c = search needs

@@ -1,0 +1,104 @@
+// The first found of the starts at which a string fits, whichever way is cheaper.
+//
+// Where the estimate says that very many positions would be visited, the text that the entries show is looked through, as a whole search
+// does; else the search goes by the entries, window by window.
+ghost use Prim.Native.Nat.{suc, _+_, _≤_};
+ghost use lib.ListN.{length};
+ghost use Rattle.spec.specs.Dictionary.{lexicon};
+ghost use Rattle.spec.specs.Index.{n-of};
+ghost use Rattle.laws.specs.Tables.{Opened};
+ghost use Rattle.laws.specs.Sizing.{Is-string};
+ghost use Rattle.laws.specs.FirstFound.{First-in};
+use crate::dense::is_dense;
+use crate::first_windows::first_by_entries;
+use crate::window::reach_by_text;
+use finding::finding::first_found;
+
+// The first found of the starts of a cleared window, by the text that the entries show, or by the entries where they show none.
+fn first_by_text<'a>(
+    chars: &'a [u16],
+    lengths: &[u16],
+    index: &'a [u16],
+    words: &[u16],
+    lists: &[u32],
+    string: &[u16],
+    reach: &mut [u16],
+) -> usize
+    requires { ⌜ Opened (now chars) (now lengths) (now index) (now words) (now lists) × Is-string (now string) × (length (now reach) + length (now string) ≤ suc (n-of (now index))) ⌝ }
+    ensures { λ r. ⌜ First-in (lexicon (now (chars .entry)) (now (lengths .entry))) (now (index .entry)) (now (string .entry)) (length (now (reach .entry))) 1 r ⌝ }
+{
+    if reach_by_text(chars, lengths, index, words, string, reach) {
+        return first_found(reach, string.len(), 1);
+    }
+    first_by_entries(chars, lengths, index, words, lists, string, reach.len())
+}
+
+// The same in the front of the room lent for the window.
+fn first_by_text_in<'a>(
+    chars: &'a [u16],
+    lengths: &[u16],
+    index: &'a [u16],
+    words: &[u16],
+    lists: &[u32],
+    string: &[u16],
+    starts: usize,
+    room: &mut [u16],
+) -> usize
+    requires { ⌜ Opened (now chars) (now lengths) (now index) (now words) (now lists) × Is-string (now string) × (starts ≤ length (now room)) × (starts + length (now string) ≤ suc (n-of (now index))) ⌝ }
+    ensures { λ r. ⌜ First-in (lexicon (now (chars .entry)) (now (lengths .entry))) (now (index .entry)) (now (string .entry)) starts 1 r ⌝ }
+{
+    first_by_text(
+        chars,
+        lengths,
+        index,
+        words,
+        lists,
+        string,
+        &mut room[..starts],
+    )
+}
+
+// The same with room of its own.
+fn first_in_dense<'a>(
+    chars: &'a [u16],
+    lengths: &[u16],
+    index: &'a [u16],
+    words: &[u16],
+    lists: &[u32],
+    string: &[u16],
+    starts: usize,
+) -> usize
+    requires { ⌜ Opened (now chars) (now lengths) (now index) (now words) (now lists) × Is-string (now string) × (starts ≤ 65535) × (starts + length (now string) ≤ suc (n-of (now index))) ⌝ }
+    ensures { λ r. ⌜ First-in (lexicon (now (chars .entry)) (now (lengths .entry))) (now (index .entry)) (now (string .entry)) starts 1 r ⌝ }
+{
+    let mut room = [0u16; 65536];
+    first_by_text_in(
+        chars,
+        lengths,
+        index,
+        words,
+        lists,
+        string,
+        starts,
+        &mut room,
+    )
+}
+
+// The first found of so many starts, whichever way is cheaper.
+pub(crate) fn first_of_starts<'a>(
+    chars: &'a [u16],
+    lengths: &[u16],
+    index: &'a [u16],
+    words: &[u16],
+    lists: &[u32],
+    string: &[u16],
+    starts: usize,
+) -> usize
+    requires { ⌜ Opened (now chars) (now lengths) (now index) (now words) (now lists) × Is-string (now string) × (starts ≤ 65535) ⌝ }
+    ensures { λ r. ⌜ First-in (lexicon (now (chars .entry)) (now (lengths .entry))) (now (index .entry)) (now (string .entry)) starts 1 r ⌝ }
+{
+    if is_dense(chars, lengths, index, words, string, starts) {
+        return first_in_dense(chars, lengths, index, words, lists, string, starts);
+    }
+    first_by_entries(chars, lengths, index, words, lists, string, starts)
+}

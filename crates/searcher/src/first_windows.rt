@@ -1,0 +1,269 @@
+// The first found of the starts at which a string fits, by the entries.
+//
+// The first 8,192 starts are searched, and the others only where none of these is found: no entry that lies behind the window is then
+// looked at. A local array is cleared when it is made, so a window of few starts has one of its own.
+ghost use mathlib.Core.Path.{_≡_};
+ghost use Prim.Native.Nat.{_+_, _≤_};
+ghost use lib.ListN.{length, replicate};
+ghost use Rattle.spec.specs.Dictionary.{lexicon};
+ghost use Rattle.laws.specs.Tables.{Opened};
+ghost use Rattle.laws.specs.Narrowing.{Split};
+ghost use Rattle.laws.specs.FrontLines.{front-lines};
+ghost use Rattle.laws.specs.Sizing.{Is-string};
+ghost use Rattle.laws.specs.FirstFound.{First-in};
+use finding::window::first_in_window;
+use reaching::fronts::list_fronts;
+
+// The first found of `starts` starts from `first` on, in a cleared window that is lent.
+fn first_in_lent<'a>(
+    chars: &'a [u16],
+    lengths: &[u16],
+    index: &'a [u16],
+    words: &[u16],
+    lists: &[u32],
+    string: &[u16],
+    ends: usize,
+    lines: &[u16],
+    first: usize,
+    starts: usize,
+    reach: &mut [u16],
+) -> usize
+    requires { ⌜ Opened (now chars) (now lengths) (now index) (now words) (now lists) × Is-string (now string) × Split (now index) ends × (now lines ≡ front-lines (lexicon (now chars) (now lengths)) (now index) (now string) ends) × (first + starts ≤ 65536) × (starts ≤ length (now reach)) × (now reach ≡ replicate (length (now reach)) 0) ⌝ }
+    ensures { λ r. ⌜ First-in (lexicon (now (chars .entry)) (now (lengths .entry))) (now (index .entry)) (now (string .entry)) starts first r ⌝ }
+{
+    first_in_window(
+        chars,
+        lengths,
+        index,
+        words,
+        lists,
+        string,
+        ends,
+        lines,
+        first,
+        &mut reach[..starts],
+    )
+}
+
+// With a window of 1,024 starts.
+fn first_in_short<'a>(
+    chars: &'a [u16],
+    lengths: &[u16],
+    index: &'a [u16],
+    words: &[u16],
+    lists: &[u32],
+    string: &[u16],
+    ends: usize,
+    lines: &[u16],
+    first: usize,
+    starts: usize,
+) -> usize
+    requires { ⌜ Opened (now chars) (now lengths) (now index) (now words) (now lists) × Is-string (now string) × Split (now index) ends × (now lines ≡ front-lines (lexicon (now chars) (now lengths)) (now index) (now string) ends) × (first + starts ≤ 65536) × (starts ≤ 1024) ⌝ }
+    ensures { λ r. ⌜ First-in (lexicon (now (chars .entry)) (now (lengths .entry))) (now (index .entry)) (now (string .entry)) starts first r ⌝ }
+{
+    let mut reach = [0u16; 1024];
+    first_in_lent(
+        chars,
+        lengths,
+        index,
+        words,
+        lists,
+        string,
+        ends,
+        lines,
+        first,
+        starts,
+        &mut reach,
+    )
+}
+
+// With a window of 8,192 starts.
+fn first_in_middle<'a>(
+    chars: &'a [u16],
+    lengths: &[u16],
+    index: &'a [u16],
+    words: &[u16],
+    lists: &[u32],
+    string: &[u16],
+    ends: usize,
+    lines: &[u16],
+    first: usize,
+    starts: usize,
+) -> usize
+    requires { ⌜ Opened (now chars) (now lengths) (now index) (now words) (now lists) × Is-string (now string) × Split (now index) ends × (now lines ≡ front-lines (lexicon (now chars) (now lengths)) (now index) (now string) ends) × (first + starts ≤ 65536) × (starts ≤ 8192) ⌝ }
+    ensures { λ r. ⌜ First-in (lexicon (now (chars .entry)) (now (lengths .entry))) (now (index .entry)) (now (string .entry)) starts first r ⌝ }
+{
+    let mut reach = [0u16; 8192];
+    first_in_lent(
+        chars,
+        lengths,
+        index,
+        words,
+        lists,
+        string,
+        ends,
+        lines,
+        first,
+        starts,
+        &mut reach,
+    )
+}
+
+// With a window of 65,536 starts.
+fn first_in_long<'a>(
+    chars: &'a [u16],
+    lengths: &[u16],
+    index: &'a [u16],
+    words: &[u16],
+    lists: &[u32],
+    string: &[u16],
+    ends: usize,
+    lines: &[u16],
+    first: usize,
+    starts: usize,
+) -> usize
+    requires { ⌜ Opened (now chars) (now lengths) (now index) (now words) (now lists) × Is-string (now string) × Split (now index) ends × (now lines ≡ front-lines (lexicon (now chars) (now lengths)) (now index) (now string) ends) × (first + starts ≤ 65536) ⌝ }
+    ensures { λ r. ⌜ First-in (lexicon (now (chars .entry)) (now (lengths .entry))) (now (index .entry)) (now (string .entry)) starts first r ⌝ }
+{
+    let mut reach = [0u16; 65536];
+    first_in_lent(
+        chars,
+        lengths,
+        index,
+        words,
+        lists,
+        string,
+        ends,
+        lines,
+        first,
+        starts,
+        &mut reach,
+    )
+}
+
+// The first found of all starts, by growing windows.
+fn first_by_windows<'a>(
+    chars: &'a [u16],
+    lengths: &[u16],
+    index: &'a [u16],
+    words: &[u16],
+    lists: &[u32],
+    string: &[u16],
+    ends: usize,
+    lines: &[u16],
+    starts: usize,
+) -> usize
+    requires { ⌜ Opened (now chars) (now lengths) (now index) (now words) (now lists) × Is-string (now string) × Split (now index) ends × (now lines ≡ front-lines (lexicon (now chars) (now lengths)) (now index) (now string) ends) × (starts ≤ 65535) ⌝ }
+    ensures { λ r. ⌜ First-in (lexicon (now (chars .entry)) (now (lengths .entry))) (now (index .entry)) (now (string .entry)) starts 1 r ⌝ }
+{
+    if starts <= 1024 {
+        return first_in_short(
+            chars,
+            lengths,
+            index,
+            words,
+            lists,
+            string,
+            ends,
+            lines,
+            1,
+            starts,
+        );
+    }
+    if starts <= 8192 {
+        return first_in_middle(
+            chars,
+            lengths,
+            index,
+            words,
+            lists,
+            string,
+            ends,
+            lines,
+            1,
+            starts,
+        );
+    }
+    let near = first_in_middle(
+        chars,
+        lengths,
+        index,
+        words,
+        lists,
+        string,
+        ends,
+        lines,
+        1,
+        8192,
+    );
+    if near != 0 {
+        return near;
+    }
+    first_in_long(
+        chars,
+        lengths,
+        index,
+        words,
+        lists,
+        string,
+        ends,
+        lines,
+        8193,
+        starts - 8192,
+    )
+}
+
+// The same with the lines listed whose keys agree at an offset of 0 or below, once for all windows, in room that is lent.
+fn first_listing<'a>(
+    chars: &'a [u16],
+    lengths: &[u16],
+    index: &'a [u16],
+    words: &[u16],
+    lists: &[u32],
+    string: &[u16],
+    starts: usize,
+    lines: &mut [u16],
+) -> usize
+    requires { ⌜ Opened (now chars) (now lengths) (now index) (now words) (now lists) × Is-string (now string) × (starts ≤ 65535) × (4096 ≤ length (now lines)) ⌝ }
+    ensures { λ r. ⌜ First-in (lexicon (now (chars .entry)) (now (lengths .entry))) (now (index .entry)) (now (string .entry)) starts 1 r ⌝ }
+{
+    let fronts = list_fronts(chars, lengths, index, words, string, lines);
+    let count = fronts.count;
+    first_by_windows(
+        chars,
+        lengths,
+        index,
+        words,
+        lists,
+        string,
+        fronts.ends,
+        &lines[..count],
+        starts,
+    )
+}
+
+// The same with room of its own.
+pub(crate) fn first_by_entries<'a>(
+    chars: &'a [u16],
+    lengths: &[u16],
+    index: &'a [u16],
+    words: &[u16],
+    lists: &[u32],
+    string: &[u16],
+    starts: usize,
+) -> usize
+    requires { ⌜ Opened (now chars) (now lengths) (now index) (now words) (now lists) × Is-string (now string) × (starts ≤ 65535) ⌝ }
+    ensures { λ r. ⌜ First-in (lexicon (now (chars .entry)) (now (lengths .entry))) (now (index .entry)) (now (string .entry)) starts 1 r ⌝ }
+{
+    let mut lines = [0u16; 4096];
+    first_listing(
+        chars,
+        lengths,
+        index,
+        words,
+        lists,
+        string,
+        starts,
+        &mut lines,
+    )
+}
