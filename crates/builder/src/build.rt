@@ -1,20 +1,21 @@
 // Building a text's index.
 //
-// The heads of the chains and the flags of their pages are local; of the work slice only as many numbers as the text has
-// characters are used. The result is sized before the output is touched.
+// The heads of the chains and the flags of their pages are local; of the work slice twice as many numbers are used as the text has
+// characters, for its marks and for the replaced text. The result is sized before the output is touched.
 ghost use mathlib.Core.Path.{_≡_};
 ghost use Prim.Native.Nat.{_≤_};
 ghost use lib.ListN.{length, take};
+ghost use Rattle.spec.specs.Replaced.{replaced};
 ghost use Rattle.spec.specs.Dictionary.{lexicon};
 ghost use Rattle.spec.specs.Numbers.{index-of};
 ghost use Rattle.spec.specs.Calls.{Puts, build-refusal, Build-says};
 ghost use Rattle.laws.specs.Linking.{Linkable, Fresh};
 ghost use Rattle.laws.specs.Building.{early-refusal, Marked-says, Blank};
+use crate::text::scan_replaced;
 use dictionary::admission::refusal_of;
 use grouping::group::link;
 use grouping::write::write_index;
 use matching::table::hang_words;
-use scanning::scan::scan;
 use scanning::work::clear;
 use scanning::work::refuse;
 use spec::Answer;
@@ -44,9 +45,9 @@ fn index_by(
     heads: &mut [u16],
     pages: &mut [u8],
 ) -> Answer
-    requires { ⌜ Linkable (now text) (now marks) ⌝ }
+    requires { ⌜ Linkable (replaced (now text)) (now marks) ⌝ }
     requires { ⌜ Fresh (now heads) (now pages) ⌝ }
-    ensures { λ r. ⌜ Marked-says (now (marks .entry)) (now (text .entry)) r (now (output .entry)) (now (output .exit)) ⌝ }
+    ensures { λ r. ⌜ Marked-says (now (marks .entry)) (replaced (now (text .entry))) r (now (output .entry)) (now (output .exit)) ⌝ }
 {
     let groups = link(text, marks, heads, pages);
     let keys = groups.keys;
@@ -66,8 +67,8 @@ fn index_by(
 
 // The same with heads and pages of its own.
 fn index_marks(text: &[u16], output: &mut [u16], marks: &mut [u16]) -> Answer
-    requires { ⌜ Linkable (now text) (now marks) ⌝ }
-    ensures { λ r. ⌜ Marked-says (now (marks .entry)) (now (text .entry)) r (now (output .entry)) (now (output .exit)) ⌝ }
+    requires { ⌜ Linkable (replaced (now text)) (now marks) ⌝ }
+    ensures { λ r. ⌜ Marked-says (now (marks .entry)) (replaced (now (text .entry))) r (now (output .entry)) (now (output .exit)) ⌝ }
 {
     let mut heads = [0u16; 69632];
     let mut pages = [0u8; 1088];
@@ -77,14 +78,14 @@ fn index_marks(text: &[u16], output: &mut [u16], marks: &mut [u16]) -> Answer
 // The same for marks at the front of a longer slice.
 fn finish(text: &[u16], output: &mut [u16], work: &mut [u16]) -> Answer
     requires { ⌜ length (now text) ≤ length (now work) ⌝ }
-    requires { ⌜ Linkable (now text) (take (length (now text)) (now work)) ⌝ }
-    ensures { λ r. ⌜ Marked-says (take (length (now (text .entry))) (now (work .entry))) (now (text .entry)) r (now (output .entry)) (now (output .exit)) ⌝ }
+    requires { ⌜ Linkable (replaced (now text)) (take (length (now text)) (now work)) ⌝ }
+    ensures { λ r. ⌜ Marked-says (take (length (now (text .entry))) (now (work .entry))) (replaced (now (text .entry))) r (now (output .entry)) (now (output .exit)) ⌝ }
 {
     let n = text.len();
     index_marks(text, output, &mut work[..n])
 }
 
-// What follows where no early refusal is met: the match table, the scan, and what its marks stand for.
+// What follows where no early refusal is met: the match table, the scan of the replaced text, and what its marks stand for.
 fn index_with(
     chars: &[u16],
     lengths: &[u16],
@@ -97,10 +98,10 @@ fn index_with(
 ) -> Answer
     requires { ⌜ early-refusal (now chars) (now lengths) (now text) (length (now work)) ≡ 0 ⌝ }
     requires { ⌜ Blank (now heads) (now links) (now starts) ⌝ }
-    ensures { λ r. ⌜ Puts (build-refusal (now (chars .entry)) (now (lengths .entry)) (now (text .entry)) (length (now (output .entry))) (length (now (work .entry)))) (index-of (lexicon (now (chars .entry)) (now (lengths .entry))) (now (text .entry))) r (now (output .entry)) (now (output .exit)) ⌝ }
+    ensures { λ r. ⌜ Puts (build-refusal (now (chars .entry)) (now (lengths .entry)) (now (text .entry)) (length (now (output .entry))) (length (now (work .entry)))) (index-of (lexicon (now (chars .entry)) (now (lengths .entry))) (replaced (now (text .entry)))) r (now (output .entry)) (now (output .exit)) ⌝ }
 {
     hang_words(chars, lengths, heads, links, starts);
-    scan(chars, lengths, heads, links, starts, text, work);
+    scan_replaced(chars, lengths, heads, links, starts, text, work);
     finish(text, output, work)
 }
 
@@ -113,7 +114,7 @@ fn index_text(
     work: &mut [u16],
 ) -> Answer
     requires { ⌜ early-refusal (now chars) (now lengths) (now text) (length (now work)) ≡ 0 ⌝ }
-    ensures { λ r. ⌜ Puts (build-refusal (now (chars .entry)) (now (lengths .entry)) (now (text .entry)) (length (now (output .entry))) (length (now (work .entry)))) (index-of (lexicon (now (chars .entry)) (now (lengths .entry))) (now (text .entry))) r (now (output .entry)) (now (output .exit)) ⌝ }
+    ensures { λ r. ⌜ Puts (build-refusal (now (chars .entry)) (now (lengths .entry)) (now (text .entry)) (length (now (output .entry))) (length (now (work .entry)))) (index-of (lexicon (now (chars .entry)) (now (lengths .entry))) (replaced (now (text .entry)))) r (now (output .entry)) (now (output .exit)) ⌝ }
 {
     let mut heads = [0u16; 10240];
     let mut links = [0u16; 4096];
@@ -130,7 +131,7 @@ fn index_text(
     )
 }
 
-// Builds the index of a text: refusals 1, 2, 3, 4, 7, 8; accepted it answers the count of numbers written. The work slice is cleared
+// Builds the index of a text, replaced first: refusals 1, 2, 3, 12, 4, 7, 8; accepted it answers the count of numbers written. The work slice is cleared
 // on every path.
 pub fn build(
     chars: &[u16],

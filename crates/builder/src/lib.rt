@@ -1,2 +1,3 @@
-// Building an index: the text is scanned, positions are put together under their keys, and written.
+// Building an index: the text is replaced and scanned, positions are put together under their keys, and written.
 pub mod build;
+mod text;

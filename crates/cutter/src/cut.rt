@@ -2,6 +2,7 @@
 ghost use mathlib.Core.Path.{_≡_};
 ghost use Prim.Native.Nat.{_≤_};
 ghost use lib.ListN.{length, replicate};
+ghost use Rattle.spec.specs.Replaced.{replaced};
 ghost use Rattle.spec.specs.Dictionary.{lexicon};
 ghost use Rattle.spec.specs.Index.{keys-of};
 ghost use Rattle.spec.specs.Cut.{cut-down};
@@ -12,6 +13,7 @@ use crate::cutting::size_flagged;
 use crate::cutting::write_cut;
 use bearing::bearing::flag_bearing;
 use directory::tables::fill_words;
+use folding::forms::replaced_string;
 use opening::opened::open_index;
 use spec::Answer;
 
@@ -108,6 +110,23 @@ fn cut_lines<'a>(
     cut_many_lines(chars, lengths, index, string, output)
 }
 
+// The same for a string as it is lent, which is replaced first.
+fn cut_string<'a>(
+    chars: &'a [u16],
+    lengths: &[u16],
+    index: &'a [u16],
+    keys: usize,
+    string: &[u16],
+    output: &mut [u16],
+) -> Answer
+    requires { ⌜ Can-read (now chars) (now lengths) (now index) × Is-string (now string) × (keys-of (now index) ≤ 65535) × (keys ≡ keys-of (now index)) ⌝ }
+    ensures { λ r. ⌜ Sized (cut-down (lexicon (now (chars .entry)) (now (lengths .entry))) (now (index .entry)) (replaced (now (string .entry)))) r (now (output .entry)) (now (output .exit)) ⌝ }
+{
+    let long = string.len();
+    let own = replaced_string(string);
+    cut_lines(chars, lengths, index, keys, &own[..long], output)
+}
+
 // Cuts an opened index down: writes the cut-down index for a string, and answers how many numbers it has, or the refusal.
 fn cut_opened<'a>(
     chars: &'a [u16],
@@ -137,7 +156,7 @@ fn cut_opened<'a>(
             count: 0,
         };
     }
-    cut_lines(chars, lengths, index, keys, string, output)
+    cut_string(chars, lengths, index, keys, string, output)
 }
 
 // Cuts an index down for a string: opens it, and cuts the opened index down.

@@ -1,9 +1,10 @@
-// Admission of a dictionary: lines 1, 2 and 3 of the refusal table, in that order.
+// Admission of a dictionary: lines 1, 2, 3 and 12 of the refusal table, in that order.
 //
 // One pass over the lengths without a branch in it, and one over the words and their neighbours. Neighbours in a dictionary often
 // share a first character, and a loop over the shared ones is mispredicted at nearly every word. So the first three characters
 // of each word are packed into one number, and two neighbours are told apart by one comparison; only words that share all three
-// are compared character by character. The cost is linear in the characters lent.
+// are compared character by character. Full-width forms are looked for in all characters at once. The cost is linear in the characters
+// lent.
 ghost use mathlib.Core.Path.{_≡_};
 ghost use mathlib.Core.Bool.{_&&_, cond};
 ghost use Prim.Native.Nat.{_+_, _≤_, _<_};
@@ -14,6 +15,7 @@ ghost use Rattle.spec.specs.Calls.{Admit-says};
 ghost use Rattle.laws.specs.WordCode.{part, code, Neighbours};
 ghost use Rattle.laws.specs.Admission.{Fitting};
 use crate::numbers::lesser;
+use folding::forms::holds_full_width;
 use spec::Answer;
 
 // Whether every length is 1 to 32 and they add up to `count`.
@@ -130,7 +132,7 @@ fn words_ascend(chars: &[u16], lengths: &[u16]) -> bool
     true
 }
 
-// The number of the first line of 1 to 3 that the dictionary meets, or 0.
+// The number of the first line of 1, 2, 3 and 12 that the dictionary meets, or 0.
 pub fn refusal_of(chars: &[u16], lengths: &[u16]) -> u32
     ensures { λ r. ⌜ r ≡ dictionary-refusal (now (chars .entry)) (now (lengths .entry)) ⌝ }
 {
@@ -145,6 +147,9 @@ pub fn refusal_of(chars: &[u16], lengths: &[u16]) -> u32
     }
     if !words_ascend(chars, lengths) {
         return 3;
+    }
+    if holds_full_width(chars) {
+        return 12;
     }
     0
 }

@@ -9,10 +9,12 @@ ghost use mathlib.Core.Path.{_≡_};
 ghost use Prim.Native.Nat.{suc, _+_, _≤_, _<_};
 ghost use lib.ListN.{length};
 ghost use Rattle.basics.specs.Chain.{chain, Threaded};
+ghost use Rattle.spec.specs.Replaced.{replaced-char, replaced};
 ghost use Rattle.laws.specs.KeyCode.{coded};
 ghost use Rattle.laws.specs.Pages.{Paged};
 ghost use Rattle.laws.specs.Linking.{Linkable, Fresh, Links};
 ghost use Rattle.laws.specs.CodeWalk.{Next};
+use folding::forms::replace;
 
 // How many keys and entries there are.
 pub struct Groups {
@@ -20,24 +22,24 @@ pub struct Groups {
     pub entries: usize,
 }
 
-// The code of a mark, where `character` stands.
+// The code of a mark, where `character` stands in the text as it was lent.
 fn code_of(mark: u16, character: u16) -> usize
     requires { ⌜ (1 ≤ mark) × (mark ≤ 4097) ⌝ }
-    ensures is { λ r. ⌜ coded mark character ≡ suc r ⌝ }
+    ensures is { λ r. ⌜ coded mark (replaced-char character) ≡ suc r ⌝ }
     ensures small { λ r. ⌜ r < 69632 ⌝ }
 {
     if mark == 4097 {
-        4096 + character as usize
+        4096 + replace(character) as usize
     } else {
         mark as usize - 1
     }
 }
 
-// Turns marks into links, and heads and pages from none into those of the marks.
+// Turns marks into links, and heads and pages from none into those of the marks, which are those of the replaced text.
 pub fn link(text: &[u16], marks: &mut [u16], heads: &mut [u16], pages: &mut [u8]) -> Groups
-    requires { ⌜ Linkable (now text) (now marks) ⌝ }
+    requires { ⌜ Linkable (replaced (now text)) (now marks) ⌝ }
     requires { ⌜ Fresh (now heads) (now pages) ⌝ }
-    ensures { λ r. ⌜ Links (now (text .entry)) (now (marks .entry)) (now (marks .exit)) (now (heads .exit)) (now (pages .exit)) (r .keys) (r .entries) 0 ⌝ }
+    ensures { λ r. ⌜ Links (replaced (now (text .entry))) (now (marks .entry)) (now (marks .exit)) (now (heads .exit)) (now (pages .exit)) (r .keys) (r .entries) 0 ⌝ }
 {
     let mut keys = 0;
     let mut entries = 0;

@@ -25,7 +25,7 @@ fn some_length_wrong(lengths: &[u16]) -> bool
     false
 }
 
-// The lowest number over the dictionary and every find, or 0.
+// The number of the first line met by the dictionary and then by a find, or 0.
 fn parts_refusal(chars: &[u16], words: &[u16], finds: &[u16]) -> u32
     ensures { λ r. ⌜ r ≡ parts-refusal (now (chars .entry)) (now (words .entry)) (now (finds .entry)) ⌝ }
 {

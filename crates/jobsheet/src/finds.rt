@@ -3,6 +3,7 @@
 ghost use Prim.Native.Nat.{_+_, _≤_};
 ghost use lib.ListN.{length};
 ghost use Rattle.basics.specs.Placed.{Wrote};
+ghost use Rattle.spec.specs.Replaced.{replaced};
 ghost use Rattle.spec.specs.Dictionary.{lexicon, words-from};
 ghost use Rattle.spec.specs.Index.{n-of};
 ghost use Rattle.spec.specs.Search.{find};
@@ -26,8 +27,8 @@ fn put_find<'a>(
     at: usize,
 ) -> usize
     requires { ⌜ Opened (now chars) (now lengths) (now index) (now words) (now lists) × Is-string (now string) × (n-of (now index) ≤ length (now found)) ⌝ }
-    requires { ⌜ at + length (found-line (find (lexicon (now chars) (now lengths)) (now index) (now string))) ≤ length (now out) ⌝ }
-    ensures { λ r. ⌜ Wrote (found-line (find (lexicon (now (chars .entry)) (now (lengths .entry))) (now (index .entry)) (now (string .entry)))) at (now (out .entry)) r (now (out .exit)) ⌝ }
+    requires { ⌜ at + length (found-line (find (lexicon (now chars) (now lengths)) (now index) (replaced (now string)))) ≤ length (now out) ⌝ }
+    ensures { λ r. ⌜ Wrote (found-line (find (lexicon (now (chars .entry)) (now (lengths .entry))) (now (index .entry)) (replaced (now (string .entry))))) at (now (out .entry)) r (now (out .exit)) ⌝ }
 {
     let answer = search_tabled(chars, lengths, index, words, lists, string, found);
     let count = answer.count;

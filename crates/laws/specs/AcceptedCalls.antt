@@ -7,11 +7,13 @@ use lib.ListN.{length, take, drop, length-append}
 use lib.Seq.{take-at}
 use borrow.Author.Tests.{le-ltb}
 use Rattle.spec.specs.declared.Answer.{Answer}
+use Rattle.spec.specs.Replaced.{replaced}
 use Rattle.spec.specs.Dictionary.{Lexicon, longest-text, lexicon, dictionary-refusal}
 use Rattle.spec.specs.Numbers.{index-of}
 use Rattle.spec.specs.Index.{n-of}
 use Rattle.spec.specs.Search.{find}
 use Rattle.spec.specs.Calls.{output-short, index-refusal, build-refusal, in-front, Answers, Puts, Build-says}
+use Rattle.laws.specs.Replacing.{length-replaced, replaced-chars}
 use Rattle.laws.specs.Facts.{Chars, Good-lexicon}
 use Rattle.laws.specs.Answering.{accepted-yes}
 use Rattle.laws.specs.Slices.{Fits}
@@ -71,22 +73,26 @@ module _ (cs ls ts : List ℕ) (chars : Chars cs) (text : Chars ts) (none : dict
   good : Good-lexicon (lexicon cs ls)
   good = reached-lexicon cs ls chars none
 
-  pub index-usable : Usable cs ls (index-of (lexicon cs ls) ts)
+  chars-replaced : Chars (replaced ts)
+  chars-replaced = replaced-chars ts text
+
+  pub index-usable : Usable cs ls (index-of (lexicon cs ls) (replaced ts))
   index-usable =
       record {
         accepts =
             sym
-            (accepts-index cs ls (index-of (lexicon cs ls) ts) none (index-readable (lexicon cs ls) good ts text longest-text (omega arith)));
-        short = rw (n-of-index (lexicon cs ls) ts) short;
-        few = omega (arith, index-short (lexicon cs ls) ts good text);
+            (accepts-index cs ls (index-of (lexicon cs ls) (replaced ts)) none
+            (index-readable (lexicon cs ls) good (replaced ts) chars-replaced longest-text (omega (arith, length-replaced ts))));
+        short = omega (arith, n-of-index (lexicon cs ls) (replaced ts), length-replaced ts);
+        few = omega (arith, index-short (lexicon cs ls) (replaced ts) good chars-replaced, length-replaced ts);
       }
 
   pub build-accepted :
       (r : Answer) (o z w v : List ℕ) → 8002 ≤ length o → 16000 ≤ length w → Build-says cs ls ts r o z w v →
-      In-hand (index-of (lexicon cs ls) ts) (r .count) z
+      In-hand (index-of (lexicon cs ls) (replaced ts)) (r .count) z
   unfolding Build-says
   build-accepted r o z w v room work says =
-      puts-get (build-refusal cs ls ts (length o) (length w)) (index-of (lexicon cs ls) ts) r o z
+      puts-get (build-refusal cs ls ts (length o) (length w)) (index-of (lexicon cs ls) (replaced ts)) r o z
       (build-late cs ls ts (length w) (length o) (early-none cs ls ts (length w) none (omega arith) (omega arith))
-      ∙ output-fits (length (index-of (lexicon cs ls) ts)) (length o) (omega (arith, index-usable .few)))
+      ∙ output-fits (length (index-of (lexicon cs ls) (replaced ts))) (length o) (omega (arith, index-usable .few)))
       (says .0)

@@ -11,8 +11,10 @@ use lib.ListN.{length, getD, drop, drop-of-length-le}
 use lib.Seq.{drop-cons, drop-drop}
 use borrow.Author.Tests.{leb-true, lt-ltb, le-ltb, eqb-true}
 use Rattle.basics.specs.Bools.{and-left, and-right}
+use Rattle.laws.specs.Replacing.{words-hold}
 use Rattle.laws.specs.WordCode.{part}
-use Rattle.spec.specs.Dictionary.{words-from, total, too-large, length-good, lengths-good, lengths-wrong, word-before, ascend, disordered, dictionary-refusal}
+use Rattle.spec.specs.Replaced.{holds-full-width}
+use Rattle.spec.specs.Dictionary.{words-from, total, too-large, length-good, lengths-good, lengths-wrong, word-before, ascend, disordered, unreplaced, dictionary-refusal}
 
 -- THE LENGTHS
 
@@ -179,6 +181,13 @@ module _ (cs ls : List ℕ) where
       unfolding dictionary-refusal too-large lengths-wrong disordered
       refuses-order f = rw (le-ltb 4096 (length ls) few, le-ltb 65535 (length cs) short, t, f)
 
-      pub admits : ascend (words-from ls cs) ≡ true → dictionary-refusal cs ls ≡ 0
-      unfolding dictionary-refusal too-large lengths-wrong disordered
-      admits a = rw (le-ltb 4096 (length ls) few, le-ltb 65535 (length cs) short, t, a)
+      module _ (a : ascend (words-from ls cs) ≡ true) where
+        pub refuses-forms : holds-full-width cs ≡ true → dictionary-refusal cs ls ≡ 12
+        unfolding dictionary-refusal too-large lengths-wrong disordered unreplaced
+        refuses-forms h =
+            rw (le-ltb 4096 (length ls) few, le-ltb 65535 (length cs) short, t, a, words-hold ls cs (fitting .sum) ∙ h)
+
+        pub admits : holds-full-width cs ≡ false → dictionary-refusal cs ls ≡ 0
+        unfolding dictionary-refusal too-large lengths-wrong disordered unreplaced
+        admits none =
+            rw (le-ltb 4096 (length ls) few, le-ltb 65535 (length cs) short, t, a, words-hold ls cs (fitting .sum) ∙ none)

@@ -10,6 +10,7 @@ use lib.ListN.{length}
 use borrow.Author.Tests.{eqb-true, eqb-false}
 use Rattle.basics.specs.Bools.{true-or-false}
 use Rattle.spec.specs.declared.Answer.{Answer}
+use Rattle.spec.specs.Replaced.{replaced}
 use Rattle.spec.specs.Dictionary.{lexicon}
 use Rattle.spec.specs.Numbers.{index-of}
 use Rattle.spec.specs.JobSheet.{words-on, text-on, finds-on, run-together, lengths-of, sheet-refusal}
@@ -18,6 +19,7 @@ use Rattle.laws.specs.Answering.{accepted-yes}
 use Rattle.laws.specs.Facts.{Chars}
 use Rattle.laws.specs.WordCode.{Small}
 use Rattle.laws.specs.SheetChars.{words-on-chars, text-on-chars}
+use Rattle.laws.specs.Replacing.{length-replaced, replaced-chars}
 use Rattle.laws.specs.Building.{reached-lexicon, output-refusal, output-fits}
 use Rattle.laws.specs.Numbers16.{index-chars}
 use Rattle.laws.specs.AcceptedCalls.{In-hand, puts-get, index-usable}
@@ -40,10 +42,11 @@ module _ (s : List ℕ) where
       let ls = lengths-of (words-on s) in
       let ts = text-on s in
       rw (accepted-yes (sheet-refusal s) (printed s) (refused-line (sheet-refusal s)) none)
-      (shown-short cs ls (index-of (lexicon cs ls) ts) (finds-on s)
+      (shown-short cs ls (index-of (lexicon cs ls) (replaced ts)) (finds-on s)
       (index-usable cs ls ts (words-on-chars s) (text-on-chars s) (good .admits) (good .text-short))
-      (chars-small (index-of (lexicon cs ls) ts)
-      (index-chars (lexicon cs ls) ts (reached-lexicon cs ls (words-on-chars s) (good .admits)) (text-on-chars s) (omega (arith, good .text-short))))
+      (chars-small (index-of (lexicon cs ls) (replaced ts))
+      (index-chars (lexicon cs ls) (replaced ts) (reached-lexicon cs ls (words-on-chars s) (good .admits)) (replaced-chars ts (text-on-chars s))
+      (omega (arith, good .text-short, length-replaced ts))))
       (good .finds-few))
 
   pub answer-short : length (job-answer s) ≤ 700000

@@ -11,10 +11,12 @@ use borrow.Author.Tests.{lt-ltb, le-ltb, eq-eqb, ne-eqb, eqb-true, eqb-false}
 use Rattle.basics.specs.Bools.{and-put, true-or-false, le-or-lt}
 use Rattle.basics.specs.Writing.{over}
 use Rattle.spec.specs.declared.Answer.{Answer}
+use Rattle.spec.specs.Replaced.{replaced}
 use Rattle.spec.specs.Dictionary.{Lexicon, lexicon, dictionary-refusal, admitted}
 use Rattle.spec.specs.Numbers.{numbers, index-of}
 use Rattle.spec.specs.Calls.{text-too-long, work-short, output-short, or-else, build-refusal, in-front, Puts}
 use Rattle.laws.specs.Facts.{Chars, Good-lexicon}
+use Rattle.laws.specs.Replacing.{length-replaced, replaced-chars}
 use Rattle.laws.specs.Chars.{all-chars-put}
 use Rattle.laws.specs.Lexicon.{admitted-lexicon, admitted-get}
 use Rattle.laws.specs.WordTable.{Room}
@@ -52,7 +54,7 @@ pub output-refused : (r o : ℕ) → o < r → output-refusal r o ≡ 8
 unfolding output-refusal output-short
 output-refused r o h = rw (lt-ltb o r h)
 
--- the refusals that need no result: 1 to 3, 4, 7
+-- the refusals that need no result: 1 to 3, 12, 4, 7
 unfoldable pub early-refusal : (chars lengths text : List ℕ) → (work : ℕ) → ℕ
 early-refusal cs ls ts w = or-else (dictionary-refusal cs ls) (cond (text-too-long ts) 4 (cond (work-short (length ts) w) 7 0))
 
@@ -111,7 +113,7 @@ module _ (cs ls ts : List ℕ) (w : ℕ) where
       go :
           (a : Bool) → eqb (dictionary-refusal cs ls) 0 ≡ a → (b : Bool) → ltb 65535 (length ts) ≡ b → (c : Bool) →
           ltb w (8 * length ts) ≡ c →
-          cond a (cond b 4 (cond c 7 (cond (output-short (length (index-of (lexicon cs ls) ts)) o) 8 0))) (dictionary-refusal cs ls)
+          cond a (cond b 4 (cond c 7 (cond (output-short (length (index-of (lexicon cs ls) (replaced ts))) o) 8 0))) (dictionary-refusal cs ls)
           ≡ cond a (cond b 4 (cond c 7 0)) (dictionary-refusal cs ls)
       go false p b q c r = refl
       go true p true q c r = refl
@@ -121,7 +123,7 @@ module _ (cs ls ts : List ℕ) (w : ℕ) where
   -- without one it is 8 or none
   pub build-late :
       (o : ℕ) → early-refusal cs ls ts w ≡ 0 →
-      build-refusal cs ls ts o w ≡ output-refusal (length (index-of (lexicon cs ls) ts)) o
+      build-refusal cs ls ts o w ≡ output-refusal (length (index-of (lexicon cs ls) (replaced ts))) o
   unfolding build-refusal or-else text-too-long work-short output-refusal
   build-late o none =
       let r : Reached cs ls ts w = reached none in
@@ -231,20 +233,24 @@ marks-linkable lex good ts ms marks short = record { long = marks .long; short =
 module _ (cs ls ts : List ℕ) (w : ℕ) (o : List ℕ) where
   pub build-refused :
       (early-refusal cs ls ts w ≡ 0 → ⊥) → (r : Answer) → r .refusal ≡ early-refusal cs ls ts w → r .count ≡ 0 →
-      Puts (build-refusal cs ls ts (length o) w) (index-of (lexicon cs ls) ts) r o o
+      Puts (build-refusal cs ls ts (length o) w) (index-of (lexicon cs ls) (replaced ts)) r o o
   build-refused some r number count =
       let same : build-refusal cs ls ts (length o) w ≡ early-refusal cs ls ts w = build-early cs ls ts w (length o) some in
-      puts-refused (build-refusal cs ls ts (length o) w) (index-of (lexicon cs ls) ts) r o o (number ∙ sym same)
+      puts-refused (build-refusal cs ls ts (length o) w) (index-of (lexicon cs ls) (replaced ts)) r o o (number ∙ sym same)
       (λ (z : build-refusal cs ls ts (length o) w ≡ 0). some (sym same ∙ z)) count refl
 
   -- what follows the scan answers for the call
   pub build-marked :
-      Chars cs → Chars ts → early-refusal cs ls ts w ≡ 0 → (ms : List ℕ) → Marks (lexicon cs ls) ts ms → (r : Answer) (z : List ℕ) →
-      Marked-says ms ts r o z →
-      Puts (build-refusal cs ls ts (length o) w) (index-of (lexicon cs ls) ts) r o z
+      Chars cs → Chars ts → early-refusal cs ls ts w ≡ 0 → (ms : List ℕ) → Marks (lexicon cs ls) (replaced ts) ms → (r : Answer) (z : List ℕ) →
+      Marked-says ms (replaced ts) r o z →
+      Puts (build-refusal cs ls ts (length o) w) (index-of (lexicon cs ls) (replaced ts)) r o z
   build-marked chars text none ms marks r z puts =
       let good : Good-lexicon (lexicon cs ls) = reached-lexicon cs ls chars (reached cs ls ts w none .admits) in
-      rw (build-late cs ls ts w (length o) none, ← marked-numbers-index (lexicon cs ls) good ts text ms marks) puts
+      rw (
+        build-late cs ls ts w (length o) none,
+        ← marked-numbers-index (lexicon cs ls) good (replaced ts) (replaced-chars ts text) ms marks,
+      )
+      puts
 
 -- a match table's slices before the words are hung up
 pub record Blank (heads links starts : List ℕ) : Type 0 where
@@ -276,7 +282,7 @@ blank-room cs ls ts w heads links starts chars none b =
 -- the marks at the front of the work slice can be linked
 pub front-linkable :
     (cs ls ts : List ℕ) (w : ℕ) (work : List ℕ) → Chars cs → early-refusal cs ls ts w ≡ 0 →
-    Marks (lexicon cs ls) ts (take (length ts) work) → Linkable ts (take (length ts) work)
+    Marks (lexicon cs ls) (replaced ts) (take (length ts) work) → Linkable (replaced ts) (take (length ts) work)
 front-linkable cs ls ts w work chars none marks =
-    marks-linkable (lexicon cs ls) (reached-lexicon cs ls chars (reached cs ls ts w none .admits)) ts (take (length ts) work) marks
-    (reached cs ls ts w none .short)
+    marks-linkable (lexicon cs ls) (reached-lexicon cs ls chars (reached cs ls ts w none .admits)) (replaced ts) (take (length ts) work)
+    marks (omega (arith, reached cs ls ts w none .short, length-replaced ts))

@@ -12,7 +12,7 @@ use Rattle.spec.specs.Dictionary.{Lexicon}
 use Rattle.spec.specs.Words.{Entry, entries}
 use Rattle.spec.specs.Numbers.{entry-before, sorted, index-of}
 use Rattle.spec.specs.Index.{n-of, entries-of, lines-in, readable}
-use Rattle.spec.specs.Reception.{recovered, received}
+use Rattle.spec.specs.Reception.{recovered, is-index}
 use Rattle.laws.specs.Facts.{Chars, Good-lexicon, flat}
 use Rattle.laws.specs.KeyOrder.{entry-before-strict}
 use Rattle.laws.specs.Readable.{readable-get, entries-of-positions}
@@ -20,7 +20,7 @@ use Rattle.laws.specs.Lines.{good-flat-ascends}
 use Rattle.laws.specs.Sorted.{in-sorted-get, length-sorted, sorted-entries-ascend}
 use Rattle.laws.specs.IndexOf.{length-flat, index-unique, in-index-get, in-index-put, entries-of-index}
 use Rattle.laws.specs.Sound.{entries-own-places}
-use Rattle.laws.specs.Received.{received-get, readable-chars, is-index-received, is-index-recovered}
+use Rattle.laws.specs.Received.{is-index-get, readable-chars, equal-own-index, is-index-recovered}
 
 -- ENTRIES AND THEIR NUMBER
 
@@ -47,37 +47,37 @@ module _ (lex : Lexicon) (good : Good-lexicon lex) (g : ℕ) (xs : List ℕ) (ca
 
   -- Numbers that are the index of such a list are received, and the list is recovered.
   pub index-taken :
-      (us : List ℕ) → Chars us → length us ≡ n-of xs → index-of lex us ≡ xs → (received g lex xs ≡ true) × (recovered lex xs ≡ us)
+      (us : List ℕ) → Chars us → length us ≡ n-of xs → index-of lex us ≡ xs → (is-index g lex xs ≡ true) × (recovered lex xs ≡ us)
   index-taken us chars long is = (
-    is-index-received lex good us chars g xs (omega (arith, readable-get g lex xs can .length-allowed)) is,
+    equal-own-index lex good us chars g xs (omega (arith, readable-get g lex xs can .length-allowed)) is,
     is-index-recovered lex good us chars xs is,
   )
 
 -- and so it is where numbers are received
-module _ (lex : Lexicon) (good : Good-lexicon lex) (g : ℕ) (xs : List ℕ) (taken : received g lex xs ≡ true) where
+module _ (lex : Lexicon) (good : Good-lexicon lex) (g : ℕ) (xs : List ℕ) (taken : is-index g lex xs ≡ true) where
   text-chars : Chars (recovered lex xs)
-  text-chars = readable-chars lex good g xs (received-get g lex xs taken .can-read)
+  text-chars = readable-chars lex good g xs (is-index-get g lex xs taken .can-read)
 
   index-is : index-of lex (recovered lex xs) ≡ xs
-  index-is = received-get g lex xs taken .index-is
+  index-is = is-index-get g lex xs taken .index-is
 
-  pub received-all : (e : Entry) → In e (entries lex (recovered lex xs)) → In e (flat lex (lines-in xs))
-  received-all e m =
+  pub is-index-all : (e : Entry) → In e (entries lex (recovered lex xs)) → In e (flat lex (lines-in xs))
+  is-index-all e m =
       subst (λ (ys : List ℕ). In e (flat lex (lines-in ys))) index-is
       (in-index-put lex good (recovered lex xs) text-chars e m)
 
-  pub received-only : (e : Entry) → In e (flat lex (lines-in xs)) → In e (entries lex (recovered lex xs))
-  received-only e m =
+  pub is-index-only : (e : Entry) → In e (flat lex (lines-in xs)) → In e (entries lex (recovered lex xs))
+  is-index-only e m =
       in-index-get lex good (recovered lex xs) text-chars e
       (subst (λ (ys : List ℕ). In e (flat lex (lines-in ys))) (sym index-is) m)
 
-  pub received-count : length (entries lex (recovered lex xs)) ≡ entries-of xs
-  received-count =
+  pub is-index-count : length (entries lex (recovered lex xs)) ≡ entries-of xs
+  is-index-count =
       sym (entries-of-index lex good (recovered lex xs) text-chars)
       ∙ ap entries-of index-is
 
   -- no two entries of received numbers start at one place
-  pub received-own-places :
+  pub is-index-own-places :
       (e f : Entry) → In e (flat lex (lines-in xs)) → In f (flat lex (lines-in xs)) → e .at ≡ f .at → e ≡ f
-  received-own-places e f m n a =
-      entries-own-places lex good (recovered lex xs) text-chars e f (received-only e m) (received-only f n) a
+  is-index-own-places e f m n a =
+      entries-own-places lex good (recovered lex xs) text-chars e f (is-index-only e m) (is-index-only f n) a

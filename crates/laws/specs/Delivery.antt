@@ -4,13 +4,14 @@ use mathlib.Core.Path.{_≡_, refl, sym, ap, _∙_, subst}
 use mathlib.Core.Bool.{Bool, true, false}
 use mathlib.Core.Logic.{inl, inr, ⊎-elim}
 use mathlib.Core.List.{List, [], _∷_, _++_}
-use Prim.Native.Nat.{ℕ, _≤_, _<_}
+use Prim.Native.Nat.{ℕ, _*_, _≤_, _<_}
 use native.Mathlib.Omega.{arith}
 use lib.Dec.{eqb}
 use lib.ListN.{length, take}
 use borrow.Author.Tests.{eq-eqb, eqb-true}
 use Rattle.basics.specs.Bools.{clash, and-put, and-left, and-right}
 use Rattle.spec.specs.declared.Answer.{Answer}
+use Rattle.spec.specs.Replaced.{replaced}
 use Rattle.spec.specs.Dictionary.{longest-text, lexicon, all-chars, dictionary-refusal, admitted}
 use Rattle.spec.specs.Index.{n-of, readable}
 use Rattle.spec.specs.Reception.{recovered, received}
@@ -22,9 +23,9 @@ use Rattle.spec.specs.Beyond.{Text-of, Exactly-places, First-stands, Serves, De
 use Rattle.spec.specs.Calls.{Cut-says}
 use Rattle.spec.specs.RefusalTable.{Written, Untouched, Unreadable, String-wrong, Work-short, Output-short, Recovery-short, No-text, Row, row, Meets, Accepts, Refuses, Decides, dictionary-rows, index-rows, reception-rows, recovery-rows, string-rows, find-rows}
 use Rattle.spec.specs.Demands.{Received-for, Recovered-for, Found-for, First-for, Cut-for, Delivered}
-use Rattle.laws.specs.Received.{received-get}
+use Rattle.laws.specs.Received.{received-reads}
 use Rattle.laws.specs.Promises.{demand-three}
-use Rattle.laws.specs.RefusalRows.{first-decides, dictionary-first, dictionary-rising}
+use Rattle.laws.specs.RefusalRows.{first-decides, first-meets, dictionary-first, dictionary-numbered}
 use Rattle.laws.specs.DemandOne.{first-demand}
 
 -- ROWS THAT ARE NOT MET
@@ -42,7 +43,7 @@ module _ (rows : List Row) (n : ℕ) (A B : Type 0) (d : Decides rows n A B) whe
   accepts-zero z = ⊎-elim (λ (h : Accepts rows n A). h) (λ (h : Refuses rows n B). absurd (h .number z)) d
 
   pub accepts-none : None-met rows → Accepts rows n A
-  accepts-none none = ⊎-elim (λ (h : Accepts rows n A). h) (λ (h : Refuses rows n B). absurd (none n (h .met))) d
+  accepts-none none = ⊎-elim (λ (h : Accepts rows n A). h) (λ (h : Refuses rows n B). absurd (none n (first-meets rows n (h .first)))) d
 
 pub none-nil : None-met []
 none-nil k m = m
@@ -64,7 +65,7 @@ none-both (l ∷ rows) more a b k (inr m) = none-both rows more (λ j h. a j (in
 module _ (cs ls : List ℕ) where
   dictionary-decides : Decides (dictionary-rows cs ls) (dictionary-refusal cs ls) Unit Unit
   dictionary-decides =
-      first-decides 1 (dictionary-rows cs ls) (omega arith) (dictionary-rising cs ls) (dictionary-refusal cs ls) (dictionary-first cs ls)
+      first-decides (dictionary-rows cs ls) (dictionary-numbered cs ls) (dictionary-refusal cs ls) (dictionary-first cs ls)
 
   pub none-admitted : all-chars cs ≡ true → None-met (dictionary-rows cs ls) → admitted cs ls ≡ true
   unfolding admitted
@@ -109,27 +110,27 @@ module _ (cs ls : List ℕ) (adm : admitted cs ls ≡ true) where
   -- any readable numbers whose search gives the places of a text
   found-for :
       (xs ts s : List ℕ) → readable longest-text (lexicon cs ls) xs ≡ true → Query s →
-      Exactly-places s ts (find (lexicon cs ls) xs s) → Found-for cs ls xs ts s
+      Exactly-places (replaced s) ts (find (lexicon cs ls) xs (replaced s)) → Found-for cs ls xs ts s
   found-for xs ts s can q exactly r o z room says =
-      let found = find (lexicon cs ls) xs s in
+      let found = find (lexicon cs ls) xs (replaced s) in
       let h =
       accepts-none (find-rows cs ls xs s found o) (r .refusal) (Written found r o z) (Untouched r o z)
       (first-demand .searches cs ls xs s r o z says)
       (none-find xs s found o can q (omega (arith, room, ap length (exactly .are-places)))) in (
         h .number,
         subst (λ (ps : List ℕ). Written ps r o z) (exactly .are-places) (h .result),
-        subst (Exactly-places s ts) (sym (h .result .front)) exactly,
+        subst (Exactly-places (replaced s) ts) (sym (h .result .front)) exactly,
       )
 
   -- any readable numbers whose first position is where the string stands first
   first-for :
       (xs ts s : List ℕ) → readable longest-text (lexicon cs ls) xs ≡ true → Query s →
-      First-stands s ts (first-position (lexicon cs ls) xs s) → First-for cs ls xs ts s
+      First-stands (replaced s) ts (first-position (lexicon cs ls) xs (replaced s)) → First-for cs ls xs ts s
   first-for xs ts s can q stands r says =
       let h =
-      accepts-none (string-rows cs ls xs s) (r .refusal) (r .position ≡ first-position (lexicon cs ls) xs s) (r .position ≡ 0)
+      accepts-none (string-rows cs ls xs s) (r .refusal) (r .position ≡ first-position (lexicon cs ls) xs (replaced s)) (r .position ≡ 0)
       (first-demand .firsts cs ls xs s r says) (none-string xs s can q) in
-      (h .number, subst (First-stands s ts) (sym (h .result)) stands)
+      (h .number, subst (First-stands (replaced s) ts) (sym (h .result)) stands)
 
   module _ (xs ts : List ℕ) (text : Text-of longest-text (lexicon cs ls) xs ts) where
     is-received : received longest-text (lexicon cs ls) xs ≡ true
@@ -137,7 +138,7 @@ module _ (cs ls : List ℕ) (adm : admitted cs ls ≡ true) where
     is-received = demand-three longest-text cs ls xs adm .1 ts text
 
     can : readable longest-text (lexicon cs ls) xs ≡ true
-    can = received-get longest-text (lexicon cs ls) xs is-received .can-read
+    can = received-reads longest-text (lexicon cs ls) xs is-received
 
     is-recovered : recovered (lexicon cs ls) xs ≡ ts
     unfolding Demand-three
@@ -151,14 +152,17 @@ module _ (cs ls : List ℕ) (adm : admitted cs ls ≡ true) where
     none-nine : None-met (row 9 (No-text (lexicon cs ls) xs) ∷ [])
     none-nine = none-row 9 (No-text (lexicon cs ls) xs) [] (λ h. h .1 (ts, text)) none-nil
 
+    none-reception : (w : List ℕ) → 8 * length ts ≤ length w → None-met (reception-rows cs ls xs w)
+    none-reception w room =
+        none-both (index-rows cs ls xs) (row 7 (Work-short (n-of xs) w) ∷ row 9 (No-text (lexicon cs ls) xs) ∷ []) (none-index xs can)
+        (none-row 7 (Work-short (n-of xs) w) (row 9 (No-text (lexicon cs ls) xs) ∷ []) (λ l. omega (arith, room, text .length-is))
+        none-nine)
+
     pub received-for : Received-for cs ls xs ts
     received-for r w v room says =
         let h =
         accepts-none (reception-rows cs ls xs w) (r .refusal) (r .count ≡ n-of xs) (r .count ≡ 0)
-        (first-demand .receives cs ls xs r w v chars says .0)
-        (none-both (index-rows cs ls xs) (row 7 (Work-short (n-of xs) w) ∷ row 9 (No-text (lexicon cs ls) xs) ∷ []) (none-index xs can)
-        (none-row 7 (Work-short (n-of xs) w) (row 9 (No-text (lexicon cs ls) xs) ∷ []) (λ l. omega (arith, room, text .length-is))
-        none-nine)) in
+        (first-demand .receives cs ls xs r w v chars says .0) (none-reception w room) in
         (h .number, h .result ∙ sym (text .length-is))
 
     pub recovered-for : Recovered-for cs ls xs ts
@@ -166,20 +170,15 @@ module _ (cs ls : List ℕ) (adm : admitted cs ls ≡ true) where
         let h =
         accepts-none (recovery-rows cs ls xs o w) (r .refusal) (Written (recovered (lexicon cs ls) xs) r o z) (Untouched r o z)
         (first-demand .recovers cs ls xs r o z w v chars says .0)
-        (none-both (index-rows cs ls xs)
-        (row 7 (Work-short (n-of xs) w) ∷ row 8 (Recovery-short (lexicon cs ls) xs o) ∷ row 9 (No-text (lexicon cs ls) xs) ∷ [])
-        (none-index xs can)
-        (none-row 7 (Work-short (n-of xs) w) (row 8 (Recovery-short (lexicon cs ls) xs o) ∷ row 9 (No-text (lexicon cs ls) xs) ∷ [])
-        (λ l. omega (arith, room, text .length-is))
-        (none-row 8 (Recovery-short (lexicon cs ls) xs o) (row 9 (No-text (lexicon cs ls) xs) ∷ [])
-        (λ l. omega (arith, l .0, fits, text .length-is)) none-nine))) in
+        (none-both (reception-rows cs ls xs w) (row 8 (Recovery-short (lexicon cs ls) xs o) ∷ []) (none-reception w room)
+        (none-row 8 (Recovery-short (lexicon cs ls) xs o) [] (λ l. omega (arith, l .0, fits, text .length-is)) none-nil)) in
         (h .number, subst (λ (us : List ℕ). Written us r o z) is-recovered (h .result))
 
     -- numbers equal to the cut-down index serve for it
     cut-found :
-        (s ys : List ℕ) → Query s → ys ≡ cut-down (lexicon cs ls) xs s → Found-for cs ls ys ts s × First-for cs ls ys ts s
+        (s ys : List ℕ) → Query s → ys ≡ cut-down (lexicon cs ls) xs (replaced s) → Found-for cs ls ys ts s × First-for cs ls ys ts s
     cut-found s ys q e =
-        let cut = cut-down (lexicon cs ls) xs s in
+        let cut = cut-down (lexicon cs ls) xs (replaced s) in
         subst (λ (zs : List ℕ). Found-for cs ls zs ts s × First-for cs ls zs ts s) (sym e) (
           found-for cut ts s (serves .cut-readable s q) q (serves .cut-exact s q),
           first-for cut ts s (serves .cut-readable s q) q (serves .cut-first-exact s q),
@@ -187,7 +186,7 @@ module _ (cs ls : List ℕ) (adm : admitted cs ls ≡ true) where
 
     cut-for : (s : List ℕ) → Query s → Cut-for cs ls xs ts s
     cut-for s q r o z room says =
-        let cut = cut-down (lexicon cs ls) xs s in
+        let cut = cut-down (lexicon cs ls) xs (replaced s) in
         let h =
         accepts-none (find-rows cs ls xs s cut o) (r .refusal) (Written cut r o z) (Untouched r o z)
         (first-demand .cuts cs ls xs s r o z says) (none-find xs s cut o can q room) in
@@ -196,9 +195,9 @@ module _ (cs ls : List ℕ) (adm : admitted cs ls ≡ true) where
     -- what an accepted call of cut wrote is the cut-down index
     cut-written :
         (s : List ℕ) (r : Answer) (o z : List ℕ) → Cut-says cs ls xs s r o z → r .refusal ≡ 0 →
-        take (r .count) z ≡ cut-down (lexicon cs ls) xs s
+        take (r .count) z ≡ cut-down (lexicon cs ls) xs (replaced s)
     cut-written s r o z says zero =
-        let cut = cut-down (lexicon cs ls) xs s in
+        let cut = cut-down (lexicon cs ls) xs (replaced s) in
         accepts-zero (find-rows cs ls xs s cut o) (r .refusal) (Written cut r o z) (Untouched r o z)
         (first-demand .cuts cs ls xs s r o z says) zero .result .front
 

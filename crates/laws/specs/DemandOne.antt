@@ -1,5 +1,5 @@
 -- The first demand: each operation accepts exactly what meets no row of the refusal table, and ends as stated; all else is refused
--- with the lowest number that applies, and nothing but the work space is changed. Assumes nothing.
+-- with the number of the first row met in the operation's list, and nothing but the work space is changed. Assumes nothing.
 use mathlib.Core.Path.{_≡_, refl, _∙_}
 use mathlib.Core.Bool.{true, false, cond}
 use mathlib.Core.Logic.{inl, inr, ⊎-elim}
@@ -12,6 +12,7 @@ use Rattle.basics.specs.Bools.{true-or-false, at-most}
 use Rattle.spec.specs.declared.Answer.{Answer}
 use Rattle.spec.specs.declared.FirstAnswer.{FirstAnswer}
 use Rattle.spec.specs.declared.TallyAnswer.{TallyAnswer}
+use Rattle.spec.specs.Replaced.{replaced}
 use Rattle.spec.specs.Dictionary.{longest-text, lexicon, all-chars, dictionary-refusal}
 use Rattle.spec.specs.Numbers.{index-of}
 use Rattle.spec.specs.Index.{n-of, entries-of, readable}
@@ -27,7 +28,7 @@ use Rattle.spec.specs.Demands.{First-demand}
 use Rattle.spec.specs.JobAnswer.{job-answer, Job-says}
 use Rattle.laws.specs.Answering.{accepted-yes, accepted-no}
 use Rattle.laws.specs.Recover.{length-recovered}
-use Rattle.laws.specs.RefusalRows.{First, Rising, decides, output-first, dictionary-first, dictionary-rising, build-first, index-first, index-rising, reception-first, recovery-first, string-first, string-rising, find-first}
+use Rattle.laws.specs.RefusalRows.{First, Numbered, decides, output-first, dictionary-first, dictionary-numbered, build-first, index-first, index-numbered, reception-first, recovery-first, string-first, string-numbered, find-first}
 use Rattle.laws.specs.ProgramRows.{prints, prints-only}
 
 -- WHAT COMES BACK
@@ -63,19 +64,19 @@ module _ (n : ℕ) (xs : List ℕ) (r : Answer) (o z : List ℕ) (puts : Puts n 
 
 -- for a call without an output
 answers-decides :
-    (rows : List Row) (n : ℕ) → First rows n → Rising 1 rows → (c : ℕ) (r : Answer) → Answers n c r →
+    (rows : List Row) (n : ℕ) → First rows n → Numbered rows → (c : ℕ) (r : Answer) → Answers n c r →
     Decides rows (r .refusal) (r .count ≡ c) (r .count ≡ 0)
 unfolding Answers
-answers-decides rows n first up c r says =
-    decides rows n (r .refusal) first up (says .0) (r .count ≡ c) (r .count ≡ 0) (λ none e. says .1 ∙ accepted-yes n c 0 e)
+answers-decides rows n first some c r says =
+    decides rows n (r .refusal) first some (says .0) (r .count ≡ c) (r .count ≡ 0) (λ none e. says .1 ∙ accepted-yes n c 0 e)
     (λ some. says .1 ∙ accepted-no n c 0 some)
 
 -- for a call with an output
 puts-decides :
-    (rows : List Row) (n : ℕ) → First rows n → Rising 1 rows → (xs : List ℕ) (r : Answer) (o z : List ℕ) → Puts n xs r o z →
+    (rows : List Row) (n : ℕ) → First rows n → Numbered rows → (xs : List ℕ) (r : Answer) (o z : List ℕ) → Puts n xs r o z →
     (((k : ℕ) → Meets rows k → ⊥) → length o < length xs → ⊥) → Decides rows (r .refusal) (Written xs r o z) (Untouched r o z)
-puts-decides rows n first up xs r o z puts room =
-    decides rows n (r .refusal) first up (puts-number n xs r o z puts) (Written xs r o z) (Untouched r o z)
+puts-decides rows n first some xs r o z puts room =
+    decides rows n (r .refusal) first some (puts-number n xs r o z puts) (Written xs r o z) (Untouched r o z)
     (λ none e. puts-written n xs r o z puts e (at-most (length o) (length xs) (room none))) (puts-untouched n xs r o z puts)
 
 -- THE OPERATIONS
@@ -85,16 +86,17 @@ admit-decides :
     Decides (dictionary-rows cs ls) (r .refusal) (r .count ≡ length ls) (r .count ≡ 0)
 unfolding Admit-says
 admit-decides cs ls r says =
-    answers-decides (dictionary-rows cs ls) (dictionary-refusal cs ls) (dictionary-first cs ls) (dictionary-rising cs ls) (length ls) r says
+    answers-decides (dictionary-rows cs ls) (dictionary-refusal cs ls) (dictionary-first cs ls) (dictionary-numbered cs ls) (length ls) r says
 
 build-decides :
     (cs ls ts : List ℕ) (r : Answer) (o z w v : List ℕ) → Build-says cs ls ts r o z w v →
-    Decides (build-rows cs ls ts o w) (r .refusal) (Written (index-of (lexicon cs ls) ts) r o z) (Untouched r o z) × Cleared w v
+    Decides (build-rows cs ls ts o w) (r .refusal) (Written (index-of (lexicon cs ls) (replaced ts)) r o z) (Untouched r o z)
+    × Cleared w v
 unfolding Build-says zeros
 build-decides cs ls ts r o z w v says = (
   puts-decides (build-rows cs ls ts o w) (build-refusal cs ls ts (length o) (length w)) (build-first cs ls ts o w)
-      (omega arith, (omega arith, (omega arith, (omega arith, (omega arith, (omega arith, tt)))))) (index-of (lexicon cs ls) ts) r o z
-      (says .0) (λ none h. none 8 (inr (inr (inr (inr (inr (inl (refl, h)))))))),
+      (omega arith, (omega arith, (omega arith, (omega arith, (omega arith, (omega arith, (omega arith, tt))))))) (index-of (lexicon cs ls) (replaced ts)) r o z
+      (says .0) (λ none h. none 8 (inr (inr (inr (inr (inr (inr (inl (refl, h))))))))),
   says .1,
 )
 
@@ -105,7 +107,7 @@ module _ (cs ls xs : List ℕ) where
   unfolding Receive-says zeros
   receive-decides r w v chars says = (
     answers-decides (reception-rows cs ls xs w) (reception-refusal cs ls xs (length w)) (reception-first cs ls xs chars w)
-        (omega arith, (omega arith, (omega arith, (omega arith, (omega arith, (omega arith, tt)))))) (n-of xs) r (says .0),
+        (omega arith, (omega arith, (omega arith, (omega arith, (omega arith, (omega arith, (omega arith, tt))))))) (n-of xs) r (says .0),
     says .1,
   )
 
@@ -117,8 +119,8 @@ module _ (cs ls xs : List ℕ) where
       ⊎-elim
       (λ (can : readable longest-text (lexicon cs ls) xs ≡ true).
       none 9
-      (inr (inr (inr (inr (inr (inr (inl (refl, (can, λ text. none 8 (inr (inr (inr (inr (inr (inl (refl, (short, text))))))))))))))))))
-      (λ (f : readable longest-text (lexicon cs ls) xs ≡ false). none 5 (inr (inr (inr (inl (refl, f))))))
+      (inr (inr (inr (inr (inr (inr (inl (refl, (can, λ text. none 8 (inr (inr (inr (inr (inr (inr (inr (inl (refl, (short, text))))))))))))))))))))
+      (λ (f : readable longest-text (lexicon cs ls) xs ≡ false). none 5 (inr (inr (inr (inr (inl (refl, f)))))))
       (true-or-false (readable longest-text (lexicon cs ls) xs))
 
   recover-decides :
@@ -128,7 +130,7 @@ module _ (cs ls xs : List ℕ) where
   unfolding Recover-says zeros
   recover-decides r o z w v chars says = (
     puts-decides (recovery-rows cs ls xs o w) (recovery-refusal cs ls xs (length o) (length w)) (recovery-first cs ls xs chars o w)
-        (omega arith, (omega arith, (omega arith, (omega arith, (omega arith, (omega arith, (omega arith, tt)))))))
+        (omega arith, (omega arith, (omega arith, (omega arith, (omega arith, (omega arith, (omega arith, (omega arith, tt))))))))
         (recovered (lexicon cs ls) xs) r o z (says .0) (recover-room o w),
     says .1,
   )
@@ -138,19 +140,19 @@ module _ (cs ls xs : List ℕ) where
       Decides (find-rows cs ls xs s ys o) (r .refusal) (Written ys r o z) (Untouched r o z)
   find-decides s ys r o z puts =
       puts-decides (find-rows cs ls xs s ys o) (find-refusal cs ls xs s (length ys) (length o)) (find-first cs ls xs s ys o)
-      (omega arith, (omega arith, (omega arith, (omega arith, (omega arith, (omega arith, tt)))))) ys r o z puts
-      (λ none h. none 8 (inr (inr (inr (inr (inr (inl (refl, h))))))))
+      (omega arith, (omega arith, (omega arith, (omega arith, (omega arith, (omega arith, (omega arith, tt))))))) ys r o z puts
+      (λ none h. none 8 (inr (inr (inr (inr (inr (inr (inl (refl, h)))))))))
 
   first-position-decides :
       (s : List ℕ) (r : FirstAnswer) → First-says cs ls xs s r →
-      Decides (string-rows cs ls xs s) (r .refusal) (r .position ≡ first-position (lexicon cs ls) xs s) (r .position ≡ 0)
+      Decides (string-rows cs ls xs s) (r .refusal) (r .position ≡ first-position (lexicon cs ls) xs (replaced s)) (r .position ≡ 0)
   unfolding First-says
   first-position-decides s r says =
       let n : ℕ = string-refusal cs ls xs s in
-      decides (string-rows cs ls xs s) n (r .refusal) (string-first cs ls xs s) (string-rising cs ls xs s) (says .0)
-      (r .position ≡ first-position (lexicon cs ls) xs s) (r .position ≡ 0)
-      (λ none e. says .1 ∙ accepted-yes n (first-position (lexicon cs ls) xs s) 0 e)
-      (λ some. says .1 ∙ accepted-no n (first-position (lexicon cs ls) xs s) 0 some)
+      decides (string-rows cs ls xs s) n (r .refusal) (string-first cs ls xs s) (string-numbered cs ls xs s) (says .0)
+      (r .position ≡ first-position (lexicon cs ls) xs (replaced s)) (r .position ≡ 0)
+      (λ none e. says .1 ∙ accepted-yes n (first-position (lexicon cs ls) xs (replaced s)) 0 e)
+      (λ some. says .1 ∙ accepted-no n (first-position (lexicon cs ls) xs (replaced s)) 0 some)
 
   tally-decides :
       (r : TallyAnswer) → Tally-says cs ls xs r →
@@ -159,7 +161,7 @@ module _ (cs ls xs : List ℕ) where
   unfolding Tally-says
   tally-decides r says =
       let n : ℕ = index-refusal cs ls xs in
-      decides (index-rows cs ls xs) n (r .refusal) (index-first cs ls xs) (index-rising cs ls xs) (says .0)
+      decides (index-rows cs ls xs) n (r .refusal) (index-first cs ls xs) (index-numbered cs ls xs) (says .0)
       ((r .count ≡ entries-of xs) × (r .«by_length» ≡ tally (lexicon cs ls) xs)) ((r .count ≡ 0) × (r .«by_length» ≡ replicate 32 0))
       (λ none e. (
         says .1 ∙ accepted-yes n (entries-of xs) 0 e,
@@ -190,8 +192,8 @@ first-demand =
       builds = build-decides;
       receives = receive-decides;
       recovers = recover-decides;
-      searches = λ cs ls xs s r o z says. find-decides cs ls xs s (find (lexicon cs ls) xs s) r o z says;
-      cuts = λ cs ls xs s r o z says. find-decides cs ls xs s (cut-down (lexicon cs ls) xs s) r o z says;
+      searches = λ cs ls xs s r o z says. find-decides cs ls xs s (find (lexicon cs ls) xs (replaced s)) r o z says;
+      cuts = λ cs ls xs s r o z says. find-decides cs ls xs s (cut-down (lexicon cs ls) xs (replaced s)) r o z says;
       firsts = first-position-decides;
       tallies = tally-decides;
       prints = job-decides;

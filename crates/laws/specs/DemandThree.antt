@@ -27,7 +27,7 @@ module _ (cs ls xs : List ℕ) (w : List ℕ) (chars : all-chars cs ≡ true) (r
       (row 5 (Unreadable (lexicon cs ls) xs) ∷ row 7 (Work-short (n-of xs) w) ∷ row 9 (No-text (lexicon cs ls) xs) ∷ []) (h .none-met))
 
   can-read : readable longest-text (lexicon cs ls) xs ≡ true
-  can-read = true-put (readable longest-text (lexicon cs ls) xs) (λ f. h .none-met 5 (inr (inr (inr (inl (refl, f))))))
+  can-read = true-put (readable longest-text (lexicon cs ls) xs) (λ f. h .none-met 5 (inr (inr (inr (inr (inl (refl, f)))))))
 
   is-received : received longest-text (lexicon cs ls) xs ≡ true
   unfolding Demand-three
@@ -35,7 +35,7 @@ module _ (cs ls xs : List ℕ) (w : List ℕ) (chars : all-chars cs ≡ true) (r
       true-put (received longest-text (lexicon cs ls) xs)
       (λ f.
       h .none-met 9
-      (inr (inr (inr (inr (inr (inl (refl, (can-read, λ t. clash (demand-three longest-text cs ls xs is-admitted .1 (t .0) (t .1)) f)))))))))
+      (inr (inr (inr (inr (inr (inr (inl (refl, (can-read, λ t. clash (demand-three longest-text cs ls xs is-admitted .1 (t .0) (t .1)) f))))))))))
 
   accepted-text : (ts : List ℕ) × Delivered cs ls xs ts
   unfolding Demand-three

@@ -1,4 +1,5 @@
--- The second demand: what an accepted build wrote is exactly the published index of its text, and the text comes back from it.
+-- The second demand: what an accepted build wrote is exactly the published index of its replaced text, which comes
+-- back from it.
 -- Assumes nothing.
 use mathlib.Core.Path.{_≡_, refl, sym, subst}
 use mathlib.Core.Bool.{true}
@@ -7,12 +8,13 @@ use mathlib.Core.List.{List, [], _∷_}
 use Prim.Native.Nat.{ℕ}
 use lib.ListN.{length}
 use Rattle.basics.specs.Bools.{at-most}
+use Rattle.spec.specs.Replaced.{replaced}
 use Rattle.spec.specs.Dictionary.{longest-text, lexicon, is-text, admitted}
 use Rattle.spec.specs.Numbers.{index-of}
 use Rattle.spec.specs.Beyond.{Text-of}
 use Rattle.spec.specs.RefusalTable.{Written, Untouched, Text-too-long, Work-short, Output-short, row, Accepts, dictionary-rows, build-rows}
 use Rattle.spec.specs.Demands.{Built, Second-demand}
-use Rattle.laws.specs.Chars.{all-chars-get, is-text-put}
+use Rattle.laws.specs.Chars.{all-chars-get, replaced-is-text}
 use Rattle.laws.specs.IndexOf.{n-of-index}
 use Rattle.laws.specs.DemandOne.{first-demand}
 use Rattle.laws.specs.Delivery.{accepts-zero, none-left, none-admitted, received-for, recovered-for}
@@ -34,10 +36,10 @@ module _ (cs ls ts : List ℕ) (adm : admitted cs ls ≡ true) (text : is-text l
 pub second-demand : Second-demand
 unfolding Second-demand
 second-demand cs ls ts r o z w v chars text says zero =
-    subst (Built cs ls ts) (sym (h .result .front)) (index-built cs ls ts is-admitted is-a-text)
+    subst (Built cs ls (replaced ts)) (sym (h .result .front)) (index-built cs ls (replaced ts) is-admitted is-a-text)
   where
     xs : List ℕ
-    xs = index-of (lexicon cs ls) ts
+    xs = index-of (lexicon cs ls) (replaced ts)
 
     h : Accepts (build-rows cs ls ts o w) (r .refusal) (Written xs r o z)
     h =
@@ -50,7 +52,7 @@ second-demand cs ls ts r o z w v chars text says zero =
         (none-left (dictionary-rows cs ls)
         (row 4 (Text-too-long ts) ∷ row 7 (Work-short (length ts) w) ∷ row 8 (Output-short xs o) ∷ []) (h .none-met))
 
-    is-a-text : is-text longest-text ts ≡ true
+    is-a-text : is-text longest-text (replaced ts) ≡ true
     is-a-text =
-        is-text-put longest-text ts (all-chars-get ts text)
-        (at-most longest-text (length ts) (λ l. h .none-met 4 (inr (inr (inr (inl (refl, l)))))))
+        replaced-is-text longest-text ts (all-chars-get ts text)
+        (at-most longest-text (length ts) (λ l. h .none-met 4 (inr (inr (inr (inr (inl (refl, l))))))))

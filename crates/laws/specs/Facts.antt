@@ -1,11 +1,12 @@
 -- What the Boolean definitions come to, as facts: lexicons, keys, entries, lines, and lines that show a text. The theorems are
 -- stated over these records; each file of laws that has a `-get` and a `-put` ties one of them to its test. Assumes nothing.
 use mathlib.Core.Path.{_≡_}
-use mathlib.Core.Bool.{true}
+use mathlib.Core.Bool.{true, false}
 use mathlib.Core.List.{List, [], _∷_, _++_}
 use Prim.Native.Nat.{ℕ, suc, _+_, _≤_, _<_}
 use lib.ListN.{length, getD}
 use Rattle.basics.specs.Member.{In}
+use Rattle.spec.specs.Replaced.{is-full-width}
 use Rattle.spec.specs.Dictionary.{Lexicon}
 use Rattle.spec.specs.Words.{Key, spells, Entry, entry}
 use Rattle.spec.specs.Numbers.{Line, key-before}
@@ -16,12 +17,17 @@ use Rattle.laws.specs.Strings.{Stand}
 abbrev pub Chars : List ℕ → Type 0
 Chars xs = (i : ℕ) → i < length xs → getD xs i 0 < 65536
 
--- an admitted lexicon: words of 1 to 32 characters, no word twice
+-- no character of a list is a full-width form
+abbrev pub Plain : List ℕ → Type 0
+Plain xs = (i : ℕ) → i < length xs → is-full-width (getD xs i 0) ≡ false
+
+-- an admitted lexicon: words of 1 to 32 characters, none of them a full-width form, no word twice
 pub record Good-lexicon (lex : Lexicon) : Type 0 where
   pub few : length (lex .words) ≤ 4096
   pub nonempty : (w : List ℕ) → In w (lex .words) → 1 ≤ length w
   pub short : (w : List ℕ) → In w (lex .words) → length w ≤ 32
   pub chars : (w : List ℕ) → In w (lex .words) → Chars w
+  pub plain : (w : List ℕ) → In w (lex .words) → Plain w
   pub distinct :
       (i j : ℕ) → i < length (lex .words) → j < length (lex .words) → getD (lex .words) i [] ≡ getD (lex .words) j [] → i ≡ j
 

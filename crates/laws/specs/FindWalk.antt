@@ -10,6 +10,7 @@ use lib.Seq.{drop-drop, length-take-le}
 use Rattle.basics.specs.Bools.{clash, le-or-lt}
 use Rattle.basics.specs.Placed.{Wrote, Writing, writing-start, writing-as, writing-room, writing-step, writing-end}
 use Rattle.basics.specs.PlacedCopies.{drop-next}
+use Rattle.spec.specs.Replaced.{replaced}
 use Rattle.spec.specs.Dictionary.{Lexicon, words-from, total}
 use Rattle.spec.specs.Search.{find}
 use Rattle.spec.specs.JobAnswer.{found-line, found-lines}
@@ -78,20 +79,20 @@ module _ (lex : Lexicon) (xs fs ls : List ℕ) (start : ℕ) (old : List ℕ) (f
 
     next-line :
         found-lines lex xs (words-from (drop i ls) (drop from fs))
-        ≡ found-line (find lex xs (string-at fs ls from i))
+        ≡ found-line (find lex xs (replaced (string-at fs ls from i)))
         ++ found-lines lex xs (words-from (drop (i + 1) ls) (drop (from + getD ls i 0) fs))
     unfolding found-lines words-from
     next-line =
         rw (drop-next ls i below, part, drop-drop (getD ls i 0) from fs)
 
-    pub find-fits : end + length (found-line (find lex xs (string-at fs ls from i))) ≤ length now
+    pub find-fits : end + length (found-line (find lex xs (replaced (string-at fs ls from i)))) ≤ length now
     find-fits =
-        writing-room (found-line (find lex xs (string-at fs ls from i)))
+        writing-room (found-line (find lex xs (replaced (string-at fs ls from i))))
         (found-lines lex xs (words-from (drop (i + 1) ls) (drop (from + getD ls i 0) fs)))
         (writing-as next-line (h .writing))
 
     pub finds-step :
-        (end' : ℕ) (now' : List ℕ) → Wrote (found-line (find lex xs (string-at fs ls from i))) end now end' now' →
+        (end' : ℕ) (now' : List ℕ) → Wrote (found-line (find lex xs (replaced (string-at fs ls from i)))) end now end' now' →
         Finds-printed lex xs fs ls start old (from + getD ls i 0) end' (i + 1) now'
     finds-step end' now' w =
         record {
@@ -102,7 +103,7 @@ module _ (lex : Lexicon) (xs fs ls : List ℕ) (start : ℕ) (old : List ℕ) (f
               ∙ h .tested;
           fits = omega (arith, h .fits, next-total);
           writing =
-              writing-step (found-line (find lex xs (string-at fs ls from i)))
+              writing-step (found-line (find lex xs (replaced (string-at fs ls from i))))
               (found-lines lex xs (words-from (drop (i + 1) ls) (drop (from + getD ls i 0) fs)))
               (writing-as next-line (h .writing)) w;
         }

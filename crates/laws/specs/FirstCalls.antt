@@ -11,6 +11,7 @@ use borrow.Author.Tests.{eqb-true, eqb-false}
 use Rattle.basics.specs.Bools.{clash}
 use Rattle.spec.specs.declared.Answer.{Answer}
 use Rattle.spec.specs.declared.FirstAnswer.{FirstAnswer}
+use Rattle.spec.specs.Replaced.{replaced}
 use Rattle.spec.specs.Dictionary.{longest-text, lexicon}
 use Rattle.spec.specs.Index.{readable}
 use Rattle.spec.specs.Search.{find}
@@ -21,9 +22,11 @@ use Rattle.spec.specs.Calls.{output-short, string-refusal, find-refusal, Answer
 use Rattle.spec.specs.RefusalTable.{Written, Untouched, Unreadable, String-wrong, Output-short, row, Meets, Accepts, Refuses, dictionary-rows, index-rows, string-rows, find-rows}
 use Rattle.spec.specs.FirstPromise.{Same-to, First-calls}
 use Rattle.laws.specs.Answering.{or-else-some, or-else-none}
+use Rattle.laws.specs.Replacing.{length-replaced}
 use Rattle.laws.specs.Promises.{cut-any}
 use Rattle.laws.specs.FirstPositions.{first-there}
 use Rattle.laws.specs.IndexTo.{index-to-readable, index-to-same}
+use Rattle.laws.specs.RefusalRows.{first-meets}
 use Rattle.laws.specs.DemandOne.{first-demand}
 use Rattle.laws.specs.Delivery.{true-put, None-met, accepts-zero, accepts-none, none-nil, none-row, none-left, none-both}
 
@@ -31,26 +34,26 @@ use Rattle.laws.specs.Delivery.{true-put, None-met, accepts-zero, accept
 module _ (cs ls xs s : List ℕ) (f : FirstAnswer) (says : First-says cs ls xs s f) where
   accepts-first :
       None-met (string-rows cs ls xs s) →
-      Accepts (string-rows cs ls xs s) (f .refusal) (f .position ≡ first-position (lexicon cs ls) xs s)
+      Accepts (string-rows cs ls xs s) (f .refusal) (f .position ≡ first-position (lexicon cs ls) xs (replaced s))
   accepts-first =
-      accepts-none (string-rows cs ls xs s) (f .refusal) (f .position ≡ first-position (lexicon cs ls) xs s) (f .position ≡ 0)
+      accepts-none (string-rows cs ls xs s) (f .refusal) (f .position ≡ first-position (lexicon cs ls) xs (replaced s)) (f .position ≡ 0)
       (first-demand .firsts cs ls xs s f says)
 
   -- a position comes from an accepted call
   position-accepted :
-      1 ≤ f .position → Accepts (string-rows cs ls xs s) (f .refusal) (f .position ≡ first-position (lexicon cs ls) xs s)
+      1 ≤ f .position → Accepts (string-rows cs ls xs s) (f .refusal) (f .position ≡ first-position (lexicon cs ls) xs (replaced s))
   position-accepted some =
       ⊎-elim
-      (λ (h : Accepts (string-rows cs ls xs s) (f .refusal) (f .position ≡ first-position (lexicon cs ls) xs s)). h)
+      (λ (h : Accepts (string-rows cs ls xs s) (f .refusal) (f .position ≡ first-position (lexicon cs ls) xs (replaced s))). h)
       (λ (h : Refuses (string-rows cs ls xs s) (f .refusal) (f .position ≡ 0)). absurd (omega (arith, h .result)))
       (first-demand .firsts cs ls xs s f says)
 
   not-eight : f .refusal ≡ 8 → ⊥
   not-eight e =
       ⊎-elim
-      (λ (h : Accepts (string-rows cs ls xs s) (f .refusal) (f .position ≡ first-position (lexicon cs ls) xs s)).
+      (λ (h : Accepts (string-rows cs ls xs s) (f .refusal) (f .position ≡ first-position (lexicon cs ls) xs (replaced s))).
       omega (arith, h .number))
-      (λ (h : Refuses (string-rows cs ls xs s) (f .refusal) (f .position ≡ 0)). among (h .met))
+      (λ (h : Refuses (string-rows cs ls xs s) (f .refusal) (f .position ≡ 0)). among (first-meets (string-rows cs ls xs s) (f .refusal) (h .first)))
       (first-demand .firsts cs ls xs s f says)
     where
       among : Meets (string-rows cs ls xs s) (f .refusal) → ⊥
@@ -59,14 +62,15 @@ module _ (cs ls xs s : List ℕ) (f : FirstAnswer) (says : First-says cs ls xs s
       among (inr (inr (inl m))) = omega (arith, m .0)
       among (inr (inr (inr (inl m)))) = omega (arith, m .0)
       among (inr (inr (inr (inr (inl m))))) = omega (arith, m .0)
-      among (inr (inr (inr (inr (inr m))))) = m
+      among (inr (inr (inr (inr (inr (inl m)))))) = omega (arith, m .0)
+      among (inr (inr (inr (inr (inr (inr m)))))) = m
 
 -- BESIDE A SEARCH
 
 module _ (cs ls xs s : List ℕ) (f : FirstAnswer) (r : Answer) (o z : List ℕ) (first : First-says cs ls xs s f)
     (search : Search-says cs ls xs s r o z) where
   found : List ℕ
-  found = find (lexicon cs ls) xs s
+  found = find (lexicon cs ls) xs (replaced s)
 
   beside-search : r .refusal ≡ 0 → (f .refusal ≡ 0) × (f .position ≡ first-of (take (r .count) z))
   unfolding found first-position
@@ -109,15 +113,15 @@ other-none cs ls xs ys s none can =
     (none-both (dictionary-rows cs ls) (row 5 (Unreadable (lexicon cs ls) ys) ∷ [])
     (none-left (dictionary-rows cs ls) (row 5 (Unreadable (lexicon cs ls) xs) ∷ row 6 (String-wrong s) ∷ []) none)
     (none-row 5 (Unreadable (lexicon cs ls) ys) [] (λ f. clash can f) none-nil))
-    (none-row 6 (String-wrong s) [] (λ w. none 6 (inr (inr (inr (inr (inl (refl, w))))))) none-nil)
+    (none-row 6 (String-wrong s) [] (λ w. none 6 (inr (inr (inr (inr (inr (inl (refl, w)))))))) none-nil)
 
 can-read : (cs ls xs s : List ℕ) → None-met (string-rows cs ls xs s) → readable longest-text (lexicon cs ls) xs ≡ true
-can-read cs ls xs s none = true-put (readable longest-text (lexicon cs ls) xs) (λ f. none 5 (inr (inr (inr (inl (refl, f))))))
+can-read cs ls xs s none = true-put (readable longest-text (lexicon cs ls) xs) (λ f. none 5 (inr (inr (inr (inr (inl (refl, f)))))))
 
 -- it then answers its own first position
 other-first :
     (cs ls xs ys s : List ℕ) → None-met (string-rows cs ls xs s) → readable longest-text (lexicon cs ls) ys ≡ true →
-    (h : FirstAnswer) → First-says cs ls ys s h → (h .refusal ≡ 0) × (h .position ≡ first-position (lexicon cs ls) ys s)
+    (h : FirstAnswer) → First-says cs ls ys s h → (h .refusal ≡ 0) × (h .position ≡ first-position (lexicon cs ls) ys (replaced s))
 other-first cs ls xs ys s none can h says =
     let a = accepts-first cs ls ys s h says (other-none cs ls xs ys s none can) in (a .number, a .result)
 
@@ -128,7 +132,7 @@ module _ (cs ls xs s : List ℕ) (f h : FirstAnswer) (says : First-says cs ls xs
   same-answer ys some can same other =
       let a = position-accepted cs ls xs s f says some in
       let b = other-first cs ls xs ys s (a .none-met) can h other in
-      (b .0, b .1 ∙ first-there (lexicon cs ls) xs ys s (f .position) some same (a .result))
+      (b .0, b .1 ∙ first-there (lexicon cs ls) xs ys (replaced s) (f .position) some (subst (λ (m : ℕ). Same-to (f .position + m - 1) xs ys) (sym (length-replaced s)) same) (a .result))
 
   kept-answer :
       1 ≤ f .position → First-says cs ls (index-to (f .position + length s - 1) xs) s h → (h .refusal ≡ 0) × (h .position ≡ f .position)
@@ -142,12 +146,12 @@ module _ (cs ls xs s : List ℕ) (f h : FirstAnswer) (says : First-says cs ls xs
       (h .refusal ≡ 0) × (h .position ≡ f .position)
   unfolding Cut-any first-position
   cut-answer r o z says-cut zero other =
-      let cut = cut-down (lexicon cs ls) xs s in
+      let cut = cut-down (lexicon cs ls) xs (replaced s) in
       let c =
       accepts-zero (find-rows cs ls xs s cut o) (r .refusal) (Written cut r o z) (Untouched r o z)
       (first-demand .cuts cs ls xs s r o z says-cut) zero in
       let none = none-left (string-rows cs ls xs s) (row 8 (Output-short cut o) ∷ []) (c .none-met) in
-      let any = cut-any longest-text (lexicon cs ls) xs s (can-read cs ls xs s none) in
+      let any = cut-any longest-text (lexicon cs ls) xs (replaced s) (can-read cs ls xs s none) in
       let b =
       other-first cs ls xs cut s none (any .0) h (subst (λ (ys : List ℕ). First-says cs ls ys s h) (c .result .front) other) in
       (b .0, b .1 ∙ ap first-of (any .1) ∙ sym (accepts-first cs ls xs s f says none .result))

@@ -7,7 +7,8 @@ use native.Mathlib.Nat.{zero-add}
 use native.Mathlib.Omega.{arith}
 use lib.ListN.{length, drop, length-append}
 use Rattle.basics.specs.Placed.{placed, Wrote, Writing, writing-start, writing-room, writing-step}
-use Rattle.spec.specs.Dictionary.{lexicon, words-from, total, too-large, lengths-wrong, disordered, dictionary-refusal}
+use Rattle.spec.specs.Replaced.{replaced}
+use Rattle.spec.specs.Dictionary.{lexicon, words-from, total, too-large, lengths-wrong, disordered, unreplaced, dictionary-refusal}
 use Rattle.spec.specs.Numbers.{index-of}
 use Rattle.spec.specs.declared.Answer.{Answer}
 use Rattle.spec.specs.Calls.{or-else, in-front}
@@ -23,10 +24,11 @@ use Rattle.laws.specs.Sizing.{Sized, sized-written}
 
 -- A REFUSED SHEET
 
-refusal-small : (s : List ℕ) → sheet-refusal s ≤ 11
+refusal-small : (s : List ℕ) → sheet-refusal s ≤ 12
 unfolding sheet-refusal contents-refusal dictionary-refusal or-else
 refusal-small s =
-    go (sheet-too-long s) (sheet-wrong s) (too-large cs ls) (lengths-wrong cs ls) (disordered cs ls) (some-string-wrong (finds-on s))
+    go (sheet-too-long s) (sheet-wrong s) (too-large cs ls) (lengths-wrong cs ls) (disordered cs ls) (unreplaced cs ls)
+    (some-string-wrong (finds-on s))
   where
     cs : List ℕ
     cs = run-together (words-on s)
@@ -35,15 +37,16 @@ refusal-small s =
     ls = lengths-of (words-on s)
 
     go :
-        (long wrong one two three six : Bool) →
-        cond long 10 (cond wrong 11 (or-else (cond one 1 (cond two 2 (cond three 3 0))) (cond six 6 0))) ≤ 11
-    go true wrong one two three six = omega arith
-    go false true one two three six = omega arith
-    go false false true two three six = omega arith
-    go false false false true three six = omega arith
-    go false false false false true six = omega arith
-    go false false false false false true = omega arith
-    go false false false false false false = omega arith
+        (long wrong one two three twelve six : Bool) →
+        cond long 10 (cond wrong 11 (or-else (cond one 1 (cond two 2 (cond three 3 (cond twelve 12 0)))) (cond six 6 0))) ≤ 12
+    go true wrong one two three twelve six = omega arith
+    go false true one two three twelve six = omega arith
+    go false false true two three twelve six = omega arith
+    go false false false true three twelve six = omega arith
+    go false false false false true twelve six = omega arith
+    go false false false false false true six = omega arith
+    go false false false false false false true = omega arith
+    go false false false false false false false = omega arith
 
 module _ (s : List ℕ) (r : ℕ) (is : r ≡ sheet-refusal s) (some : r ≡ 0 → ⊥) where
   pub refused-answer : refused-line r ≡ job-answer s
@@ -105,9 +108,9 @@ pub record Parts-good (cs ls ts fs ns : List ℕ) : Type 0 where
   pub strings : Strings-good fs ns
 
 unfoldable pub printed-of : (chars lengths text strings counts : List ℕ) → List ℕ
-printed-of cs ls ts fs ns = shown cs ls (index-of (lexicon cs ls) ts) fs ns
+printed-of cs ls ts fs ns = shown cs ls (index-of (lexicon cs ls) (replaced ts)) fs ns
 
-pub index-shown : (cs ls ts fs ns xs : List ℕ) → xs ≡ index-of (lexicon cs ls) ts → shown cs ls xs fs ns ≡ printed-of cs ls ts fs ns
+pub index-shown : (cs ls ts fs ns xs : List ℕ) → xs ≡ index-of (lexicon cs ls) (replaced ts) → shown cs ls xs fs ns ≡ printed-of cs ls ts fs ns
 unfolding printed-of
 index-shown cs ls ts fs ns xs e = rw e
 

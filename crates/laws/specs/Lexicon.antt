@@ -1,4 +1,5 @@
--- Admission, as facts: an admitted dictionary has distinct ascending words of 1 to 32 characters. Assumes nothing.
+-- Admission, as facts: an admitted dictionary has distinct ascending words of 1 to 32 characters, none of them a full-width form. Assumes
+-- nothing.
 use mathlib.Core.Path.{_≡_, refl, ap, _∙_}
 use mathlib.Core.Bool.{Bool, true, false, _&&_, _||_, cond}
 use mathlib.Core.Logic.{inl, inr}
@@ -11,8 +12,9 @@ use lib.Seq.{length-take-le}
 use borrow.Author.Tests.{le-ltb, le-leb, eq-eqb, ltb-false, leb-true, eqb-true, not-false}
 use Rattle.basics.specs.Bools.{clash, and-put, and-left, and-right, or-none}
 use Rattle.basics.specs.Member.{In}
-use Rattle.spec.specs.Dictionary.{all-chars, words-from, lexicon, total, too-large, length-good, lengths-good, lengths-wrong, word-before, ascend, disordered, dictionary-refusal, admitted}
+use Rattle.spec.specs.Dictionary.{all-chars, words-from, lexicon, total, too-large, length-good, lengths-good, lengths-wrong, word-before, ascend, disordered, some-full-width, unreplaced, dictionary-refusal, admitted}
 use Rattle.laws.specs.Facts.{Chars, Good-lexicon}
+use Rattle.laws.specs.Replacing.{words-plain-get}
 use Rattle.laws.specs.Chars.{all-chars-get, all-chars-put, chars-take, chars-drop}
 use Rattle.laws.specs.WordOrder.{ascend-get, ascend-distinct}
 
@@ -47,13 +49,17 @@ pub record Is-admitted (cs ls : List ℕ) : Type 0 where
   pub lengths : (i : ℕ) → i < length ls → (1 ≤ getD ls i 0) × (getD ls i 0 ≤ 32)
   pub sum : total ls ≡ length cs
   pub order : ascend (words-from ls cs) ≡ true
+  pub plain : some-full-width (words-from ls cs) ≡ false
 
 -- no line met
-none-met : (a b c : Bool) → eqb (cond a 1 (cond b 2 (cond c 3 0))) 0 ≡ true → (a ≡ false) × (b ≡ false) × (c ≡ false)
-none-met true b c t = clash t refl
-none-met false true c t = clash t refl
-none-met false false true t = clash t refl
-none-met false false false t = (refl, refl, refl)
+none-met :
+    (a b c d : Bool) → eqb (cond a 1 (cond b 2 (cond c 3 (cond d 12 0)))) 0 ≡ true →
+    (a ≡ false) × (b ≡ false) × (c ≡ false) × (d ≡ false)
+none-met true b c d t = clash t refl
+none-met false true c d t = clash t refl
+none-met false false true d t = clash t refl
+none-met false false false true t = clash t refl
+none-met false false false false t = (refl, refl, refl, refl)
 
 or-false-left : (a b : Bool) → (a || b) ≡ false → a ≡ false
 or-false-left true b t = t
@@ -64,7 +70,7 @@ or-false-right true b t = clash refl t
 or-false-right false b t = t
 
 pub admitted-get : (cs ls : List ℕ) → admitted cs ls ≡ true → Is-admitted cs ls
-unfolding admitted dictionary-refusal too-large lengths-wrong disordered
+unfolding admitted dictionary-refusal too-large lengths-wrong disordered unreplaced
 admitted-get cs ls t =
     record {
       chars = all-chars-get cs (and-left (all-chars cs) (eqb (dictionary-refusal cs ls) 0) t);
@@ -73,20 +79,21 @@ admitted-get cs ls t =
       lengths = lengths-good-get ls (and-left (lengths-good ls) (eqb (total ls) (length cs)) sums);
       sum = eqb-true (total ls) (length cs) (and-right (lengths-good ls) (eqb (total ls) (length cs)) sums);
       order = not-false (ascend (words-from ls cs)) (met .2);
+      plain = met .3;
     }
   where
-    met : (too-large cs ls ≡ false) × (lengths-wrong cs ls ≡ false) × (disordered cs ls ≡ false)
+    met : (too-large cs ls ≡ false) × (lengths-wrong cs ls ≡ false) × (disordered cs ls ≡ false) × (unreplaced cs ls ≡ false)
     met =
-        none-met (too-large cs ls) (lengths-wrong cs ls) (disordered cs ls)
+        none-met (too-large cs ls) (lengths-wrong cs ls) (disordered cs ls) (unreplaced cs ls)
         (and-right (all-chars cs) (eqb (dictionary-refusal cs ls) 0) t)
 
     sums : (lengths-good ls && eqb (total ls) (length cs)) ≡ true
     sums = not-false (lengths-good ls && eqb (total ls) (length cs)) (met .1)
 
 pub admitted-put : (cs ls : List ℕ) → Is-admitted cs ls → admitted cs ls ≡ true
-unfolding admitted dictionary-refusal too-large lengths-wrong disordered
+unfolding admitted dictionary-refusal too-large lengths-wrong disordered unreplaced
 admitted-put cs ls a =
-    and-put (all-chars-put cs (a .chars)) (rw (fits, sums, a .order) refl)
+    and-put (all-chars-put cs (a .chars)) (rw (fits, sums, a .order, a .plain) refl)
   where
     fits : (ltb 4096 (length ls) || ltb 65535 (length cs)) ≡ false
     fits = or-none (le-ltb 4096 (length ls) (a .few)) (le-ltb 65535 (length cs) (a .small))
@@ -128,6 +135,7 @@ admitted-lexicon cs ls t =
       nonempty = λ w m. (long w m) .0;
       short = λ w m. (long w m) .1;
       chars = word-chars ls cs (a .chars);
+      plain = words-plain-get (words-from ls cs) (a .plain);
       distinct = ascend-distinct (words-from ls cs) (a .order);
     }
   where

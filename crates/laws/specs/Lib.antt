@@ -1,6 +1,7 @@
 -- The theorems: every statement of `spec`, proved, and the bridges that proofs of code cite.
 pub mod Strings
 pub mod Facts
+pub mod Replacing
 pub mod Chars
 pub mod WordOrder
 pub mod WordCode
@@ -131,6 +132,8 @@ pub mod PublishedIndex
 pub mod DemandTwo
 pub mod DemandThree
 pub mod DemandsHold
+pub mod ReplacedPromises
+pub mod LoneForms
 pub mod PlaceWalk
 pub mod LinePass
 pub mod ShowWalk
@@ -138,6 +141,7 @@ pub mod PaintWalk
 pub mod NoteWalk
 pub mod Accepting
 pub mod Receiving
+pub mod WorkParts
 pub mod ReceivedText
 pub mod PrintedBounds
 pub mod AcceptedCalls

@@ -15,7 +15,7 @@ use Rattle.spec.specs.Dictionary.{Lexicon}
 use Rattle.spec.specs.Words.{Key, spells, Entry, same-key, entries}
 use Rattle.spec.specs.Numbers.{index-of}
 use Rattle.spec.specs.Index.{n-of, keys-of, key-at, entries-of, lines-in, readable}
-use Rattle.spec.specs.Reception.{recovered, received}
+use Rattle.spec.specs.Reception.{recovered, is-index}
 use Rattle.laws.specs.Facts.{Chars, Good-lexicon, entry-eq, flat}
 use Rattle.laws.specs.Entries.{same-key-get, same-key-put}
 use Rattle.laws.specs.Flat.{posting, flat-get, flat-put}
@@ -26,7 +26,7 @@ use Rattle.laws.specs.Scan.{scan-registers, scan-passes, Longest-at}
 use Rattle.laws.specs.Grouped.{scan-count}
 use Rattle.laws.specs.LineNumbers.{line-of, line-of-key, line-of-in, line-number}
 use Rattle.laws.specs.Received.{readable-chars}
-use Rattle.laws.specs.Criterion.{counted-index, index-taken, received-all, received-count, received-own-places}
+use Rattle.laws.specs.Criterion.{counted-index, index-taken, is-index-all, is-index-count, is-index-own-places}
 
 -- LINES NOTED AT PLACES
 
@@ -119,17 +119,17 @@ module _ (lex : Lexicon) (good : Good-lexicon lex) (g : ℕ) (xs : List ℕ) (ca
           (and-left (all-noted note xs (make-index lex us)) (eqb (length (make-index lex us)) (entries-of xs)) t) e
           (make-index-put lex good us chars e m))
 
-  pub accepts-received :
+  pub accepts-is-index :
       (us : List ℕ) → Chars us → length us ≡ n-of xs → accepts lex note xs us ≡ true →
-      (received g lex xs ≡ true) × (recovered lex xs ≡ us)
-  accepts-received us chars long t = index-taken lex good g xs can us chars long (accepts-index us chars long t)
+      (is-index g lex xs ≡ true) × (recovered lex xs ≡ us)
+  accepts-is-index us chars long t = index-taken lex good g xs can us chars long (accepts-index us chars long t)
 
-  pub received-accepts : received g lex xs ≡ true → accepts lex note xs (recovered lex xs) ≡ true
+  pub is-index-accepts : is-index g lex xs ≡ true → accepts lex note xs (recovered lex xs) ≡ true
   unfolding accepts
-  received-accepts r =
+  is-index-accepts r =
       and-put (all-noted-put note xs (make-index lex (recovered lex xs)) each)
       (eq-eqb (length (make-index lex (recovered lex xs))) (entries-of xs)
-      (scan-count lex good (recovered lex xs) chars ∙ received-count lex good g xs r))
+      (scan-count lex good (recovered lex xs) chars ∙ is-index-count lex good g xs r))
     where
       chars : Chars (recovered lex xs)
       chars = readable-chars lex good g xs can
@@ -137,17 +137,17 @@ module _ (lex : Lexicon) (good : Good-lexicon lex) (g : ℕ) (xs : List ℕ) (ca
       each : (e : Entry) → In e (make-index lex (recovered lex xs)) → noted-right note xs e ≡ true
       each e m =
           let i = make-index-get lex good (recovered lex xs) chars e m in
-          let here = received-all lex good g xs r e i in
+          let here = is-index-all lex good g xs r e i in
           noted-right-put lex xs note noted e (entries-sound lex good (recovered lex xs) chars e i .from) here
-          (λ f n a. received-own-places lex good g xs r f e n here a)
+          (λ f n a. is-index-own-places lex good g xs r f e n here a)
 
   -- Accepted exactly if received, for any painting that is the recovered text where the numbers are received.
   pub accepts-exact :
-      (us : List ℕ) → Chars us → length us ≡ n-of xs → (received g lex xs ≡ true → us ≡ recovered lex xs) →
-      accepts lex note xs us ≡ received g lex xs
+      (us : List ℕ) → Chars us → length us ≡ n-of xs → (is-index g lex xs ≡ true → us ≡ recovered lex xs) →
+      accepts lex note xs us ≡ is-index g lex xs
   accepts-exact us chars long painted =
-      iff-eq (accepts lex note xs us) (received g lex xs) (λ t. accepts-received us chars long t .0)
-      (λ r. subst (λ (ys : List ℕ). accepts lex note xs ys ≡ true) (sym (painted r)) (received-accepts r))
+      iff-eq (accepts lex note xs us) (is-index g lex xs) (λ t. accepts-is-index us chars long t .0)
+      (λ r. subst (λ (ys : List ℕ). accepts lex note xs ys ≡ true) (sym (painted r)) (is-index-accepts r))
 
 -- THE SCAN STEP BY STEP
 

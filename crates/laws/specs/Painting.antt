@@ -13,13 +13,13 @@ use Rattle.basics.specs.Stores.{sets-either, sets-keeps, sets-writes}
 use Rattle.spec.specs.Dictionary.{Lexicon}
 use Rattle.spec.specs.Words.{spells, Entry}
 use Rattle.spec.specs.Index.{n-of, lines-in}
-use Rattle.spec.specs.Reception.{recovered, received}
+use Rattle.spec.specs.Reception.{recovered, is-index}
 use Rattle.laws.specs.Strings.{Stand}
 use Rattle.laws.specs.Facts.{Good-lexicon, flat, Shows}
 use Rattle.laws.specs.Flat.{flat-long}
 use Rattle.laws.specs.Recover.{length-recovered}
 use Rattle.laws.specs.IndexOf.{index-shows}
-use Rattle.laws.specs.Received.{received-get, readable-chars}
+use Rattle.laws.specs.Received.{is-index-get, readable-chars}
 
 -- PAINTING
 
@@ -112,7 +112,7 @@ module _ (lex : Lexicon) (ts : List ℕ) where
 
 -- WHERE NUMBERS ARE RECEIVED
 
-module _ (lex : Lexicon) (good : Good-lexicon lex) (g : ℕ) (xs : List ℕ) (taken : received g lex xs ≡ true) where
+module _ (lex : Lexicon) (good : Good-lexicon lex) (g : ℕ) (xs : List ℕ) (taken : is-index g lex xs ≡ true) where
   -- Their entries, painted in any order, give the recovered text.
   pub paint-recovered :
       (es : List Entry) (us : List ℕ) → length us ≡ n-of xs → ((e : Entry) → In e es → In e (flat lex (lines-in xs))) →
@@ -122,7 +122,7 @@ module _ (lex : Lexicon) (good : Good-lexicon lex) (g : ℕ) (xs : List ℕ) (ta
     where
       shows : Shows lex (lines-in xs) (recovered lex xs)
       shows =
-          let h = received-get g lex xs taken in
+          let h = is-index-get g lex xs taken in
           subst (λ (ys : List ℕ). Shows lex (lines-in ys) (recovered lex xs)) (h .index-is)
           (index-shows lex good (recovered lex xs) (readable-chars lex good g xs (h .can-read)))
 

@@ -8,6 +8,7 @@ use native.Mathlib.Omega.{arith}
 use lib.Dec.{eqb}
 use lib.ListN.{length, getD, take, drop, length-append, length-drop, take-append-drop}
 use Rattle.basics.specs.Bools.{le-or-lt}
+use Rattle.spec.specs.Replaced.{replaced}
 use Rattle.spec.specs.Dictionary.{Lexicon}
 use Rattle.spec.specs.Words.{Key, key}
 use Rattle.spec.specs.Numbers.{Line, line}
@@ -186,8 +187,8 @@ module _ (lex : Lexicon) (xs : List ℕ) where
   found-lines-short h (s ∷ ss) =
       omega (
         arith,
-        length-append (found-line (find lex xs s)) (found-lines lex xs ss),
-        found-line-short (find lex xs s) (find-small s (omega arith)) (omega (arith, find-most s)),
-        find-most s,
+        length-append (found-line (find lex xs (replaced s))) (found-lines lex xs ss),
+        found-line-short (find lex xs (replaced s)) (find-small (replaced s) (omega arith)) (omega (arith, find-most (replaced s))),
+        find-most (replaced s),
         found-lines-short h ss,
       )

@@ -17,7 +17,7 @@ use Rattle.spec.specs.RefusalTable.{Too-large, Accepts, Refuses}
 use Rattle.spec.specs.ProgramDemand.{Sheet-too-long, Sheet-broken, parts-rows, Refused-long, Refused-broken, Tested-parts, Prints}
 use Rattle.laws.specs.Answering.{accepted-yes}
 use Rattle.laws.specs.Reflects.{reflects-put, reflects-not, reflects-lt}
-use Rattle.laws.specs.RefusalRows.{first-decides, decides, decided-number, parts-first, parts-rising}
+use Rattle.laws.specs.RefusalRows.{first-decides, decides, decided-number, parts-first, parts-numbered}
 use Rattle.laws.specs.LineReading.{size-lines, forms-size}
 use Rattle.laws.specs.WholeSheet.{length-lengths}
 use Rattle.laws.specs.JobReading.{sheet-long}
@@ -121,7 +121,7 @@ module _ (s : List ℕ) where
         number = n;
         printed =
             decides (parts-rows (words-on s) (finds-on s)) n n (parts-first (words-on s) (finds-on s))
-            (parts-rising (words-on s) (finds-on s)) refl (job-answer s ≡ printed s) (job-answer s ≡ refused-line n)
+            (parts-numbered (words-on s) (finds-on s)) refl (job-answer s ≡ printed s) (job-answer s ≡ refused-line n)
             (λ none e. answer-accepted n (number-parts f g) e) (answer-refused n (number-parts f g));
       }
 
@@ -153,7 +153,7 @@ module _ (s : List ℕ) where
         (λ broken. broken (h .words, h .text, h .finds, h .parts, h .counts)))
         ∙ rw (words-are, finds-are)
         (decided-number rows n (h .number) Unit Unit _ _
-        (first-decides 1 rows (omega arith) (parts-rising (h .words) (h .finds)) n (parts-first (h .words) (h .finds))) (h .printed))
+        (first-decides rows (parts-numbered (h .words) (h .finds)) n (parts-first (h .words) (h .finds))) (h .printed))
 
     lines-are : printed s ≡ answer-lines (lexicon (run-together (h .words)) (lengths-of (h .words))) (h .text) (h .finds)
     unfolding printed lexicon-on

@@ -1,16 +1,17 @@
 -- The statements of Promise and of Beyond, proved for every greatest length of a text. Assumes nothing.
 use mathlib.Core.Path.{_≡_, refl, sym, ap, _∙_}
-use mathlib.Core.Bool.{true}
+use mathlib.Core.Bool.{true, false}
 use mathlib.Core.List.{List}
 use Prim.Native.Nat.{ℕ, _≤_}
 use native.Mathlib.Omega.{arith}
 use lib.Dec.{ltb}
 use lib.ListN.{length}
 use Rattle.basics.specs.Order.{Ascend, ascend-once, ltb-strict}
+use Rattle.spec.specs.Replaced.{replaced, holds-full-width}
 use Rattle.spec.specs.Dictionary.{Lexicon, all-chars, lexicon}
 use Rattle.spec.specs.Numbers.{index-of}
 use Rattle.spec.specs.Index.{lines-in, readable}
-use Rattle.spec.specs.Reception.{recovered, received}
+use Rattle.spec.specs.Reception.{recovered, is-index, received}
 use Rattle.spec.specs.Search.{string-start, key-start, agrees-at, offset, find}
 use Rattle.spec.specs.First.{first-position}
 use Rattle.spec.specs.Cut.{cut-down}
@@ -18,6 +19,7 @@ use Rattle.spec.specs.Promise.{places, Query, Received-exactly, One-text, Searc
 use Rattle.spec.specs.Beyond.{Among, Accounts, Received-by-count, Only-readable, Text-of, Exactly-places, First-stands, Serves, Demand-three, Cut-any, Fewer-find-less, Bears-by-offset}
 use Rattle.laws.specs.Strings.{stands-get, stands-put}
 use Rattle.laws.specs.Facts.{Good-lexicon}
+use Rattle.laws.specs.Replacing.{plain-get, length-replaced}
 use Rattle.laws.specs.Chars.{all-chars-get, is-text-get, is-text-put}
 use Rattle.laws.specs.Lexicon.{admitted-lexicon}
 use Rattle.laws.specs.Flat.{posting, Fewer}
@@ -31,8 +33,8 @@ use Rattle.laws.specs.Bears.{bears-get, bears-put}
 use Rattle.laws.specs.CutSame.{covered-fewer, find-bearing}
 use Rattle.laws.specs.CutReadable.{n-of-cut, lines-in-cut, cut-readable}
 use Rattle.laws.specs.FirstPositions.{first-heads-find, first-stands}
-use Rattle.laws.specs.Criterion.{counted-index, index-taken, received-all, received-count}
-use Rattle.laws.specs.Received.{Received, received-get, readable-chars, readable-small, index-recovered, index-can-read, is-index-received, is-index-recovered, index-find, index-injective}
+use Rattle.laws.specs.Criterion.{counted-index, index-taken, is-index-all, is-index-count}
+use Rattle.laws.specs.Received.{Is-index, is-index-get, Received, received-get, received-put, received-reads, readable-chars, readable-small, index-recovered, index-can-read, is-index-received, is-index-recovered, index-find, index-injective}
 
 -- THE SECOND DEMAND
 
@@ -57,11 +59,13 @@ received-text :
     (g : ℕ) (lex : Lexicon) → Good-lexicon lex → (xs : List ℕ) → received g lex xs ≡ true → Text-of g lex xs (recovered lex xs)
 received-text g lex good xs r =
     let h : Received g lex xs = received-get g lex xs r in
+    let own : Is-index g lex xs = is-index-get g lex xs (h .is-own) in
     record {
       is-a-text =
-          is-text-put g (recovered lex xs) (readable-chars lex good g xs (h .can-read)) (readable-small lex good g xs (h .can-read));
+          is-text-put g (recovered lex xs) (readable-chars lex good g xs (own .can-read)) (readable-small lex good g xs (own .can-read))
+          (h .plain);
       length-is = length-recovered lex xs;
-      index-is = h .index-is;
+      index-is = own .index-is;
     }
 
 pub received-exactly : (g : ℕ) → Received-exactly g
@@ -72,7 +76,7 @@ received-exactly g cs ls xs a =
           let h = received-text g (lexicon cs ls) good xs r in
           (recovered (lexicon cs ls) xs, h .is-a-text, h .length-is, h .index-is),
       λ ts t long e.
-          let text = is-text-get g ts t in is-index-received (lexicon cs ls) good ts (text .0) g xs (text .1) e,
+          let text = is-text-get g ts t in is-index-received (lexicon cs ls) good ts (text .0) g xs (text .1) (text .2) e,
     )
 
 pub one-text : (g : ℕ) → One-text g
@@ -80,9 +84,13 @@ unfolding One-text
 one-text g cs ls ts us a t u e =
     index-injective (lexicon cs ls) (admitted-lexicon cs ls a) ts us (is-text-get g ts t .0) (is-text-get g us u .0) e
 
+replaced-some : (s : List ℕ) → 1 ≤ length s → 1 ≤ length (replaced s)
+replaced-some s some = omega (arith, length-replaced s)
+
 pub search-exact : (g : ℕ) → Search-exact g
 unfolding Search-exact
-search-exact g cs ls ts s a t q = index-find (lexicon cs ls) (admitted-lexicon cs ls a) ts (is-text-get g ts t .0) s (q .nonempty)
+search-exact g cs ls ts s a t q =
+    index-find (lexicon cs ls) (admitted-lexicon cs ls a) ts (is-text-get g ts t .0) (replaced s) (replaced-some s (q .nonempty))
 
 -- ANY READABLE INDEX
 
@@ -94,7 +102,7 @@ cut-any g lex xs s t =
 pub cut-same : (g : ℕ) → Cut-same g
 unfolding Cut-same Cut-any Recovers Search-exact
 cut-same g cs ls ts s a t q =
-    let cut = cut-any g (lexicon cs ls) (index-of (lexicon cs ls) ts) s (recovers g cs ls ts a t .0) in
+    let cut = cut-any g (lexicon cs ls) (index-of (lexicon cs ls) ts) (replaced s) (recovers g cs ls ts a t .0) in
     (cut .0, cut .1 ∙ search-exact g cs ls ts s a t q)
 
 pub fewer-find-less : Fewer-find-less
@@ -137,7 +145,7 @@ demand-three g cs ls xs a = (serves, has-text)
     has-text : (ts : List ℕ) → Text-of g lex xs ts → received g lex xs ≡ true
     has-text ts h =
         let text = is-text-get g ts (h .is-a-text) in
-        is-index-received lex good ts (text .0) g xs (text .1) (h .index-is)
+        is-index-received lex good ts (text .0) g xs (text .1) (text .2) (h .index-is)
 
     serves : received g lex xs ≡ true → Serves g lex xs (recovered lex xs)
     serves r =
@@ -145,29 +153,34 @@ demand-three g cs ls xs a = (serves, has-text)
           text = text;
           only-text = λ us h. sym (is-index-recovered lex good us (is-text-get g us (h .is-a-text) .0) xs (h .index-is));
           search-exact = exact;
-          cut-readable = λ s q. cut-any g lex xs s can .0;
+          cut-readable = λ s q. cut-any g lex xs (replaced s) can .0;
           cut-exact = cut-exact;
-          first-exact = λ s q. first-exact xs s (exact s q);
-          cut-first-exact = λ s q. first-exact (cut-down lex xs s) s (cut-exact s q);
+          first-exact = λ s q. first-exact xs (replaced s) (exact s q);
+          cut-first-exact = λ s q. first-exact (cut-down lex xs (replaced s)) (replaced s) (cut-exact s q);
         }
       where
         text : Text-of g lex xs (recovered lex xs)
         text = received-text g lex good xs r
 
         can : readable g lex xs ≡ true
-        can = received-get g lex xs r .can-read
+        can = received-reads g lex xs r
 
-        found : (s : List ℕ) → Query s → find lex xs s ≡ places s (recovered lex xs)
+        found : (s : List ℕ) → Query s → find lex xs (replaced s) ≡ places (replaced s) (recovered lex xs)
         found s q =
-            ap (λ (ys : List ℕ). find lex ys s) (sym (text .index-is))
-            ∙ index-find lex good (recovered lex xs) (is-text-get g (recovered lex xs) (text .is-a-text) .0) s (q .nonempty)
+            ap (λ (ys : List ℕ). find lex ys (replaced s)) (sym (text .index-is))
+            ∙ index-find lex good (recovered lex xs) (is-text-get g (recovered lex xs) (text .is-a-text) .0) (replaced s)
+            (replaced-some s (q .nonempty))
 
-        exact : (s : List ℕ) → Query s → Exactly-places s (recovered lex xs) (find lex xs s)
-        exact s q = exactly-places s (recovered lex xs) (find lex xs s) (q .nonempty) (found s q)
+        exact : (s : List ℕ) → Query s → Exactly-places (replaced s) (recovered lex xs) (find lex xs (replaced s))
+        exact s q =
+            exactly-places (replaced s) (recovered lex xs) (find lex xs (replaced s)) (replaced-some s (q .nonempty)) (found s q)
 
-        cut-exact : (s : List ℕ) → Query s → Exactly-places s (recovered lex xs) (find lex (cut-down lex xs s) s)
+        cut-exact :
+            (s : List ℕ) → Query s →
+            Exactly-places (replaced s) (recovered lex xs) (find lex (cut-down lex xs (replaced s)) (replaced s))
         cut-exact s q =
-            exactly-places s (recovered lex xs) (find lex (cut-down lex xs s) s) (q .nonempty) (cut-any g lex xs s can .1 ∙ found s q)
+            exactly-places (replaced s) (recovered lex xs) (find lex (cut-down lex xs (replaced s)) (replaced s))
+            (replaced-some s (q .nonempty)) (cut-any g lex xs (replaced s) can .1 ∙ found s q)
 
         first-exact :
             (ys s : List ℕ) → Exactly-places s (recovered lex xs) (find lex ys s) →
@@ -186,26 +199,35 @@ received-by-count g cs ls xs a can = (taken, accounts)
     good : Good-lexicon lex
     good = admitted-lexicon cs ls a
 
-    taken : (us : List ℕ) → all-chars us ≡ true → Accounts lex xs us → (received g lex xs ≡ true) × (recovered lex xs ≡ us)
-    taken us c h =
+    received-as :
+        (us : List ℕ) → holds-full-width us ≡ false → (is-index g lex xs ≡ true) × (recovered lex xs ≡ us) →
+        (received g lex xs ≡ true) × (recovered lex xs ≡ us)
+    received-as us plain (own, e) = (received-put g lex xs (record { is-own = own; plain = rw e (plain-get us plain) }), e)
+
+    taken :
+        (us : List ℕ) → all-chars us ≡ true → holds-full-width us ≡ false → Accounts lex xs us →
+        (received g lex xs ≡ true) × (recovered lex xs ≡ us)
+    taken us c plain h =
         let chars = all-chars-get us c in
-        index-taken lex good g xs can us chars (h .length-is)
+        received-as us plain
+        (index-taken lex good g xs can us chars (h .length-is)
         (counted-index lex good g xs can us chars (h .length-is)
         (λ e m.
         rw (entry-whole lex good us chars e m) at
         (under-get lex xs (e .key-of) (e .at) (h .each (e .key-of) (e .at) (e, m, refl, refl))))
-        (h .count))
+        (h .count)))
 
     accounts : received g lex xs ≡ true → Accounts lex xs (recovered lex xs)
     accounts r =
+        let own = received-get g lex xs r .is-own in
         let chars = readable-chars lex good g xs can in
         record {
           length-is = length-recovered lex xs;
           each =
               λ k p h.
               under-put lex xs k p
-              (received-all lex good g xs r (posting lex k p) (among-get lex good (recovered lex xs) chars k p h));
-          count = received-count lex good g xs r;
+              (is-index-all lex good g xs own (posting lex k p) (among-get lex good (recovered lex xs) chars k p h));
+          count = is-index-count lex good g xs own;
         }
 
 -- KEYS AND STRINGS

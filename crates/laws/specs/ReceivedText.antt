@@ -1,18 +1,18 @@
 -- The text that reception paints into its work slice, and the notes behind it: the test of both accepts exactly where the index is
 -- received, and the painting is then the recovered text. Assumes nothing.
-use mathlib.Core.Path.{_≡_, sym, _∙_}
-use mathlib.Core.Bool.{Bool, true}
-use mathlib.Core.List.{List, [], _++_}
+use mathlib.Core.Path.{_≡_, refl, sym, _∙_}
+use mathlib.Core.Bool.{Bool, true, false, not}
+use mathlib.Core.List.{List, []}
 use mathlib.Core.Logic.{⊎-elim}
-use Prim.Native.Nat.{ℕ, _*_, _-_, _≤_, _<_}
+use Prim.Native.Nat.{ℕ, _-_, _≤_, _<_}
 use native.Mathlib.Omega.{arith}
-use lib.ListN.{length, take, drop, replicate, length-drop, length-replicate, getD-replicate, List·getD-eq-default}
-use lib.Seq.{length-take-le, take-at, drop-at}
-use Rattle.basics.specs.Bools.{le-or-lt}
+use lib.ListN.{length, take, replicate, length-replicate, getD-replicate, List·getD-eq-default}
+use lib.Seq.{length-take-le}
+use Rattle.basics.specs.Bools.{clash, le-or-lt}
+use Rattle.spec.specs.Replaced.{holds-full-width}
 use Rattle.spec.specs.Dictionary.{longest-text, Lexicon, lexicon}
 use Rattle.spec.specs.Index.{n-of, lines-in, readable}
-use Rattle.spec.specs.Reception.{recovered, received}
-use Rattle.spec.specs.Calls.{zeros}
+use Rattle.spec.specs.Reception.{recovered, is-index, received}
 use Rattle.laws.specs.Facts.{Chars, Good-lexicon, flat}
 use Rattle.laws.specs.Chars.{chars-take}
 use Rattle.laws.specs.WordTable.{Room}
@@ -23,35 +23,12 @@ use Rattle.laws.specs.Noted.{Noted, accepts}
 use Rattle.laws.specs.Reception.{reception-exact, reception-recovers}
 use Rattle.laws.specs.Receiving.{delivery-refusal, delivered}
 
--- THE WORK SLICE IN PARTS
-
--- `ys` over the first n numbers
-pub front-put : (n : ℕ) (w ys zs : List ℕ) → length ys ≡ n → ys ≡ zs → take n (ys ++ drop n w) ≡ zs
-front-put n w ys zs long e = take-at ys (drop n w) n long ∙ e
-
--- and over the n after them
-module _ (n : ℕ) (w : List ℕ) (room : 2 * n ≤ length w) where
-  pub behind-long : length (take (2 * n - n) (drop n w)) ≡ n
-  behind-long =
-      length-take-le (2 * n - n) (drop n w) (omega (arith, length-drop n w)) ∙ omega arith
-
-  module _ (ys : List ℕ) (long : length ys ≡ n) where
-    front-long : length (take n w) ≡ n
-    front-long = length-take-le n w (omega arith)
-
-    pub behind-front : take n (take n w ++ (ys ++ drop (2 * n - n) (drop n w))) ≡ take n w
-    behind-front = take-at (take n w) (ys ++ drop (2 * n - n) (drop n w)) n front-long
-
-    pub behind-put : take n (drop n (take n w ++ (ys ++ drop (2 * n - n) (drop n w)))) ≡ ys
-    behind-put =
-        rw (drop-at (take n w) (ys ++ drop (2 * n - n) (drop n w)) n front-long) (take-at ys (drop (2 * n - n) (drop n w)) n long)
-
--- zeros of a slice of n numbers
-pub zeros-are : (n : ℕ) (xs : List ℕ) → length xs ≡ n → zeros xs ≡ replicate n 0
-unfolding zeros
-zeros-are n xs e = rw e
-
 -- THE TEXT
+
+-- whether an index is that of what it shows, and that at the front of the work slice where it is
+pub record Read-back (lex : Lexicon) (xs : List ℕ) (r : Bool) (work-now : List ℕ) : Type 0 where
+  pub exact : r ≡ is-index longest-text lex xs
+  pub text : r ≡ true → take (n-of xs) work-now ≡ recovered lex xs
 
 -- whether an index is received, and its text at the front of the work slice where it is
 pub record Tried (lex : Lexicon) (xs : List ℕ) (r : Bool) (work-now : List ℕ) : Type 0 where
@@ -100,10 +77,10 @@ module _ (cs ls xs w : List ℕ) (chars : Chars cs) (work : Chars w) (none : del
       (notes-noted (lexicon cs ls) good longest-text xs can (replicate (n-of xs) 0) notes-long
       (λ p lo. cleared-notes (n-of xs) p))
 
-  pub tried : (r : Bool) → r ≡ accepts (lexicon cs ls) (note-at ns) xs (take (n-of xs) v) → Tried (lexicon cs ls) xs r v
-  tried r e = record { exact = exact; text = λ t. painted ∙ recovers (sym exact ∙ t) }
+  pub read-back : (r : Bool) → r ≡ accepts (lexicon cs ls) (note-at ns) xs (take (n-of xs) v) → Read-back (lexicon cs ls) xs r v
+  read-back r e = record { exact = exact; text = λ t. painted ∙ recovers (sym exact ∙ t) }
     where
-      exact : r ≡ received longest-text (lexicon cs ls) xs
+      exact : r ≡ is-index longest-text (lexicon cs ls) xs
       exact =
           e
           ∙ rw (notes, painted)
@@ -111,8 +88,18 @@ module _ (cs ls xs w : List ℕ) (chars : Chars cs) (work : Chars w) (none : del
           (chars-take (n-of xs) w work) text-long notes-long (λ p lo. cleared-notes (n-of xs) p))
 
       recovers :
-          received longest-text (lexicon cs ls) xs ≡ true →
+          is-index longest-text (lexicon cs ls) xs ≡ true →
           paint (lexicon cs ls) (flat (lexicon cs ls) (lines-in xs)) (take (n-of xs) w) ≡ recovered (lexicon cs ls) xs
       recovers =
           reception-recovers (lexicon cs ls) good longest-text xs can (take (n-of xs) w) (replicate (n-of xs) 0)
           (chars-take (n-of xs) w work) text-long notes-long (λ p lo. cleared-notes (n-of xs) p)
+
+-- it is received where that holds no full-width form
+module _ (lex : Lexicon) (xs v : List ℕ) (shown : Bool) (h : Read-back lex xs shown v) where
+  pub not-tried : shown ≡ false → Tried lex xs false v
+  unfolding received
+  not-tried f = record { exact = rw (← h .exact, f) refl; text = λ t. clash t refl }
+
+  pub tried : shown ≡ true → (held : Bool) → held ≡ holds-full-width (take (n-of xs) v) → Tried lex xs (not held) v
+  unfolding received
+  tried t held e = record { exact = rw (← h .exact, t, ← h .text t, ← e) refl; text = λ u. h .text t }

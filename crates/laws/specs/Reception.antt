@@ -13,7 +13,7 @@ use Rattle.basics.specs.Stores.{set-either}
 use Rattle.spec.specs.Dictionary.{Lexicon}
 use Rattle.spec.specs.Words.{spells, Entry}
 use Rattle.spec.specs.Index.{n-of, lines-in, readable}
-use Rattle.spec.specs.Reception.{recovered, received}
+use Rattle.spec.specs.Reception.{recovered, is-index}
 use Rattle.laws.specs.Facts.{Chars, Good-lexicon, flat}
 use Rattle.laws.specs.Keys.{spells-chars}
 use Rattle.laws.specs.Readable.{readable-get}
@@ -72,11 +72,11 @@ module _ (lex : Lexicon) (good : Good-lexicon lex) (g : ℕ) (xs : List ℕ) (ca
   painting-long = length-paint lex (flat lex (lines-in xs)) us ∙ long
 
   pub reception-exact :
-      accepts lex (note-at (note-lines 0 (lines-in xs) ns)) xs (paint lex (flat lex (lines-in xs)) us) ≡ received g lex xs
+      accepts lex (note-at (note-lines 0 (lines-in xs) ns)) xs (paint lex (flat lex (lines-in xs)) us) ≡ is-index g lex xs
   unfolding painting notes
   reception-exact =
       accepts-exact lex good g xs can notes noted painting painting-chars painting-long
       (λ r. paint-recovered lex good g xs r (flat lex (lines-in xs)) us long (λ e m. m) (λ e m. m))
 
-  pub reception-recovers : received g lex xs ≡ true → paint lex (flat lex (lines-in xs)) us ≡ recovered lex xs
+  pub reception-recovers : is-index g lex xs ≡ true → paint lex (flat lex (lines-in xs)) us ≡ recovered lex xs
   reception-recovers r = paint-recovered lex good g xs r (flat lex (lines-in xs)) us long (λ e m. m) (λ e m. m)

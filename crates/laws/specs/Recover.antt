@@ -12,12 +12,14 @@ use lib.Seq.{ext-getD}
 use borrow.Author.Tests.{le-leb, leb-true, lt-ltb, ltb-true}
 use Rattle.basics.specs.Bools.{and-put, and-left, and-right}
 use Rattle.basics.specs.Member.{In, in-append-right}
+use Rattle.spec.specs.Replaced.{is-full-width}
 use Rattle.spec.specs.Dictionary.{Lexicon}
 use Rattle.spec.specs.Words.{spells, Entry}
 use Rattle.spec.specs.Numbers.{Line}
 use Rattle.spec.specs.Index.{n-of, lines-in}
 use Rattle.spec.specs.Reception.{lies-on, shown-by, or-shown, shown, char-or, recovered-from, recovered}
-use Rattle.laws.specs.Facts.{Chars, entries-at, flat, Shows}
+use Rattle.laws.specs.Facts.{Chars, Plain, entries-at, flat, Shows}
+use Rattle.laws.specs.Replacing.{below-form}
 use Rattle.laws.specs.Flat.{posting, flat-get, flat-put}
 
 pub lies-on-get : (a l p : ℕ) → lies-on a l p ≡ true → (a ≤ p) × (p < a + l)
@@ -130,6 +132,10 @@ shown-put lex ls p e m lo hi =
 
 -- THE RECOVERED TEXT
 
+-- a property of every number of a list, as `Chars` and `Plain` are
+abbrev Each : (P : ℕ → Type 0) → List ℕ → Type 0
+Each P xs = (i : ℕ) → i < length xs → P (getD xs i 0)
+
 pub length-recovered-from : (n p : ℕ) (lex : Lexicon) (ls : List Line) → length (recovered-from n p lex ls) ≡ n
 unfolding recovered-from
 length-recovered-from zero p lex ls = refl
@@ -148,28 +154,37 @@ getD-recovered-from (suc n) p lex ls zero h = let z : p + 0 ≡ p = omega arith 
 getD-recovered-from (suc n) p lex ls (suc i) h =
     let z : p + suc i ≡ suc p + i = omega arith in rw z (getD-recovered-from n (suc p) lex ls i (omega arith))
 
--- each shown character is one of a key's string
-pub recovered-chars :
-    (n p : ℕ) (lex : Lexicon) (ls : List Line) → ((l : Line) → In l ls → Chars (spells lex (l .key-of))) →
-    Chars (recovered-from n p lex ls)
-unfolding char-or
-recovered-chars n p lex ls chars i h =
-    let below : i < n = omega (arith, length-recovered-from n p lex ls) in
-    rw (getD-recovered-from n p lex ls i below) (of-shown (shown lex ls (p + i)) refl)
-  where
-    of-shown : (o : Option ℕ) → shown lex ls (p + i) ≡ o → char-or o < 65536
-    of-shown none t = omega arith
-    of-shown (some c) t =
-        let e = shown-get lex ls (p + i) c t in
-        let line = flat-get lex ls (e .0) (e .1 .among) in
-        let key : e .0 .key-of ≡ line .0 .key-of = ap (λ (f : Entry). f .key-of) (line .3) in
-        let at : (p + i) - e .0 .at < length (spells lex (e .0 .key-of)) = omega (arith, e .1 .from, e .1 .to) in
-        rw (e .1 .char) (rw key (chars (line .0) (line .1) ((p + i) - e .0 .at) (rw key at at)))
+-- what holds of 0 and of each character of a key's string holds of each recovered character: it is one of them, or 0 where nothing is shown
+module _ (P : ℕ → Type 0) (zero-too : P 0) where
+  recovered-from-each :
+      (n p : ℕ) (lex : Lexicon) (ls : List Line) → ((l : Line) → In l ls → Each P (spells lex (l .key-of))) →
+      Each P (recovered-from n p lex ls)
+  unfolding char-or
+  recovered-from-each n p lex ls each i h =
+      let below : i < n = omega (arith, length-recovered-from n p lex ls) in
+      rw (getD-recovered-from n p lex ls i below) (of-shown (shown lex ls (p + i)) refl)
+    where
+      of-shown : (o : Option ℕ) → shown lex ls (p + i) ≡ o → P (char-or o)
+      of-shown none t = zero-too
+      of-shown (some c) t =
+          let e = shown-get lex ls (p + i) c t in
+          let line = flat-get lex ls (e .0) (e .1 .among) in
+          let key : e .0 .key-of ≡ line .0 .key-of = ap (λ (f : Entry). f .key-of) (line .3) in
+          let at : (p + i) - e .0 .at < length (spells lex (e .0 .key-of)) = omega (arith, e .1 .from, e .1 .to) in
+          rw (e .1 .char) (rw key (each (line .0) (line .1) ((p + i) - e .0 .at) (rw key at at)))
+
+  pub recovered-each :
+      (lex : Lexicon) (xs : List ℕ) → ((l : Line) → In l (lines-in xs) → Each P (spells lex (l .key-of))) → Each P (recovered lex xs)
+  unfolding recovered
+  recovered-each lex xs = recovered-from-each (n-of xs) 1 lex (lines-in xs)
 
 pub recovered-is-chars :
     (lex : Lexicon) (xs : List ℕ) → ((l : Line) → In l (lines-in xs) → Chars (spells lex (l .key-of))) → Chars (recovered lex xs)
-unfolding recovered
-recovered-is-chars lex xs = recovered-chars (n-of xs) 1 lex (lines-in xs)
+recovered-is-chars = recovered-each (λ (c : ℕ). c < 65536) (omega arith)
+
+pub recovered-is-plain :
+    (lex : Lexicon) (xs : List ℕ) → ((l : Line) → In l (lines-in xs) → Plain (spells lex (l .key-of))) → Plain (recovered lex xs)
+recovered-is-plain = recovered-each (λ (c : ℕ). is-full-width c ≡ false) (below-form 0 (omega arith))
 
 -- what the first entry over p shows is the text's character
 pub shown-text :

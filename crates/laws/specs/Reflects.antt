@@ -3,18 +3,20 @@ use mathlib.Core.Path.{_≡_, refl, subst}
 use mathlib.Core.Bool.{Bool, true, false, _&&_, _||_, not}
 use mathlib.Core.Logic.{_⊎_, inl, inr, ⊎-elim}
 use mathlib.Core.List.{List, [], _∷_}
-use Prim.Native.Nat.{ℕ, _*_, _<_}
+use Prim.Native.Nat.{ℕ, _*_, _≤_, _<_}
 use native.Mathlib.Omega.{arith}
 use lib.Dec.{ltb, leb, eqb}
 use lib.ListN.{length}
 use borrow.Author.Tests.{ltb-true, ltb-false, leb-true, leb-false, eqb-true, eqb-false, not-false}
 use Rattle.basics.specs.Bools.{Reflects, clash, false-put, not-get}
 use Rattle.basics.specs.Member.{In}
-use Rattle.spec.specs.Dictionary.{longest-text, Lexicon, total, words-from, too-large, length-good, lengths-good, lengths-wrong, ascend, disordered}
+use Rattle.spec.specs.Replaced.{first-form, last-form, is-full-width, holds-full-width}
+use Rattle.spec.specs.Dictionary.{longest-text, Lexicon, total, words-from, too-large, length-good, lengths-good, lengths-wrong, ascend, disordered, some-full-width, unreplaced}
 use Rattle.spec.specs.Index.{readable}
 use Rattle.spec.specs.Calls.{text-too-long, unreadable, string-wrong, work-short, output-short}
 use Rattle.spec.specs.JobSheet.{some-string-wrong}
-use Rattle.spec.specs.RefusalTable.{Too-large, Lengths-wrong, Disordered, Text-too-long, Unreadable, String-wrong, Work-short, Output-short}
+use Rattle.spec.specs.RefusalTable.{Too-large, Lengths-wrong, Disordered, Unreplaced, Text-too-long, Unreadable, String-wrong, Work-short, Output-short}
+use Rattle.laws.specs.Replacing.{form-get, form-put}
 
 -- TESTS AND FACTS
 
@@ -98,6 +100,32 @@ reflects-lengths (l ∷ ls) =
     reflects-some Wrong l ls _
     (reflects-nand (length-good l) (lengths-good ls) (Wrong l) ((k : ℕ) × In k ls × Wrong k) (reflects-length l) (reflects-lengths ls))
 
+-- a word that holds a full-width form
+
+abbrev Form : ℕ → Type 0
+Form c = (first-form ≤ c) × (c ≤ last-form)
+
+reflects-form : (c : ℕ) → Reflects (is-full-width c) (Form c)
+reflects-form c = record { holds = form-get c; fails = λ f h. clash (form-put c (h .0) (h .1)) f }
+
+abbrev Holds-form : List ℕ → Type 0
+Holds-form w = (c : ℕ) × In c w × Form c
+
+reflects-forms : (cs : List ℕ) → Reflects (holds-full-width cs) (Holds-form cs)
+unfolding holds-full-width
+reflects-forms [] = record { holds = λ t. clash t refl; fails = λ f h. h .1 }
+reflects-forms (c ∷ cs) =
+    reflects-some Form c cs _
+    (reflects-or (is-full-width c) (holds-full-width cs) (Form c) (Holds-form cs) (reflects-form c) (reflects-forms cs))
+
+reflects-words : (ws : List (List ℕ)) → Reflects (some-full-width ws) ((w : List ℕ) × In w ws × Holds-form w)
+unfolding some-full-width
+reflects-words [] = record { holds = λ t. clash t refl; fails = λ f h. h .1 }
+reflects-words (w ∷ ws) =
+    reflects-some (λ (v : List ℕ). Holds-form v) w ws _
+    (reflects-or (holds-full-width w) (some-full-width ws) (Holds-form w) ((v : List ℕ) × In v ws × Holds-form v) (reflects-forms w)
+    (reflects-words ws))
+
 -- the lines of the table
 
 module _ (cs ls : List ℕ) where
@@ -116,6 +144,10 @@ module _ (cs ls : List ℕ) where
   pub reflects-disordered : Reflects (disordered cs ls) (Disordered cs ls)
   unfolding disordered
   reflects-disordered = reflects-false (ascend (words-from ls cs))
+
+  pub reflects-unreplaced : Reflects (unreplaced cs ls) (Unreplaced cs ls)
+  unfolding unreplaced
+  reflects-unreplaced = reflects-words (words-from ls cs)
 
 pub reflects-text : (ts : List ℕ) → Reflects (text-too-long ts) (Text-too-long ts)
 unfolding text-too-long

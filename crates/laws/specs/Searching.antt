@@ -5,6 +5,7 @@ use Prim.Native.Nat.{ℕ, zero, suc, _-_, _≤_, _<_}
 use native.Mathlib.Omega.{arith}
 use lib.ListN.{length, take, replicate, length-replicate}
 use Rattle.spec.specs.declared.Answer.{Answer}
+use Rattle.spec.specs.Replaced.{replaced}
 use Rattle.spec.specs.Dictionary.{Lexicon, lexicon}
 use Rattle.spec.specs.Index.{n-of, lines-in}
 use Rattle.spec.specs.Search.{found-from, find}
@@ -97,20 +98,20 @@ module _ (cs ls xs s : List ℕ) (r : Answer) (o : List ℕ) where
   pub search-refused :
       (index-refusal cs ls xs ≡ 0 → ⊥) → r .refusal ≡ index-refusal cs ls xs → r .count ≡ 0 → Search-says cs ls xs s r o o
   unfolding Search-says
-  search-refused = finds-refused cs ls xs s (find (lexicon cs ls) xs s) r o
+  search-refused = finds-refused cs ls xs s (find (lexicon cs ls) xs (replaced s)) r o
 
   pub search-empty : index-refusal cs ls xs ≡ 0 → length s ≡ 0 → r .refusal ≡ 6 → r .count ≡ 0 → Search-says cs ls xs s r o o
   unfolding Search-says
-  search-empty = finds-empty cs ls xs s (find (lexicon cs ls) xs s) r o
+  search-empty = finds-empty cs ls xs s (find (lexicon cs ls) xs (replaced s)) r o
 
   pub search-long : index-refusal cs ls xs ≡ 0 → 256 < length s → r .refusal ≡ 6 → r .count ≡ 0 → Search-says cs ls xs s r o o
   unfolding Search-says
-  search-long = finds-long cs ls xs s (find (lexicon cs ls) xs s) r o
+  search-long = finds-long cs ls xs s (find (lexicon cs ls) xs (replaced s)) r o
 
   pub search-says :
-      index-refusal cs ls xs ≡ 0 → Is-string s → (z : List ℕ) → Sized (find (lexicon cs ls) xs s) r o z → Search-says cs ls xs s r o z
+      index-refusal cs ls xs ≡ 0 → Is-string s → (z : List ℕ) → Sized (find (lexicon cs ls) xs (replaced s)) r o z → Search-says cs ls xs s r o z
   unfolding Search-says
-  search-says = finds-sized cs ls xs s (find (lexicon cs ls) xs s) r o
+  search-says = finds-sized cs ls xs s (find (lexicon cs ls) xs (replaced s)) r o
 
 -- THE CUT-DOWN INDEX
 
@@ -118,17 +119,17 @@ module _ (cs ls xs s : List ℕ) (r : Answer) (o : List ℕ) where
   pub cut-refused :
       (index-refusal cs ls xs ≡ 0 → ⊥) → r .refusal ≡ index-refusal cs ls xs → r .count ≡ 0 → Cut-says cs ls xs s r o o
   unfolding Cut-says
-  cut-refused = finds-refused cs ls xs s (cut-down (lexicon cs ls) xs s) r o
+  cut-refused = finds-refused cs ls xs s (cut-down (lexicon cs ls) xs (replaced s)) r o
 
   pub cut-empty : index-refusal cs ls xs ≡ 0 → length s ≡ 0 → r .refusal ≡ 6 → r .count ≡ 0 → Cut-says cs ls xs s r o o
   unfolding Cut-says
-  cut-empty = finds-empty cs ls xs s (cut-down (lexicon cs ls) xs s) r o
+  cut-empty = finds-empty cs ls xs s (cut-down (lexicon cs ls) xs (replaced s)) r o
 
   pub cut-too-long : index-refusal cs ls xs ≡ 0 → 256 < length s → r .refusal ≡ 6 → r .count ≡ 0 → Cut-says cs ls xs s r o o
   unfolding Cut-says
-  cut-too-long = finds-long cs ls xs s (cut-down (lexicon cs ls) xs s) r o
+  cut-too-long = finds-long cs ls xs s (cut-down (lexicon cs ls) xs (replaced s)) r o
 
   pub cut-says :
-      index-refusal cs ls xs ≡ 0 → Is-string s → (z : List ℕ) → Sized (cut-down (lexicon cs ls) xs s) r o z → Cut-says cs ls xs s r o z
+      index-refusal cs ls xs ≡ 0 → Is-string s → (z : List ℕ) → Sized (cut-down (lexicon cs ls) xs (replaced s)) r o z → Cut-says cs ls xs s r o z
   unfolding Cut-says
-  cut-says = finds-sized cs ls xs s (cut-down (lexicon cs ls) xs s) r o
+  cut-says = finds-sized cs ls xs s (cut-down (lexicon cs ls) xs (replaced s)) r o

@@ -1,21 +1,31 @@
 -- Results that are sized before they are written, and the refusals of the operations on an index and a string. Assumes nothing.
-use mathlib.Core.Path.{_≡_, refl, sym, _∙_}
+use mathlib.Core.Path.{_≡_, refl, sym, ap, _∙_}
 use mathlib.Core.Bool.{true, false, cond, _||_}
 use mathlib.Core.List.{List}
 use Prim.Native.Nat.{ℕ, _≤_, _<_}
 use native.Mathlib.Omega.{arith}
 use lib.Dec.{ltb, eqb}
-use lib.ListN.{length}
+use lib.ListN.{length, take}
 use borrow.Author.Tests.{lt-ltb, le-ltb, eq-eqb, ne-eqb}
 use Rattle.basics.specs.Bools.{or-left, or-right, or-none}
 use Rattle.spec.specs.declared.Answer.{Answer}
+use Rattle.spec.specs.Replaced.{replaced}
 use Rattle.spec.specs.Calls.{string-wrong, output-short, or-else, index-refusal, string-refusal, find-refusal, in-front, Puts}
+use Rattle.laws.specs.Replacing.{length-replaced}
 use Rattle.laws.specs.Answering.{accepted-yes, accepted-no, answers-accepted, answers-refused}
 
 -- a string that may be searched for
 pub record Is-string (s : List ℕ) : Type 0 where
   pub some : 1 ≤ length s
   pub short : length s ≤ 256
+
+-- the replaced string, at the front of an array of the callee's own
+module _ (s own : List ℕ) (is : take (length s) own ≡ replaced s) where
+  pub own-long : length s ≡ length (take (length s) own)
+  own-long = sym (ap length is ∙ length-replaced s)
+
+  pub own-string : Is-string s → Is-string (take (length s) own)
+  own-string string = record { some = omega (arith, own-long, string .some); short = omega (arith, own-long, string .short) }
 
 -- 8 where the output is too short for the result, else the result in front of it
 unfoldable pub Sized : (result : List ℕ) → Answer → (out out-now : List ℕ) → Type 0

@@ -1,6 +1,7 @@
 // The face of the library: every public operation once, for C and Rust to link. No operation has a `requires`, and each contract
 // fixes the answer and the final content of every slice lent to be written, for refused input too. A slice lent to be read
-// stays as it was by its type. What is lent as characters holds characters, by its type too: building, reception and recovery say so
+// stays as it was by its type. A refusal is the number of the first line that is met, in the order given. Texts and search strings are
+// replaced first: each full-width form, FF01 to FF5E, by the character FEE0 lower. What is lent as characters holds characters, by its type too: building, reception and recovery say so
 // in a clause of their own, since the demands (`spec/specs/Demands.antt`) ask for it.
 ghost use mathlib.Core.Path.{_≡_};
 ghost use mathlib.Core.Bool.{true};
@@ -10,7 +11,7 @@ use spec::Answer;
 use spec::FirstAnswer;
 use spec::TallyAnswer;
 
-// Admits a dictionary, lent as all characters run together and a list of lengths. Refusals 1, 2, 3; accepted it answers the number
+// Admits a dictionary, lent as all characters run together and a list of lengths. Refusals 1, 2, 3, 12; accepted it answers the number
 // of words.
 #[no_mangle]
 pub extern "C" fn mopekihua_admit(chars: &[u16], lengths: &[u16]) -> Answer
@@ -19,8 +20,8 @@ pub extern "C" fn mopekihua_admit(chars: &[u16], lengths: &[u16]) -> Answer
     dictionary::admission::admit(chars, lengths)
 }
 
-// Builds the index of a text. Refusals 1, 2, 3, 4, 7, 8, which leave the output as it was; accepted it answers the count of numbers
-// written to the front of the output. The work slice is all zeros after every call.
+// Builds the index of a text, replaced. Refusals 1, 2, 3, 12, 4, 7, 8, which leave the output as it was; accepted it answers the count of
+// numbers written to the front of the output. The work slice is all zeros after every call.
 #[no_mangle]
 pub extern "C" fn mopekihua_build(
     chars: &[u16],
@@ -35,8 +36,8 @@ pub extern "C" fn mopekihua_build(
     builder::build::build(chars, lengths, text, output, work)
 }
 
-// Receives an index: whether some text of its stated length has it. Refusals 1, 2, 3, 5, 7, 9; accepted it answers that length. The
-// work slice is all zeros after every call.
+// Receives an index: whether some replaced text of its stated length has it. Refusals 1, 2, 3, 12, 5, 7, 9; accepted it answers that
+// length. The work slice is all zeros after every call.
 #[no_mangle]
 pub extern "C" fn mopekihua_receive<'a>(
     chars: &'a [u16],
@@ -50,8 +51,8 @@ pub extern "C" fn mopekihua_receive<'a>(
     receiver::receive::receive(chars, lengths, index, work)
 }
 
-// Recovers the text of an index. Refusals 1, 2, 3, 5, 7, 9, then 8, which leave the output as it was; accepted it answers how many
-// characters are written to the front of the output. The work slice is all zeros after every call.
+// Recovers the replaced text of an index. Refusals 1, 2, 3, 12, 5, 7, 9, 8, which leave the output as it was; accepted it answers how
+// many characters are written to the front of the output. The work slice is all zeros after every call.
 #[no_mangle]
 pub extern "C" fn mopekihua_recover<'a>(
     chars: &'a [u16],
@@ -66,8 +67,8 @@ pub extern "C" fn mopekihua_recover<'a>(
     receiver::recover::recover(chars, lengths, index, output, work)
 }
 
-// Finds a string in an index, received or not, without the text. Refusals 1, 2, 3, 5, 6, 8, which leave the output as it was;
-// accepted it answers how many positions are written to the front of the output, ascending, each once.
+// Finds a string, replaced, in an index, received or not, without the text. Refusals 1, 2, 3, 12, 5, 6, 8, which leave the output as it
+// was; accepted it answers how many positions are written to the front of the output, ascending, each once.
 #[no_mangle]
 pub extern "C" fn mopekihua_search<'a>(
     chars: &'a [u16],
@@ -81,8 +82,8 @@ pub extern "C" fn mopekihua_search<'a>(
     searcher::search::search_index(chars, lengths, index, string, output)
 }
 
-// The first position that a search for a string finds in an index, received or not; 0 where it finds none. Refusals 1, 2, 3, 5, 6. No
-// slice is written, so 8 cannot occur.
+// The first position that a search for a string finds in an index, received or not; 0 where it finds none. Refusals 1, 2, 3, 12, 5, 6.
+// No slice is written, so 8 cannot occur.
 #[no_mangle]
 pub extern "C" fn mopekihua_first<'a>(
     chars: &'a [u16],
@@ -95,8 +96,8 @@ pub extern "C" fn mopekihua_first<'a>(
     searcher::first::first_index(chars, lengths, index, string)
 }
 
-// Cuts an index down to the keys that bear on a string. Refusals 1, 2, 3, 5, 6, 8, which leave the output as it was; accepted it answers
-// the count of numbers written to the front of the output.
+// Cuts an index down to the keys that bear on a string, replaced. Refusals 1, 2, 3, 12, 5, 6, 8, which leave the output as it was;
+// accepted it answers the count of numbers written to the front of the output.
 #[no_mangle]
 pub extern "C" fn mopekihua_cut<'a>(
     chars: &'a [u16],
@@ -110,7 +111,7 @@ pub extern "C" fn mopekihua_cut<'a>(
     cutter::cut::cut_index(chars, lengths, index, string, output)
 }
 
-// Tallies an index by word length. Refusals 1, 2, 3, 5, with 32 zeros; accepted it answers the number of entries, and under l - 1
+// Tallies an index by word length. Refusals 1, 2, 3, 12, 5, with 32 zeros; accepted it answers the number of entries, and under l - 1
 // how many of them have length l.
 #[no_mangle]
 pub extern "C" fn mopekihua_tally<'a>(

@@ -53,7 +53,7 @@ fn with_bounds<'a>(index: &'a [u16], bounds: Bounds) -> Opened<'a>
     }
 }
 
-// Opens an index: tests it, and answers the record that refers to its numbers. Refusals 1, 2, 3, 5.
+// Opens an index: tests it, and answers the record that refers to its numbers. Refusals 1, 2, 3, 12, 5.
 pub fn open_index<'a>(chars: &'a [u16], lengths: &'a [u16], index: &'a [u16]) -> Opened<'a>
     ensures { λ r. ⌜ (r .numbers ≡ index .entry) × Bounded (now (chars .entry)) (now (lengths .entry)) (now (index .entry)) (r .refusal) (r .keys) (r .first) ⌝ }
 {

@@ -1,4 +1,4 @@
-// Readability of a delivered index, and the refusals 1, 2, 3 and 5.
+// Readability of a delivered index, and the refusals 1, 2, 3, 12 and 5.
 //
 // One walk over the directory, with the positions of each line as it is reached: the lines of words first, then those of lone
 // characters. Whether a lone character is a word is told by a walk over the words beside the lines, since both ascend. Sums are
@@ -189,7 +189,7 @@ fn readable(chars: &[u16], lengths: &[u16], index: &[u16]) -> bool
     lines_good(chars, lengths, index)
 }
 
-// The number of the first line of 1, 2, 3 and 5 that dictionary and index meet, or 0.
+// The number of the first line of 1, 2, 3, 12 and 5 that dictionary and index meet, or 0.
 pub fn refusal_of(chars: &[u16], lengths: &[u16], index: &[u16]) -> u32
     ensures { λ r. ⌜ r ≡ index-refusal (now (chars .entry)) (now (lengths .entry)) (now (index .entry)) ⌝ }
 {

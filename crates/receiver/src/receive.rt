@@ -59,7 +59,7 @@ fn receive_opened<'a>(
     }
 }
 
-// Receives an index: refusals 1, 2, 3, 5, 7, 9; accepted it answers the length of the text.
+// Receives an index: refusals 1, 2, 3, 12, 5, 7, 9; accepted it answers the length of the text.
 pub fn receive<'a>(
     chars: &'a [u16],
     lengths: &'a [u16],

@@ -64,7 +64,7 @@ fn recover_opened<'a>(
     give_text(index[0] as usize, output, work)
 }
 
-// Recovers the text of an index: refusals 1, 2, 3, 5, 7, 9, then 8; accepted it answers the length of the text.
+// Recovers the text of an index: refusals 1, 2, 3, 12, 5, 7, 9, 8; accepted it answers the length of the text.
 pub fn recover<'a>(
     chars: &'a [u16],
     lengths: &'a [u16],

@@ -1,7 +1,7 @@
-// The text of a delivered index: painted from its entries, and tested by the builder's scan.
+// The text of a delivered index: painted from its entries, tested by the builder's scan, and looked through for full-width forms.
 //
 // Of the work slice the first n numbers take the text and the next n the notes, 2n of the 8n that a caller lends. Whatever was
-// painted, the test accepts exactly if the index is received, and what was painted is then the recovered text. The cost is linear
+// painted, the test accepts exactly if the index is that of what its entries show, and that is what was painted. The cost is linear
 // in the index and the text.
 ghost use mathlib.Core.Path.{_≡_};
 ghost use mathlib.Core.Bool.{true};
@@ -19,8 +19,9 @@ ghost use Rattle.laws.specs.Noting.{note-at, note-lines};
 ghost use Rattle.laws.specs.Noted.{Noted, accepts};
 ghost use Rattle.laws.specs.NoteWalk.{Can-note};
 ghost use Rattle.laws.specs.Receiving.{delivery-refusal};
-ghost use Rattle.laws.specs.ReceivedText.{Tried};
+ghost use Rattle.laws.specs.ReceivedText.{Read-back, Tried};
 use accepting::noted::accepts;
+use folding::forms::holds_full_width;
 use matching::table::hang_words;
 use painting::noting::note_lines;
 use painting::painting::paint_entries;
@@ -87,7 +88,27 @@ fn test_parts(
     )
 }
 
-// Whether the index is received, with a match table. Where it is, the text is left at the front of the work slice.
+// Whether the index is that of what its entries show, with a match table. Where it is, that is left at the front of the work slice.
+fn shown_by(
+    chars: &[u16],
+    lengths: &[u16],
+    heads: &[u16],
+    links: &[u16],
+    starts: &[u16],
+    index: &[u16],
+    work: &mut [u16],
+) -> bool
+    requires { ⌜ delivery-refusal (now chars) (now lengths) (now index) (length (now work)) ≡ 0 ⌝ }
+    requires { ⌜ Tables (now chars) (now lengths) (now heads) (now links) (now starts) ⌝ }
+    ensures { λ r. ⌜ Read-back (lexicon (now (chars .entry)) (now (lengths .entry))) (now (index .entry)) r (now (work .exit)) ⌝ }
+{
+    let n = index[0] as usize;
+    paint_front(chars, lengths, starts, index, n, work);
+    note_behind(index, n, work);
+    test_parts(chars, lengths, heads, links, starts, index, n, work)
+}
+
+// Whether the index is received: what it shows is a text, so it holds no full-width form.
 fn text_by(
     chars: &[u16],
     lengths: &[u16],
@@ -101,10 +122,11 @@ fn text_by(
     requires { ⌜ Tables (now chars) (now lengths) (now heads) (now links) (now starts) ⌝ }
     ensures { λ r. ⌜ Tried (lexicon (now (chars .entry)) (now (lengths .entry))) (now (index .entry)) r (now (work .exit)) ⌝ }
 {
+    if !shown_by(chars, lengths, heads, links, starts, index, work) {
+        return false;
+    }
     let n = index[0] as usize;
-    paint_front(chars, lengths, starts, index, n, work);
-    note_behind(index, n, work);
-    test_parts(chars, lengths, heads, links, starts, index, n, work)
+    !holds_full_width(&work[..n])
 }
 
 // The same with room for a match table.

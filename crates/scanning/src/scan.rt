@@ -4,7 +4,7 @@
 // What is registered is left as one number a place: 0 nothing, a word's number plus 1, or 4,097 for the lone character. The cost is
 // that of the longest word at each place.
 ghost use mathlib.Core.Path.{_≡_};
-ghost use Prim.Native.Nat.{_+_, _≤_, _<_};
+ghost use Prim.Native.Nat.{_+_, _*_, _≤_, _<_};
 ghost use lib.ListN.{length, take, drop};
 ghost use Rattle.spec.specs.Dictionary.{lexicon};
 ghost use Rattle.laws.specs.WordTable.{Tables};
@@ -49,24 +49,34 @@ pub fn step(
     }
 }
 
-// Writes the marks of the text to the front of the work slice.
+// Writes the marks of a text of `n` characters to the front of the work slice. The text stands in the `n` numbers after them.
 pub fn scan(
     chars: &[u16],
     lengths: &[u16],
     heads: &[u16],
     links: &[u16],
     starts: &[u16],
-    text: &[u16],
+    n: usize,
     work: &mut [u16],
 )
-    requires { ⌜ Tables (now chars) (now lengths) (now heads) (now links) (now starts) × (length (now text) ≤ length (now work)) ⌝ }
-    ensures marks { λ r. ⌜ Marks (lexicon (now (chars .entry)) (now (lengths .entry))) (now (text .entry)) (take (length (now (text .entry))) (now (work .exit))) ⌝ }
-    ensures rest { λ r. ⌜ drop (length (now (text .entry))) (now (work .exit)) ≡ drop (length (now (text .entry))) (now (work .entry)) ⌝ }
+    requires { ⌜ Tables (now chars) (now lengths) (now heads) (now links) (now starts) × (2 * n ≤ length (now work)) ⌝ }
+    ensures marks { λ r. ⌜ Marks (lexicon (now (chars .entry)) (now (lengths .entry))) (take n (drop n (now (work .entry)))) (take n (now (work .exit))) ⌝ }
+    ensures rest { λ r. ⌜ drop n (now (work .exit)) ≡ drop n (now (work .entry)) ⌝ }
 {
+    let behind = 2 * n;
     let mut end = 0;
     let mut at = 0;
-    while at < text.len() {
-        let next = step(chars, lengths, heads, links, starts, text, at, end);
+    while at < n {
+        let next = step(
+            chars,
+            lengths,
+            heads,
+            links,
+            starts,
+            &work[n..behind],
+            at,
+            end,
+        );
         work[at] = next.mark;
         end = next.end;
         at += 1;

@@ -2,6 +2,7 @@
 ghost use mathlib.Core.Path.{_≡_};
 ghost use Prim.Native.Nat.{_≤_};
 ghost use lib.ListN.{length};
+ghost use Rattle.spec.specs.Replaced.{replaced};
 ghost use Rattle.spec.specs.Dictionary.{lexicon};
 ghost use Rattle.spec.specs.Index.{keys-of};
 ghost use Rattle.spec.specs.First.{first-position};
@@ -12,11 +13,13 @@ use crate::first_starts::first_of_starts;
 use crate::search::starts_of;
 use directory::tables::fill_lists;
 use directory::tables::fill_words;
+use folding::forms::replaced_string;
 use opening::opened::open_index;
 use spec::FirstAnswer;
 
-// The first found position in a readable index, with its tables of starts lent: 0 where there is none.
-fn first_tabled<'a>(
+// The first found position in a readable index, with its tables of starts lent, of a string that is searched for as it stands: 0 where
+// there is none.
+fn first_plain<'a>(
     chars: &'a [u16],
     lengths: &[u16],
     index: &'a [u16],
@@ -31,6 +34,23 @@ fn first_tabled<'a>(
     first_of_starts(chars, lengths, index, words, lists, string, starts)
 }
 
+// The same for a string as it is lent, which is replaced first.
+fn first_tabled<'a>(
+    chars: &'a [u16],
+    lengths: &[u16],
+    index: &'a [u16],
+    words: &[u16],
+    lists: &[u32],
+    string: &[u16],
+) -> usize
+    requires { ⌜ Opened (now chars) (now lengths) (now index) (now words) (now lists) × Is-string (now string) ⌝ }
+    ensures { λ r. ⌜ r ≡ first-position (lexicon (now (chars .entry)) (now (lengths .entry))) (now (index .entry)) (replaced (now (string .entry))) ⌝ }
+{
+    let long = string.len();
+    let own = replaced_string(string);
+    first_plain(chars, lengths, index, words, lists, &own[..long])
+}
+
 // The same with the tables filled first, one of them lent.
 fn first_filled<'a>(
     chars: &'a [u16],
@@ -41,7 +61,7 @@ fn first_filled<'a>(
     lists: &mut [u32],
 ) -> usize
     requires { ⌜ Can-read (now chars) (now lengths) (now index) × (keys ≡ keys-of (now index)) × Is-string (now string) × (keys ≤ length (now lists)) ⌝ }
-    ensures { λ r. ⌜ r ≡ first-position (lexicon (now (chars .entry)) (now (lengths .entry))) (now (index .entry)) (now (string .entry)) ⌝ }
+    ensures { λ r. ⌜ r ≡ first-position (lexicon (now (chars .entry)) (now (lengths .entry))) (now (index .entry)) (replaced (now (string .entry))) ⌝ }
 {
     let mut words = [0u16; 4096];
     fill_words(lengths, &mut words);
@@ -58,7 +78,7 @@ fn first_few_lines<'a>(
     string: &[u16],
 ) -> usize
     requires { ⌜ Can-read (now chars) (now lengths) (now index) × (keys ≡ keys-of (now index)) × Is-string (now string) × (keys ≤ 1024) ⌝ }
-    ensures { λ r. ⌜ r ≡ first-position (lexicon (now (chars .entry)) (now (lengths .entry))) (now (index .entry)) (now (string .entry)) ⌝ }
+    ensures { λ r. ⌜ r ≡ first-position (lexicon (now (chars .entry)) (now (lengths .entry))) (now (index .entry)) (replaced (now (string .entry))) ⌝ }
 {
     let mut lists = [0u32; 1024];
     first_filled(chars, lengths, index, keys, string, &mut lists)
@@ -73,7 +93,7 @@ fn first_some_lines<'a>(
     string: &[u16],
 ) -> usize
     requires { ⌜ Can-read (now chars) (now lengths) (now index) × (keys ≡ keys-of (now index)) × Is-string (now string) × (keys ≤ 8192) ⌝ }
-    ensures { λ r. ⌜ r ≡ first-position (lexicon (now (chars .entry)) (now (lengths .entry))) (now (index .entry)) (now (string .entry)) ⌝ }
+    ensures { λ r. ⌜ r ≡ first-position (lexicon (now (chars .entry)) (now (lengths .entry))) (now (index .entry)) (replaced (now (string .entry))) ⌝ }
 {
     let mut lists = [0u32; 8192];
     first_filled(chars, lengths, index, keys, string, &mut lists)
@@ -88,7 +108,7 @@ fn first_many_lines<'a>(
     string: &[u16],
 ) -> usize
     requires { ⌜ Can-read (now chars) (now lengths) (now index) × (keys ≡ keys-of (now index)) × Is-string (now string) ⌝ }
-    ensures { λ r. ⌜ r ≡ first-position (lexicon (now (chars .entry)) (now (lengths .entry))) (now (index .entry)) (now (string .entry)) ⌝ }
+    ensures { λ r. ⌜ r ≡ first-position (lexicon (now (chars .entry)) (now (lengths .entry))) (now (index .entry)) (replaced (now (string .entry))) ⌝ }
 {
     let mut lists = [0u32; 65536];
     first_filled(chars, lengths, index, keys, string, &mut lists)
@@ -103,7 +123,7 @@ fn first_lines<'a>(
     string: &[u16],
 ) -> usize
     requires { ⌜ Can-read (now chars) (now lengths) (now index) × (keys ≡ keys-of (now index)) × Is-string (now string) ⌝ }
-    ensures { λ r. ⌜ r ≡ first-position (lexicon (now (chars .entry)) (now (lengths .entry))) (now (index .entry)) (now (string .entry)) ⌝ }
+    ensures { λ r. ⌜ r ≡ first-position (lexicon (now (chars .entry)) (now (lengths .entry))) (now (index .entry)) (replaced (now (string .entry))) ⌝ }
 {
     if keys <= 1024 {
         return first_few_lines(chars, lengths, index, keys, string);

@@ -5,6 +5,7 @@
 ghost use mathlib.Core.Path.{_≡_};
 ghost use Prim.Native.Nat.{suc, _-_, _≤_};
 ghost use lib.ListN.{length};
+ghost use Rattle.spec.specs.Replaced.{replaced};
 ghost use Rattle.spec.specs.Dictionary.{lexicon};
 ghost use Rattle.spec.specs.Index.{keys-of};
 ghost use Rattle.spec.specs.Search.{find};
@@ -14,6 +15,7 @@ ghost use Rattle.laws.specs.Sizing.{Is-string, Sized};
 use crate::starts::search_starts;
 use directory::tables::fill_lists;
 use directory::tables::fill_words;
+use folding::forms::replaced_string;
 use opening::opened::open_index;
 use spec::Answer;
 
@@ -28,8 +30,8 @@ pub(crate) fn starts_of(n: usize, long: usize) -> usize
     n - long + 1
 }
 
-// Searches a readable index, with its tables of starts lent, for a string that may be searched for.
-pub fn search_tabled<'a>(
+// Searches a readable index, with its tables of starts lent, for a string that is searched for as it stands.
+fn search_plain<'a>(
     chars: &'a [u16],
     lengths: &[u16],
     index: &'a [u16],
@@ -45,6 +47,24 @@ pub fn search_tabled<'a>(
     search_starts(chars, lengths, index, words, lists, string, starts, output)
 }
 
+// The same for a string as it is lent, which is replaced first.
+pub fn search_tabled<'a>(
+    chars: &'a [u16],
+    lengths: &[u16],
+    index: &'a [u16],
+    words: &[u16],
+    lists: &[u32],
+    string: &[u16],
+    output: &mut [u16],
+) -> Answer
+    requires { ⌜ Opened (now chars) (now lengths) (now index) (now words) (now lists) × Is-string (now string) ⌝ }
+    ensures { λ r. ⌜ Sized (find (lexicon (now (chars .entry)) (now (lengths .entry))) (now (index .entry)) (replaced (now (string .entry)))) r (now (output .entry)) (now (output .exit)) ⌝ }
+{
+    let long = string.len();
+    let own = replaced_string(string);
+    search_plain(chars, lengths, index, words, lists, &own[..long], output)
+}
+
 // The same with the tables filled first, one of them lent.
 fn search_filled<'a>(
     chars: &'a [u16],
@@ -56,7 +76,7 @@ fn search_filled<'a>(
     output: &mut [u16],
 ) -> Answer
     requires { ⌜ Can-read (now chars) (now lengths) (now index) × (keys ≡ keys-of (now index)) × Is-string (now string) × (keys ≤ length (now lists)) ⌝ }
-    ensures { λ r. ⌜ Sized (find (lexicon (now (chars .entry)) (now (lengths .entry))) (now (index .entry)) (now (string .entry))) r (now (output .entry)) (now (output .exit)) ⌝ }
+    ensures { λ r. ⌜ Sized (find (lexicon (now (chars .entry)) (now (lengths .entry))) (now (index .entry)) (replaced (now (string .entry)))) r (now (output .entry)) (now (output .exit)) ⌝ }
 {
     let mut words = [0u16; 4096];
     fill_words(lengths, &mut words);
@@ -74,7 +94,7 @@ fn search_few_lines<'a>(
     output: &mut [u16],
 ) -> Answer
     requires { ⌜ Can-read (now chars) (now lengths) (now index) × (keys ≡ keys-of (now index)) × Is-string (now string) × (keys ≤ 1024) ⌝ }
-    ensures { λ r. ⌜ Sized (find (lexicon (now (chars .entry)) (now (lengths .entry))) (now (index .entry)) (now (string .entry))) r (now (output .entry)) (now (output .exit)) ⌝ }
+    ensures { λ r. ⌜ Sized (find (lexicon (now (chars .entry)) (now (lengths .entry))) (now (index .entry)) (replaced (now (string .entry)))) r (now (output .entry)) (now (output .exit)) ⌝ }
 {
     let mut lists = [0u32; 1024];
     search_filled(chars, lengths, index, keys, string, &mut lists, output)
@@ -90,7 +110,7 @@ fn search_some_lines<'a>(
     output: &mut [u16],
 ) -> Answer
     requires { ⌜ Can-read (now chars) (now lengths) (now index) × (keys ≡ keys-of (now index)) × Is-string (now string) × (keys ≤ 8192) ⌝ }
-    ensures { λ r. ⌜ Sized (find (lexicon (now (chars .entry)) (now (lengths .entry))) (now (index .entry)) (now (string .entry))) r (now (output .entry)) (now (output .exit)) ⌝ }
+    ensures { λ r. ⌜ Sized (find (lexicon (now (chars .entry)) (now (lengths .entry))) (now (index .entry)) (replaced (now (string .entry)))) r (now (output .entry)) (now (output .exit)) ⌝ }
 {
     let mut lists = [0u32; 8192];
     search_filled(chars, lengths, index, keys, string, &mut lists, output)
@@ -106,7 +126,7 @@ fn search_many_lines<'a>(
     output: &mut [u16],
 ) -> Answer
     requires { ⌜ Can-read (now chars) (now lengths) (now index) × (keys ≡ keys-of (now index)) × Is-string (now string) ⌝ }
-    ensures { λ r. ⌜ Sized (find (lexicon (now (chars .entry)) (now (lengths .entry))) (now (index .entry)) (now (string .entry))) r (now (output .entry)) (now (output .exit)) ⌝ }
+    ensures { λ r. ⌜ Sized (find (lexicon (now (chars .entry)) (now (lengths .entry))) (now (index .entry)) (replaced (now (string .entry)))) r (now (output .entry)) (now (output .exit)) ⌝ }
 {
     let mut lists = [0u32; 65536];
     search_filled(chars, lengths, index, keys, string, &mut lists, output)
@@ -122,7 +142,7 @@ fn search_lines<'a>(
     output: &mut [u16],
 ) -> Answer
     requires { ⌜ Can-read (now chars) (now lengths) (now index) × (keys ≡ keys-of (now index)) × Is-string (now string) ⌝ }
-    ensures { λ r. ⌜ Sized (find (lexicon (now (chars .entry)) (now (lengths .entry))) (now (index .entry)) (now (string .entry))) r (now (output .entry)) (now (output .exit)) ⌝ }
+    ensures { λ r. ⌜ Sized (find (lexicon (now (chars .entry)) (now (lengths .entry))) (now (index .entry)) (replaced (now (string .entry)))) r (now (output .entry)) (now (output .exit)) ⌝ }
 {
     if keys <= 1024 {
         return search_few_lines(chars, lengths, index, keys, string, output);

@@ -9,6 +9,7 @@ use lib.IntN.{ℤ}
 use lib.ListN.{length, getD}
 use Rattle.basics.specs.Member.{In}
 use Rattle.basics.specs.Order.{Ascend}
+use Rattle.spec.specs.Replaced.{replaced, holds-full-width}
 use Rattle.spec.specs.Dictionary.{Lexicon, all-chars, is-text, lexicon, admitted}
 use Rattle.spec.specs.Words.{Key, stands, Entry, entries}
 use Rattle.spec.specs.Numbers.{Line, index-of}
@@ -67,15 +68,17 @@ pub record First-stands (s ts : List ℕ) (p : ℕ) : Type 0 where
   pub at-it : 1 ≤ p → stands s ts p ≡ true
   pub least : (a : ℕ) → stands s ts a ≡ true → p ≤ a
 
--- What is had of numbers xs that text ts has as its index.
+-- What is had of numbers xs that text ts has as its index. A search string is replaced first.
 pub record Serves (g : ℕ) (lex : Lexicon) (xs ts : List ℕ) : Type 0 where
   pub text : Text-of g lex xs ts
   pub only-text : (us : List ℕ) → Text-of g lex xs us → us ≡ ts
-  pub search-exact : (s : List ℕ) → Query s → Exactly-places s ts (find lex xs s)
-  pub cut-readable : (s : List ℕ) → Query s → readable g lex (cut-down lex xs s) ≡ true
-  pub cut-exact : (s : List ℕ) → Query s → Exactly-places s ts (find lex (cut-down lex xs s) s)
-  pub first-exact : (s : List ℕ) → Query s → First-stands s ts (first-position lex xs s)
-  pub cut-first-exact : (s : List ℕ) → Query s → First-stands s ts (first-position lex (cut-down lex xs s) s)
+  pub search-exact : (s : List ℕ) → Query s → Exactly-places (replaced s) ts (find lex xs (replaced s))
+  pub cut-readable : (s : List ℕ) → Query s → readable g lex (cut-down lex xs (replaced s)) ≡ true
+  pub cut-exact :
+      (s : List ℕ) → Query s → Exactly-places (replaced s) ts (find lex (cut-down lex xs (replaced s)) (replaced s))
+  pub first-exact : (s : List ℕ) → Query s → First-stands (replaced s) ts (first-position lex xs (replaced s))
+  pub cut-first-exact :
+      (s : List ℕ) → Query s → First-stands (replaced s) ts (first-position lex (cut-down lex xs (replaced s)) (replaced s))
 
 -- Whatever numbers are delivered, they are received exactly if some text of their stated length has them as its index. Then the
 -- recovered text is that text, and everything of the demand is had of it.
@@ -93,12 +96,12 @@ pub record Accounts (lex : Lexicon) (xs us : List ℕ) : Type 0 where
   pub each : (k : Key) (p : ℕ) → Among k p (entries lex us) → Under k p xs
   pub count : length (entries lex us) ≡ entries-of xs
 
--- Readable numbers are received if any characters account for them, and these are the recovered text; where numbers are received,
--- the recovered text accounts for them.
+-- Readable numbers are received if any characters of which none is a full-width form account for them, and these are the recovered text;
+-- where numbers are received, the recovered text accounts for them.
 unfoldable pub Received-by-count : (g : ℕ) → Type 0
 Received-by-count g =
     (cs ls xs : List ℕ) → admitted cs ls ≡ true → readable g (lexicon cs ls) xs ≡ true →
-    ((us : List ℕ) → all-chars us ≡ true → Accounts (lexicon cs ls) xs us →
+    ((us : List ℕ) → all-chars us ≡ true → holds-full-width us ≡ false → Accounts (lexicon cs ls) xs us →
     (received g (lexicon cs ls) xs ≡ true) × (recovered (lexicon cs ls) xs ≡ us))
     × (received g (lexicon cs ls) xs ≡ true → Accounts (lexicon cs ls) xs (recovered (lexicon cs ls) xs))
 

@@ -6,6 +6,7 @@ use mathlib.Core.List.{List, _++_}
 use Prim.Native.Nat.{ℕ, _*_}
 use lib.Dec.{ltb, eqb}
 use lib.ListN.{length, drop, replicate}
+use Rattle.spec.specs.Replaced.{replaced}
 use Rattle.spec.specs.Dictionary.{longest-text, Lexicon, lexicon, dictionary-refusal}
 use Rattle.spec.specs.Numbers.{index-of}
 use Rattle.spec.specs.Index.{n-of, entries-of, readable}
@@ -18,7 +19,7 @@ use Rattle.spec.specs.declared.Answer.{Answer}
 use Rattle.spec.specs.declared.FirstAnswer.{FirstAnswer}
 use Rattle.spec.specs.declared.TallyAnswer.{TallyAnswer}
 
--- THE LINES OF THE REFUSAL TABLE beside 1 to 3, which `dictionary-refusal` has
+-- THE LINES OF THE REFUSAL TABLE beside 1 to 3 and 12, which `dictionary-refusal` has
 
 -- Line 4: "text longer than 65,535"
 unfoldable pub text-too-long : (text : List ℕ) → Bool
@@ -44,25 +45,26 @@ output-short r o = ltb o r
 unfoldable pub no-text : Lexicon → (index : List ℕ) → Bool
 no-text lex xs = not (received longest-text lex xs)
 
--- THE ORDER: "The lowest applicable number is returned; an operation tests only what it is handed."
+-- THE ORDER: "an operation tests only what it is handed", and the number of the first line met is returned. Document 01's order is that of
+-- the numbers; 12 is "tested right after 3".
 
 -- the first number, or the second where the first is 0
 unfoldable pub or-else : (a b : ℕ) → ℕ
 or-else a b = cond (eqb a 0) b a
 
--- 1 to 3, 4, 7, 8
+-- 1 to 3, 12, 4, 7, 8
 unfoldable pub build-refusal : (chars lengths text : List ℕ) → (output work : ℕ) → ℕ
 build-refusal cs ls ts o w =
     or-else (dictionary-refusal cs ls)
     (cond (text-too-long ts) 4
     (cond (work-short (length ts) w) 7
-    (cond (output-short (length (index-of (lexicon cs ls) ts)) o) 8 0)))
+    (cond (output-short (length (index-of (lexicon cs ls) (replaced ts))) o) 8 0)))
 
--- 1 to 3, 5: what every operation on an index tests first
+-- 1 to 3, 12, 5: what every operation on an index tests first
 unfoldable pub index-refusal : (chars lengths index : List ℕ) → ℕ
 index-refusal cs ls xs = or-else (dictionary-refusal cs ls) (cond (unreadable (lexicon cs ls) xs) 5 0)
 
--- 1 to 3, 5, 7, 9
+-- 1 to 3, 12, 5, 7, 9
 unfoldable pub reception-refusal : (chars lengths index : List ℕ) → (work : ℕ) → ℕ
 reception-refusal cs ls xs w =
     or-else (index-refusal cs ls xs) (cond (work-short (n-of xs) w) 7 (cond (no-text (lexicon cs ls) xs) 9 0))
@@ -71,7 +73,7 @@ reception-refusal cs ls xs w =
 unfoldable pub recovery-refusal : (chars lengths index : List ℕ) → (output work : ℕ) → ℕ
 recovery-refusal cs ls xs o w = or-else (reception-refusal cs ls xs w) (cond (output-short (n-of xs) o) 8 0)
 
--- 1 to 3, 5, 6: what every operation on an index and a string tests first
+-- 1 to 3, 12, 5, 6: what every operation on an index and a string tests first
 unfoldable pub string-refusal : (chars lengths index string : List ℕ) → ℕ
 string-refusal cs ls xs s = or-else (index-refusal cs ls xs) (cond (string-wrong s) 6 0)
 
@@ -101,14 +103,16 @@ Puts n xs r o z = Answers n (length xs) r × (z ≡ accepted n (in-front xs o) o
 unfoldable pub zeros : List ℕ → List ℕ
 zeros xs = replicate (length xs) 0
 
--- THE OPERATIONS. "An accepted call returns the count of numbers written (reception: n; admission: the number of words; tally: M)"
+-- THE OPERATIONS. "An accepted call returns the count of numbers written (reception: n; admission: the number of words; tally: M)".
+-- Document 02: full-width forms are replaced "in texts and search strings, before anything else"; "the numbers of an index are never
+-- replaced".
 
 unfoldable pub Admit-says : (chars lengths : List ℕ) → Answer → Type 0
 Admit-says cs ls r = Answers (dictionary-refusal cs ls) (length ls) r
 
 unfoldable pub Build-says : (chars lengths text : List ℕ) → Answer → (out out-now work work-now : List ℕ) → Type 0
 Build-says cs ls ts r o z w v =
-    Puts (build-refusal cs ls ts (length o) (length w)) (index-of (lexicon cs ls) ts) r o z × (v ≡ zeros w)
+    Puts (build-refusal cs ls ts (length o) (length w)) (index-of (lexicon cs ls) (replaced ts)) r o z × (v ≡ zeros w)
 
 unfoldable pub Receive-says : (chars lengths index : List ℕ) → Answer → (work work-now : List ℕ) → Type 0
 Receive-says cs ls xs r w v = Answers (reception-refusal cs ls xs (length w)) (n-of xs) r × (v ≡ zeros w)
@@ -119,17 +123,17 @@ Recover-says cs ls xs r o z w v =
 
 unfoldable pub Search-says : (chars lengths index string : List ℕ) → Answer → (out out-now : List ℕ) → Type 0
 Search-says cs ls xs s r o z =
-    let found = find (lexicon cs ls) xs s in Puts (find-refusal cs ls xs s (length found) (length o)) found r o z
+    let found = find (lexicon cs ls) xs (replaced s) in Puts (find-refusal cs ls xs s (length found) (length o)) found r o z
 
 unfoldable pub Cut-says : (chars lengths index string : List ℕ) → Answer → (out out-now : List ℕ) → Type 0
 Cut-says cs ls xs s r o z =
-    let cut = cut-down (lexicon cs ls) xs s in Puts (find-refusal cs ls xs s (length cut) (length o)) cut r o z
+    let cut = cut-down (lexicon cs ls) xs (replaced s) in Puts (find-refusal cs ls xs s (length cut) (length o)) cut r o z
 
 -- Document 02: "the first found position, or that there is none", which is 0. "No output slice is lent, so 8 cannot occur."
 unfoldable pub First-says : (chars lengths index string : List ℕ) → FirstAnswer → Type 0
 First-says cs ls xs s r =
     let n = string-refusal cs ls xs s in
-    (r .refusal ≡ n) × (r .position ≡ accepted n (first-position (lexicon cs ls) xs s) 0)
+    (r .refusal ≡ n) × (r .position ≡ accepted n (first-position (lexicon cs ls) xs (replaced s)) 0)
 
 -- "A refusal gives its number and 32 zeros."
 unfoldable pub Tally-says : (chars lengths index : List ℕ) → TallyAnswer → Type 0

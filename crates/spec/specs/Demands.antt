@@ -7,6 +7,7 @@ use mathlib.Core.Bool.{true}
 use mathlib.Core.List.{List}
 use Prim.Native.Nat.{ℕ, _*_, _≤_}
 use lib.ListN.{length, take, replicate}
+use Rattle.spec.specs.Replaced.{replaced}
 use Rattle.spec.specs.Dictionary.{longest-text, Lexicon, all-chars, lexicon, admitted}
 use Rattle.spec.specs.Words.{Key, spells}
 use Rattle.spec.specs.Numbers.{index-of}
@@ -29,7 +30,7 @@ use Rattle.spec.specs.declared.TallyAnswer.{TallyAnswer}
 
 -- THE FIRST DEMAND: "Every operation accepts exactly the inputs that no line of the refusal table meets and ends with the stated
 -- result; everything else gets the one number that the table fixes. Apart from work space, which is cleared, a refusal changes no
--- lent slice."
+-- lent slice." The number that the table fixes is that of the first line met in the operation's list (`RefusalTable`).
 
 pub record First-demand : Type 0 where
   pub admits :
@@ -37,7 +38,8 @@ pub record First-demand : Type 0 where
       Decides (dictionary-rows cs ls) (r .refusal) (r .count ≡ length ls) (r .count ≡ 0)
   pub builds :
       (cs ls ts : List ℕ) (r : Answer) (o z w v : List ℕ) → Build-says cs ls ts r o z w v →
-      Decides (build-rows cs ls ts o w) (r .refusal) (Written (index-of (lexicon cs ls) ts) r o z) (Untouched r o z) × Cleared w v
+      Decides (build-rows cs ls ts o w) (r .refusal) (Written (index-of (lexicon cs ls) (replaced ts)) r o z) (Untouched r o z)
+      × Cleared w v
   pub receives :
       (cs ls xs : List ℕ) (r : Answer) (w v : List ℕ) → all-chars cs ≡ true → Receive-says cs ls xs r w v →
       Decides (reception-rows cs ls xs w) (r .refusal) (r .count ≡ n-of xs) (r .count ≡ 0) × Cleared w v
@@ -46,15 +48,15 @@ pub record First-demand : Type 0 where
       Decides (recovery-rows cs ls xs o w) (r .refusal) (Written (recovered (lexicon cs ls) xs) r o z) (Untouched r o z) × Cleared w v
   pub searches :
       (cs ls xs s : List ℕ) (r : Answer) (o z : List ℕ) → Search-says cs ls xs s r o z →
-      let found = find (lexicon cs ls) xs s in
+      let found = find (lexicon cs ls) xs (replaced s) in
       Decides (find-rows cs ls xs s found o) (r .refusal) (Written found r o z) (Untouched r o z)
   pub cuts :
       (cs ls xs s : List ℕ) (r : Answer) (o z : List ℕ) → Cut-says cs ls xs s r o z →
-      let kept = cut-down (lexicon cs ls) xs s in
+      let kept = cut-down (lexicon cs ls) xs (replaced s) in
       Decides (find-rows cs ls xs s kept o) (r .refusal) (Written kept r o z) (Untouched r o z)
   pub firsts :
       (cs ls xs s : List ℕ) (r : FirstAnswer) → First-says cs ls xs s r →
-      Decides (string-rows cs ls xs s) (r .refusal) (r .position ≡ first-position (lexicon cs ls) xs s) (r .position ≡ 0)
+      Decides (string-rows cs ls xs s) (r .refusal) (r .position ≡ first-position (lexicon cs ls) xs (replaced s)) (r .position ≡ 0)
   pub tallies :
       (cs ls xs : List ℕ) (r : TallyAnswer) → Tally-says cs ls xs r →
       Decides (index-rows cs ls xs) (r .refusal)
@@ -63,7 +65,7 @@ pub record First-demand : Type 0 where
   pub prints : (s : List ℕ) (r : Answer) (o z : List ℕ) → Job-says s r o z → Answered s r o z
 
 -- THE SECOND DEMAND: "The index built from a text and a dictionary is exactly the complete maximal word index of the published
--- definition, and the same text is recovered from it."
+-- definition, and the same text is recovered from it." From request 2 on "text" is the replaced text.
 
 -- a pair of a word and a position that the numbers hold
 abbrev pub Holds : Lexicon → (numbers : List ℕ) → Item → Type 0
@@ -88,7 +90,7 @@ Recovered-for cs ls xs ts =
     (r : Answer) (o z w v : List ℕ) → 8 * length ts ≤ length w → length ts ≤ length o → Recover-says cs ls xs r o z w v →
     (r .refusal ≡ 0) × Written ts r o z
 
--- What an accepted call of building wrote.
+-- What an accepted call of building wrote, ts being the replaced text.
 pub record Built (cs ls ts xs : List ℕ) : Type 0 where
   pub published : Published-index (lexicon cs ls) ts xs
   pub only-one : (ys : List ℕ) → Published-index (lexicon cs ls) ts ys → ys ≡ xs
@@ -98,28 +100,29 @@ pub record Built (cs ls ts xs : List ℕ) : Type 0 where
 unfoldable pub Second-demand : Type 0
 Second-demand =
     (cs ls ts : List ℕ) (r : Answer) (o z w v : List ℕ) → all-chars cs ≡ true → all-chars ts ≡ true →
-    Build-says cs ls ts r o z w v → r .refusal ≡ 0 → Built cs ls ts (take (r .count) z)
+    Build-says cs ls ts r o z w v → r .refusal ≡ 0 → Built cs ls (replaced ts) (take (r .count) z)
 
 -- THE THIRD DEMAND: "Whatever numbers are delivered, they pass reception exactly when some text of their stated length has them as
 -- its index, and that text is the only one. Any string of 1 to 256 characters is then searched for without the text, and exactly
 -- its positions come back, each once, ascending; from the cut-down index too."
 
--- Every search of the numbers for s with enough output accepts, and writes exactly the positions at which s stands in ts.
+-- Every search of the numbers for s with enough output accepts, and writes exactly the positions at which s, replaced, stands in ts.
 abbrev pub Found-for : (chars lengths index text string : List ℕ) → Type 0
 Found-for cs ls xs ts s =
-    (r : Answer) (o z : List ℕ) → length (places s ts) ≤ length o → Search-says cs ls xs s r o z →
-    (r .refusal ≡ 0) × Written (places s ts) r o z × Exactly-places s ts (take (r .count) z)
+    let found = places (replaced s) ts in
+    (r : Answer) (o z : List ℕ) → length found ≤ length o → Search-says cs ls xs s r o z →
+    (r .refusal ≡ 0) × Written found r o z × Exactly-places (replaced s) ts (take (r .count) z)
 
--- Every call of first for s accepts, and answers the first position at which s stands in ts, 0 if it stands nowhere.
+-- Every call of first for s accepts, and answers the first position at which s, replaced, stands in ts, 0 if it stands nowhere.
 abbrev pub First-for : (chars lengths index text string : List ℕ) → Type 0
 First-for cs ls xs ts s =
-    (r : FirstAnswer) → First-says cs ls xs s r → (r .refusal ≡ 0) × First-stands s ts (r .position)
+    (r : FirstAnswer) → First-says cs ls xs s r → (r .refusal ≡ 0) × First-stands (replaced s) ts (r .position)
 
 -- Every call of cut for s with enough output accepts, and writes the cut-down index, whose searches for s, and first, answer in the same
 -- way.
 abbrev pub Cut-for : (chars lengths index text string : List ℕ) → Type 0
 Cut-for cs ls xs ts s =
-    let kept = cut-down (lexicon cs ls) xs s in
+    let kept = cut-down (lexicon cs ls) xs (replaced s) in
     (r : Answer) (o z : List ℕ) → length kept ≤ length o → Cut-says cs ls xs s r o z →
     (r .refusal ≡ 0) × Written kept r o z × Found-for cs ls (take (r .count) z) ts s × First-for cs ls (take (r .count) z) ts s
 

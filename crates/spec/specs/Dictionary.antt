@@ -1,9 +1,10 @@
--- Characters, texts, dictionaries, and lines 1 to 3 of the refusal table. Assumes nothing: these are definitions.
+-- Characters, texts, dictionaries, and lines 1 to 3 and 12 of the refusal table. Assumes nothing: these are definitions.
 use mathlib.Core.Bool.{Bool, true, false, _&&_, _||_, not, cond}
 use mathlib.Core.List.{List, [], _∷_}
 use Prim.Native.Nat.{ℕ, _+_}
 use lib.Dec.{ltb, leb, eqb}
 use lib.ListN.{length, take, drop}
+use Rattle.spec.specs.Replaced.{holds-full-width}
 
 -- "A character is a 16-bit number."
 unfoldable pub is-char : ℕ → Bool
@@ -18,9 +19,10 @@ all-chars (c ∷ cs) = is-char c && all-chars cs
 abbrev pub longest-text : ℕ
 longest-text = 65535
 
--- "A text has n characters, n from 0 to 65,535": to the greatest length g.
+-- "A text has n characters, n from 0 to 65,535": to the greatest length g. Document 02: "“Text” in reception, recovery and demands 2 and
+-- 3 is from here on the replaced text".
 unfoldable pub is-text : (g : ℕ) → (text : List ℕ) → Bool
-is-text g ts = all-chars ts && leb (length ts) g
+is-text g ts = (all-chars ts && leb (length ts) g) && not (holds-full-width ts)
 
 -- "It is lent as all characters run together and a list of lengths."
 unfoldable pub words-from : (lengths chars : List ℕ) → List (List ℕ)
@@ -73,9 +75,19 @@ ascend (w ∷ v ∷ ws) = word-before w v && ascend (v ∷ ws)
 unfoldable pub disordered : (chars lengths : List ℕ) → Bool
 disordered cs ls = not (ascend (words-from ls cs))
 
--- The lines about dictionaries, in their order; 0 if none is met.
+-- one of the words holds a full-width form
+unfoldable pub some-full-width : (words : List (List ℕ)) → Bool
+some-full-width [] = false
+some-full-width (w ∷ ws) = holds-full-width w || some-full-width ws
+
+-- Line 12: "a word holds a character from FF01 to FF5E"
+unfoldable pub unreplaced : (chars lengths : List ℕ) → Bool
+unreplaced cs ls = some-full-width (words-from ls cs)
+
+-- The lines about dictionaries, in their order; 0 if none is met. 12 is "tested right after 3".
 unfoldable pub dictionary-refusal : (chars lengths : List ℕ) → ℕ
-dictionary-refusal cs ls = cond (too-large cs ls) 1 (cond (lengths-wrong cs ls) 2 (cond (disordered cs ls) 3 0))
+dictionary-refusal cs ls =
+    cond (too-large cs ls) 1 (cond (lengths-wrong cs ls) 2 (cond (disordered cs ls) 3 (cond (unreplaced cs ls) 12 0)))
 
 -- "A dictionary is admitted if it meets no line about dictionaries in the table below."
 unfoldable pub admitted : (chars lengths : List ℕ) → Bool

@@ -5,6 +5,7 @@ use mathlib.Core.List.{List, [], _∷_, _++_}
 use Prim.Native.Nat.{ℕ, zero, suc, _+_, _/_, _%_}
 use lib.Dec.{ltb, eqb}
 use lib.ListN.{length}
+use Rattle.spec.specs.Replaced.{replaced}
 use Rattle.spec.specs.Dictionary.{Lexicon, lexicon}
 use Rattle.spec.specs.Words.{Key}
 use Rattle.spec.specs.Numbers.{Line, index-of}
@@ -98,10 +99,10 @@ index-lines xs = index-line (n-of xs) (keys-of xs) (entries-of xs) ++ key-lines 
 unfoldable pub found-line : (positions : List ℕ) → List ℕ
 found-line ps = found-head ++ decimal (length ps) ++ opening-list ++ spaced ps ++ ending-list
 
--- "then for each find"
+-- "then for each find", replaced
 unfoldable pub found-lines : Lexicon → (numbers : List ℕ) → (finds : List (List ℕ)) → List ℕ
 found-lines lex xs [] = []
-found-lines lex xs (s ∷ ss) = found-line (find lex xs s) ++ found-lines lex xs ss
+found-lines lex xs (s ∷ ss) = found-line (find lex xs (replaced s)) ++ found-lines lex xs ss
 
 -- `(refused N)`
 unfoldable pub refused-line : (refusal : ℕ) → List ℕ
@@ -113,9 +114,9 @@ refused-line r = refused-head ++ decimal r ++ ending
 unfoldable pub lexicon-on : (sheet : List ℕ) → Lexicon
 lexicon-on s = lexicon (run-together (words-on s)) (lengths-of (words-on s))
 
--- what is printed where nothing is refused, for a dictionary, a text and finds
+-- what is printed where nothing is refused, for a dictionary, a text, which is replaced, and finds
 abbrev pub answer-lines : Lexicon → (text : List ℕ) → (finds : List (List ℕ)) → List ℕ
-answer-lines lex ts fs = let index = index-of lex ts in index-lines index ++ found-lines lex index fs
+answer-lines lex ts fs = let index = index-of lex (replaced ts) in index-lines index ++ found-lines lex index fs
 
 unfoldable pub printed : (sheet : List ℕ) → List ℕ
 printed s = answer-lines (lexicon-on s) (text-on s) (finds-on s)

@@ -6,7 +6,8 @@ use mathlib.Core.List.{List, [], _∷_, _++_}
 use Prim.Native.Nat.{ℕ}
 use Prim.Native.String.{String}
 use lib.ListN.{length, replicate}
-use Rattle.spec.specs.Dictionary.{lexicon, dictionary-refusal, words-from, total, too-large, length-good, lengths-good, lengths-wrong, word-before, ascend, disordered}
+use Rattle.spec.specs.Replaced.{is-full-width, replaced-char, replaced, holds-full-width}
+use Rattle.spec.specs.Dictionary.{lexicon, dictionary-refusal, words-from, total, too-large, length-good, lengths-good, lengths-wrong, word-before, ascend, disordered, some-full-width, unreplaced}
 use Rattle.spec.specs.Words.{key, same, listed, is-word, spells, stands, entry, contains, same-key, same-entry, key-entries, word-entries, lone-entries, complete, in-another, maximal, entries}
 use Rattle.spec.specs.Numbers.{index-of, key-before, entry-before, into, sorted, line, with-entry, lines-of, directory, positions, numbers}
 use Rattle.spec.specs.Index.{entries-of, counts-from, lines-from, lines-in}
@@ -56,6 +57,10 @@ lone-output =
     ++ bytes "(key lone 0061 (1 3))\n"
     ++ bytes "(key lone 0078 (2))\n"
 
+-- the answer for ａｂＡ with the word ab: keys and finds are replaced
+abbrev full-width-output : String
+full-width-output = "(index 3 2 2)\n(key word 0 (1))\n(key lone 0041 (3))\n(found 0 ())\n(found 1 (2))\n(found 1 (3))\n"
+
 -- what is printed for a sheet, both as texts
 abbrev Prints : (sheet answer : String) → Type 0
 Prints s t = job-answer (bytes s) ≡ bytes t
@@ -92,11 +97,16 @@ pub record Job-examples : Type 0 where
   pub space-alone : Prints "(word )\n(text 0061)\n" "(refused 11)\n"
   pub three-digits : Prints "(text 006)\n" "(refused 11)\n"
   pub lower-case : Prints "(text 004a)\n" "(refused 11)\n"
+  pub full-width : Prints "(word 0061 0062)\n(text FF41 FF42 FF21)\n(find FF22)\n(find FF42)\n(find 0041)\n" full-width-output
+  pub full-width-word : Prints "(word FF21)\n(text 0061)\n" "(refused 12)\n"
+  pub three-before-twelve : Prints "(word FF21)\n(word FF21)\n(text 0061)\n" "(refused 3)\n"
+  pub twelve-before-six : Prints "(word FF21)\n(text 0061)\n(find)\n" "(refused 12)\n"
+  pub eleven-before-twelve : Prints "(word FF21)\n(text 006)\n" "(refused 11)\n"
   pub finds-50 : sheet-refusal (finds 50) ≡ 0
   pub finds-51 : sheet-refusal (finds 51) ≡ 11
 
 pub job-examples : Job-examples
-unfolding bytes words-from lexicon total too-large length-good lengths-good lengths-wrong word-before ascend disordered dictionary-refusal key same listed is-word spells stands entry contains same-key same-entry key-entries word-entries lone-entries complete in-another maximal entries key-before entry-before into sorted line with-entry lines-of directory positions numbers index-of counts-from entries-of lines-from lines-in lies-on overlaps equal-from agrees covers covered all-covered found-from find string-wrong or-else accepted digit is-digit character is-spaced ends-well characters is-form string-in onto-first lines forms after nothing-left words-on texts-on finds-on left-on text-on in-form in-counts sheet-too-long sheet-wrong run-together lengths-of some-string-wrong contents-refusal sheet-refusal decimal-within decimal digit-byte hexadecimal spaced index-line key-name key-line key-lines index-lines found-line found-lines refused-line lexicon-on printed job-answer
+unfolding bytes words-from lexicon total too-large length-good lengths-good lengths-wrong word-before ascend disordered is-full-width replaced-char replaced holds-full-width some-full-width unreplaced dictionary-refusal key same listed is-word spells stands entry contains same-key same-entry key-entries word-entries lone-entries complete in-another maximal entries key-before entry-before into sorted line with-entry lines-of directory positions numbers index-of counts-from entries-of lines-from lines-in lies-on overlaps equal-from agrees covers covered all-covered found-from find string-wrong or-else accepted digit is-digit character is-spaced ends-well characters is-form string-in onto-first lines forms after nothing-left words-on texts-on finds-on left-on text-on in-form in-counts sheet-too-long sheet-wrong run-together lengths-of some-string-wrong contents-refusal sheet-refusal decimal-within decimal digit-byte hexadecimal spaced index-line key-name key-line key-lines index-lines found-line found-lines refused-line lexicon-on printed job-answer
 job-examples =
     record {
       codes = refl;
@@ -124,6 +134,11 @@ job-examples =
       space-alone = refl;
       three-digits = refl;
       lower-case = refl;
+      full-width = refl;
+      full-width-word = refl;
+      three-before-twelve = refl;
+      twelve-before-six = refl;
+      eleven-before-twelve = refl;
       finds-50 = refl;
       finds-51 = refl;
     }

@@ -160,7 +160,7 @@ unfoldable pub some-string-wrong : (finds : List (List ℕ)) → Bool
 some-string-wrong [] = false
 some-string-wrong (s ∷ ss) = string-wrong s || some-string-wrong ss
 
--- the lowest number over the dictionary and every find
+-- the first line met over the dictionary and then every find
 unfoldable pub contents-refusal : (words finds : List (List ℕ)) → ℕ
 contents-refusal ws fs = or-else (dictionary-refusal (run-together ws) (lengths-of ws)) (cond (some-string-wrong fs) 6 0)
 

@@ -1,4 +1,5 @@
 -- The definitions that a reader has to believe, lowest first, and the statements made of them.
+pub mod Replaced
 pub mod Dictionary
 pub mod Words
 pub mod Numbers
@@ -12,6 +13,7 @@ pub mod Calls
 pub mod Promise
 pub mod Beyond
 pub mod FirstPromise
+pub mod ReplacedPromise
 pub mod Published
 pub mod JobSheet
 pub mod JobAnswer
@@ -23,4 +25,5 @@ pub mod Demands
 pub mod Models
 pub mod Examples
 pub mod FirstExamples
+pub mod ReplacedExamples
 pub mod JobExamples

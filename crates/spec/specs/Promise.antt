@@ -1,10 +1,12 @@
 -- What is promised of indexes, reception and search. Each statement is a type; its proof stands in the crate `laws`. Each
--- speaks of texts to any greatest length g, 65,535 for indexes of 16-bit numbers. Assumes nothing.
+-- speaks of replaced texts to any greatest length g, 65,535 for indexes of 16-bit numbers, and of any search string, which is replaced.
+-- Assumes nothing.
 use mathlib.Core.Path.{_≡_}
 use mathlib.Core.Bool.{Bool, true, false, _||_, cond}
 use mathlib.Core.List.{List, [], _∷_}
 use Prim.Native.Nat.{ℕ, zero, suc, _≤_}
 use lib.ListN.{length}
+use Rattle.spec.specs.Replaced.{replaced}
 use Rattle.spec.specs.Dictionary.{all-chars, is-text, lexicon, total, admitted}
 use Rattle.spec.specs.Words.{stands, Entry, entries}
 use Rattle.spec.specs.Numbers.{index-of}
@@ -46,18 +48,18 @@ One-text g =
     (cs ls ts us : List ℕ) → admitted cs ls ≡ true → is-text g ts ≡ true → is-text g us ≡ true →
     index-of (lexicon cs ls) ts ≡ index-of (lexicon cs ls) us → ts ≡ us
 
--- The search of an index gives exactly the places where the string stands in the text.
+-- The search of an index gives exactly the places where the replaced string stands in the text.
 unfoldable pub Search-exact : (g : ℕ) → Type 0
 Search-exact g =
     (cs ls ts s : List ℕ) → admitted cs ls ≡ true → is-text g ts ≡ true → Query s →
-    find (lexicon cs ls) (index-of (lexicon cs ls) ts) s ≡ places s ts
+    find (lexicon cs ls) (index-of (lexicon cs ls) ts) (replaced s) ≡ places (replaced s) ts
 
 -- So does the search of the cut-down index, which is readable.
 unfoldable pub Cut-same : (g : ℕ) → Type 0
 Cut-same g =
     (cs ls ts s : List ℕ) → admitted cs ls ≡ true → is-text g ts ≡ true → Query s →
-    let cut = cut-down (lexicon cs ls) (index-of (lexicon cs ls) ts) s in
-    (readable g (lexicon cs ls) cut ≡ true) × (find (lexicon cs ls) cut s ≡ places s ts)
+    let cut = cut-down (lexicon cs ls) (index-of (lexicon cs ls) ts) (replaced s) in
+    (readable g (lexicon cs ls) cut ≡ true) × (find (lexicon cs ls) cut (replaced s) ≡ places (replaced s) ts)
 
 -- THE SECOND DEMAND
 

@@ -1,10 +1,11 @@
 -- Recovery of the text from an index, and reception. Assumes nothing: these are definitions.
-use mathlib.Core.Bool.{Bool, _&&_, cond}
+use mathlib.Core.Bool.{Bool, _&&_, not, cond}
 use mathlib.Core.List.{List, [], _∷_}
 use mathlib.Core.Option.{Option, none, some}
 use Prim.Native.Nat.{ℕ, zero, suc, _+_, _-_}
 use lib.Dec.{ltb, leb}
 use lib.ListN.{length, getD}
+use Rattle.spec.specs.Replaced.{holds-full-width}
 use Rattle.spec.specs.Dictionary.{Lexicon}
 use Rattle.spec.specs.Words.{spells, same}
 use Rattle.spec.specs.Numbers.{Line, index-of}
@@ -45,7 +46,12 @@ recovered-from (suc n) p lex ls = char-or (shown lex ls p) ∷ recovered-from n 
 unfoldable pub recovered : Lexicon → (numbers : List ℕ) → List ℕ
 recovered lex xs = recovered-from (n-of xs) 1 lex (lines-in xs)
 
--- RECEPTION, document 01's term: "Reception accepts a readable index exactly if some text of length n has it as its index."
--- If any text has it, the recovered one does (`Received-exactly`).
+-- the numbers are readable, and the index of the characters that their entries show
+unfoldable pub is-index : (g : ℕ) → Lexicon → (numbers : List ℕ) → Bool
+is-index g lex xs = readable g lex xs && same (index-of lex (recovered lex xs)) xs
+
+-- RECEPTION, document 01's term: "Reception accepts a readable index exactly if some text of length n has it as its index." Document 02: a
+-- text is a replaced text, "so a readable index with such a lone key meets 9". If any text has it, the recovered one does
+-- (`Received-exactly`).
 unfoldable pub received : (g : ℕ) → Lexicon → (numbers : List ℕ) → Bool
-received g lex xs = readable g lex xs && same (index-of lex (recovered lex xs)) xs
+received g lex xs = is-index g lex xs && not (holds-full-width (recovered lex xs))

@@ -7,6 +7,7 @@ use mathlib.Core.List.{List, [], _∷_, _++_}
 use Prim.Native.Nat.{ℕ, _*_, _≤_, _<_}
 use lib.ListN.{length, take, drop, replicate}
 use Rattle.basics.specs.Member.{In}
+use Rattle.spec.specs.Replaced.{first-form, last-form, replaced}
 use Rattle.spec.specs.Dictionary.{longest-text, Lexicon, lexicon, total, words-from, ascend}
 use Rattle.spec.specs.Numbers.{index-of}
 use Rattle.spec.specs.Index.{n-of, readable}
@@ -44,6 +45,10 @@ Lengths-wrong cs ls = ((l : ℕ) × In l ls × ((l ≡ 0) ⊎ (32 < l))) ⊎ (to
 -- 3: "words do not ascend strictly"
 abbrev pub Disordered : (chars lengths : List ℕ) → Type 0
 Disordered cs ls = ascend (words-from ls cs) ≡ false
+
+-- 12: "a word holds a character from FF01 to FF5E"
+abbrev pub Unreplaced : (chars lengths : List ℕ) → Type 0
+Unreplaced cs ls = (w : List ℕ) × In w (words-from ls cs) × ((c : ℕ) × In c w × ((first-form ≤ c) × (c ≤ last-form)))
 
 -- 4: "text longer than 65,535"
 abbrev pub Text-too-long : (text : List ℕ) → Type 0
@@ -85,14 +90,16 @@ pub record Row : Type 1 where
 abbrev pub row : (returned : ℕ) → (when : Type 0) → Row
 row n fact = record { returned = n; when = fact }
 
--- "an operation tests only what it is handed"
+-- THE LINES OF EACH OPERATION, in the order in which they are tested: "an operation tests only what it is handed". 12 is "tested right
+-- after 3".
 abbrev pub dictionary-rows : (chars lengths : List ℕ) → List Row
-dictionary-rows cs ls = row 1 (Too-large cs ls) ∷ row 2 (Lengths-wrong cs ls) ∷ row 3 (Disordered cs ls) ∷ []
+dictionary-rows cs ls =
+    row 1 (Too-large cs ls) ∷ row 2 (Lengths-wrong cs ls) ∷ row 3 (Disordered cs ls) ∷ row 12 (Unreplaced cs ls) ∷ []
 
 abbrev pub build-rows : (chars lengths text out work : List ℕ) → List Row
 build-rows cs ls ts o w =
     dictionary-rows cs ls
-    ++ (row 4 (Text-too-long ts) ∷ row 7 (Work-short (length ts) w) ∷ row 8 (Output-short (index-of (lexicon cs ls) ts) o) ∷ [])
+    ++ (row 4 (Text-too-long ts) ∷ row 7 (Work-short (length ts) w) ∷ row 8 (Output-short (index-of (lexicon cs ls) (replaced ts)) o) ∷ [])
 
 abbrev pub index-rows : (chars lengths index : List ℕ) → List Row
 index-rows cs ls xs = dictionary-rows cs ls ++ (row 5 (Unreadable (lexicon cs ls) xs) ∷ [])
@@ -102,9 +109,7 @@ reception-rows cs ls xs w =
     index-rows cs ls xs ++ (row 7 (Work-short (n-of xs) w) ∷ row 9 (No-text (lexicon cs ls) xs) ∷ [])
 
 abbrev pub recovery-rows : (chars lengths index out work : List ℕ) → List Row
-recovery-rows cs ls xs o w =
-    index-rows cs ls xs
-    ++ (row 7 (Work-short (n-of xs) w) ∷ row 8 (Recovery-short (lexicon cs ls) xs o) ∷ row 9 (No-text (lexicon cs ls) xs) ∷ [])
+recovery-rows cs ls xs o w = reception-rows cs ls xs w ++ (row 8 (Recovery-short (lexicon cs ls) xs o) ∷ [])
 
 abbrev pub string-rows : (chars lengths index string : List ℕ) → List Row
 string-rows cs ls xs s = index-rows cs ls xs ++ (row 6 (String-wrong s) ∷ [])
@@ -125,10 +130,14 @@ pub record Accepts (rows : List Row) (n : ℕ) (ends : Type 0) : Type 0 where
   pub number : n ≡ 0
   pub result : ends
 
--- "The lowest applicable number is returned", and the call ends so
+-- the line with number n is met, and no line that stands before it is
+abbrev pub First-met : List Row → (n : ℕ) → Type 0
+First-met [] n = ⊥
+First-met (l ∷ ls) n = (l .when × (l .returned ≡ n)) ⊎ ((l .when → ⊥) × First-met ls n)
+
+-- the number of the first line met is returned, and the call ends so
 pub record Refuses (rows : List Row) (n : ℕ) (ends : Type 0) : Type 0 where
-  pub met : Meets rows n
-  pub lowest : (k : ℕ) → Meets rows k → n ≤ k
+  pub first : First-met rows n
   pub number : n ≡ 0 → ⊥
   pub result : ends
 

@@ -1,4 +1,5 @@
 -- `index_by` meets its contract: the size is known from the counts, and the numbers are those of the marks. Assumes nothing.
+use Rattle.spec.specs.Replaced.{replaced}
 use Rattle.laws.specs.Building.{linked-listable, linked-keys, few-keys, linked-room, marked-refused, marked-put}
 use borrow.Author.Needs.{needs}
 use Rattle.builder.proofs.build.index_by.Statement.{statement}
@@ -29,23 +30,23 @@ returns : tie.Need-returns
 returns c =
     let start = c .before .before .before .before .before .before .before .before .before .before .before .before .before .before .before .before .before in
     let k = c .before .before .before .before .before .before .before .before .link in
-    marked-refused (start .args .text .now) (start .args .marks .now) (k .last .1 .0) (k .last .1 .1 .0) (k .last .1 .1 .1 .0) (k .result .keys)
+    marked-refused (replaced (start .args .text .now)) (start .args .marks .now) (k .last .1 .0) (k .last .1 .1 .0) (k .last .1 .1 .1 .0) (k .result .keys)
     (k .result .entries) (start .pre .0) (k .ensures) (start .args .output .now) (c .if1 .taken)
 
 write-index-requires : tie.Need-write-index-requires
 write-index-requires c κs =
     let start = c .before .before .before .before .before .before .before .before .before .before .before .before .before .before .before .before .before .before .before .before .before in
     let k = c .before .before .before .before .before .before .before .before .before .before .before .before .link in (
-      linked-listable (start .args .text .now) (start .args .marks .now) (k .last .1 .0) (k .last .1 .1 .0) (k .last .1 .1 .1 .0) (k .result .keys)
+      linked-listable (replaced (start .args .text .now)) (start .args .marks .now) (k .last .1 .0) (k .last .1 .1 .0) (k .last .1 .1 .1 .0) (k .result .keys)
           (k .result .entries) (start .pre .0) (k .ensures),
       (
         (
-          linked-keys (start .args .text .now) (start .args .marks .now) (k .last .1 .0) (k .last .1 .1 .0) (k .last .1 .1 .1 .0) (k .result .keys)
+          linked-keys (replaced (start .args .text .now)) (start .args .marks .now) (k .last .1 .0) (k .last .1 .1 .0) (k .last .1 .1 .1 .0) (k .result .keys)
               (k .result .entries) (start .pre .0) (k .ensures),
-          few-keys (start .args .text .now) (start .args .marks .now) (k .last .1 .0) (k .last .1 .1 .0) (k .last .1 .1 .1 .0) (k .result .keys)
+          few-keys (replaced (start .args .text .now)) (start .args .marks .now) (k .last .1 .0) (k .last .1 .1 .0) (k .last .1 .1 .1 .0) (k .result .keys)
               (k .result .entries) (start .pre .0) (k .ensures),
         ),
-        linked-room (start .args .text .now) (start .args .marks .now) (k .last .1 .0) (k .last .1 .1 .0) (k .last .1 .1 .1 .0) (k .result .keys)
+        linked-room (replaced (start .args .text .now)) (start .args .marks .now) (k .last .1 .0) (k .last .1 .1 .0) (k .last .1 .1 .1 .0) (k .result .keys)
             (k .result .entries) (start .pre .0) (k .ensures) (start .args .output .now) (c .before .before .before .before .if1 .left),
       ),
     )
@@ -66,7 +67,7 @@ returns-2 : tie.Need-returns-2
 returns-2 c =
     let start = c .before .before .before .before .before .before .before .before .before .before .before .before .before .before .before .before .before .before .before .before .before .before .before .before in
     let k = c .before .before .before .before .before .before .before .before .before .before .before .before .before .before .before .link in
-    marked-put (start .args .text .now) (start .args .marks .now) (k .last .1 .0) (k .last .1 .1 .0) (k .last .1 .1 .1 .0) (k .result .keys)
+    marked-put (replaced (start .args .text .now)) (start .args .marks .now) (k .last .1 .0) (k .last .1 .1 .0) (k .last .1 .1 .1 .0) (k .result .keys)
     (k .result .entries) (start .pre .0) (k .ensures) (start .args .output .now) (c .before .before .write-index .last .1 .1 .1 .1 .0) (c .before .before .before .before .before .before .before .if1 .left) (c .before .before .write-index .ensures)
 
 pub index-by-spec : {M : Type 1} → statement M

@@ -17,8 +17,8 @@ hang-words-requires c κs =
     blank-room cs ls ts w (start .args .heads .now) (start .args .links .now) (start .args .starts .now)
     (λ i h. omega (arith, c .before .before .before .before .before .before .before .before .before .before .shared-slice-known .given i)) (start .pre .0) (start .pre .1)
 
-scan-requires : tie.Need-scan-requires
-scan-requires c κs =
+scan-replaced-requires : tie.Need-scan-replaced-requires
+scan-replaced-requires c κs =
     let start = c .before .before .before .before .before .before .before .before .before .before .before .before .before .before .before .before .before .before .before .before .before .before in
     let cs = start .args .chars .now in
     let ls = start .args .lengths .now in
@@ -33,9 +33,9 @@ finish-requires c κs =
     let ls = start .args .lengths .now in
     let ts = start .args .text .now in
     let w = length (start .args .work .now) in (
-      omega (arith, reached cs ls ts w (start .pre .0) .room, c .before .before .before .before .scan .kept .1 .1 .1 .1 .1 .1 .0),
-      front-linkable cs ls ts w (c .before .before .before .before .scan .last .1 .1 .1 .1 .1 .1 .0)
-          (λ i h. omega (arith, c .before .before .before .before .before .before .before .before .before .before .before .before .before .before .before .before .before .before .before .before .before .before .before .before .before .before .shared-slice-known .given i)) (start .pre .0) (c .before .before .before .before .scan .ensures .0),
+      omega (arith, reached cs ls ts w (start .pre .0) .room, c .before .before .before .before .scan-replaced .kept .1 .1 .1 .1 .1 .1 .0),
+      front-linkable cs ls ts w (c .before .before .before .before .scan-replaced .last .1 .1 .1 .1 .1 .1 .0)
+          (λ i h. omega (arith, c .before .before .before .before .before .before .before .before .before .before .before .before .before .before .before .before .before .before .before .before .before .before .before .before .before .before .shared-slice-known .given i)) (start .pre .0) (c .before .before .before .before .scan-replaced .ensures),
     )
 
 same-length : tie.Need-same-length
@@ -60,10 +60,10 @@ returns c =
     let ls = start .args .lengths .now in
     let ts = start .args .text .now in
     let w = length (start .args .work .now) in
-    let work = c .before .before .before .before .before .before .before .before .before .scan .last .1 .1 .1 .1 .1 .1 .0 in
+    let work = c .before .before .before .before .before .before .before .before .before .scan-replaced .last .1 .1 .1 .1 .1 .1 .0 in
     build-marked cs ls ts w (start .args .output .now)
     (λ i h. omega (arith, c .before .before .before .before .before .before .before .before .before .before .before .before .before .before .before .before .before .before .before .before .before .before .before .before .before .before .before .before .before .before .before .shared-slice-known .given i)) (λ i h. omega (arith, c .before .before .before .before .before .before .before .before .before .before .before .before .before .before .before .before .before .before .before .before .before .before .before .before .before .before .before .before .before .shared-slice-known3 .given i))
-    (start .pre .0) (take (length ts) work) (c .before .before .before .before .before .before .before .before .before .scan .ensures .0) (c .before .before .before .before .finish .result) (c .before .before .before .before .finish .last .1 .0)
+    (start .pre .0) (take (length ts) work) (c .before .before .before .before .before .before .before .before .before .scan-replaced .ensures) (c .before .before .before .before .finish .result) (c .before .before .before .before .finish .last .1 .0)
     (c .before .before .before .before .finish .ensures)
 
 pub index-with-spec : {M : Type 1} → statement M
@@ -71,7 +71,7 @@ index-with-spec =
     tie.close
     (tie.spec
     hang-words-requires
-    scan-requires
+    scan-replaced-requires
     finish-requires
     same-length
     same-length-2

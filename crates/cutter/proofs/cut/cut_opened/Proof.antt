@@ -32,8 +32,8 @@ returns-3 c =
     cut-too-long (a .chars .now) (a .lengths .now) (a .index .now) (a .string .now) (record { refusal = 6; count = 0 }) (a .output .now)
     (sym (s .pre .0) ∙ c .before .before .if1 .left) (c .if3 .taken) refl refl
 
-cut-lines-requires : tie.Need-cut-lines-requires
-cut-lines-requires c κs =
+cut-string-requires : tie.Need-cut-string-requires
+cut-string-requires c κs =
     let s = c .before .before .before .before .before .before .before .before .before in
     let a = s .args in
     let none = c .before .before .before .if1 .left in
@@ -54,7 +54,7 @@ returns-4 : tie.Need-returns-4
 returns-4 c =
     let s = c .before .before .before .before .before .before .before .before .before .before .before .before in
     let a = s .args in
-    let written = c .before .before .cut-lines in
+    let written = c .before .before .cut-string in
     cut-says (a .chars .now) (a .lengths .now) (a .index .now) (a .string .now) (written .result) (a .output .now)
     (sym (s .pre .0) ∙ c .before .before .before .before .before .before .if1 .left) (record { some = omega (arith, c .before .before .before .before .before .if2 .left); short = c .before .before .before .before .if3 .left })
     (written .last .1 .1 .1 .1 .1 .0) (written .ensures)
@@ -66,6 +66,6 @@ cut-opened-spec =
     returns
     returns-2
     returns-3
-    cut-lines-requires
+    cut-string-requires
     same-length
     returns-4)

@@ -2,7 +2,7 @@
 use mathlib.Core.Path.{sym, _∙_}
 use borrow.Author.Needs.{needs}
 use borrow.Author.Tests.{not-true, not-false}
-use Rattle.laws.specs.Admission.{refuses-words, refuses-chars, refuses-lengths, fitting, refuses-order, admits}
+use Rattle.laws.specs.Admission.{refuses-words, refuses-chars, refuses-lengths, fitting, refuses-order, refuses-forms, admits}
 use Rattle.dictionary.proofs.admission.refusal_of.Statement.{statement}
 use Rattle.dictionary.proofs.admission.refusal_of.Tie as tie
 
@@ -33,12 +33,32 @@ returns-4 c =
     (sym (c .before .before .before .lengths-fit .ensures) ∙ not-false (c .before .before .before .lengths-fit .result) (c .before .before .if3 .left))
     (sym (c .before .words-ascend .ensures) ∙ not-true (c .before .words-ascend .result) (c .if4 .taken)))
 
+holds-full-width-requires : tie.Need-holds-full-width-requires
+holds-full-width-requires c κs = search needs
+
 returns-5 : tie.Need-returns-5
 returns-5 c =
+    let order = c .before .before in
+    let sizes = order .before .before in
+    let short = sizes .before .before in
+    let start = short .before .before .before .before in
     sym
-    (admits (c .before .before .before .before .before .before .before .before .args .chars .now) (c .before .before .before .before .before .before .before .before .args .lengths .now) (c .before .before .before .before .before .if1 .left) (c .before .before .before .before .if2 .left)
-    (sym (c .before .before .before .lengths-fit .ensures) ∙ not-false (c .before .before .before .lengths-fit .result) (c .before .before .if3 .left))
-    (sym (c .before .words-ascend .ensures) ∙ not-false (c .before .words-ascend .result) (c .if4 .left)))
+    (refuses-forms (start .args .chars .now) (start .args .lengths .now) (short .before .if1 .left) (short .if2 .left)
+    (sym (sizes .before .lengths-fit .ensures) ∙ not-false (sizes .before .lengths-fit .result) (sizes .if3 .left))
+    (sym (order .before .words-ascend .ensures) ∙ not-false (order .before .words-ascend .result) (order .if4 .left))
+    (sym (c .before .holds-full-width .ensures) ∙ c .if5 .taken))
+
+returns-6 : tie.Need-returns-6
+returns-6 c =
+    let order = c .before .before in
+    let sizes = order .before .before in
+    let short = sizes .before .before in
+    let start = short .before .before .before .before in
+    sym
+    (admits (start .args .chars .now) (start .args .lengths .now) (short .before .if1 .left) (short .if2 .left)
+    (sym (sizes .before .lengths-fit .ensures) ∙ not-false (sizes .before .lengths-fit .result) (sizes .if3 .left))
+    (sym (order .before .words-ascend .ensures) ∙ not-false (order .before .words-ascend .result) (order .if4 .left))
+    (sym (c .before .holds-full-width .ensures) ∙ c .if5 .left))
 
 pub refusal-of-spec : {M : Type 1} → statement M
 refusal-of-spec =
@@ -50,4 +70,6 @@ refusal-of-spec =
     returns-3
     words-ascend-requires
     returns-4
-    returns-5)
+    holds-full-width-requires
+    returns-5
+    returns-6)

@@ -4,13 +4,16 @@ use mathlib.Core.Path.{_≡_, sym, _∙_}
 use Prim.Native.Nat.{_-_, _<_}
 use native.Mathlib.Omega.{arith}
 use lib.ListN.{length, getD}
+use Rattle.spec.specs.Replaced.{replaced}
+use Rattle.laws.specs.Replacing.{length-replaced, getD-replaced}
 use Rattle.laws.specs.KeyCode.{coded-none}
 use Rattle.laws.specs.Linking.{Links, links-start, links-below, links-mark, links-passed, links-new, links-more}
 use Rattle.grouping.proofs.group.link.Statement.{statement}
 use Rattle.grouping.proofs.group.link.Tie as tie
 
 abbrev Inv-loop : tie.InvT-loop
-Inv-loop text marks₀ heads₀ pages₀ keys₀ entries₀ p₀ marks heads pages keys entries p = Links text marks₀ marks heads pages keys entries p
+Inv-loop text marks₀ heads₀ pages₀ keys₀ entries₀ p₀ marks heads pages keys entries p =
+    Links (replaced text) marks₀ marks heads pages keys entries p
 
 abbrev μ-loop : tie.MeasureT-loop
 μ-loop text marks₀ heads₀ pages₀ keys₀ entries₀ p₀ marks heads pages keys entries p = p
@@ -19,7 +22,7 @@ below : (c : tie.In-loop Inv-loop μ-loop) → c .before .loop .p - 1 < length (
 below c =
     let start = c .before .before .before .before .before .before in
     let l = c .before .loop in
-    links-below (start .args .text .now) (start .args .marks .now) (l .marks) (l .heads) (l .pages) (l .keys) (l .entries) (l .p)
+    links-below (replaced (start .args .text .now)) (start .args .marks .now) (l .marks) (l .heads) (l .pages) (l .keys) (l .entries) (l .p)
     (l .p - 1) (omega (arith, c .loop-test .taken)) (l .inv)
 
 text-below :
@@ -31,12 +34,13 @@ text-below c =
       below (c .before .before .before),
       c .before .before .before .before .loop .inv .linked .long,
       c .before .before .before .before .before .before .before .before .before .pre .0 .long,
+      length-replaced (c .before .before .before .before .before .before .before .before .before .args .text .now),
     )
 
 loop-holds : tie.Need-loop-holds Inv-loop μ-loop
 loop-holds c =
     let start = c .before .before .before .before in
-    links-start (start .args .text .now) (start .args .marks .now) (start .args .heads .now) (start .args .pages .now) (start .pre .1)
+    links-start (replaced (start .args .text .now)) (start .args .marks .now) (start .args .heads .now) (start .args .pages .now) (start .pre .1)
 
 sub-p : tie.Need-sub-p Inv-loop μ-loop
 sub-p c = omega arith
@@ -58,7 +62,7 @@ code-of-requires c κs =
     let start = c .before .before .before .before .before .before .before .before .before in
     let l = c .before .before .before .before .loop in
     let same : getD (l .marks) (l .p - 1) 0 ≡ getD (start .args .marks .now) (l .p - 1) 0 =
-    links-mark (start .args .text .now) (start .args .marks .now) (l .marks) (l .heads) (l .pages) (l .keys) (l .entries) (l .p)
+    links-mark (replaced (start .args .text .now)) (start .args .marks .now) (l .marks) (l .heads) (l .pages) (l .keys) (l .entries) (l .p)
     (l .p - 1) (omega (arith, c .before .before .before .loop-test .taken)) (l .inv) in
     (omega (arith, c .before .if1 .taken), omega (arith, start .pre .0 .small (l .p - 1) (omega (arith, below (c .before .before .before), l .inv .linked .long))))
 
@@ -102,8 +106,8 @@ loop-again : tie.Need-loop-again Inv-loop μ-loop
 loop-again c =
     let start = c .before .before .before .before .before .before .before .before .before .before .before .before in
     let l = c .before .before .before .before .before .before .before .loop in
-    links-new (start .args .text .now) (start .args .marks .now) (l .marks) (l .heads) (l .pages) (l .keys) (l .entries) (l .p) (l .p - 1)
-    (omega (arith, c .before .before .before .before .before .before .loop-test .taken)) (l .inv) (c .before .before .code-of .result) (c .before .before .code-of .ensures .0) (c .before .before .code-of .ensures .1) (c .if2 .taken)
+    links-new (replaced (start .args .text .now)) (start .args .marks .now) (l .marks) (l .heads) (l .pages) (l .keys) (l .entries) (l .p) (l .p - 1)
+    (omega (arith, c .before .before .before .before .before .before .loop-test .taken)) (l .inv) (c .before .before .code-of .result) (rw (← getD-replaced (start .args .text .now) (l .p - 1)) at (c .before .before .code-of .ensures .0)) (c .before .before .code-of .ensures .1) (c .if2 .taken)
 
 loop-less-2 : tie.Need-loop-less-2 Inv-loop μ-loop
 loop-less-2 c = omega (arith, c .before .before .before .before .before .before .loop-test .taken)
@@ -112,8 +116,8 @@ loop-again-2 : tie.Need-loop-again-2 Inv-loop μ-loop
 loop-again-2 c =
     let start = c .before .before .before .before .before .before .before .before .before .before .before .before in
     let l = c .before .before .before .before .before .before .before .loop in
-    links-more (start .args .text .now) (start .args .marks .now) (l .marks) (l .heads) (l .pages) (l .keys) (l .entries) (l .p) (l .p - 1)
-    (omega (arith, c .before .before .before .before .before .before .loop-test .taken)) (l .inv) (c .before .before .code-of .result) (c .before .before .code-of .ensures .0) (c .before .before .code-of .ensures .1) (c .if2 .left)
+    links-more (replaced (start .args .text .now)) (start .args .marks .now) (l .marks) (l .heads) (l .pages) (l .keys) (l .entries) (l .p) (l .p - 1)
+    (omega (arith, c .before .before .before .before .before .before .loop-test .taken)) (l .inv) (c .before .before .code-of .result) (rw (← getD-replaced (start .args .text .now) (l .p - 1)) at (c .before .before .code-of .ensures .0)) (c .before .before .code-of .ensures .1) (c .if2 .left)
 
 loop-less-3 : tie.Need-loop-less-3 Inv-loop μ-loop
 loop-less-3 c = omega (arith, c .before .before .loop-test .taken)
@@ -122,8 +126,8 @@ loop-again-3 : tie.Need-loop-again-3 Inv-loop μ-loop
 loop-again-3 c =
     let start = c .before .before .before .before .before .before .before .before in
     let l = c .before .before .before .loop in
-    links-passed (start .args .text .now) (start .args .marks .now) (l .marks) (l .heads) (l .pages) (l .keys) (l .entries) (l .p) (l .p - 1)
-    (omega (arith, c .before .before .loop-test .taken)) (l .inv) (coded-none (getD (l .marks) (l .p - 1) 0) (getD (start .args .text .now) (l .p - 1) 0) (c .if1 .left))
+    links-passed (replaced (start .args .text .now)) (start .args .marks .now) (l .marks) (l .heads) (l .pages) (l .keys) (l .entries) (l .p) (l .p - 1)
+    (omega (arith, c .before .before .loop-test .taken)) (l .inv) (coded-none (getD (l .marks) (l .p - 1) 0) (getD (replaced (start .args .text .now)) (l .p - 1) 0) (c .if1 .left))
 
 same-length : tie.Need-same-length Inv-loop μ-loop
 same-length c = c .before .loop .inv .linked .long

@@ -1,9 +1,12 @@
 -- `put_find` meets its contract: the search is accepted, and what it wrote at the front is printed. Assumes nothing.
 use mathlib.Core.Path.{sym}
+use native.Mathlib.Omega.{arith}
 use borrow.Author.Needs.{needs}
 use lib.Seq.{length-take-le}
+use Rattle.spec.specs.Replaced.{replaced}
 use Rattle.spec.specs.Dictionary.{lexicon}
 use Rattle.spec.specs.Search.{find}
+use Rattle.laws.specs.Replacing.{length-replaced}
 use Rattle.laws.specs.AcceptedCalls.{In-hand, found-in-hand}
 use Rattle.jobsheet.proofs.finds.put_find.Statement.{statement}
 use Rattle.jobsheet.proofs.finds.put_find.Tie as tie
@@ -11,12 +14,13 @@ use Rattle.jobsheet.proofs.finds.put_find.Tie as tie
 -- the positions found are the front of the slice lent for them
 positions-in-hand :
     (c : tie.After-search-tabled) → let a = c .before .before .before .before .before .before .before .before .before .before .args in
-    In-hand (find (lexicon (a .chars .now) (a .lengths .now)) (a .index .now) (a .string .now)) (c .search-tabled .result .count) (c .search-tabled .last .1 .1 .1 .1 .1 .1 .0)
+    In-hand (find (lexicon (a .chars .now) (a .lengths .now)) (a .index .now) (replaced (a .string .now))) (c .search-tabled .result .count) (c .search-tabled .last .1 .1 .1 .1 .1 .1 .0)
 positions-in-hand c =
     let s = c .before .before .before .before .before .before .before .before .before .before in
     let a = s .args in
-    found-in-hand (lexicon (a .chars .now) (a .lengths .now)) (a .index .now) (a .string .now) (c .search-tabled .result) (a .found .now) (c .search-tabled .last .1 .1 .1 .1 .1 .1 .0)
-    (s .pre .0 .1) (s .pre .0 .2) (c .search-tabled .ensures)
+    found-in-hand (lexicon (a .chars .now) (a .lengths .now)) (a .index .now) (replaced (a .string .now)) (c .search-tabled .result) (a .found .now) (c .search-tabled .last .1 .1 .1 .1 .1 .1 .0)
+    (record { some = omega (arith, s .pre .0 .1 .some, length-replaced (a .string .now)); short = omega (arith, s .pre .0 .1 .short, length-replaced (a .string .now)) })
+    (s .pre .0 .2) (c .search-tabled .ensures)
 
 search-tabled-requires : tie.Need-search-tabled-requires
 search-tabled-requires c κs = search needs

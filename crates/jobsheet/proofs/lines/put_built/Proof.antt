@@ -7,6 +7,7 @@ use borrow.Author.Needs.{needs}
 use lib.ListN.{take}
 use lib.Seq.{length-take-le}
 use Rattle.basics.specs.Placed.{Wrote}
+use Rattle.spec.specs.Replaced.{replaced}
 use Rattle.spec.specs.Dictionary.{lexicon}
 use Rattle.spec.specs.Numbers.{index-of}
 use Rattle.laws.specs.AcceptedCalls.{In-hand, Usable, index-usable, build-accepted}
@@ -17,7 +18,7 @@ use Rattle.jobsheet.proofs.lines.put_built.Tie as tie
 -- the index is the front of the slice lent for it
 index-in-hand :
     (c : tie.After-build) → let a = c .before .before .before .before .before .before .before .before .before .before .before .before .args in
-    In-hand (index-of (lexicon (a .chars .now) (a .lengths .now)) (a .text .now)) (c .build .result .count) (c .build .last .1 .1 .1 .0)
+    In-hand (index-of (lexicon (a .chars .now) (a .lengths .now)) (replaced (a .text .now))) (c .build .result .count) (c .build .last .1 .1 .1 .0)
 index-in-hand c =
     let s = c .before .before .before .before .before .before .before .before .before .before .before .before in
     let a = s .args in

@@ -4,7 +4,7 @@ use Prim.Native.Nat.{_*_, _-_}
 use lib.ListN.{length, take, drop}
 use Rattle.spec.specs.Index.{lines-in}
 use Rattle.laws.specs.Noting.{note-lines}
-use Rattle.laws.specs.ReceivedText.{behind-long, behind-front, behind-put, zeros-are}
+use Rattle.laws.specs.WorkParts.{behind-long, behind-front, behind-put, zeros-are}
 use borrow.Author.Needs.{needs}
 use Rattle.receiver.proofs.text.note_behind.Statement.{statement}
 use Rattle.receiver.proofs.text.note_behind.Tie as tie

@@ -4,7 +4,7 @@ use lib.ListN.{length}
 use lib.Seq.{length-take-le}
 use native.Mathlib.Omega.{arith}
 use Rattle.laws.specs.PaintWalk.{started-words, started-read}
-use Rattle.laws.specs.ReceivedText.{front-put}
+use Rattle.laws.specs.WorkParts.{front-put}
 use borrow.Author.Needs.{needs}
 use Rattle.receiver.proofs.text.paint_front.Statement.{statement}
 use Rattle.receiver.proofs.text.paint_front.Tie as tie

@@ -3,7 +3,7 @@ use mathlib.Core.Path.{_≡_, sym}
 use Prim.Native.Nat.{_*_, _-_}
 use native.Mathlib.Omega.{arith}
 use lib.Seq.{length-take-le}
-use Rattle.laws.specs.ReceivedText.{behind-long}
+use Rattle.laws.specs.WorkParts.{behind-long}
 use borrow.Author.Needs.{needs}
 use Rattle.receiver.proofs.text.test_parts.Statement.{statement}
 use Rattle.receiver.proofs.text.test_parts.Tie as tie

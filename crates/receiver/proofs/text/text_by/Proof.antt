@@ -1,76 +1,77 @@
--- `text_by` meets its contract: painted, noted and tested, an index is accepted exactly if it is received. Assumes nothing.
-use mathlib.Core.Path.{refl}
+-- `text_by` meets its contract: where the index is that of what it shows, it is received exactly if that holds no full-width form.
+-- Assumes nothing.
+use mathlib.Core.Path.{_≡_, sym}
 use native.Mathlib.Omega.{arith}
-use lib.ListN.{length, take, drop}
-use Rattle.spec.specs.Dictionary.{longest-text, lexicon}
-use Rattle.spec.specs.Index.{n-of}
-use Rattle.laws.specs.NoteWalk.{readable-notes}
-use Rattle.laws.specs.Receiving.{delivered}
-use Rattle.laws.specs.ReceivedText.{delivered-lexicon, tried-noted, tried}
+use lib.ListN.{length}
+use Prim.Native.Nat.{_≤_}
+use lib.Seq.{length-take-le}
+use borrow.Author.Tests.{not-true, not-false}
 use borrow.Author.Needs.{needs}
+use Rattle.spec.specs.Dictionary.{lexicon}
+use Rattle.spec.specs.Index.{n-of}
+use Rattle.laws.specs.Receiving.{delivered}
+use Rattle.laws.specs.ReceivedText.{not-tried, tried}
 use Rattle.receiver.proofs.text.text_by.Statement.{statement}
 use Rattle.receiver.proofs.text.text_by.Tie as tie
 
-shared-slice-read-n : tie.Need-shared-slice-read-n
-shared-slice-read-n c =
-    let start = c .before .before .before .before .before .before .before .before in
-    omega (arith, delivered (start .args .chars .now) (start .args .lengths .now) (start .args .index .now) (length (start .args .work .now)) (start .pre .0) .fits .has-header)
-
-cast-n : tie.Need-cast-n
-cast-n c = omega (arith, c .shared-slice-known7 .given 0)
-
-paint-front-requires : tie.Need-paint-front-requires
-paint-front-requires c κs =
-    let start = c .before .before .before .before .before .before .before .before .before in
-    let met = delivered (start .args .chars .now) (start .args .lengths .now) (start .args .index .now) (length (start .args .work .now)) (start .pre .0) in
-    (start .pre .1 .words, met .can-read, refl, omega (arith, met .room))
-
-note-behind-requires : tie.Need-note-behind-requires
-note-behind-requires c κs =
-    let start = c .before .before .before .before .before .before .before .before .before .before .before .before .before in
-    let cs = start .args .chars .now in
-    let ls = start .args .lengths .now in
-    let xs = start .args .index .now in
-    let w = start .args .work .now in
-    let met = delivered cs ls xs (length w) (start .pre .0) in (
-      readable-notes (lexicon cs ls) (delivered-lexicon cs ls xs (length w) (λ i h. omega (arith, c .before .before .before .before .before .before .before .before .before .before .before .before .shared-slice-known .given i)) (start .pre .0)) longest-text xs (met .can-read) (n-of xs) (omega arith),
-      omega (arith, met .room, c .before .before .before .paint-front .kept .1 .1 .1 .1 .1 .0),
-    )
-
-test-parts-requires : tie.Need-test-parts-requires
-test-parts-requires c κs =
-    let start = c .before .before .before .before .before .before .before .before .before .before .before .before .before .before .before .before .before in
-    let cs = start .args .chars .now in
-    let ls = start .args .lengths .now in
-    let xs = start .args .index .now in
-    let w = start .args .work .now in
-    let met = delivered cs ls xs (length w) (start .pre .0) in (
-      start .pre .1,
-      met .fits,
-      tried-noted cs ls xs w (λ i h. omega (arith, c .before .before .before .before .before .before .before .before .before .before .before .before .before .before .before .before .shared-slice-known .given i)) (λ i h. omega (arith, c .before .before .before .before .before .before .before .before .before .before .slice-known .given i)) (start .pre .0) (c .before .before .before .before .before .before .before .paint-front .last .1 .1 .1 .1 .1 .0) (c .before .before .before .note-behind .last .1 .1 .0) (take (n-of xs) (drop (n-of xs) (c .before .before .before .note-behind .last .1 .1 .0))) (c .before .before .before .before .before .before .before .paint-front .ensures) (c .before .before .before .note-behind .ensures .0) (c .before .before .before .note-behind .ensures .1),
-      omega (arith, met .room, c .before .before .before .before .before .before .before .paint-front .kept .1 .1 .1 .1 .1 .0, c .before .before .before .note-behind .kept .1 .1 .0),
-    )
+shown-by-requires : tie.Need-shown-by-requires
+shown-by-requires c κs = search needs
 
 same-length : tie.Need-same-length
 same-length c = search needs
 
 returns : tie.Need-returns
 returns c =
-    let start = c .before .before .before .before .before .before .before .before .before .before .before .before .before .before .before .before .before .before in
-    let cs = start .args .chars .now in
-    let ls = start .args .lengths .now in
-    let xs = start .args .index .now in
-    let w = start .args .work .now in
-    tried cs ls xs w (λ i h. omega (arith, c .before .before .before .before .before .before .before .before .before .before .before .before .before .before .before .before .before .shared-slice-known .given i)) (λ i h. omega (arith, c .before .before .before .before .before .before .before .before .before .before .before .slice-known .given i)) (start .pre .0) (c .before .before .before .before .before .before .before .before .paint-front .last .1 .1 .1 .1 .1 .0) (c .before .before .before .before .note-behind .last .1 .1 .0) (take (n-of xs) (drop (n-of xs) (c .before .before .before .before .note-behind .last .1 .1 .0))) (c .before .before .before .before .before .before .before .before .paint-front .ensures) (c .before .before .before .before .note-behind .ensures .0) (c .before .before .before .before .note-behind .ensures .1) (c .test-parts .result) (c .test-parts .ensures)
+    let start = c .before .before .before .before .before .before .before .before .before .before .before .before in
+    let call = c .before .before .before .shown-by in
+    not-tried (lexicon (start .args .chars .now) (start .args .lengths .now)) (start .args .index .now) (call .last .1 .1 .1 .1 .1 .1 .0) (call .result) (call .ensures)
+    (not-true (call .result) (c .if1 .taken))
+
+room : (c : tie.After-shared-slice-known7) → n-of (c .before .before .before .before .before .before .before .before .before .before .before .before .before .args .index .now) ≤ length (c .before .before .before .before .shown-by .last .1 .1 .1 .1 .1 .1 .0)
+room c =
+    let start = c .before .before .before .before .before .before .before .before .before .before .before .before .before in
+    omega (arith, delivered (start .args .chars .now) (start .args .lengths .now) (start .args .index .now) (length (start .args .work .now)) (start .pre .0) .room, c .before .before .before .before .shown-by .kept .1 .1 .1 .1 .1 .1 .0)
+
+shared-slice-read-n : tie.Need-shared-slice-read-n
+shared-slice-read-n c =
+    let start = c .before .before .before .before .before .before .before .before .before .before .before .before .before in
+    omega (arith, delivered (start .args .chars .now) (start .args .lengths .now) (start .args .index .now) (length (start .args .work .now)) (start .pre .0) .fits .has-header)
+
+cast-n : tie.Need-cast-n
+cast-n c = omega (arith, c .shared-slice-known7 .given 0)
+
+slice-reshare-prefix-holds-full-width : tie.Need-slice-reshare-prefix-holds-full-width
+slice-reshare-prefix-holds-full-width c = room c
+
+slice-aggregate-holds-full-width : tie.Need-slice-aggregate-holds-full-width
+slice-aggregate-holds-full-width c =
+    let start = c .before .before .before .before .before .before .before .before .before .before .before .before .before .before in
+    sym (length-take-le (n-of (start .args .index .now)) (c .before .before .before .before .before .shown-by .last .1 .1 .1 .1 .1 .1 .0) (room (c .before)))
+
+holds-full-width-requires : tie.Need-holds-full-width-requires
+holds-full-width-requires c κs = search needs
+
+same-length-2 : tie.Need-same-length-2
+same-length-2 c = search needs
+
+returns-2 : tie.Need-returns-2
+returns-2 c =
+    let start = c .before .before .before .before .before .before .before .before .before .before .before .before .before .before .before in
+    let call = c .before .before .before .before .before .before .shown-by in
+    tried (lexicon (start .args .chars .now) (start .args .lengths .now)) (start .args .index .now) (call .last .1 .1 .1 .1 .1 .1 .0) (call .result) (call .ensures)
+    (not-false (call .result) (c .before .before .before .if1 .left)) (c .holds-full-width .result) (c .holds-full-width .ensures)
 
 pub text-by-spec : {M : Type 1} → statement M
 text-by-spec =
     tie.close
     (tie.spec
+    shown-by-requires
+    same-length
+    returns
     shared-slice-read-n
     cast-n
-    paint-front-requires
-    note-behind-requires
-    test-parts-requires
-    same-length
-    returns)
+    slice-reshare-prefix-holds-full-width
+    slice-aggregate-holds-full-width
+    holds-full-width-requires
+    same-length-2
+    returns-2)

@@ -1,35 +1,61 @@
 -- `scan` meets its contract. The invariant: the marks of the places passed, and what the scan will register from there on. The
 -- measure is how many places are left. Assumes nothing.
+use mathlib.Core.Path.{_≡_}
 use Prim.Native.Nat.{_-_}
-use lib.ListN.{length}
+use native.Mathlib.Omega.{arith}
+use lib.ListN.{length, take, drop}
 use borrow.Author.Needs.{needs}
 use Rattle.spec.specs.Dictionary.{lexicon}
-use Rattle.laws.specs.ScanMarks.{Marking, marking-start, marking-room, marking-step, marking-end, marking-rest}
+use Rattle.laws.specs.ScanMarks.{Marking, behind-start, behind-below, behind-end-within, behind-room, behind-step, behind-marks, behind-rest}
 use Rattle.scanning.proofs.scan.scan.Statement.{statement}
 use Rattle.scanning.proofs.scan.scan.Tie as tie
 
 abbrev Inv-loop : tie.InvT-loop
-Inv-loop chars lengths heads links starts text work₀ end₀ at₀ work end at = Marking (lexicon chars lengths) text work₀ work at end
+Inv-loop chars lengths heads links starts n work₀ behind end₀ at₀ work end at =
+    Marking (lexicon chars lengths) (take n (drop n work₀)) work₀ work at end
 
 abbrev μ-loop : tie.MeasureT-loop
-μ-loop chars lengths heads links starts text work₀ end₀ at₀ work end at = length text - at
+μ-loop chars lengths heads links starts n work₀ behind end₀ at₀ work end at = n - at
+
+mul-behind : tie.Need-mul-behind Inv-loop μ-loop
+mul-behind c = search needs
 
 loop-holds : tie.Need-loop-holds Inv-loop μ-loop
 loop-holds c =
-    let start = c .before .before .before .before .before .before .before in
-    marking-start (lexicon (start .args .chars .now) (start .args .lengths .now)) (start .args .text .now) (start .args .work .now) (start .pre .1)
+    let start = c .before .before .before .before .before .before in
+    behind-start (lexicon (start .args .chars .now) (start .args .lengths .now)) (start .args .work .now) (start .args .n) (start .pre .1)
+
+mul-step : tie.Need-mul-step Inv-loop μ-loop
+mul-step c = search needs
+
+sub-step : tie.Need-sub-step Inv-loop μ-loop
+sub-step c = search needs
+
+part-step-start : tie.Need-part-step-start Inv-loop μ-loop
+part-step-start c = search needs
+
+part-step-end : tie.Need-part-step-end Inv-loop μ-loop
+part-step-end c = omega (arith, c .before .before .loop .inv .size, c .before .before .before .before .before .before .before .before .before .pre .1)
 
 step-requires : tie.Need-step-requires Inv-loop μ-loop
-step-requires c κs = (c .before .before .before .before .before .before .before .before .before .pre .0, c .loop-test .taken, c .before .loop .inv .end)
+step-requires c κs =
+    let turn = c .before .before .before .loop in
+    let start = c .before .before .before .before .before .before .before .before .before .before in
+    let lex = lexicon (start .args .chars .now) (start .args .lengths .now) in (
+      start .pre .0,
+      behind-below lex (start .args .work .now) (start .args .n) (start .pre .1) (turn .work) (turn .at) (turn .end) (turn .inv) (c .before .before .loop-test .taken),
+      behind-end-within lex (start .args .work .now) (start .args .n) (start .pre .1) (turn .work) (turn .at) (turn .end) (turn .inv),
+    )
 
 mul-work : tie.Need-mul-work Inv-loop μ-loop
 mul-work c = search needs
 
 slice-write-work : tie.Need-slice-write-work Inv-loop μ-loop
 slice-write-work c =
-    let start = c .before .before .before .before .before .before .before .before .before .before in
-    let turn = c .before .before .loop in
-    marking-room (lexicon (start .args .chars .now) (start .args .lengths .now)) (start .args .text .now) (start .args .work .now) (start .pre .1) (turn .work) (turn .at) (turn .end) (turn .inv) (c .before .loop-test .taken)
+    let turn = c .before .before .before .before .loop in
+    let start = c .before .before .before .before .before .before .before .before .before .before .before in
+    behind-room (lexicon (start .args .chars .now) (start .args .lengths .now)) (start .args .work .now) (start .args .n) (start .pre .1)
+    (turn .work) (turn .at) (turn .end) (turn .inv) (c .before .before .before .loop-test .taken)
 
 add-at : tie.Need-add-at Inv-loop μ-loop
 add-at c = search needs
@@ -39,19 +65,22 @@ loop-less c = search needs
 
 loop-again : tie.Need-loop-again Inv-loop μ-loop
 loop-again c =
-    let start = c .before .before .before .before .before .before .before .before .before .before in
-    let turn = c .before .before .loop in
-    marking-step (lexicon (start .args .chars .now) (start .args .lengths .now)) (start .args .text .now) (start .args .work .now) (start .pre .1) (turn .work) (turn .at) (turn .end) (turn .inv) (c .step .result .mark) (c .step .result .end) (c .before .loop-test .taken) (c .step .ensures)
+    let turn = c .before .before .before .before .loop in
+    let start = c .before .before .before .before .before .before .before .before .before .before .before in
+    behind-step (lexicon (start .args .chars .now) (start .args .lengths .now)) (start .args .work .now) (start .args .n) (start .pre .1)
+    (turn .work) (turn .at) (turn .end) (turn .inv) (c .step .result .mark) (c .step .result .end) (c .before .before .before .loop-test .taken)
+    (c .step .ensures)
 
 same-length : tie.Need-same-length Inv-loop μ-loop
 same-length c = c .before .loop .inv .size
 
 returns : tie.Need-returns Inv-loop μ-loop
 returns c =
-    let start = c .before .before .before .before .before .before .before .before .before in
-    let turn = c .before .loop in (
-      marking-end (lexicon (start .args .chars .now) (start .args .lengths .now)) (start .args .text .now) (start .args .work .now) (start .pre .1) (turn .work) (turn .at) (turn .end) (turn .inv) (c .loop-test .left),
-      marking-rest (lexicon (start .args .chars .now) (start .args .lengths .now)) (start .args .text .now) (start .args .work .now) (start .pre .1) (turn .work) (turn .at) (turn .end) (turn .inv) (c .loop-test .left),
+    let turn = c .before .loop in
+    let start = c .before .before .before .before .before .before .before .before in
+    let lex = lexicon (start .args .chars .now) (start .args .lengths .now) in (
+      behind-marks lex (start .args .work .now) (start .args .n) (start .pre .1) (turn .work) (turn .at) (turn .end) (turn .inv) (c .loop-test .left),
+      behind-rest lex (start .args .work .now) (start .args .n) (start .pre .1) (turn .work) (turn .at) (turn .end) (turn .inv) (c .loop-test .left),
     )
 
 pub scan-spec : {M : Type 1} → statement M
@@ -60,7 +89,12 @@ scan-spec =
     (tie.spec
     Inv-loop
     μ-loop
+    mul-behind
     loop-holds
+    mul-step
+    sub-step
+    part-step-start
+    part-step-end
     step-requires
     mul-work
     slice-write-work

@@ -2,6 +2,7 @@
 use mathlib.Core.Path.{_≡_, refl, sym, _∙_}
 use Prim.Native.Nat.{ℕ}
 use native.Mathlib.Omega.{arith}
+use Rattle.spec.specs.Replaced.{replaced}
 use Rattle.spec.specs.Dictionary.{lexicon}
 use Rattle.spec.specs.Index.{keys-of}
 use Rattle.spec.specs.Calls.{index-refusal}
@@ -50,7 +51,7 @@ first-lines-requires c κs =
 cast-position : tie.Need-cast-position
 cast-position c =
     let a = c .before .before .before .before .before .before .before .before .args in
-    omega (arith, c .first-lines .ensures, first-position-small (lexicon (a .chars .now) (a .lengths .now)) (a .index .now) (a .string .now), c .before .before .before .before .before .shared-slice-known3 .given 0)
+    omega (arith, c .first-lines .ensures, first-position-small (lexicon (a .chars .now) (a .lengths .now)) (a .index .now) (replaced (a .string .now)), c .before .before .before .before .before .shared-slice-known3 .given 0)
 
 returns-4 : tie.Need-returns-4
 returns-4 c =

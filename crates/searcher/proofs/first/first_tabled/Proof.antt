@@ -1,35 +1,34 @@
--- `first_tabled` meets its contract: the starts are all at which the string fits. Assumes nothing.
-use Rattle.spec.specs.Dictionary.{lexicon}
-use Rattle.laws.specs.FirstFound.{first-in-all}
+-- `first_tabled` meets its contract: the string that is searched for is the replaced one. Assumes nothing.
 use borrow.Author.Needs.{needs}
+use Rattle.laws.specs.Sizing.{own-long, own-string}
 use Rattle.searcher.proofs.first.first_tabled.Statement.{statement}
 use Rattle.searcher.proofs.first.first_tabled.Tie as tie
 
-shared-slice-read-starts-of : tie.Need-shared-slice-read-starts-of
-shared-slice-read-starts-of c = search needs
+replaced-string-requires : tie.Need-replaced-string-requires
+replaced-string-requires c κs = search needs
 
-cast-starts-of : tie.Need-cast-starts-of
-cast-starts-of c = search needs
+array-share-prefix-own : tie.Need-array-share-prefix-own
+array-share-prefix-own c = search needs
 
-starts-of-requires : tie.Need-starts-of-requires
-starts-of-requires c κs = search needs
+slice-aggregate-first-plain : tie.Need-slice-aggregate-first-plain
+slice-aggregate-first-plain c =
+    let start = c .before .before .before .before .before .before .before .before in
+    own-long (start .args .string .now) (c .before .replaced-string .result) (c .before .replaced-string .ensures)
 
-first-of-starts-requires : tie.Need-first-of-starts-requires
-first-of-starts-requires c κs = search needs
+first-plain-requires : tie.Need-first-plain-requires
+first-plain-requires c κs =
+    let start = c .before .before .before .before .before .before .before .before in
+    (start .pre .0, own-string (start .args .string .now) (c .before .replaced-string .result) (c .before .replaced-string .ensures) (start .pre .1))
 
 returns : tie.Need-returns
-returns c =
-    let a = c .before .before .before .before .before .before .before .before .before .args in
-    let starts = c .before .starts-of in
-    let found = c .first-of-starts in
-    first-in-all (lexicon (a .chars .now) (a .lengths .now)) (a .index .now) (a .string .now) (starts .result) (found .result) (starts .ensures) (found .ensures)
+returns c = rw (c .before .before .replaced-string .ensures) at (c .first-plain .ensures)
 
 pub first-tabled-spec : {M : Type 1} → statement M
 first-tabled-spec =
     tie.close
     (tie.spec
-    shared-slice-read-starts-of
-    cast-starts-of
-    starts-of-requires
-    first-of-starts-requires
+    replaced-string-requires
+    array-share-prefix-own
+    slice-aggregate-first-plain
+    first-plain-requires
     returns)

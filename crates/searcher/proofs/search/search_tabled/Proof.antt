@@ -1,40 +1,39 @@
--- `search_tabled` meets its contract: the starts are all at which the string fits. Assumes nothing.
-use Rattle.spec.specs.Dictionary.{lexicon}
-use Rattle.laws.specs.Searching.{all-starts}
+-- `search_tabled` meets its contract: the string that is searched for is the replaced one. Assumes nothing.
 use borrow.Author.Needs.{needs}
+use Rattle.laws.specs.Sizing.{own-long, own-string}
 use Rattle.searcher.proofs.search.search_tabled.Statement.{statement}
 use Rattle.searcher.proofs.search.search_tabled.Tie as tie
 
-shared-slice-read-starts-of : tie.Need-shared-slice-read-starts-of
-shared-slice-read-starts-of c = search needs
+replaced-string-requires : tie.Need-replaced-string-requires
+replaced-string-requires c κs = search needs
 
-cast-starts-of : tie.Need-cast-starts-of
-cast-starts-of c = search needs
+array-share-prefix-own : tie.Need-array-share-prefix-own
+array-share-prefix-own c = search needs
 
-starts-of-requires : tie.Need-starts-of-requires
-starts-of-requires c κs = search needs
+slice-aggregate-search-plain : tie.Need-slice-aggregate-search-plain
+slice-aggregate-search-plain c =
+    let start = c .before .before .before .before .before .before .before .before .before in
+    own-long (start .args .string .now) (c .before .replaced-string .result) (c .before .replaced-string .ensures)
 
-search-starts-requires : tie.Need-search-starts-requires
-search-starts-requires c κs = search needs
+search-plain-requires : tie.Need-search-plain-requires
+search-plain-requires c κs =
+    let start = c .before .before .before .before .before .before .before .before .before .before in
+    let own = c .before .before .replaced-string in
+    (start .pre .0, own-string (start .args .string .now) (own .result) (own .ensures) (start .pre .1))
 
 same-length : tie.Need-same-length
 same-length c = search needs
 
 returns : tie.Need-returns
-returns c =
-    let a = c .before .before .before .before .before .before .before .before .before .before .before .before .before .args in
-    let starts = c .before .before .before .before .starts-of in
-    let searched = c .before .before .search-starts in
-    all-starts (lexicon (a .chars .now) (a .lengths .now)) (a .index .now) (a .string .now) (searched .result) (a .output .now) (searched .last .1 .1 .1 .1 .1 .1 .1 .0)
-    (starts .result) (starts .ensures) (searched .ensures)
+returns c = rw (c .before .before .before .before .before .replaced-string .ensures) at (c .before .before .search-plain .ensures)
 
 pub search-tabled-spec : {M : Type 1} → statement M
 search-tabled-spec =
     tie.close
     (tie.spec
-    shared-slice-read-starts-of
-    cast-starts-of
-    starts-of-requires
-    search-starts-requires
+    replaced-string-requires
+    array-share-prefix-own
+    slice-aggregate-search-plain
+    search-plain-requires
     same-length
     returns)

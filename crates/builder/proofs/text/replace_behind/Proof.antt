@@ -1,0 +1,57 @@
+-- `replace_behind` meets its contract: the part behind the marks is as long as the text, and takes all of it. Assumes nothing.
+use mathlib.Core.Path.{_≡_, sym, _∙_}
+use Prim.Native.Nat.{_*_, _-_}
+use lib.ListN.{length, take, drop}
+use borrow.Author.Needs.{needs}
+use Rattle.spec.specs.Replaced.{replaced}
+use Rattle.laws.specs.Replacing.{length-replaced}
+use Rattle.laws.specs.WorkParts.{behind-long, behind-put, front-whole}
+use Rattle.builder.proofs.text.replace_behind.Statement.{statement}
+use Rattle.builder.proofs.text.replace_behind.Tie as tie
+
+mul-behind : tie.Need-mul-behind
+mul-behind c = search needs
+
+mul-replace-into : tie.Need-mul-replace-into
+mul-replace-into c = search needs
+
+sub-replace-into : tie.Need-sub-replace-into
+sub-replace-into c = search needs
+
+part-replace-into-start : tie.Need-part-replace-into-start
+part-replace-into-start c = search needs
+
+part-replace-into-end : tie.Need-part-replace-into-end
+part-replace-into-end c = search needs
+
+replace-into-requires : tie.Need-replace-into-requires
+replace-into-requires c κs = search needs
+
+same-length : tie.Need-same-length
+same-length c = search needs
+
+returns : tie.Need-returns
+returns c =
+    let start = c .before .before .before .before .before .before in
+    let text = start .args .text .now in
+    let work = start .args .work .now in
+    let n = length text in
+    let call = c .before .before .replace-into in
+    let part = call .last .1 .0 in
+    let long : length (take (2 * n - n) (drop n work)) ≡ n = behind-long n work (start .pre) in
+    behind-put n work (start .pre) part (call .kept .1 .0 ∙ long)
+    ∙ call .ensures
+    ∙ front-whole (replaced text) (take (2 * n - n) (drop n work)) (long ∙ sym (length-replaced text))
+
+pub replace-behind-spec : {M : Type 1} → statement M
+replace-behind-spec =
+    tie.close
+    (tie.spec
+    mul-behind
+    mul-replace-into
+    sub-replace-into
+    part-replace-into-start
+    part-replace-into-end
+    replace-into-requires
+    same-length
+    returns)

@@ -1,0 +1,39 @@
+// The text of a build: replaced, and scanned.
+//
+// Of the work slice the first n numbers take the marks and the next n the replaced text, 2n of the 8n that a caller lends.
+ghost use mathlib.Core.Path.{_≡_};
+ghost use Prim.Native.Nat.{_*_, _≤_};
+ghost use lib.ListN.{length, take, drop};
+ghost use Rattle.spec.specs.Replaced.{replaced};
+ghost use Rattle.spec.specs.Dictionary.{lexicon};
+ghost use Rattle.laws.specs.WordTable.{Tables};
+ghost use Rattle.laws.specs.Marks.{Marks};
+use folding::forms::replace_into;
+use scanning::scan::scan;
+
+// Writes the replaced text to the numbers after those that the marks take.
+fn replace_behind(text: &[u16], work: &mut [u16])
+    requires { ⌜ 2 * length (now text) ≤ length (now work) ⌝ }
+    ensures { λ _. ⌜ take (length (now (text .entry))) (drop (length (now (text .entry))) (now (work .exit))) ≡ replaced (now (text .entry)) ⌝ }
+{
+    let n = text.len();
+    let behind = 2 * n;
+    replace_into(text, &mut work[n..behind]);
+}
+
+// Writes the marks of the replaced text to the front of the work slice.
+pub(crate) fn scan_replaced(
+    chars: &[u16],
+    lengths: &[u16],
+    heads: &[u16],
+    links: &[u16],
+    starts: &[u16],
+    text: &[u16],
+    work: &mut [u16],
+)
+    requires { ⌜ Tables (now chars) (now lengths) (now heads) (now links) (now starts) × (2 * length (now text) ≤ length (now work)) ⌝ }
+    ensures { λ _. ⌜ Marks (lexicon (now (chars .entry)) (now (lengths .entry))) (replaced (now (text .entry))) (take (length (now (text .entry))) (now (work .exit))) ⌝ }
+{
+    replace_behind(text, work);
+    scan(chars, lengths, heads, links, starts, text.len(), work);
+}

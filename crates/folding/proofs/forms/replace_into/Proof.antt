@@ -1,0 +1,85 @@
+-- `replace_into` meets its contract. The invariant: what is left of the replaced text is to be written from i on. The measure is how much
+-- that is. Assumes nothing.
+use Prim.Native.Nat.{_-_, _≤_}
+use native.Mathlib.Omega.{arith}
+use lib.ListN.{length, drop}
+use borrow.Author.Needs.{needs}
+use Rattle.basics.specs.Placed.{Writing, writing-start}
+use Rattle.basics.specs.PlacedCopies.{copy-room, copy-step, copy-end}
+use Rattle.spec.specs.Replaced.{replaced}
+use Rattle.laws.specs.Replacing.{length-replaced, getD-replaced}
+use Rattle.laws.specs.Receiving.{text-put}
+use Rattle.folding.proofs.forms.replace_into.Statement.{statement}
+use Rattle.folding.proofs.forms.replace_into.Tie as tie
+
+abbrev Inv-loop : tie.InvT-loop
+Inv-loop text slots₀ i₀ slots i = (i ≤ length text) × Writing (replaced text) 0 slots₀ (drop i (replaced text)) i slots
+
+abbrev μ-loop : tie.MeasureT-loop
+μ-loop text slots₀ i₀ slots i = length text - i
+
+loop-holds : tie.Need-loop-holds Inv-loop μ-loop
+loop-holds c =
+    let start = c .before .before in
+    (omega arith, writing-start (replaced (start .args .text .now)) 0 (start .args .slots .now) (omega (arith, start .pre, length-replaced (start .args .text .now))))
+
+mul-replace : tie.Need-mul-replace Inv-loop μ-loop
+mul-replace c = search needs
+
+shared-slice-read-replace : tie.Need-shared-slice-read-replace Inv-loop μ-loop
+shared-slice-read-replace c = search needs
+
+replace-requires : tie.Need-replace-requires Inv-loop μ-loop
+replace-requires c κs = search needs
+
+mul-slots : tie.Need-mul-slots Inv-loop μ-loop
+mul-slots c = search needs
+
+slice-write-slots : tie.Need-slice-write-slots Inv-loop μ-loop
+slice-write-slots c =
+    let text = c .before .before .before .before .before .before .args .text .now in
+    let turn = c .before .before .before .loop in
+    copy-room (replaced text) (turn .i) (turn .inv .1) (omega (arith, c .before .before .loop-test .taken, length-replaced text))
+
+add-i : tie.Need-add-i Inv-loop μ-loop
+add-i c = search needs
+
+loop-less : tie.Need-loop-less Inv-loop μ-loop
+loop-less c = search needs
+
+loop-again : tie.Need-loop-again Inv-loop μ-loop
+loop-again c =
+    let text = c .before .before .before .before .before .before .args .text .now in
+    let turn = c .before .before .before .loop in (
+      omega arith,
+      rw (c .replace .ensures, ← getD-replaced text (turn .i))
+          (copy-step (replaced text) (turn .i) (turn .inv .1) (omega (arith, c .before .before .loop-test .taken, length-replaced text))),
+    )
+
+same-length : tie.Need-same-length Inv-loop μ-loop
+same-length c = c .before .loop .inv .1 .long
+
+returns : tie.Need-returns Inv-loop μ-loop
+returns c =
+    let start = c .before .before .before .before in
+    let turn = c .before .loop in
+    text-put (replaced (start .args .text .now)) (start .args .slots .now) (turn .slots) (turn .i)
+    (copy-end (replaced (start .args .text .now)) (turn .i) (turn .inv .1) (omega (arith, c .loop-test .left, length-replaced (start .args .text .now))))
+
+pub replace-into-spec : {M : Type 1} → statement M
+replace-into-spec =
+    tie.close
+    (tie.spec
+    Inv-loop
+    μ-loop
+    loop-holds
+    mul-replace
+    shared-slice-read-replace
+    replace-requires
+    mul-slots
+    slice-write-slots
+    add-i
+    loop-less
+    loop-again
+    same-length
+    returns)

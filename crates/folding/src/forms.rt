@@ -1,0 +1,61 @@
+// Full-width forms: characters FF01 to FF5E, each replaced by the character FEE0 lower.
+//
+// The loops have no branch that depends on a character, so that they compile to vector instructions and run at the speed of memory.
+ghost use mathlib.Core.Path.{_≡_};
+ghost use Prim.Native.Nat.{_≤_};
+ghost use lib.ListN.{length, take};
+ghost use Rattle.spec.specs.Replaced.{is-full-width, replaced-char, replaced, holds-full-width};
+ghost use Rattle.spec.specs.Calls.{in-front};
+
+// Whether a character is a full-width form.
+fn is_full_width(character: u16) -> bool
+    ensures { λ r. ⌜ r ≡ is-full-width character ⌝ }
+{
+    (0xFF01 <= character) & (character <= 0xFF5E)
+}
+
+// The character that a character is replaced by; its own where it is no full-width form.
+pub fn replace(character: u16) -> u16
+    ensures { λ r. ⌜ r ≡ replaced-char character ⌝ }
+{
+    if is_full_width(character) {
+        character - 0xFEE0
+    } else {
+        character
+    }
+}
+
+// Whether a full-width form is one of the characters.
+pub fn holds_full_width(text: &[u16]) -> bool
+    ensures { λ r. ⌜ r ≡ holds-full-width (now (text .entry)) ⌝ }
+{
+    let mut held = false;
+    let mut i = 0;
+    while i < text.len() {
+        held = held | is_full_width(text[i]);
+        i += 1;
+    }
+    held
+}
+
+// Writes the replaced text to the front of a slice.
+pub fn replace_into(text: &[u16], slots: &mut [u16])
+    requires { ⌜ length (now text) ≤ length (now slots) ⌝ }
+    ensures { λ _. ⌜ now (slots .exit) ≡ in-front (replaced (now (text .entry))) (now (slots .entry)) ⌝ }
+{
+    let mut i = 0;
+    while i < text.len() {
+        slots[i] = replace(text[i]);
+        i += 1;
+    }
+}
+
+// A search string, replaced, at the front of an array that holds any.
+pub fn replaced_string(string: &[u16]) -> [u16; 256]
+    requires { ⌜ length (now string) ≤ 256 ⌝ }
+    ensures { λ r. ⌜ take (length (now (string .entry))) r ≡ replaced (now (string .entry)) ⌝ }
+{
+    let mut own = [0u16; 256];
+    replace_into(string, &mut own);
+    own
+}

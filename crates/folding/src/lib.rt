@@ -1,0 +1,2 @@
+// Full-width forms, replaced in texts and search strings (width folding).
+pub mod forms;

@@ -1,0 +1,40 @@
+-- `search_plain` meets its contract: the starts are all at which the string fits. Assumes nothing.
+use Rattle.spec.specs.Dictionary.{lexicon}
+use Rattle.laws.specs.Searching.{all-starts}
+use borrow.Author.Needs.{needs}
+use Rattle.searcher.proofs.search.search_plain.Statement.{statement}
+use Rattle.searcher.proofs.search.search_plain.Tie as tie
+
+shared-slice-read-starts-of : tie.Need-shared-slice-read-starts-of
+shared-slice-read-starts-of c = search needs
+
+cast-starts-of : tie.Need-cast-starts-of
+cast-starts-of c = search needs
+
+starts-of-requires : tie.Need-starts-of-requires
+starts-of-requires c κs = search needs
+
+search-starts-requires : tie.Need-search-starts-requires
+search-starts-requires c κs = search needs
+
+same-length : tie.Need-same-length
+same-length c = search needs
+
+returns : tie.Need-returns
+returns c =
+    let a = c .before .before .before .before .before .before .before .before .before .before .before .before .before .args in
+    let starts = c .before .before .before .before .starts-of in
+    let searched = c .before .before .search-starts in
+    all-starts (lexicon (a .chars .now) (a .lengths .now)) (a .index .now) (a .string .now) (searched .result) (a .output .now) (searched .last .1 .1 .1 .1 .1 .1 .1 .0)
+    (starts .result) (starts .ensures) (searched .ensures)
+
+pub search-plain-spec : {M : Type 1} → statement M
+search-plain-spec =
+    tie.close
+    (tie.spec
+    shared-slice-read-starts-of
+    cast-starts-of
+    starts-of-requires
+    search-starts-requires
+    same-length
+    returns)
