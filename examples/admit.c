@@ -53,6 +53,10 @@ static const trial trials[] = {
      {MOPEKIHUA_WORDS_NOT_ASCENDING, 0}},
     {"prefix last: abc, ab", CHARS(u"abc" u"ab"), LENGTHS(3, 2),
      {MOPEKIHUA_WORDS_NOT_ASCENDING, 0}},
+    {"full-width: ab, ａｂ", CHARS(u"ab" u"ａｂ"), LENGTHS(2, 2),
+     {MOPEKIHUA_FULL_WIDTH_WORD, 0}},
+    {"full-width and falling: ａｂ, ab", CHARS(u"ａｂ" u"ab"), LENGTHS(2, 2),
+     {MOPEKIHUA_WORDS_NOT_ASCENDING, 0}},
 };
 
 static const char *explain(uint32_t refusal)
@@ -65,6 +69,8 @@ static const char *explain(uint32_t refusal)
                "to the characters lent";
     case MOPEKIHUA_WORDS_NOT_ASCENDING:
         return "words do not ascend strictly";
+    case MOPEKIHUA_FULL_WIDTH_WORD:
+        return "a word holds a character from FF01 to FF5E";
     default:
         return "not an answer of admission";
     }

@@ -48,6 +48,8 @@ static const trial trials[] = {
      REFUSED(MOPEKIHUA_NO_TEXT), REFUSED(MOPEKIHUA_NO_TEXT), ""},
     {"abcdab without bcd", NUMBERS(6, 2, 0, 0, 1, 0, 1, 1, 5, 1), 6, 48,
      REFUSED(MOPEKIHUA_NO_TEXT), REFUSED(MOPEKIHUA_NO_TEXT), ""},
+    {"lone Ａ, which a text has as A", NUMBERS(1, 1, 1, 0xFF21, 1, 1), 1, 8,
+     REFUSED(MOPEKIHUA_NO_TEXT), REFUSED(MOPEKIHUA_NO_TEXT), ""},
     {"a position past the text", NUMBERS(6, 1, 0, 0, 1, 6), 6, 48,
      REFUSED(MOPEKIHUA_INDEX_NOT_READABLE),
      REFUSED(MOPEKIHUA_INDEX_NOT_READABLE), ""},

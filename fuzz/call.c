@@ -7,7 +7,7 @@
 #include "lend.h"
 
 #define BIT(number) (1u << (number))
-#define DICTIONARY (BIT(1) | BIT(2) | BIT(3))
+#define DICTIONARY (BIT(1) | BIT(2) | BIT(3) | BIT(12))
 
 /* The refusals of each operation, a bit each. */
 static const uint32_t refusals[OPERATIONS] = {

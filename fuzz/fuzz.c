@@ -3,11 +3,14 @@
  * strings out of any bytes, lent to every operation, and each answer held to
  * what the others say. Beside what call() holds every call to:
  *
- * - a refusal comes exactly where the table has it, in its order, but that the
- *   tally says which indexes are readable;
- * - the index of a text is received, the text is recovered from it, and the
- *   positions found are those at which the string stands in the text;
- * - an index is received exactly if it is built from the text that it shows;
+ * - a refusal comes exactly where the table has it, in the operation's order,
+ *   but that the tally says which indexes are readable;
+ * - a text and its replaced text have the same index, and a string and its
+ *   replaced string the same answers;
+ * - the index of a text is received, the replaced text is recovered from it,
+ *   and the positions found are those at which the replaced string stands in it;
+ * - an index is received exactly if it is built from the text that it shows,
+ *   and that holds no full-width form;
  * - the cut-down index finds what the index finds, and the tally adds up;
  * - the first position is the head of what search finds, and the same without
  *   the entries that start behind the string laid there.
@@ -17,6 +20,7 @@
 #include "call.h"
 #include "input.h"
 #include "lend.h"
+#include "width.h"
 
 enum {
     MOST_WORDS = MOPEKIHUA_MOST_WORDS,
@@ -71,6 +75,20 @@ static int holds(slice lent, const uint16_t *numbers, size_t len)
            (len == 0 || memcmp(lent.numbers, numbers, len * sizeof *numbers) == 0);
 }
 
+/* The loan with its text, a short one, and its string replaced. */
+static loan with_replaced(loan lent)
+{
+    static uint16_t text[SHORT_TEXT], string[LONGEST_STRING + 1];
+    slice from_text = lent.parts[TEXT], from_string = lent.parts[STRING];
+
+    for (size_t i = 0; i < from_text.len; i++)
+        text[i] = replaced(from_text.numbers[i]);
+    for (size_t i = 0; i < from_string.len; i++)
+        string[i] = replaced(from_string.numbers[i]);
+    lent = with(lent, TEXT, text, from_text.len);
+    return with(lent, STRING, string, from_string.len);
+}
+
 /* Whether the string stands at this position of the text. */
 static int stands(slice text, slice string, size_t position)
 {
@@ -79,10 +97,17 @@ static int stands(slice text, slice string, size_t position)
                   string.len * sizeof *text.numbers) == 0;
 }
 
-/* The index of a text: received, and the same text is recovered and searched. */
+/*
+ * The index of a text: it is that of the replaced text, which is received,
+ * recovered and searched.
+ */
 static void check_index_of(const loan *lent)
 {
-    slice text = lent->parts[TEXT], string = lent->parts[STRING];
+    loan folded = with_replaced(*lent);
+    slice text = folded.parts[TEXT], string = folded.parts[STRING];
+    answer rebuilt = ample(BUILD, folded, other);
+    require(holds(lent->parts[INDEX], other, rebuilt.count),
+            "the replaced text has another index");
     answer received = ample(RECEIVE, *lent, result);
     require(received.refusal == 0 && received.count == text.len,
             "the index of a text is not received");
@@ -137,6 +162,23 @@ static int is_of_shown(const loan *lent)
     return holds(lent->parts[INDEX], other, rebuilt.count);
 }
 
+/* A string and its replaced string have the same answers. */
+static void check_string_replaced(const loan *lent)
+{
+    static const enum operation operations[] = {SEARCH, CUT, FIRST};
+    loan folded = with_replaced(*lent);
+
+    for (size_t i = 0; i < sizeof operations / sizeof *operations; i++) {
+        answer one = ample(operations[i], *lent, result);
+        answer again = ample(operations[i], folded, other);
+        require(one.refusal == again.refusal && one.count == again.count,
+                "the replaced string has another answer");
+        require(!takes_output(operations[i]) ||
+                    holds((slice){result, one.count}, other, again.count),
+                "the replaced string has another result");
+    }
+}
+
 /* The head of what search finds; 0 where it finds nothing. */
 static size_t head_found(const loan *lent)
 {
@@ -180,6 +222,7 @@ static void check_readable(const loan *lent)
     answer less = ample(CUT, *lent, other);
     require(less.refusal == 0 && less.count >= 2 && other[0] == index.numbers[0],
             "an index is not cut down");
+    require(!has_lone_form(other), "a lone full-width form is kept");
     answer found = ample(SEARCH, *lent, result);
     for (size_t i = 0; i < found.count; i++)
         require(result[i] > (i == 0 ? 0 : result[i - 1]) &&
@@ -192,13 +235,15 @@ static void check_readable(const loan *lent)
                 holds((slice){result, found.count}, again, found_again.count),
             "the cut-down index finds other positions");
     check_first(lent);
+    check_string_replaced(lent);
 }
 
 /*
- * The lowest number of the table that applies where work space and output are
- * ample. The tally says whether the index is readable.
+ * The number of the first line of the table that is met, in the operation's
+ * order, where work space and output are ample. The tally says whether the index
+ * is readable.
  */
-static uint32_t lowest(enum operation operation, const loan *lent)
+static uint32_t first_met(enum operation operation, const loan *lent)
 {
     size_t string_len = lent->parts[STRING].len;
     uint32_t dictionary = dictionary_refusal(lent);
@@ -212,6 +257,8 @@ static uint32_t lowest(enum operation operation, const loan *lent)
         return index;
     if (operation == SEARCH || operation == CUT || operation == FIRST)
         return string_len == 0 || string_len > LONGEST_STRING ? 6 : 0;
+    if (has_lone_form(lent->parts[INDEX].numbers))
+        return 9;
     return is_of_shown(lent) ? 0 : 9;
 }
 
@@ -232,15 +279,16 @@ static void check_asked(const input *in, loan lent)
 {
     enum operation operation = in->operation;
     size_t work_needed = MOPEKIHUA_WORK_NEEDED(stated_length(operation, &lent));
-    uint32_t expected = lowest(operation, &lent);
+    uint32_t expected = first_met(operation, &lent);
     answer whole = ample(operation, lent, result);
 
-    require(whole.refusal == expected, "another refusal than the lowest");
+    require(whole.refusal == expected, "another refusal than the first met");
     require(whole.refusal != 0 || counts_right(operation, &lent, whole),
             "another count or position");
     if (takes_work(operation)) {
         lent.parts[WORK].len = room_for(in->work, work_needed);
-        if (lent.parts[WORK].len < work_needed && (expected == 0 || expected > 7))
+        /* 7 comes before 9, and after all else that it can meet here. */
+        if (lent.parts[WORK].len < work_needed && (expected == 0 || expected == 9))
             expected = 7;
     }
     if (takes_output(operation)) {

@@ -2,10 +2,13 @@
  * The bytes are a header, the words, and the text or the delivered numbers,
  * which take what is left. Letters are mostly few, so that words stand in the
  * text, overlap and nest, and numbers are mostly near those that are needed.
+ * Latin letters come in both widths.
  */
 #include "input.h"
 
 #include <string.h>
+
+#include "width.h"
 
 enum {
     MOST_WORDS = MOPEKIHUA_MOST_WORDS,
@@ -21,7 +24,7 @@ enum {
 enum { TWO_LETTERS, FOUR_LETTERS, KANA, ANY_NUMBER };
 
 /* Further bits of the style. */
-enum { SORTED = 4, DELIVERED = 8, LENGTH_CHANGED = 16 };
+enum { SORTED = 4, DELIVERED = 8, LENGTH_CHANGED = 16, WORDS_UNREPLACED = 32 };
 
 /* Sizes that stand for a limit. */
 enum {
@@ -33,6 +36,9 @@ enum {
 
 /* Strings that are not cut from the text. */
 enum { STRING_256 = 0xFD, STRING_257 = 0xFE, NO_STRING = 0xFF };
+
+/* What is done to one that is cut from it. */
+enum { LAST_CHANGED = 1, OTHER_WIDTH = 2 };
 
 static struct {
     const uint8_t *next, *end;
@@ -55,13 +61,29 @@ static uint16_t number(void)
     return (uint16_t)(high << 8 | byte());
 }
 
+/* The character in its other width, if it has one. */
+static uint16_t other_width(uint16_t character)
+{
+    if (character >= 0x21 && character <= 0x7E)
+        return character + 0xFEE0;
+    return replaced(character);
+}
+
+/* One of so many letters, in its full-width form where the top bit is set. */
+static uint16_t latin(unsigned letters)
+{
+    uint8_t next = byte();
+    uint16_t letter = 'a' + ((next - 'a') & (letters - 1));
+    return next & 0x80 ? other_width(letter) : letter;
+}
+
 static uint16_t letter(uint8_t style)
 {
     switch (style & 3) {
     case TWO_LETTERS:
-        return 'a' + ((byte() - 'a') & 1);
+        return latin(2);
     case FOUR_LETTERS:
-        return 'a' + ((byte() - 'a') & 3);
+        return latin(4);
     case KANA:
         return 0x3041 + byte() % 86;
     default:
@@ -107,7 +129,10 @@ static void add_sorted(const uint16_t *word, size_t len)
     lengths_len++;
 }
 
-/* Words of 1 to 32 letters, mostly of a few; where not sorted also of 0 or 33. */
+/*
+ * Words of 1 to 32 letters, mostly of a few; where not sorted also of 0 or 33.
+ * They are replaced unless the style says otherwise.
+ */
 static void read_words(uint8_t style)
 {
     uint16_t word[LONGEST_WORD + 1];
@@ -117,8 +142,10 @@ static void read_words(uint8_t style)
         size_t len = size < 200 ? 1 + size % 4 : size % (LONGEST_WORD + 2);
         if (style & SORTED)
             len = len == 0 ? 1 : len > LONGEST_WORD ? LONGEST_WORD : len;
-        for (size_t i = 0; i < len; i++)
-            word[i] = letter(style);
+        for (size_t i = 0; i < len; i++) {
+            uint16_t next = letter(style);
+            word[i] = style & WORDS_UNREPLACED ? next : replaced(next);
+        }
         if (style & SORTED)
             add_sorted(word, len);
         else
@@ -188,7 +215,10 @@ static void read_text(uint8_t style, uint8_t size)
         text[text_len++] = text[from];
 }
 
-/* Cut from the text, one in two with its last letter changed; or of a limit. */
+/*
+ * Cut from the text, one in two with its last letter changed, and one in two
+ * with every letter in its other width; or of a limit.
+ */
 static void make_string(uint8_t choice, uint16_t start, uint8_t size)
 {
     string_len = 0;
@@ -206,8 +236,11 @@ static void make_string(uint8_t choice, uint16_t start, uint8_t size)
         string[string_len] = text[first + string_len];
         string_len++;
     }
-    if (choice & 1)
+    if (choice & LAST_CHANGED)
         string[string_len - 1] = text[0];
+    if (choice & OTHER_WIDTH)
+        for (size_t i = 0; i < string_len; i++)
+            string[i] = other_width(string[i]);
 }
 
 /* Mostly none, and mostly with small numbers. */
@@ -273,6 +306,9 @@ uint32_t dictionary_refusal(const loan *lent)
         word += length;
         length_before = length;
     }
+    for (size_t i = 0; i < word_chars.len; i++)
+        if (is_full_width(word_chars.numbers[i]))
+            return 12;
     return 0;
 }
 

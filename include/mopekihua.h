@@ -11,6 +11,13 @@
  *
  * A slice whose elements are not const is lent to be written: its elements can
  * be written too, and none of them belongs to another slice of the same call.
+ *
+ * A full-width form is a character from FF01 to FF5E (hexadecimal). In texts
+ * and search strings each is replaced, before anything else, by the character
+ * FEE0 lower, from 0021 to 007E (width folding), so both spellings count as the
+ * same lettering. FF00 and FF5F stay, and the slices lent are not changed. A
+ * text without full-width forms is a replaced text. Words of a dictionary must
+ * come replaced; the numbers of an index are never replaced.
  */
 #ifndef MOPEKIHUA_H
 #define MOPEKIHUA_H
@@ -36,8 +43,10 @@ extern "C" {
 #define MOPEKIHUA_INDEX_BOUND(n) (2 + 4 * (size_t)(n))
 
 /*
- * Why an operation declines. Where several numbers apply, the lowest is
- * answered; an operation tests only what it is handed.
+ * Why an operation declines. Where several numbers apply, the first in the
+ * operation's own order is answered, in which its answers are listed below. It
+ * is not always the lowest: 12 is tested right after 3, and 9 before 8. An
+ * operation tests only what it is handed.
  */
 enum mopekihua_refusal {
     /* Not a refusal: the call was accepted. */
@@ -77,7 +86,10 @@ enum mopekihua_refusal {
     MOPEKIHUA_JOB_SHEET_TOO_LONG = 10,
 
     /* job sheet breaks its form or counts */
-    MOPEKIHUA_JOB_SHEET_MALFORMED = 11
+    MOPEKIHUA_JOB_SHEET_MALFORMED = 11,
+
+    /* a word holds a character from FF01 to FF5E */
+    MOPEKIHUA_FULL_WIDTH_WORD = 12
 };
 
 /*
@@ -117,7 +129,9 @@ typedef struct {
  * A dictionary is lent as the characters of all its words run together
  * (chars) and the length of each word, in order (lengths). The words ab, abc
  * and bcd are lent as the 8 characters ababcbcd and the 3 lengths 2, 3, 3. A
- * character is any 16-bit number; none has a special meaning.
+ * character is any 16-bit number; none has a special meaning but the full-width
+ * forms. Words are not replaced here: one that holds such a form would stand in
+ * no replaced text, and is refused.
  *
  * Answers, the first that applies:
  *   MOPEKIHUA_DICTIONARY_TOO_LARGE  lengths_len is above 4,096, or chars_len
@@ -127,6 +141,7 @@ typedef struct {
  *   MOPEKIHUA_WORDS_NOT_ASCENDING   a word is equal to the one before it or
  *                                   sorts below it, compared character by
  *                                   character, a proper prefix first
+ *   MOPEKIHUA_FULL_WIDTH_WORD       a word holds a character from FF01 to FF5E
  *   MOPEKIHUA_ACCEPTED              count is the number of words, lengths_len
  *
  * The empty dictionary, both slices of 0 elements, is accepted with count 0.
@@ -142,7 +157,8 @@ mopekihua_answer mopekihua_admit(const uint16_t *chars, size_t chars_len,
  * lies within no longer one, under its key, with its position.
  *
  * The dictionary is lent as to mopekihua_admit. The text is text_len
- * characters, at positions 1 to text_len.
+ * characters, at positions 1 to text_len. What is indexed is the replaced text:
+ * two texts have the same index exactly if their replaced texts are equal.
  *
  * The index is a run of 16-bit numbers: n, the length of the text; K, the
  * number of keys; K directory lines of kind, value, count; then all positions,
@@ -150,13 +166,14 @@ mopekihua_answer mopekihua_admit(const uint16_t *chars, size_t chars_len,
  * number of the word, the first being 0. Kind 1 is a lone character, one that
  * is not itself a word, its value the character. Lines ascend by kind and then
  * by value, and the positions under a key ascend. With the words ab, abc and
- * bcd the index of the text abcdab is
+ * bcd the index of the text abcdab, in either width, is
  *
  *   6  3    0 0 1   0 1 1   0 2 1    5   1   2
  *
  * Answers, the first that applies:
  *   MOPEKIHUA_DICTIONARY_TOO_LARGE, MOPEKIHUA_LENGTHS_WRONG,
- *   MOPEKIHUA_WORDS_NOT_ASCENDING   as mopekihua_admit answers
+ *   MOPEKIHUA_WORDS_NOT_ASCENDING,
+ *   MOPEKIHUA_FULL_WIDTH_WORD       as mopekihua_admit answers
  *   MOPEKIHUA_TEXT_TOO_LONG         text_len is above 65,535
  *   MOPEKIHUA_WORK_TOO_SHORT        work_len is below 8 * text_len
  *   MOPEKIHUA_OUTPUT_TOO_SHORT      output_len is below the length of the
@@ -193,9 +210,13 @@ mopekihua_answer mopekihua_build(const uint16_t *chars, size_t chars_len,
  *   - under each key positions ascend strictly from 1 or more, and the last
  *     character of the key falls at or before n.
  *
+ * A lone character that is a full-width form is readable and is counted, though
+ * no text has it in its index.
+ *
  * Answers, the first that applies:
  *   MOPEKIHUA_DICTIONARY_TOO_LARGE, MOPEKIHUA_LENGTHS_WRONG,
- *   MOPEKIHUA_WORDS_NOT_ASCENDING   as mopekihua_admit answers
+ *   MOPEKIHUA_WORDS_NOT_ASCENDING,
+ *   MOPEKIHUA_FULL_WIDTH_WORD       as mopekihua_admit answers
  *   MOPEKIHUA_INDEX_NOT_READABLE    the index is not readable
  *   MOPEKIHUA_ACCEPTED              count is the number of entries, by_length
  *                                   the number of those of each length
@@ -209,23 +230,25 @@ mopekihua_tally_answer mopekihua_tally(const uint16_t *chars, size_t chars_len,
                                        const uint16_t *index, size_t index_len);
 
 /*
- * Receives an index: says whether some text has it.
+ * Receives an index: says whether some replaced text has it.
  *
  * The dictionary is lent as to mopekihua_admit, the index as to
  * mopekihua_tally. A readable index need not be that of a text: no entry may
- * cover a position, two entries may show different characters at one, or an
- * entry may stand where the text that the entries spell has a longer one. If a
- * text has it, no other text does.
+ * cover a position, two entries may show different characters at one, an entry
+ * may stand where the text that the entries spell has a longer one, or a lone
+ * character may be a full-width form. If a replaced text has it, no other
+ * replaced text does.
  *
  * Answers, the first that applies:
  *   MOPEKIHUA_DICTIONARY_TOO_LARGE, MOPEKIHUA_LENGTHS_WRONG,
- *   MOPEKIHUA_WORDS_NOT_ASCENDING   as mopekihua_admit answers
+ *   MOPEKIHUA_WORDS_NOT_ASCENDING,
+ *   MOPEKIHUA_FULL_WIDTH_WORD       as mopekihua_admit answers
  *   MOPEKIHUA_INDEX_NOT_READABLE    the index is not readable, as for
  *                                   mopekihua_tally
  *   MOPEKIHUA_WORK_TOO_SHORT        work_len is below 8 * n, for n the first
  *                                   number of the index
- *   MOPEKIHUA_NO_TEXT               no text has this index
- *   MOPEKIHUA_ACCEPTED              a text has it; count is n, its length
+ *   MOPEKIHUA_NO_TEXT               no replaced text has this index
+ *   MOPEKIHUA_ACCEPTED              one has it; count is n, its length
  *
  * work may hold anything, and all its work_len elements are 0 after every call,
  * refused or not. For slices lent as said above the call always returns,
@@ -237,14 +260,16 @@ mopekihua_answer mopekihua_receive(const uint16_t *chars, size_t chars_len,
                                    uint16_t *work, size_t work_len);
 
 /*
- * Recovers the text that an index is that of.
+ * Recovers the text that an index is that of. It is the replaced text, also
+ * where the index was built from one with full-width forms.
  *
  * The dictionary is lent as to mopekihua_admit, the index as to
  * mopekihua_tally.
  *
  * Answers, the first that applies:
  *   MOPEKIHUA_DICTIONARY_TOO_LARGE, MOPEKIHUA_LENGTHS_WRONG,
- *   MOPEKIHUA_WORDS_NOT_ASCENDING   as mopekihua_admit answers
+ *   MOPEKIHUA_WORDS_NOT_ASCENDING,
+ *   MOPEKIHUA_FULL_WIDTH_WORD       as mopekihua_admit answers
  *   MOPEKIHUA_INDEX_NOT_READABLE, MOPEKIHUA_WORK_TOO_SHORT,
  *   MOPEKIHUA_NO_TEXT               as mopekihua_receive answers
  *   MOPEKIHUA_OUTPUT_TOO_SHORT      output_len is below n, the first number of
@@ -267,16 +292,20 @@ mopekihua_answer mopekihua_recover(const uint16_t *chars, size_t chars_len,
  * Finds a string in an index, without the text.
  *
  * The dictionary is lent as to mopekihua_admit, the index as to
- * mopekihua_tally. Lay the string at position p so that it ends at or before
- * n. An entry agrees with it if the two overlap and carry equal characters
- * wherever both lie. Position p is found if each of its string_len positions
- * is covered by an entry that agrees. If a text has this index, these are
- * exactly the positions at which the string stands in it; the index need not
- * be that of a text.
+ * mopekihua_tally. Lay the replaced string at position p so that it ends at or
+ * before n. An entry agrees with it if the two overlap and carry equal
+ * characters wherever both lie. Position p is found if each of its string_len
+ * positions is covered by an entry that agrees. If a text has this index, these
+ * are exactly the positions at which the replaced string stands in the replaced
+ * text; the index need not be that of a text.
+ *
+ * A string in either width finds the same. A lone character of the index that
+ * is a full-width form agrees with no string.
  *
  * Answers, the first that applies:
  *   MOPEKIHUA_DICTIONARY_TOO_LARGE, MOPEKIHUA_LENGTHS_WRONG,
- *   MOPEKIHUA_WORDS_NOT_ASCENDING   as mopekihua_admit answers
+ *   MOPEKIHUA_WORDS_NOT_ASCENDING,
+ *   MOPEKIHUA_FULL_WIDTH_WORD       as mopekihua_admit answers
  *   MOPEKIHUA_INDEX_NOT_READABLE    the index is not readable
  *   MOPEKIHUA_STRING_LENGTH_WRONG   string_len is 0 or above 256
  *   MOPEKIHUA_OUTPUT_TOO_SHORT      output_len is below the number of
@@ -301,14 +330,16 @@ mopekihua_answer mopekihua_search(const uint16_t *chars, size_t chars_len,
  * question whether a string is left anywhere.
  *
  * The dictionary is lent as to mopekihua_admit, the index as to
- * mopekihua_tally. A position is found as for mopekihua_search, and the answer
- * is the first number that mopekihua_search writes for an output that is long
- * enough. If a text has this index, it is the first position at which the
- * string stands in it; the index need not be that of a text.
+ * mopekihua_tally. A position is found as for mopekihua_search, with the string
+ * replaced, and the answer is the first number that mopekihua_search writes for
+ * an output that is long enough. If a text has this index, it is the first
+ * position at which the replaced string stands in the replaced text; the index
+ * need not be that of a text.
  *
  * Answers, the first that applies:
  *   MOPEKIHUA_DICTIONARY_TOO_LARGE, MOPEKIHUA_LENGTHS_WRONG,
- *   MOPEKIHUA_WORDS_NOT_ASCENDING   as mopekihua_admit answers
+ *   MOPEKIHUA_WORDS_NOT_ASCENDING,
+ *   MOPEKIHUA_FULL_WIDTH_WORD       as mopekihua_admit answers
  *   MOPEKIHUA_INDEX_NOT_READABLE    the index is not readable, as for
  *                                   mopekihua_tally
  *   MOPEKIHUA_STRING_LENGTH_WRONG   string_len is 0 or above 256
@@ -337,16 +368,17 @@ mopekihua_first_answer mopekihua_first(const uint16_t *chars, size_t chars_len,
 
 /*
  * Cuts an index down to what a search for one string needs: the same n, and
- * exactly the keys that bear on the string, with all their positions.
+ * exactly the keys that bear on the replaced string, with all their positions.
  *
  * A key bears on the string if what it spells contains the string, is contained
  * in it, ends in a nonempty start of it, or starts with a nonempty end of it. A
- * search for the string finds the same in the cut-down index as in the whole
- * one.
+ * lone character that is a full-width form bears on no string. A search for the
+ * string finds the same in the cut-down index as in the whole one.
  *
  * Answers, the first that applies:
  *   MOPEKIHUA_DICTIONARY_TOO_LARGE, MOPEKIHUA_LENGTHS_WRONG,
- *   MOPEKIHUA_WORDS_NOT_ASCENDING   as mopekihua_admit answers
+ *   MOPEKIHUA_WORDS_NOT_ASCENDING,
+ *   MOPEKIHUA_FULL_WIDTH_WORD       as mopekihua_admit answers
  *   MOPEKIHUA_INDEX_NOT_READABLE    the index is not readable, as for
  *                                   mopekihua_tally
  *   MOPEKIHUA_STRING_LENGTH_WRONG   string_len is 0 or above 256

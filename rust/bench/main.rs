@@ -2,7 +2,8 @@
 //! Rust, in one run, and prints the two best times of a call and their ratio.
 //!
 //! Ordinary rows are sheets of Japanese-like text with a dictionary of 4,096
-//! words, from a seeded generator. Adversarial rows are the inputs on which a
+//! words, from a seeded generator; one has a pipe size in full-width forms after
+//! each word. Adversarial rows are the inputs on which a
 //! careless algorithm gets slow; their last column says how much a character
 //! costs there beside an ordinary one. A line that starts with "beside" has
 //! another operation of the library in the column of plain Rust.

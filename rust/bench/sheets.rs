@@ -92,6 +92,8 @@ impl Case {
 pub struct Sheets {
     /// The name of a size, and its sheets.
     pub sizes: Vec<(&'static str, Case)>,
+    /// A sheet of the largest size with many full-width forms, and its name.
+    pub full_width: (&'static str, Case),
 }
 
 impl Sheets {
@@ -112,16 +114,26 @@ impl Sheets {
             });
             Case::new(&words, texts.collect())
         };
+        let sizes = vec![
+            ("about 60 characters", sheets(32, 40, 80)),
+            ("about 300 characters", sheets(16, 250, 350)),
+            ("about 5,000 characters", sheets(4, 4_500, 5_500)),
+            ("about 60,000 characters", sheets(1, 60_000, 60_000)),
+        ];
+        words.insert(DN.to_vec());
+        let pipes = pipes(&mut random, &by_rank, 60_000);
         Sheets {
-            sizes: vec![
-                ("about 60 characters", sheets(32, 40, 80)),
-                ("about 300 characters", sheets(16, 250, 350)),
-                ("about 5,000 characters", sheets(4, 4_500, 5_500)),
-                ("about 60,000 characters", sheets(1, 60_000, 60_000)),
-            ],
+            sizes,
+            full_width: (
+                "60,000 characters with pipe sizes",
+                Case::new(&words, vec![pipes]),
+            ),
         }
     }
 }
+
+/// The word DN, which pipe sizes start with.
+const DN: [u16; 2] = [0x44, 0x4E];
 
 /// A rank below `count`, low ones far more often.
 fn rank(random: &mut Random, count: usize) -> usize {
@@ -141,6 +153,10 @@ fn hiragana(random: &mut Random) -> u16 {
 
 fn katakana(random: &mut Random) -> u16 {
     0x30A2 + rank(random, 85) as u16
+}
+
+fn full_width_digit(random: &mut Random) -> u16 {
+    0xFF10 + random.place(10) as u16
 }
 
 /// `low` to `high` characters of one kind.
@@ -174,9 +190,22 @@ fn text(random: &mut Random, by_rank: &[Vec<u16>], n: usize) -> Vec<u16> {
             0..=10 => text.extend(&by_rank[rank(random, by_rank.len())]),
             11..=15 => text.extend(run(random, 1, 2, hiragana)),
             16..=17 => text.extend(word(random)),
-            18 => text.extend(run(random, 1, 4, |random| 0xFF10 + random.place(10) as u16)),
+            18 => text.extend(run(random, 1, 4, full_width_digit)),
             _ => text.push(random.one_of(&[0x3001, 0x3002, 0x300C, 0x300D])),
         }
+    }
+    text.truncate(n);
+    text
+}
+
+/// A text of `n` characters: known words, and a pipe size in full-width forms such
+/// as ＤＮ１５０ after each.
+fn pipes(random: &mut Random, by_rank: &[Vec<u16>], n: usize) -> Vec<u16> {
+    let mut text = Vec::new();
+    while text.len() < n {
+        text.extend(&by_rank[rank(random, by_rank.len())]);
+        text.extend(DN.map(|letter| letter + 0xFEE0));
+        text.extend(run(random, 2, 3, full_width_digit));
     }
     text.truncate(n);
     text

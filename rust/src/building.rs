@@ -41,10 +41,11 @@ const fn at_most_longest(n: usize) -> usize {
 
 /// Builds the index of a text into a lent slice, and answers its length.
 ///
-/// `chars` and `lengths` are a dictionary as for [`admit`](crate::admit). The
-/// index is written to the front of `output`, and the rest of `output` stays as
-/// it was; after a refusal all of it does. `work` may hold anything, and is all
-/// zeros after every call, refused or not.
+/// `chars` and `lengths` are a dictionary as for [`admit`](crate::admit). What is
+/// indexed is the [replaced](crate#full-width-forms) text; `text` itself is not
+/// changed. The index is written to the front of `output`, and the rest of
+/// `output` stays as it was; after a refusal all of it does. `work` may hold
+/// anything, and is all zeros after every call, refused or not.
 ///
 /// An output of [`index_bound`] numbers is never too short, and a work slice of
 /// [`work_needed`] numbers is just long enough.
@@ -103,6 +104,18 @@ pub fn build_into(
 /// // The words a, aa and aaa: of the text aaaa, aaa at 1 and at 2.
 /// let a = [0x61; 6];
 /// assert_eq!(mopekihua::build(&a, &[1, 2, 3], &a[..4]), Ok(vec![4, 1, 0, 2, 2, 1, 2]));
+/// ```
+///
+/// The index of a text in full-width forms is that of the
+/// [replaced](crate#full-width-forms) text.
+///
+/// ```
+/// use mopekihua::{build, characters_of};
+///
+/// let words = characters_of("DN")?;
+/// let full_width = build(&words, &[2], &characters_of("ＤＮ１５")?);
+/// assert_eq!(full_width, build(&words, &[2], &characters_of("DN15")?));
+/// # Ok::<(), mopekihua::Error>(())
 /// ```
 pub fn build(chars: &[u16], lengths: &[u16], text: &[u16]) -> Result<Vec<u16>, Refusal> {
     let mut work = vec![0; work_needed(text.len())];

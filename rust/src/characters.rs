@@ -137,6 +137,38 @@ pub fn characters_of(string: &str) -> Result<Vec<u16>, CharacterError> {
         .collect()
 }
 
+/// The string with each [full-width form](crate#full-width-forms), a character
+/// from U+FF01 to U+FF5E, replaced by the one FEE0 (hexadecimal) lower.
+///
+/// Texts and search strings are replaced by the library. Words of a dictionary
+/// must come replaced, and this prepares them.
+///
+/// # Examples
+///
+/// Replaced words may ascend in another order.
+///
+/// ```
+/// use mopekihua::{Dictionary, replaced};
+///
+/// assert_eq!(replaced("配管ＤＮ１５"), "配管DN15");
+///
+/// let words = ["配管", "ＤＮ"];
+/// let dictionary = Dictionary::sorted(words.map(replaced))?;
+/// assert_eq!(dictionary, Dictionary::new(["DN", "配管"])?);
+/// # Ok::<(), mopekihua::Error>(())
+/// ```
+pub fn replaced(string: &str) -> String {
+    string.chars().map(replaced_character).collect()
+}
+
+fn replaced_character(character: char) -> char {
+    match character {
+        // These are U+0021 to U+007E, which a byte holds.
+        '\u{FF01}'..='\u{FF5E}' => char::from((u32::from(character) - 0xFEE0) as u8),
+        _ => character,
+    }
+}
+
 /// The string that these characters are.
 ///
 /// # Errors

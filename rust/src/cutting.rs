@@ -7,11 +7,12 @@ use crate::{Refusal, ffi};
 /// and answers its length.
 ///
 /// `chars` and `lengths` are a dictionary as for [`admit`](crate::admit). The
-/// cut-down index has the same n, and exactly the keys that bear on the string,
-/// with all their positions. A key bears on the string if what it spells
-/// contains the string, is contained in it, ends in a nonempty start of it, or
-/// starts with a nonempty end of it. A search for the string finds the same in
-/// the cut-down index as in the whole one.
+/// cut-down index has the same n, and exactly the keys that bear on the
+/// [replaced](crate#full-width-forms) string, with all their positions. A key
+/// bears on the string if what it spells contains the string, is contained in
+/// it, ends in a nonempty start of it, or starts with a nonempty end of it. A
+/// lone character that is a full-width form bears on no string. A search for the
+/// string finds the same in the cut-down index as in the whole one.
 ///
 /// It is written to the front of `output`, and the rest of `output` stays as it
 /// was; after a refusal all of it does. An output as long as `index` is never
@@ -64,6 +65,8 @@ pub fn cut_into(
 /// // Of the lone characters a, b and c only b bears on b.
 /// let index = mopekihua::build(&[], &[], &[0x61, 0x62, 0x63])?;
 /// assert_eq!(mopekihua::cut(&[], &[], &index, &[0x62])?, [3, 1, 1, 0x62, 1, 2]);
+/// // The same for ｂ, its full-width form.
+/// assert_eq!(mopekihua::cut(&[], &[], &index, &[0xFF42])?, [3, 1, 1, 0x62, 1, 2]);
 /// # Ok::<(), mopekihua::Refusal>(())
 /// ```
 pub fn cut(

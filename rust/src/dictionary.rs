@@ -8,7 +8,9 @@ use crate::{Characters, Error, Refusal, admit};
 
 /// An admitted dictionary: up to 4,096 words of 1 to 32 characters, 65,535
 /// characters in all at most, which ascend strictly, compared character by
-/// character, a proper prefix first.
+/// character, a proper prefix first. No word holds a
+/// [full-width form](crate#full-width-forms): words are not replaced when a
+/// dictionary is made, but must come [`replaced`](crate::replaced).
 ///
 /// It is admitted when it is made, so no index built or read with it can be
 /// refused on its account. A clone shares the words. The library keeps nothing
@@ -55,6 +57,9 @@ impl Dictionary {
     ///
     /// let falling = Dictionary::new(["図面", "図"]);
     /// assert_eq!(falling, Err(Error::Refused(Refusal::WordsNotAscending)));
+    ///
+    /// let full_width = Dictionary::new(["ＤＮ"]);
+    /// assert_eq!(full_width, Err(Error::Refused(Refusal::FullWidthWord)));
     /// # Ok::<(), mopekihua::Error>(())
     /// ```
     pub fn new<W: Characters>(words: impl IntoIterator<Item = W>) -> Result<Dictionary, Error> {
@@ -71,8 +76,8 @@ impl Dictionary {
     /// # Errors
     ///
     /// - [`Error::Character`]: a character above U+FFFF;
-    /// - [`Refusal::DictionaryTooLarge`], [`Refusal::LengthsWrong`]: as for
-    ///   [`admit`].
+    /// - [`Refusal::DictionaryTooLarge`], [`Refusal::LengthsWrong`],
+    ///   [`Refusal::FullWidthWord`]: as for [`admit`].
     ///
     /// # Examples
     ///
@@ -158,7 +163,8 @@ impl Dictionary {
         places.iter().map(|place| &chars[place.clone()])
     }
 
-    /// The number of this word, if it is one.
+    /// The number of this word, if it is one. It is not replaced: with a
+    /// full-width form it is none.
     pub fn number_of(&self, word: impl Characters) -> Option<u16> {
         let Words { chars, places, .. } = &*self.words;
         let word = word.characters().ok()?;

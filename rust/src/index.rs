@@ -6,7 +6,9 @@ use crate::{Characters, Dictionary, Error, Query, ReadableIndex, Refusal, Tally,
 /// The index of a text: built from it, or received from elsewhere.
 ///
 /// It holds its numbers and shares its dictionary, so it can't be read with
-/// another one. The text is not kept; [`recover`](Index::recover) gives it back.
+/// another one. The text is not kept; [`recover`](Index::recover) gives it back,
+/// [replaced](crate#full-width-forms). Two texts have the same index exactly if
+/// their replaced texts are equal.
 ///
 /// ```
 /// use mopekihua::{Dictionary, Index, Query, string_of};
@@ -25,12 +27,24 @@ use crate::{Characters, Dictionary, Error, Query, ReadableIndex, Refusal, Tally,
 pub struct Index(ReadableIndex);
 
 impl Index {
-    /// Builds the index of a text, a `str` or 16-bit characters.
+    /// Builds the index of a text, a `str` or 16-bit characters. What is indexed
+    /// is the [replaced](crate#full-width-forms) text.
     ///
     /// # Errors
     ///
     /// - [`Error::Character`]: a character above U+FFFF;
     /// - [`Refusal::TextTooLong`]: more than 65,535 characters.
+    ///
+    /// # Examples
+    ///
+    /// ```
+    /// use mopekihua::{Dictionary, Index};
+    ///
+    /// let dictionary = Dictionary::new(["DN", "配管"])?;
+    /// let index = Index::build(&dictionary, "配管ＤＮ１５")?;
+    /// assert_eq!(index, Index::build(&dictionary, "配管DN15")?);
+    /// # Ok::<(), mopekihua::Error>(())
+    /// ```
     pub fn build(dictionary: &Dictionary, text: impl Characters) -> Result<Index, Error> {
         let text = text.characters()?;
         let numbers = build(dictionary.chars(), dictionary.lengths(), &text)?;
@@ -98,8 +112,9 @@ impl Index {
         &self.0
     }
 
-    /// The positions at which the string stands in the text, ascending, each
-    /// once. The first position of a text is 1.
+    /// The positions at which the string stands in the text, both
+    /// [replaced](crate#full-width-forms), ascending, each once. The first
+    /// position of a text is 1.
     ///
     /// ```
     /// use mopekihua::{Dictionary, Index, Query};
@@ -109,6 +124,11 @@ impl Index {
     /// assert_eq!(index.search(&Query::new("もも")?), [2, 3, 4, 5, 6, 7, 8]);
     /// assert_eq!(index.search(&Query::new("ものうち")?), [9]);
     /// assert_eq!(index.search(&Query::new("李")?), []);
+    ///
+    /// // A pipe size, written and asked for in either width.
+    /// let index = Index::build(&Dictionary::new(["DN"])?, "ＤＮ１５ DN15")?;
+    /// assert_eq!(index.search(&Query::new("DN15")?), [1, 6]);
+    /// assert_eq!(index.search(&Query::new("ＤＮ１５")?), [1, 6]);
     /// # Ok::<(), mopekihua::Error>(())
     /// ```
     pub fn search(&self, query: &Query) -> Vec<u16> {
@@ -153,7 +173,16 @@ impl Index {
         self.0.tally()
     }
 
-    /// The text. [`string_of`](crate::string_of) makes a string of it.
+    /// The text, [replaced](crate#full-width-forms).
+    /// [`string_of`](crate::string_of) makes a string of it.
+    ///
+    /// ```
+    /// use mopekihua::{Dictionary, Index, string_of};
+    ///
+    /// let index = Index::build(&Dictionary::new(["DN"])?, "配管ＤＮ１５")?;
+    /// assert_eq!(string_of(&index.recover())?, "配管DN15");
+    /// # Ok::<(), mopekihua::Error>(())
+    /// ```
     pub fn recover(&self) -> Vec<u16> {
         always(self.0.recover())
     }

@@ -24,17 +24,48 @@
 //!
 //! # Characters
 //!
-//! A character is a 16-bit number; no number has a special meaning. Strings are
-//! taken too ([`Characters`], [`characters_of`], [`string_of`]), if each of their
-//! characters has a 16-bit number, as nearly all Japanese ones do: one above
-//! U+FFFF is a [`CharacterError`]. Positions count characters, the first is 1.
+//! A character is a 16-bit number; no number has a special meaning but the
+//! full-width forms below. Strings are taken too ([`Characters`],
+//! [`characters_of`], [`string_of`]), if each of their characters has a 16-bit
+//! number, as nearly all Japanese ones do: one above U+FFFF is a
+//! [`CharacterError`]. Positions count characters, the first is 1.
+//!
+//! # Full-width forms
+//!
+//! A full-width form is a character from FF01 to FF5E (hexadecimal), such as
+//! those of the pipe size ＤＮ１５. In texts and search strings each is replaced,
+//! before anything else, by the character FEE0 lower, from 0021 to 007E (width
+//! folding), so both spellings count as the same lettering. FF00 and FF5F stay. A
+//! text without full-width forms is a replaced text.
+//!
+//! ```
+//! use mopekihua::{Dictionary, Index, Query, string_of};
+//!
+//! let dictionary = Dictionary::new(["DN", "配管"])?;
+//! let index = Index::build(&dictionary, "配管ＤＮ１５、DN20")?;
+//! assert_eq!(index, Index::build(&dictionary, "配管DN15、ＤＮ２０")?);
+//!
+//! // A query in either width finds the same.
+//! assert_eq!(index.search(&Query::new("DN15")?), [3]);
+//! assert_eq!(index.search(&Query::new("ＤＮ１５")?), [3]);
+//!
+//! // The text recovered is the replaced one.
+//! assert_eq!(string_of(&index.recover())?, "配管DN15、DN20");
+//! # Ok::<(), mopekihua::Error>(())
+//! ```
+//!
+//! Words of a dictionary must come replaced, or they are refused
+//! ([`Refusal::FullWidthWord`]); [`replaced`] prepares them. The numbers of an
+//! index are never replaced: a lone character that is a full-width form is
+//! readable, but no text has it in its index and no string finds it.
 //!
 //! # Dictionaries
 //!
 //! A dictionary has up to 4,096 words of 1 to 32 characters, 65,535 characters
 //! in all at most. It is lent as all characters run together and a list of
-//! lengths, and its words ascend strictly, compared character by character, a
-//! proper prefix first. [`admit`] says whether that holds.
+//! lengths. Its words ascend strictly, compared character by character, a proper
+//! prefix first, and none holds a full-width form. [`admit`] says whether that
+//! holds.
 //!
 //! ```
 //! // The words ab, abc and bcd.
@@ -45,12 +76,15 @@
 //! # Indexes
 //!
 //! [`build`] gives the complete maximal word index of a text: every word and
-//! every lone character of it (one that is not itself a word) that lies within
-//! no longer one. As numbers, an index is n, the length of the text; K, the
-//! number of keys; K directory lines of kind, value, count; then all positions,
-//! the first being 1, key after key. Kind 0 is a word and its value the number
-//! of the word, the first being 0; kind 1 is a lone character and its value the
-//! character. Keys ascend, and so do the positions under each.
+//! every lone character of the replaced text (one that is not itself a word) that
+//! lies within no longer one. Two texts have the same index exactly if their
+//! replaced texts are equal.
+//!
+//! As numbers, an index is n, the length of the text; K, the number of keys; K
+//! directory lines of kind, value, count; then all positions, the first being 1,
+//! key after key. Kind 0 is a word and its value the number of the word, the
+//! first being 0; kind 1 is a lone character and its value the character. Keys
+//! ascend, and so do the positions under each.
 //!
 //! ```
 //! let chars: Vec<u16> = "ababcbcd".encode_utf16().collect();
@@ -76,10 +110,10 @@
 //!   character of the key falls at or before n.
 //!
 //! [`receive`] says whether some text has such an index, and [`recover`] gives
-//! that text. [`tally`] counts the entries of a readable index by their lengths,
-//! and [`search`] finds a string in it without the text. [`first`] finds its first
-//! position alone, which tells whether the string is left anywhere. [`cut`] leaves
-//! what a search for one string needs.
+//! that text, replaced. [`tally`] counts the entries of a readable index by their
+//! lengths, and [`search`] finds a string in it without the text. [`first`] finds
+//! its first position alone, which tells whether the string is left anywhere.
+//! [`cut`] leaves what a search for one string needs.
 //!
 //! # What is proved and what is not
 //!
@@ -87,9 +121,10 @@
 //! answer is the one that the definition gives, and the call ends. Not checked
 //! by the prover: that this crate declares the C functions as the library has
 //! them, the few lines that turn slices into pointers and numbers into
-//! [`Refusal`], the types that own what they hold, and the compilers and the
-//! linker. The tests of this crate run the library through these declarations
-//! and types, and compare it with a plain reading of the definitions in Rust.
+//! [`Refusal`], the types that own what they hold, what this crate does with
+//! strings, [`replaced`] too, and the compilers and the linker. The tests of this
+//! crate run the library through these declarations and types, and compare it
+//! with a plain reading of the definitions in Rust.
 //!
 //! # Building
 //!
@@ -115,7 +150,7 @@ mod searching;
 mod tally;
 
 pub use building::{build, build_into, index_bound, work_needed};
-pub use characters::{CharacterError, Characters, characters_of, string_of};
+pub use characters::{CharacterError, Characters, characters_of, replaced, string_of};
 pub use cutting::{cut, cut_into};
 pub use dictionary::Dictionary;
 pub use error::Error;
@@ -130,7 +165,8 @@ pub use tally::{Tally, tally};
 /// Admits a dictionary, and answers its number of words.
 ///
 /// `chars` are the characters of all words run together, `lengths` the length
-/// of each word, in order. The cost is linear in the characters lent.
+/// of each word, in order. The words must come [replaced](crate#full-width-forms).
+/// The cost is linear in the characters lent.
 ///
 /// # Errors
 ///
@@ -141,7 +177,8 @@ pub use tally::{Tally, tally};
 /// - [`Refusal::LengthsWrong`]: a length is 0 or above 32, or the lengths do
 ///   not add up to the number of characters;
 /// - [`Refusal::WordsNotAscending`]: a word is equal to the one before it, or
-///   sorts below it.
+///   sorts below it;
+/// - [`Refusal::FullWidthWord`]: a word holds a character from FF01 to FF5E.
 ///
 /// # Examples
 ///
@@ -160,6 +197,16 @@ pub use tally::{Tally, tally};
 /// assert_eq!(admit(&chars, &[1, 2, 1]), Ok(3));
 /// assert_eq!(admit(&chars, &[1, 1, 2]), Err(Refusal::WordsNotAscending));
 /// assert_eq!(admit(&chars, &[1, 2]), Err(Refusal::LengthsWrong));
+/// ```
+///
+/// Words are not replaced here.
+///
+/// ```
+/// use mopekihua::{Refusal, admit, characters_of};
+///
+/// assert_eq!(admit(&characters_of("DN")?, &[2]), Ok(1));
+/// assert_eq!(admit(&characters_of("ＤＮ")?, &[2]), Err(Refusal::FullWidthWord));
+/// # Ok::<(), mopekihua::Error>(())
 /// ```
 pub fn admit(chars: &[u16], lengths: &[u16]) -> Result<usize, Refusal> {
     ffi::admit(chars, lengths).into_result()

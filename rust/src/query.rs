@@ -9,7 +9,8 @@ use crate::{Characters, Error, Refusal};
 const LONGEST: usize = 256;
 
 /// A string of 1 to 256 characters, which every readable index can be searched
-/// for.
+/// for. It is kept as it was given; a search [replaces](crate#full-width-forms)
+/// its full-width forms, so ＤＮ１５ finds what DN15 finds.
 ///
 /// ```
 /// use mopekihua::{Error, Query, Refusal};
@@ -39,7 +40,7 @@ impl Query {
         }
     }
 
-    /// The characters of the string.
+    /// The characters of the string, as it was given.
     pub fn characters(&self) -> &[u16] {
         &self.0
     }

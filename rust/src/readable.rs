@@ -10,6 +10,10 @@ use crate::{Dictionary, Index, Query, Refusal, Tally, cut, first, recover, searc
 /// and none of these calls is refused. For numbers that are to stand for a text,
 /// take [`Index`].
 ///
+/// The numbers are never replaced: a lone character that is a
+/// [full-width form](crate#full-width-forms) is tallied, but no string finds it,
+/// every cut drops it, and no text has the index.
+///
 /// ```
 /// use mopekihua::{Dictionary, Query, ReadableIndex, Refusal};
 ///
@@ -132,10 +136,22 @@ impl ReadableIndex {
 
     /// The positions at which the string is found, ascending, each once.
     ///
-    /// A position is found if each place of the string laid there is covered by
-    /// an entry that agrees with it wherever the two overlap. If a text has
-    /// this index, these are exactly the positions at which the string stands
-    /// in it.
+    /// A position is found if each place of the
+    /// [replaced](crate#full-width-forms) string laid there is covered by an
+    /// entry that agrees with it wherever the two overlap. If a text has this
+    /// index, these are exactly the positions at which the replaced string stands
+    /// in the replaced text.
+    ///
+    /// ```
+    /// use mopekihua::{Dictionary, Query, ReadableIndex};
+    ///
+    /// // A at 1, and its full-width form Ａ at 2.
+    /// let numbers = [2, 2, 1, 0x0041, 1, 1, 0xFF21, 1, 1, 2];
+    /// let index = ReadableIndex::read(&Dictionary::default(), numbers)?;
+    /// assert_eq!(index.search(&Query::new("A")?), [1]);
+    /// assert_eq!(index.search(&Query::new("Ａ")?), [1]);
+    /// # Ok::<(), mopekihua::Error>(())
+    /// ```
     pub fn search(&self, query: &Query) -> Vec<u16> {
         always(search(
             self.dictionary.chars(),
@@ -168,8 +184,8 @@ impl ReadableIndex {
     }
 
     /// What a search for this string needs: the same n, and exactly the keys
-    /// that bear on the string, with all their positions. A search for the
-    /// string finds the same in it.
+    /// that bear on the [replaced](crate#full-width-forms) string, with all their
+    /// positions. A search for the string finds the same in it.
     ///
     /// ```
     /// use mopekihua::{Dictionary, Index, Query};
@@ -201,7 +217,7 @@ impl ReadableIndex {
         ))
     }
 
-    /// The text that has this index.
+    /// The text that has this index, [replaced](crate#full-width-forms).
     ///
     /// # Errors
     ///

@@ -8,9 +8,11 @@ use crate::{Refusal, ffi, work_needed};
 ///
 /// `chars` and `lengths` are a dictionary as for [`admit`](crate::admit). A
 /// readable index need not be that of a text: no entry may cover a position, two
-/// entries may show different characters at one, or an entry may stand where
-/// the text that the entries spell has a longer one. If a text has it, no other
-/// text does; [`recover`] gives the text itself.
+/// entries may show different characters at one, an entry may stand where the
+/// text that the entries spell has a longer one, or a lone character may be a
+/// [full-width form](crate#full-width-forms), which no replaced text holds. If a
+/// replaced text has it, no other replaced text does; [`recover`] gives the text
+/// itself.
 ///
 /// A work slice of [`work_needed`] numbers for n, the first number of the index,
 /// is just long enough. `work` may hold anything, and is all zeros after every
@@ -71,6 +73,16 @@ pub fn receive_with(
 /// assert_eq!(receive(&[], &[], &index), Ok(2));
 /// assert_eq!(receive(&[0x61, 0x62], &[2], &index), Err(Refusal::NoText));
 /// ```
+///
+/// Nor is there a text with a full-width form as a lone character.
+///
+/// ```
+/// use mopekihua::{Refusal, receive};
+///
+/// // Ａ at 1, and A at 1.
+/// assert_eq!(receive(&[], &[], &[1, 1, 1, 0xFF21, 1, 1]), Err(Refusal::NoText));
+/// assert_eq!(receive(&[], &[], &[1, 1, 1, 0x0041, 1, 1]), Ok(1));
+/// ```
 pub fn receive(chars: &[u16], lengths: &[u16], index: &[u16]) -> Result<usize, Refusal> {
     receive_with(chars, lengths, index, &mut work_for(index))
 }
@@ -78,9 +90,10 @@ pub fn receive(chars: &[u16], lengths: &[u16], index: &[u16]) -> Result<usize, R
 /// Recovers the text of an index into a lent slice, and answers its length.
 ///
 /// `chars` and `lengths` are a dictionary as for [`admit`](crate::admit). The
-/// text is written to the front of `output`, and the rest of `output` stays as it
-/// was; after a refusal all of it does. `work` may hold anything, and is all
-/// zeros after every call, refused or not.
+/// text is the [replaced](crate#full-width-forms) one, also where the index was
+/// built from one with full-width forms. It is written to the front of `output`,
+/// and the rest of `output` stays as it was; after a refusal all of it does.
+/// `work` may hold anything, and is all zeros after every call, refused or not.
 ///
 /// An output of n numbers and a work slice of [`work_needed`] numbers for n, the
 /// first number of the index, are just long enough.
@@ -115,7 +128,7 @@ pub fn recover_into(
     ffi::recover(chars, lengths, index, output, work).into_result()
 }
 
-/// Recovers the text of an index.
+/// Recovers the text of an index, [replaced](crate#full-width-forms).
 ///
 /// This is [`recover_into`] with an output of n numbers and a work slice of
 /// [`work_needed`] numbers, both allocated here.
@@ -132,6 +145,16 @@ pub fn recover_into(
 /// let index = mopekihua::build(&chars, &[1, 2, 1], &text)?;
 /// assert_eq!(mopekihua::recover(&chars, &[1, 2, 1], &index), Ok(text));
 /// # Ok::<(), mopekihua::Refusal>(())
+/// ```
+///
+/// What is recovered of a text in full-width forms is the replaced text.
+///
+/// ```
+/// use mopekihua::{build, characters_of, recover};
+///
+/// let index = build(&[], &[], &characters_of("ＤＮ１５")?)?;
+/// assert_eq!(recover(&[], &[], &index)?, characters_of("DN15")?);
+/// # Ok::<(), mopekihua::Error>(())
 /// ```
 ///
 /// An index that leaves a position uncovered is that of no text.

@@ -7,9 +7,10 @@ use std::fmt;
 /// sentence stand together.
 macro_rules! refusals {
     ($($number:literal $variant:ident $sentence:literal)*) => {
-        /// Why an operation declines. Where several apply, the one with the
-        /// lowest number is answered; an operation tests only what it is
-        /// handed.
+        /// Why an operation declines. Where several apply, the first in the
+        /// operation's own order is answered, in which its page lists them. It is
+        /// not always the one with the lowest number: 12 is tested right after
+        /// 3, and 9 before 8. An operation tests only what it is handed.
         ///
         /// ```
         /// use mopekihua::Refusal;
@@ -71,6 +72,7 @@ refusals! {
     9 NoText "index readable, but no text has it (reception, recovery)"
     10 JobSheetTooLong "job sheet longer than 32,768 bytes"
     11 JobSheetMalformed "job sheet breaks its form or counts"
+    12 FullWidthWord "a word holds a character from FF01 to FF5E"
 }
 
 impl Refusal {

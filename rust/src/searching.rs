@@ -7,11 +7,12 @@ use crate::{Refusal, ffi};
 /// answers how many there are.
 ///
 /// `chars` and `lengths` are a dictionary as for [`admit`](crate::admit). Lay
-/// the string at position p so that it ends at or before n. An entry agrees with
-/// it if the two overlap and carry equal characters wherever both lie; p is
-/// found if each position of the string is covered by an entry that agrees. If
-/// a text has this index, these are exactly the positions at which the string
-/// stands in it. The index need not be that of a text.
+/// the [replaced](crate#full-width-forms) string at position p so that it ends at
+/// or before n. An entry agrees with it if the two overlap and carry equal
+/// characters wherever both lie; p is found if each position of the string is
+/// covered by an entry that agrees. If a text has this index, these are exactly
+/// the positions at which the replaced string stands in the replaced text. The
+/// index need not be that of a text.
 ///
 /// The positions are written to the front of `output`, ascending, each once,
 /// and the rest of `output` stays as it was; after a refusal all of it does. At
@@ -66,6 +67,18 @@ pub fn search_into(
 /// assert_eq!(mopekihua::search(&a, &[1, 2, 3], &index, &a[..2])?, [1, 2, 3]);
 /// # Ok::<(), mopekihua::Refusal>(())
 /// ```
+///
+/// A string in either width finds the same.
+///
+/// ```
+/// use mopekihua::{build, characters_of, search};
+///
+/// let index = build(&[], &[], &characters_of("DN15、ＤＮ２０")?)?;
+/// for string in ["DN", "ＤＮ"] {
+///     assert_eq!(search(&[], &[], &index, &characters_of(string)?)?, [1, 6]);
+/// }
+/// # Ok::<(), mopekihua::Error>(())
+/// ```
 pub fn search(
     chars: &[u16],
     lengths: &[u16],
@@ -81,9 +94,11 @@ pub fn search(
 /// It tells whether the string is left anywhere.
 ///
 /// `chars` and `lengths` are a dictionary as for [`admit`](crate::admit). A
-/// position is found as for [`search_into`], and the answer is the first of those
-/// that [`search`] gives. If a text has this index, it is the first position at
-/// which the string stands in it. The index need not be that of a text.
+/// position is found as for [`search_into`], with the string
+/// [replaced](crate#full-width-forms), and the answer is the first of those that
+/// [`search`] gives. If a text has this index, it is the first position at which
+/// the replaced string stands in the replaced text. The index need not be that of
+/// a text.
 ///
 /// An answer p does not depend on later entries: the index without those that
 /// start after p + m - 1, for m the length of the string, and without keys left

@@ -1,5 +1,8 @@
-//! Admission: a pass over the lengths without branches, and neighbours compared
-//! by their first three characters in one number.
+//! Admission: a pass over the lengths without branches, neighbours compared by their
+//! first three characters in one number, and a pass over the characters for
+//! full-width forms.
+
+use super::width::holds_full_width;
 
 pub fn admit(chars: &[u16], lengths: &[u16]) -> Result<usize, u32> {
     if lengths.len() > 4096 || chars.len() > 65_535 {
@@ -10,6 +13,9 @@ pub fn admit(chars: &[u16], lengths: &[u16]) -> Result<usize, u32> {
     }
     if !words_ascend(chars, lengths) {
         return Err(3);
+    }
+    if holds_full_width(chars) {
+        return Err(12);
     }
     Ok(lengths.len())
 }

@@ -1,8 +1,9 @@
-//! Building: one mark a position, positions of equal keys linked to chains, and
-//! the chains written out in the order of the keys.
+//! Building: the replaced text written once, one mark a position, positions of equal
+//! keys linked to chains, and the chains written out in the order of the keys.
 
 use super::admission::admit;
 use super::matching::MatchTable;
+use super::width::copy_replaced;
 
 /// The mark of a lone character; other marks are 0 or the number of a word + 1.
 pub const LONE: u16 = 4_097;
@@ -28,9 +29,10 @@ pub fn build(
         if work.len() < 8 * text.len() {
             return Err(7);
         }
-        let marks = &mut work[..text.len()];
-        scan(&MatchTable::new(chars, lengths), text, marks);
-        write_marked(text, marks, output)
+        let (replaced, marks) = work[..2 * text.len()].split_at_mut(text.len());
+        copy_replaced(text, replaced);
+        scan(&MatchTable::new(chars, lengths), replaced, marks);
+        write_marked(replaced, marks, output)
     });
     work.fill(0);
     answer

@@ -7,7 +7,8 @@ use super::directory::Lines;
 use super::searching::agree;
 
 pub fn cut(query: Query, output: &mut [u16]) -> Result<usize, u32> {
-    query.admit()?;
+    let mut replaced = [0; 256];
+    let query = query.admit(&mut replaced)?;
     let keys = usize::from(query.index[1]);
     // A short index does not pay for clearing many flags.
     if keys <= 1_024 {

@@ -7,7 +7,8 @@ use super::searching::{Fronts, reach_laid};
 
 /// The position, or 0 where there is none.
 pub fn first(query: Query) -> Result<usize, u32> {
-    query.admit()?;
+    let mut replaced = [0; 256];
+    let query = query.admit(&mut replaced)?;
     let string = query.string;
     let directory = Directory::new(query.chars, query.lengths, query.index);
     let n = usize::from(query.index[0]);

@@ -11,5 +11,6 @@ pub mod painted;
 pub mod reading;
 pub mod reception;
 pub mod searching;
+pub mod width;
 
 pub use reading::Query;

@@ -3,8 +3,9 @@
 //! beside it, since both ascend.
 
 use super::admission::admit;
+use super::width::copy_replaced;
 
-/// The number of lines 1, 2, 3 and 5 that dictionary and index meet, if any.
+/// The first of lines 1, 2, 3, 12 and 5 that dictionary and index meet, if any.
 pub fn admit_index(chars: &[u16], lengths: &[u16], index: &[u16]) -> Result<(), u32> {
     admit(chars, lengths)?;
     if readable(chars, lengths, index) {
@@ -23,14 +24,17 @@ pub struct Query<'a> {
     pub string: &'a [u16],
 }
 
-impl Query<'_> {
-    /// The number of lines 1, 2, 3, 5 and 6 that it meets, if any.
-    pub fn admit(&self) -> Result<(), u32> {
+impl<'a> Query<'a> {
+    /// The query with its string replaced, into this array; or the first of lines
+    /// 1, 2, 3, 12, 5 and 6 that it meets.
+    pub fn admit(self, replaced: &'a mut [u16; 256]) -> Result<Query<'a>, u32> {
         admit_index(self.chars, self.lengths, self.index)?;
         if self.string.is_empty() || self.string.len() > 256 {
             return Err(6);
         }
-        Ok(())
+        let string = &mut replaced[..self.string.len()];
+        copy_replaced(self.string, string);
+        Ok(Query { string, ..self })
     }
 }
 

@@ -1,10 +1,12 @@
 //! Reception and recovery: the entries paint a text, and each notes at its start
 //! the number of its directory line. The step of building is then run over the
-//! painted text: what it registers must be what is noted, and as many.
+//! painted text: what it registers must be what is noted, and as many. The text
+//! must hold no full-width form.
 
 use super::building::{LONE, step};
 use super::matching::MatchTable;
 use super::reading::admit_index;
+use super::width::holds_full_width;
 
 pub fn receive(
     chars: &[u16],
@@ -50,7 +52,8 @@ fn text_of<'a>(
     let table = MatchTable::new(chars, lengths);
     let (directory, positions) = index[2..].split_at(3 * usize::from(index[1]));
     paint(&table, directory, positions, text, notes);
-    if registered(&table, directory, text, notes) == Some(positions.len()) {
+    let has_it = registered(&table, directory, text, notes) == Some(positions.len());
+    if has_it && !holds_full_width(text) {
         Ok(text)
     } else {
         Err(9)

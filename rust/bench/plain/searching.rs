@@ -12,7 +12,8 @@ use super::painted::{is_dense, reach_painted};
 const FEW: usize = 4_096;
 
 pub fn search(query: Query, output: &mut [u16]) -> Result<usize, u32> {
-    query.admit()?;
+    let mut replaced = [0; 256];
+    let query = query.admit(&mut replaced)?;
     let starts = (usize::from(query.index[0]) + 1).saturating_sub(query.string.len());
     if starts <= FEW {
         let mut reach = [0; FEW];

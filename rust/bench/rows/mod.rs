@@ -16,14 +16,16 @@ use crate::adversary::{self, Adversary};
 use crate::race::{Race, print_row, race};
 use crate::sheets::{Case, Sheets};
 
-/// Prints the rows of an operation on whole sheets: each size, then the
-/// adversarial ones beside the largest. `print` prints a row, and answers the
-/// cost of a character in nanoseconds.
+/// Prints the rows of an operation on whole sheets: each size, one with many
+/// full-width forms, then the adversarial ones beside the largest. `print` prints a
+/// row, and answers the cost of a character in nanoseconds.
 fn print_sheets(sheets: &Sheets, print: impl Fn(&str, &Case, Option<f64>) -> f64) {
     let mut ordinary = 0.0;
     for (name, case) in &sheets.sizes {
         ordinary = print(name, case, None);
     }
+    let (name, case) = &sheets.full_width;
+    print(name, case, None);
     for Adversary { name, case, .. } in &adversary::cases() {
         print(name, case, Some(ordinary));
     }

@@ -41,6 +41,9 @@ impl Operation {
         let (_, largest) = &sheets.sizes[sheets.sizes.len() - 1];
         let name = "about 60,000 characters, strings of 256";
         let long = self.print_row(name, largest, &largest.searches(256, 256), None);
+        let (name, pipes) = &sheets.full_width;
+        let name = format!("{name}, strings of 2 to 12");
+        self.print_row(&name, pipes, &pipes.searches(2, 12), None);
         for adversary in &adversary::cases() {
             let Adversary { name, case, .. } = adversary;
             for &(low, high) in adversary.short {

@@ -7,7 +7,7 @@ use crate::support::dictionary::Dictionary;
 use crate::support::index_damage::IndexDamage;
 use crate::support::lent::leftover;
 use crate::support::random::Random;
-use crate::support::text::{Subject, random_over};
+use crate::support::text::{Subject, in_either_width, random_over};
 
 /// A dictionary, and a text, an index and a string that have to do with it and
 /// with each other. A part that the operation does not take is empty.
@@ -43,18 +43,17 @@ impl Drawn {
     /// at the rest, and has a smaller table for 1,024.
     fn of_no_text(random: &mut Random) -> Drawn {
         let delivery = Delivery::random(random);
-        let Delivery { dictionary, index } = match random.within(0, 9) {
+        let delivery = match random.within(0, 9) {
             0 => delivery.moved(1_024 - random.within(0, 6) as u16),
             1 => delivery.moved(8_192 - random.within(0, 6) as u16),
             _ => delivery,
         };
-        let alphabet = [&dictionary.chars[..], &[0x61]].concat();
         let length = random.within(1, 8);
         Drawn {
-            string: random_over(&alphabet, random, length),
-            dictionary,
+            string: delivery.string(random, length),
+            dictionary: delivery.dictionary,
             text: Vec::new(),
-            index,
+            index: delivery.index,
         }
     }
 
@@ -115,8 +114,8 @@ fn of_many_words(random: &mut Random) -> Subject {
     Subject { dictionary, text }
 }
 
-/// A string that stands in the text, or one that differs from such a one in a
-/// character or has one more.
+/// A string that stands in the text, in either width, or one that differs from such
+/// a one in a character or has one more.
 fn string_near(text: &[u16], random: &mut Random) -> Vec<u16> {
     if text.is_empty() {
         return vec![random.character()];
@@ -131,7 +130,7 @@ fn string_near(text: &[u16], random: &mut Random) -> Vec<u16> {
         2 if long < 256 => string.push(text[0]),
         _ => (),
     }
-    string
+    in_either_width(&string, random)
 }
 
 fn damage_dictionary(dictionary: &mut Dictionary, random: &mut Random) {
@@ -157,9 +156,10 @@ fn damage_somewhere(dictionary: &mut Dictionary, random: &mut Random) {
 
 /// A text as long as one can be, or longer, in one of some cases; else any.
 fn lengthen(text: &mut Vec<u16>, random: &mut Random) {
+    let filler = random.one_of(&[0x3042, 0xFF41]);
     match random.within(0, 9) {
-        0 => text.resize(random.within(65_534, 65_540), 0x3042),
-        1 => text.resize(random.within(65_536, 65_540), 0x3042),
+        0 => text.resize(random.within(65_534, 65_540), filler),
+        1 => text.resize(random.within(65_536, 65_540), filler),
         _ => text.extend((0..random.within(1, 9)).map(|_| random.character())),
     }
 }
@@ -193,9 +193,10 @@ fn has_positions(index: &[u16]) -> bool {
 }
 
 fn damage_string(string: &mut Vec<u16>, random: &mut Random) {
+    let filler = random.one_of(&[0x61, 0xFF41]);
     match random.within(0, 2) {
         0 => string.clear(),
-        1 => string.resize(257, 0x61),
-        _ => string.resize(random.one_of(&[256, 258, 300, 65_537]), 0x61),
+        1 => string.resize(257, filler),
+        _ => string.resize(random.one_of(&[256, 258, 300, 65_537]), filler),
     }
 }

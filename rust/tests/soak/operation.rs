@@ -63,16 +63,16 @@ impl Operation {
         }
     }
 
-    /// The numbers that it refuses with.
+    /// The numbers that it refuses with, in the order of its tests.
     pub fn refusals(self) -> &'static [u32] {
         match self {
-            Operation::Admit => &[1, 2, 3],
-            Operation::Build => &[1, 2, 3, 4, 7, 8],
-            Operation::Tally => &[1, 2, 3, 5],
-            Operation::Receive => &[1, 2, 3, 5, 7, 9],
-            Operation::Recover => &[1, 2, 3, 5, 7, 8, 9],
-            Operation::First => &[1, 2, 3, 5, 6],
-            Operation::Search | Operation::Cut => &[1, 2, 3, 5, 6, 8],
+            Operation::Admit => &[1, 2, 3, 12],
+            Operation::Build => &[1, 2, 3, 12, 4, 7, 8],
+            Operation::Tally => &[1, 2, 3, 12, 5],
+            Operation::Receive => &[1, 2, 3, 12, 5, 7, 9],
+            Operation::Recover => &[1, 2, 3, 12, 5, 7, 9, 8],
+            Operation::First => &[1, 2, 3, 12, 5, 6],
+            Operation::Search | Operation::Cut => &[1, 2, 3, 12, 5, 6, 8],
         }
     }
 }

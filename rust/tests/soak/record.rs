@@ -3,8 +3,11 @@
 use crate::call::Outcome;
 use crate::operation::Operation;
 
-/// The greatest number that a lent slice is refused with.
-const GREATEST: usize = 9;
+/// The numbers that a lent slice is refused with, the columns of the table.
+const NUMBERS: [u32; 10] = [1, 2, 3, 4, 5, 6, 7, 8, 9, 12];
+
+/// The greatest of them.
+const GREATEST: usize = 12;
 
 /// Counts of calls.
 #[derive(Default)]
@@ -27,12 +30,13 @@ impl Record {
             "{} calls with damaged input, {} of them accepted all the same",
             self.damaged, self.damaged_accepted
         );
-        let head: String = (1..=GREATEST).map(|n| format!(" {n:>8}")).collect();
+        let head: String = NUMBERS.iter().map(|n| format!(" {n:>8}")).collect();
         println!("{:<8} {:>9} {:>9}{head}", "", "calls", "accepted");
         for operation in Operation::ALL {
-            let [accepted, refused @ ..] = self.counts[operation as usize];
-            let calls: u64 = accepted + refused.iter().sum::<u64>();
-            let row: String = (1..).zip(refused).map(|one| cell(operation, one)).collect();
+            let counts = self.counts[operation as usize];
+            let (calls, accepted) = (counts.iter().sum::<u64>(), counts[0]);
+            let cells = NUMBERS.map(|number| cell(operation, number, counts[number as usize]));
+            let row = cells.concat();
             println!("{:<8} {calls:>9} {accepted:>9}{row}", operation.name());
         }
     }
@@ -53,7 +57,7 @@ impl Record {
 }
 
 /// How often this operation refused by this number; blank where it never does.
-fn cell(operation: Operation, (number, count): (u32, u64)) -> String {
+fn cell(operation: Operation, number: u32, count: u64) -> String {
     if operation.refusals().contains(&number) {
         format!(" {count:>8}")
     } else {

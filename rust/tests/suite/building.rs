@@ -3,7 +3,7 @@
 
 use crate::support::building::{Room, build};
 use crate::support::dictionary::Dictionary;
-use crate::support::text::spelt;
+use crate::support::text::{every_replaced_character, spelt};
 
 /// The index of a text, with exactly as much lent as it takes and with more.
 #[track_caller]
@@ -136,18 +136,19 @@ fn a_text_of_65535_characters() {
     assert_eq!(owned, Err(mopekihua::Refusal::TextTooLong));
 }
 
-/// The longest index that there is: every character once, alone.
+/// The most lone keys that an index of a text has: every character of replaced
+/// texts once.
 #[test]
-fn an_index_of_65535_lone_keys() {
-    let text: Vec<u16> = (0..65_535).map(|place| 65_535 - place).collect();
-    let longest = mopekihua::index_bound(65_535);
+fn an_index_of_65442_lone_keys() {
+    let text = every_replaced_character();
+    let longest = mopekihua::index_bound(65_442);
     let room = Room {
         output: longest,
-        work: 8 * 65_535,
+        work: 8 * 65_442,
     };
     let index = build(&Dictionary::default(), &text, room).unwrap();
     assert_eq!(index.len(), longest);
-    assert_eq!(index[..5], [65_535, 65_535, 1, 1, 1]);
+    assert_eq!(index[..8], [65_442, 65_442, 1, 0, 1, 1, 1, 1]);
     assert_eq!(index[longest - 3..], [3, 2, 1]);
     let short = Room {
         output: longest - 1,
@@ -214,6 +215,7 @@ fn every_refusal_clears_a_long_work_slice() {
     refuses(&Dictionary::of_single_characters(4097), &text, room, 1);
     refuses(&Dictionary::of([[7; 33]]), &text, room, 2);
     refuses(&Dictionary::spelt("b a"), &text, room, 3);
+    refuses(&Dictionary::spelt("ａ"), &text, room, 12);
     refuses(&good, &[97; 65_536], room, 4);
     refuses(&good, &[97; 1000], room, 7);
     refuses(&good, &text, Room { output: 13, ..room }, 8);
@@ -221,9 +223,9 @@ fn every_refusal_clears_a_long_work_slice() {
 }
 
 /// Dictionaries, texts and room that meet each number, put together in all
-/// ways: the lowest number is answered.
+/// ways: the first number in the order of the tests is answered.
 #[test]
-fn the_lowest_number_is_answered() {
+fn the_first_number_in_order_is_answered() {
     let texts = [(spelt("abcdab"), None), (vec![97; 65_536], Some(4))];
     for (dictionary, refused_dictionary) in &Dictionary::good_and_refused() {
         for (text, refused_text) in &texts {

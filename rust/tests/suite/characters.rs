@@ -1,7 +1,9 @@
 //! Strings as 16-bit characters, and back.
 
 use mopekihua::{CharacterError, Characters, Dictionary, Error, Index, Query};
-use mopekihua::{characters_of, string_of};
+use mopekihua::{characters_of, replaced, string_of};
+
+use crate::support::oracle;
 
 /// The numbers that UTF-16 makes pairs of.
 fn is_half(number: u16) -> bool {
@@ -44,6 +46,21 @@ fn every_wide_character() {
     }
 }
 
+/// What the library recovers of a text is what the string is replaced by.
+#[test]
+fn every_character_replaced() {
+    for numbers in [0..=0xFFFE, 1..=0xFFFF] {
+        let characters: Vec<u16> = numbers.filter(|&number| !is_half(number)).collect();
+        let string = replaced(&string_of(&characters).unwrap());
+        let index = Index::build(&Dictionary::default(), &characters).unwrap();
+        assert!(characters_of(&string) == Ok(index.recover()));
+        assert!(characters_of(&string) == Ok(oracle::replaced(&characters)));
+    }
+    assert_eq!(replaced("\u{FF00}！Ａ～\u{FF5F}"), "\u{FF00}!A~\u{FF5F}");
+    assert_eq!(replaced("𠮷ＤＮ１５"), "𠮷DN15");
+    assert_eq!(replaced(""), "");
+}
+
 /// The first one is named, and its position counts characters, not bytes.
 #[test]
 fn positions_count_characters() {
@@ -72,6 +89,7 @@ fn numbers_are_taken_as_they_are() {
     let half = [0xD842];
     assert_eq!(half.characters().as_deref(), Ok(&half[..]));
     assert_eq!(Query::new(half).unwrap().characters(), half);
+    assert_eq!(Query::new("Ａ").unwrap().characters(), [0xFF21]);
     let dictionary = Dictionary::new([half]).unwrap();
     let index = Index::build(&dictionary, [0xD842, 0xDFB7]).unwrap();
     assert_eq!(index.recover(), [0xD842, 0xDFB7]);

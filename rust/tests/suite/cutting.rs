@@ -3,7 +3,7 @@
 
 use crate::support::dictionary::Dictionary;
 use crate::support::oracle::{Key, Line, numbers};
-use crate::support::searching::{assert_lowest_number, cut};
+use crate::support::searching::{assert_first_number, cut};
 use crate::support::text::spelt;
 
 /// Which of these words and lone characters bear on the string: all stand at 1
@@ -110,6 +110,6 @@ fn more_than_65535_entries() {
 }
 
 #[test]
-fn the_lowest_number_is_answered() {
-    assert_lowest_number(cut, 14);
+fn the_first_number_in_order_is_answered() {
+    assert_first_number(cut, 14);
 }

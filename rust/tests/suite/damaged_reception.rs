@@ -209,15 +209,16 @@ fn a_position_shifted() {
     assert!(refused >= 1_000, "only {refused}");
 }
 
-/// One number of the index changed to any small one, to a character, or to a
-/// greater one. Where it is a lone character another text may have it.
+/// One number of the index changed to any small one, to a character, to a greater
+/// one, or to a full-width form. Where it is a lone character another text may have
+/// it.
 #[test]
 fn a_number_changed() {
     let mut answers = [0; 3];
     for indexed in texts().filter(|indexed| indexed.text.len() <= 3) {
         let index = numbers(indexed.n(), indexed.entries.iter().copied());
         for place in 0..index.len() {
-            for value in (0..6).chain(CHARACTERS).chain([300]) {
+            for value in (0..6).chain(CHARACTERS).chain([300, 0xFF41]) {
                 let mut changed = index.clone();
                 changed[place] = value;
                 let room = Room::ample(usize::from(changed[0]));

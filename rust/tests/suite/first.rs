@@ -200,7 +200,7 @@ fn the_entries_that_start_later() {
 }
 
 #[test]
-fn the_lowest_number_is_answered() {
+fn the_first_number_in_order_is_answered() {
     for_good_and_refused(|dictionary, index, string, refused| {
         let answer = first(dictionary, index, string);
         assert_eq!(answer, refused.map_or(Ok(Some(1)), Err));

@@ -1,22 +1,12 @@
 //! The program `lookup` on job sheets, printed and refused ones. Every answer
 //! is also the one that the plain reading of the sheet gives.
 
-use crate::support::lookup::lookup;
+use crate::support::lookup::{lookup, prints, refuses};
 use crate::support::sheet::{Sheet, form};
 
 /// The example of the definition, and what is printed for it.
 const EXAMPLE: &str = include_str!("../../../crates/lookup/stdin");
 const ANSWER: &str = include_str!("../../../crates/lookup/stdout");
-
-#[track_caller]
-fn prints(sheet: impl AsRef<[u8]>, expected: &str) {
-    assert_eq!(lookup(sheet.as_ref()), expected);
-}
-
-#[track_caller]
-fn refuses(sheet: impl AsRef<[u8]>, number: u32) {
-    prints(sheet, &format!("(refused {number})\n"));
-}
 
 #[test]
 fn the_example() {
@@ -308,8 +298,7 @@ fn finds_without_characters() {
     refuses(sheet.bytes(), 6);
 }
 
-/// The program tests 10, then 11, then the rest, of which the lowest is
-/// answered.
+/// The program tests 10, then 11, then the words, then every find.
 #[test]
 fn which_number_comes_first() {
     let mut many = "(word)\n".repeat(201) + "(text)\n";

@@ -1,7 +1,7 @@
 //! The types that own what they hold: each is made exactly where the library
 //! accepts, and its calls are those over lent slices.
 
-use mopekihua::{Dictionary, Error, Index, Key, Query, ReadableIndex, Refusal};
+use mopekihua::{Dictionary, Error, Index, Key, Query, ReadableIndex, Refusal, replaced};
 
 use crate::support::damage::Damage;
 use crate::support::delivery::Delivery;
@@ -76,8 +76,8 @@ fn a_dictionary_knows_its_words() {
 #[test]
 fn a_dictionary_is_made_exactly_where_it_is_admitted() {
     let mut random = Random::seeded(72);
-    let mut refused = [0; 4];
-    for round in 0..600 {
+    let mut answers = [0; 13];
+    for round in 0..900 {
         let mut lent = Lent::random(&mut random, 40);
         if round % 2 == 0 && lent.lengths.len() >= 2 {
             let damage = random.one_of(&Damage::ALL);
@@ -91,9 +91,10 @@ fn a_dictionary_is_made_exactly_where_it_is_admitted() {
                 .map_err(|error| error.number()),
             expected
         );
-        refused[expected.err().unwrap_or(0) as usize] += 1;
+        answers[expected.err().unwrap_or(0) as usize] += 1;
     }
-    assert!(refused.iter().all(|&count| count >= 20), "{refused:?}");
+    let often = [0, 1, 2, 3, 12].iter().all(|&number| answers[number] >= 20);
+    assert!(often, "{answers:?}");
 }
 
 #[test]
@@ -109,6 +110,19 @@ fn words_in_any_order() {
         let falls = words.windows(2).any(|pair| pair[0] >= pair[1]);
         assert_eq!(Dictionary::new(&words).is_err(), falls);
     }
+}
+
+/// Words are taken as they are given, in order and in any order.
+#[test]
+fn words_in_full_width_forms() {
+    for words in [["DN", "ＤＮ"], ["配管", "Ｄ"]] {
+        assert_eq!(Dictionary::new(words).map_err(number), Err(12));
+        assert_eq!(Dictionary::sorted(words).map_err(number), Err(12));
+        let made = Dictionary::sorted(words.map(replaced));
+        assert!(made.is_ok_and(|made| made.number_of(words[1]).is_none()));
+    }
+    assert_eq!(Dictionary::new(["ＤＮ", "DN"]).map_err(number), Err(3));
+    assert_eq!(Dictionary::sorted(["ＤＮ", "DN"]).map_err(number), Err(12));
 }
 
 /// A length without a 16-bit number may not pass for a small one.
@@ -151,7 +165,7 @@ fn an_index_of_a_text() {
         let index = Index::build(&dictionary, &subject.text).expect("a short text");
         assert_eq!(index.numbers(), Delivery::of_text(&subject).index);
         assert_eq!(usize::from(index.text_len()), subject.text.len());
-        assert_eq!(index.recover(), subject.text);
+        assert_eq!(index.recover(), oracle::replaced(&subject.text));
         assert_eq!(index.dictionary(), &dictionary);
         assert_eq!(
             Index::receive(&dictionary, index.numbers()).as_ref(),

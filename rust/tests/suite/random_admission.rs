@@ -6,9 +6,9 @@ use crate::support::lists::all_lists;
 use crate::support::oracle;
 use crate::support::random::Random;
 
-/// How often each answer was given: accepted, then refusals 1 to 3.
+/// How often each answer was given: accepted, as 0, and refusals by their number.
 #[derive(Debug, Default)]
-struct Tally([usize; 4]);
+struct Tally([usize; 13]);
 
 impl Tally {
     /// Compares library and oracle on one dictionary, and counts the answer.
@@ -21,10 +21,11 @@ impl Tally {
 
     /// No answer may be so rare that the comparison means little for it.
     #[track_caller]
-    fn assert_at_least(&self, least: [usize; 4]) {
-        for (answer, (count, least)) in self.0.iter().zip(least).enumerate() {
+    fn assert_at_least<const N: usize>(&self, least: [(usize, usize); N]) {
+        for (answer, least) in least {
+            let count = self.0[answer];
             assert!(
-                *count >= least,
+                count >= least,
                 "answer {answer} only {count} times: {self:?}"
             );
         }
@@ -50,7 +51,7 @@ fn right_dictionaries_are_admitted() {
         assert_eq!(dictionary.admit(), Ok(dictionary.lengths.len()));
         tally.compare(&dictionary, round);
     }
-    assert_eq!(tally.0, [5_000, 0, 0, 0]);
+    tally.assert_at_least([(0, 5_000)]);
 }
 
 #[test]
@@ -65,24 +66,31 @@ fn damaged_dictionaries_meet_their_number() {
         }
         match damage.meets() {
             Some(number) => assert_eq!(tally.0[number], 1_000, "{damage:?}"),
-            None => tally.assert_at_least([50, 0, 0, 250]),
+            None if damage == Damage::FullWidthCharacter => {
+                tally.assert_at_least([(3, 250), (12, 250)]);
+            }
+            None => tally.assert_at_least([(0, 50), (3, 250)]),
         }
     }
 }
 
 #[test]
-fn twice_damaged_dictionaries_meet_the_lower_number() {
+fn twice_damaged_dictionaries_meet_the_first_number_in_order() {
     let mut random = Random::seeded(3);
     let mut tally = Tally::default();
     for round in 0..5_000 {
         let mut dictionary = two_words_or_more(&mut random);
-        let first = random.one_of(&[Damage::SwapNeighbours, Damage::RepeatWord]);
+        let first = random.one_of(&[
+            Damage::SwapNeighbours,
+            Damage::RepeatWord,
+            Damage::FullWidthWord,
+        ]);
         let second = random.one_of(&Damage::ALL);
         first.apply(&mut dictionary, &mut random);
         second.apply(&mut dictionary, &mut random);
         tally.compare(&dictionary, (first, second, round));
     }
-    tally.assert_at_least([50, 500, 2_000, 1_000]);
+    tally.assert_at_least([(0, 20), (1, 500), (2, 2_000), (3, 1_000), (12, 150)]);
 }
 
 #[test]
@@ -96,15 +104,15 @@ fn large_dictionaries_on_both_sides_of_the_limits() {
         damage.apply(&mut dictionary, &mut random);
         tally.compare(&dictionary, (damage, round));
     }
-    tally.assert_at_least([40, 100, 30, 30]);
+    tally.assert_at_least([(0, 40), (1, 100), (2, 30), (3, 30)]);
 }
 
 /// Every list of up to four lengths from 0 to 3 over every run of up to five
-/// characters out of two.
+/// characters out of three, of which one is a full-width form.
 #[test]
 fn every_small_dictionary() {
     let mut tally = Tally::default();
-    for chars in all_lists(&[0x0000, 0xFFFF], 5) {
+    for chars in all_lists(&[0x0000, 0xFF5E, 0xFFFF], 5) {
         for lengths in all_lists(&[0, 1, 2, 3], 4) {
             let dictionary = Dictionary {
                 chars: chars.clone(),
@@ -113,5 +121,5 @@ fn every_small_dictionary() {
             tally.compare(&dictionary, ());
         }
     }
-    tally.assert_at_least([50, 0, 10_000, 50]);
+    tally.assert_at_least([(0, 50), (2, 10_000), (3, 50), (12, 50)]);
 }

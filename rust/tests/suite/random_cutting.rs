@@ -4,7 +4,7 @@
 use crate::support::delivery::Delivery;
 use crate::support::random::Random;
 use crate::support::searching::{cut, search};
-use crate::support::text::Subject;
+use crate::support::text::{Subject, in_either_width};
 
 /// Cuts with an output just long enough and one short, and searches both.
 fn try_out(delivery: &Delivery, string: &[u16]) {
@@ -39,7 +39,8 @@ fn indexes_of_texts() {
         for _ in 0..4 {
             let start = random.place(subject.text.len());
             let long = random.within(1, 6).min(subject.text.len() - start);
-            try_out(&delivery, &subject.text[start..start + long]);
+            let string = &subject.text[start..start + long];
+            try_out(&delivery, &in_either_width(string, &mut random));
         }
     }
 }
@@ -63,9 +64,7 @@ fn readable_indexes_of_no_text() {
     let mut random = Random::seeded(42);
     for _ in 0..2_000 {
         let delivery = Delivery::random(&mut random);
-        let alphabet = [&delivery.dictionary.chars[..], &[0x61]].concat();
         let length = random.one_of(&[1, 2, 3, 8, 40]);
-        let string: Vec<u16> = (0..length).map(|_| random.one_of(&alphabet)).collect();
-        try_out(&delivery, &string);
+        try_out(&delivery, &delivery.string(&mut random, length));
     }
 }

@@ -7,7 +7,6 @@ use crate::support::entries::{Entry, keys, numbers};
 use crate::support::first::{assert_first, first};
 use crate::support::oracle;
 use crate::support::random::Random;
-use crate::support::text::random_over;
 
 /// The entries of a delivery.
 fn entries(Delivery { dictionary, index }: &Delivery) -> Vec<Entry> {
@@ -21,13 +20,6 @@ fn entries(Delivery { dictionary, index }: &Delivery) -> Vec<Entry> {
     entries
 }
 
-/// A short string over the characters of the words.
-fn string_over(dictionary: &Dictionary, random: &mut Random) -> Vec<u16> {
-    let alphabet = [&dictionary.chars[..], &[0x61]].concat();
-    let length = random.within(1, 8);
-    random_over(&alphabet, random, length)
-}
-
 /// The same n and the same entries up to a position, and after it others drawn
 /// at random.
 fn with_other_later_entries(delivery: &Delivery, last: u16, random: &mut Random) -> Vec<u16> {
@@ -36,7 +28,7 @@ fn with_other_later_entries(delivery: &Delivery, last: u16, random: &mut Random)
     let n = delivery.index[0];
     let mut kept = entries(delivery);
     kept.retain(|&(_, position)| position <= last);
-    for key in keys(&words, &[&chars[..], &[0x61]].concat()) {
+    for key in keys(&words, &[&chars[..], &[0x61, 0xFF41]].concat()) {
         let last_start = (n + 1).saturating_sub(key.spells(&words).len() as u16);
         let later = (last + 1..=last_start).filter(|_| random.within(0, 2) == 0);
         kept.extend(later.map(|position| (key, position)));
@@ -51,7 +43,8 @@ fn entries_that_start_later_do_not_matter() {
     for _ in 0..4_000 {
         let delivery = Delivery::random(&mut random);
         for _ in 0..4 {
-            let string = string_over(&delivery.dictionary, &mut random);
+            let length = random.within(1, 8);
+            let string = delivery.string(&mut random, length);
             let Ok(Some(position)) = first(&delivery.dictionary, &delivery.index, &string) else {
                 continue;
             };
@@ -79,7 +72,8 @@ fn indexes_that_are_moved() {
         for most in [1_024, 8_192, 65_535 - 24] {
             let by = most - random.within(0, 6) as u16;
             let moved = delivery.clone().moved(by);
-            let string = string_over(dictionary, &mut random);
+            let length = random.within(1, 8);
+            let string = delivery.string(&mut random, length);
             let expected = oracle::first(dictionary, index, &string);
             let expected = expected.map(|first| first.map(|position| position + by));
             assert_first(dictionary, &moved.index, &string, expected);

@@ -6,7 +6,7 @@ use std::time::{Duration, Instant};
 use crate::support::lookup::{lookup, run};
 use crate::support::random::Random;
 use crate::support::sheet::Sheet;
-use crate::support::text::Subject;
+use crate::support::text::{Subject, in_either_width, random_over};
 
 /// A byte of a good sheet dropped, doubled, or changed to another one.
 #[test]
@@ -32,7 +32,8 @@ fn a_byte_changed() {
     assert!(refused >= 400, "only {refused}");
 }
 
-/// What the text holds, over few characters or many, and strings near it.
+/// What the text holds, over few characters or many, and strings near it in either
+/// width.
 fn random_sheet(random: &mut Random) -> Sheet {
     let longest = random.one_of(&[5, 40, 300]);
     let Subject { dictionary, text } = match random.within(0, 1) {
@@ -43,12 +44,13 @@ fn random_sheet(random: &mut Random) -> Sheet {
     let alphabet = [&text[..], &dictionary.chars, &[7]].concat();
     let finds = (0..random.within(0, 50)).map(|_| {
         let length = random.within(1, 6);
-        if random.within(0, 2) > 0 && !text.is_empty() {
+        let find = if random.within(0, 2) > 0 && !text.is_empty() {
             let start = random.place(text.len());
             text[start..(start + length).min(text.len())].to_vec()
         } else {
-            (0..length).map(|_| random.one_of(&alphabet)).collect()
-        }
+            random_over(&alphabet, random, length)
+        };
+        in_either_width(&find, random)
     });
     Sheet {
         words: words.collect(),
@@ -76,7 +78,7 @@ fn random_damaged_sheets() {
         let mut sheet = random_sheet(&mut random);
         let word = random.within(0, sheet.words.len());
         let find = random.within(0, sheet.finds.len());
-        let mut bytes = match random.within(0, 5) {
+        let mut bytes = match random.within(0, 6) {
             0 => {
                 let copied = sheet.words.first().cloned().unwrap_or_default();
                 sheet.words.insert(word, copied);
@@ -90,6 +92,10 @@ fn random_damaged_sheets() {
             2 => {
                 let long = random.one_of(&[0, 257, 300]);
                 sheet.finds.insert(find, vec![7; long]);
+                sheet.bytes()
+            }
+            3 => {
+                sheet.words.push(vec![random.full_width_form()]);
                 sheet.bytes()
             }
             _ => sheet.bytes(),

@@ -2,7 +2,7 @@
 //! of delivered ones against the oracle. Small ones are all tried, and received
 //! exactly if one of all texts has them.
 
-use std::collections::HashMap;
+use std::collections::{BTreeSet, HashMap};
 
 use crate::support::building::Room;
 use crate::support::delivery::Delivery;
@@ -15,8 +15,8 @@ use crate::support::random::Random;
 use crate::support::reception::{assert_receives, recover};
 use crate::support::text::{Subject, spelt};
 
-/// The library builds the index of the text, receives it and recovers the text,
-/// with exactly as much lent as it takes, and with one number less.
+/// The library builds the index of the text, receives it and recovers the replaced
+/// text, with exactly as much lent as it takes, and with one number less.
 fn try_out(subject: &Subject) {
     let Subject { dictionary, text } = subject;
     let index = mopekihua::build(&dictionary.chars, &dictionary.lengths, text)
@@ -25,6 +25,7 @@ fn try_out(subject: &Subject) {
         output: text.len(),
         work: 8 * text.len(),
     };
+    let text = &oracle::replaced(text);
     assert_receives(dictionary, &index, exact, Ok(text));
     if let Some(output) = exact.output.checked_sub(1) {
         assert_receives(dictionary, &index, Room { output, ..exact }, Ok(text));
@@ -138,12 +139,12 @@ fn indexes_with_another_dictionary() {
     );
 }
 
-/// Every text of this length, by its index.
+/// Every replaced text of this length, by its index.
 fn texts_by_index(words: &[Vec<u16>], characters: &[u16], n: usize) -> HashMap<Vec<u16>, Vec<u16>> {
     all_lists(characters, n)
         .into_iter()
         .filter(|text| text.len() == n)
-        .map(|text| (oracle::index_of(words, &text), text))
+        .map(|text| (oracle::index_of(words, &text), oracle::replaced(&text)))
         .collect()
 }
 
@@ -154,10 +155,11 @@ fn texts_by_index(words: &[Vec<u16>], characters: &[u16], n: usize) -> HashMap<V
 #[track_caller]
 fn try_every_index(words: &str, characters: &str, longest: usize) {
     let characters = spelt(characters);
+    let replaced: BTreeSet<u16> = oracle::replaced(&characters).into_iter().collect();
     for n in 0..=longest {
         let blank = Indexed::new(Dictionary::spelt(words), vec![0; n]);
         let texts = texts_by_index(&blank.words, &characters, n);
-        assert_eq!(texts.len(), characters.len().pow(n as u32));
+        assert_eq!(texts.len(), replaced.len().pow(n as u32));
         let entries = blank.fitting(&characters);
         let mut received = 0;
         for choice in 0..1u32 << entries.len() {
@@ -188,6 +190,14 @@ fn every_index_of_words_that_overlap() {
 fn every_index_of_three_characters() {
     for words in ["", "abc", "ab abc bc"] {
         try_every_index(words, "abc", 3);
+    }
+}
+
+/// With a lone full-width form an index is received from no text.
+#[test]
+fn every_index_of_both_widths() {
+    for words in ["", "a", "ab", "a ab"] {
+        try_every_index(words, "aａb", 3);
     }
 }
 

@@ -7,10 +7,10 @@ use crate::support::lists::all_lists;
 use crate::support::oracle;
 use crate::support::random::Random;
 use crate::support::searching::{assert_finds, search};
-use crate::support::text::Subject;
+use crate::support::text::{Subject, in_either_width};
 
-/// A string that stands in the text, or one that differs from such a one in a
-/// character.
+/// A string that stands in the text, in either width, or one that differs from
+/// such a one in a character.
 fn string_near(text: &[u16], random: &mut Random) -> Vec<u16> {
     let most = random.one_of(&[1, 2, 3, 5, 12, 40, 256]);
     let start = random.place(text.len());
@@ -24,7 +24,7 @@ fn string_near(text: &[u16], random: &mut Random) -> Vec<u16> {
         string.push(text[0]);
     }
     string.truncate(256);
-    string
+    in_either_width(&string, random)
 }
 
 /// The index of the text finds what stands in the text, for several strings.
@@ -84,23 +84,24 @@ fn readable_indexes_of_no_text() {
     let mut random = Random::seeded(35);
     let mut found = 0;
     for _ in 0..4_000 {
-        let Delivery { dictionary, index } = Delivery::random(&mut random);
-        let alphabet = [&dictionary.chars[..], &[0x61]].concat();
+        let delivery = Delivery::random(&mut random);
+        let Delivery { dictionary, index } = &delivery;
         for _ in 0..6 {
             let length = random.within(1, 8);
-            let string: Vec<u16> = (0..length).map(|_| random.one_of(&alphabet)).collect();
-            let places = search(&dictionary, &index, &string, 24).expect("a readable index");
+            let string = delivery.string(&mut random, length);
+            let places = search(dictionary, index, &string, 24).expect("a readable index");
             found += usize::from(!places.is_empty());
         }
     }
     assert!(found >= 4_000, "only {found}");
 }
 
-/// Every string of up to five characters out of two.
+/// Every string of up to five characters out of two, of which one comes in both
+/// widths.
 #[test]
 fn every_small_string() {
     let mut random = Random::seeded(36);
-    let strings = all_lists(&[0x61, 0x62], 5);
+    let strings = all_lists(&[0x61, 0x62, 0xFF41], 5);
     for _ in 0..300 {
         let Delivery { dictionary, index } = small_delivery(&mut random);
         for string in &strings {

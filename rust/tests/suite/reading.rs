@@ -285,7 +285,7 @@ fn an_index_of_65535_keys() {
 }
 
 #[test]
-fn the_lowest_number_is_answered() {
+fn the_first_number_in_order_is_answered() {
     for (dictionary, refused) in Dictionary::good_and_refused() {
         for index in [&[][..], &[6, 1, 2, 0, 1, 1]] {
             assert_eq!(tally(&dictionary, index), Err(refused.unwrap_or(5)));

@@ -7,7 +7,7 @@ use crate::support::building::Room;
 use crate::support::dictionary::Dictionary;
 use crate::support::oracle::{Key, Line, numbers};
 use crate::support::reception::recover;
-use crate::support::text::spelt;
+use crate::support::text::{every_replaced_character, spelt};
 
 /// The index of abcdab with the words ab, abc and bcd.
 const ABCDAB: &[u16] = &[6, 3, 0, 0, 1, 0, 1, 1, 0, 2, 1, 5, 1, 2];
@@ -231,17 +231,17 @@ fn a_text_of_65535_characters() {
     no_text(&b, &numbers(65_535, &[(Key::Word(2), gap)]));
 }
 
-/// The longest index that a text has, and as many numbers that none has.
+/// The most lone keys that an index of a text has, and as many that none has.
 #[test]
-fn an_index_of_65535_lone_keys() {
+fn an_index_of_65442_lone_keys() {
     let none = Dictionary::default();
-    let text: Vec<u16> = (0..65_535).map(|place| 65_535 - place).collect();
-    let mut lines: Vec<Line> = (1..=65_535)
-        .map(|character| (Key::Lone(character), vec![65_535 - character + 1]))
-        .collect();
-    is_of(&none, &numbers(65_535, &lines), &text);
-    lines[65_534].1[0] = 2;
-    no_text(&none, &numbers(65_535, &lines));
+    let text = every_replaced_character();
+    let positions = (1..=65_442).rev().map(|position| vec![position]);
+    let keys = text.iter().rev().copied().map(Key::Lone);
+    let mut lines: Vec<Line> = keys.zip(positions).collect();
+    is_of(&none, &numbers(65_442, &lines), &text);
+    lines[65_441].1[0] = 2;
+    no_text(&none, &numbers(65_442, &lines));
     let all_at_1: Vec<Line> = lines.into_iter().map(|(key, _)| (key, vec![1])).collect();
     no_text(&none, &numbers(1, &all_at_1));
 }

@@ -128,9 +128,10 @@ fn refuses_whatever_work_holds(
 }
 
 /// Dictionaries, indexes and room that meet each number, put together in all
-/// ways: the lowest number is answered, and 8 only where a text has the index.
+/// ways: the first number in the order of the tests is answered, and 8 only where
+/// a text has the index.
 #[test]
-fn the_lowest_number_is_answered() {
+fn the_first_number_in_order_is_answered() {
     let uncovered: &[u16] = &[6, 1, 0, 0, 1, 5];
     let indexes = [
         (ABCDAB, None, None),

@@ -12,12 +12,12 @@ fn numbers_go_both_ways() {
         assert_eq!(refusal.number(), number);
         assert_eq!(Refusal::from_number(number), Some(refusal));
     }
-    assert_eq!(Refusal::ALL.len(), 11);
+    assert_eq!(Refusal::ALL.len(), 12);
 }
 
 #[test]
 fn other_numbers_are_no_refusal() {
-    for number in [0, 12, 65_537, u32::MAX] {
+    for number in [0, 13, 65_537, u32::MAX] {
         assert_eq!(Refusal::from_number(number), None);
     }
 }

@@ -4,7 +4,7 @@
 use crate::support::delivery::{Delivery, delivery};
 use crate::support::dictionary::Dictionary;
 use crate::support::oracle::{Key, numbers};
-use crate::support::searching::{assert_lowest_number, search};
+use crate::support::searching::{assert_first_number, search};
 use crate::support::text::{Subject, spelt};
 
 /// These positions are found, in an output just as long, in a longer one, and
@@ -163,6 +163,6 @@ fn the_longest_text() {
 }
 
 #[test]
-fn the_lowest_number_is_answered() {
-    assert_lowest_number(search, 2);
+fn the_first_number_in_order_is_answered() {
+    assert_first_number(search, 2);
 }

@@ -2,9 +2,10 @@
 //! character may: the oracle says which.
 
 use super::dictionary::Dictionary;
+use super::oracle;
 use super::random::Random;
 
-#[derive(Clone, Copy, Debug)]
+#[derive(Clone, Copy, Debug, PartialEq, Eq)]
 pub enum Damage {
     SwapNeighbours,
     RepeatWord,
@@ -15,6 +16,8 @@ pub enum Damage {
     DropCharacters,
     AddCharacters,
     ChangeCharacter,
+    FullWidthCharacter,
+    FullWidthWord,
     MoveBorder,
     DropLength,
     TooManyLengths,
@@ -22,7 +25,7 @@ pub enum Damage {
 }
 
 impl Damage {
-    pub const ALL: [Damage; 13] = [
+    pub const ALL: [Damage; 15] = [
         Damage::SwapNeighbours,
         Damage::RepeatWord,
         Damage::LengthOneMore,
@@ -32,6 +35,8 @@ impl Damage {
         Damage::DropCharacters,
         Damage::AddCharacters,
         Damage::ChangeCharacter,
+        Damage::FullWidthCharacter,
+        Damage::FullWidthWord,
         Damage::MoveBorder,
         Damage::DropLength,
         Damage::TooManyLengths,
@@ -51,7 +56,8 @@ impl Damage {
             | Damage::AddCharacters
             | Damage::DropLength => Some(2),
             Damage::SwapNeighbours | Damage::RepeatWord => Some(3),
-            Damage::ChangeCharacter | Damage::MoveBorder => None,
+            Damage::FullWidthWord => Some(12),
+            Damage::ChangeCharacter | Damage::FullWidthCharacter | Damage::MoveBorder => None,
         }
     }
 
@@ -64,7 +70,7 @@ impl Damage {
         let Dictionary { chars, lengths } = dictionary;
         match self {
             Damage::SwapNeighbours => swap_neighbours(dictionary, neighbour),
-            Damage::RepeatWord => repeat_word(dictionary, number),
+            Damage::RepeatWord => dictionary.insert(number, &dictionary.word(number)),
             Damage::LengthOneMore => lengths[number] += 1,
             Damage::LengthOneLess => lengths[number] -= 1,
             Damage::LengthZero => lengths[number] = 0,
@@ -74,6 +80,10 @@ impl Damage {
                 chars.extend((0..random.within(1, 40)).map(|_| random.character()));
             }
             Damage::ChangeCharacter => chars[random.place(chars_len)] = random.character(),
+            Damage::FullWidthCharacter => {
+                chars[random.place(chars_len)] = random.full_width_form();
+            }
+            Damage::FullWidthWord => add_in_order(dictionary, &[random.full_width_form()]),
             Damage::MoveBorder => {
                 lengths[neighbour] += 1;
                 lengths[neighbour + 1] -= 1;
@@ -95,9 +105,9 @@ fn swap_neighbours(dictionary: &mut Dictionary, first: usize) {
     dictionary.lengths.swap(first, first + 1);
 }
 
-fn repeat_word(dictionary: &mut Dictionary, number: usize) {
-    let word = dictionary.word(number);
-    let start = dictionary.start(number);
-    dictionary.lengths.insert(number, word.len() as u16);
-    dictionary.chars.splice(start..start, word);
+/// A word more, behind those that sort below it.
+fn add_in_order(dictionary: &mut Dictionary, word: &[u16]) {
+    let words = oracle::split(&dictionary.chars, &dictionary.lengths);
+    let number = words.partition_point(|other| other.as_slice() < word);
+    dictionary.insert(number, word);
 }

@@ -3,7 +3,7 @@
 use super::dictionary::Dictionary;
 use super::oracle::{self, Key, Line};
 use super::random::Random;
-use super::text::{Subject, spelt};
+use super::text::{Subject, in_either_width, random_over, spelt};
 
 /// A dictionary and an index that is readable with it.
 #[derive(Clone, Debug)]
@@ -54,6 +54,13 @@ impl Delivery {
         }
         let index = oracle::numbers(n as u16, &lines);
         Delivery { dictionary, index }
+    }
+
+    /// So many characters of the words, in either width, and of a.
+    pub fn string(&self, random: &mut Random, length: usize) -> Vec<u16> {
+        let alphabet = [&self.dictionary.chars[..], &[0x61]].concat();
+        let string = random_over(&alphabet, random, length);
+        in_either_width(&string, random)
     }
 
     /// The same entries behind as many positions that none covers.

@@ -4,6 +4,7 @@ use std::collections::BTreeSet;
 use std::fmt;
 
 use super::lent::{GUARDS, Lent, few};
+use super::oracle::replaced;
 use super::random::Random;
 
 #[derive(Clone, Default)]
@@ -64,13 +65,15 @@ impl Dictionary {
     pub fn random(random: &mut Random, most: usize) -> Self {
         let alphabet: Vec<u16> = (0..random.within(1, 4))
             .map(|_| match random.within(0, 3) {
-                0 => random.one_of(&[0x0000, 0xFFFF, 0x7FFF, 0x8000, 0xD83D, 0xDC00]),
+                0 => random.one_of(&[
+                    0x0000, 0xFFFF, 0x7FFF, 0x8000, 0xD83D, 0xDC00, 0x0021, 0x007E, 0xFF00, 0xFF5F,
+                ]),
                 _ => random.character(),
             })
             .collect();
         let longest = random.one_of(&[1, 2, 3, 6, 32]);
         let count = random.within(0, most);
-        Self::random_over(&alphabet, random, count, longest)
+        Self::random_over(&replaced(&alphabet), random, count, longest)
     }
 
     /// An admitted dictionary of at most `most` words of at most `longest` of
@@ -95,13 +98,15 @@ impl Dictionary {
         dictionary
     }
 
-    /// A right dictionary and one for each of refusals 1 to 3, with the number.
-    pub fn good_and_refused() -> [(Self, Option<u32>); 4] {
+    /// A right dictionary and one for each of refusals 1, 2, 3 and 12, with the
+    /// number.
+    pub fn good_and_refused() -> [(Self, Option<u32>); 5] {
         [
             (Self::spelt("ab abc bcd"), None),
             (Self::of_single_characters(4097), Some(1)),
             (Self::of([[7; 33]]), Some(2)),
             (Self::spelt("b a"), Some(3)),
+            (Self::spelt("ab ａ"), Some(12)),
         ]
     }
 
@@ -125,6 +130,13 @@ impl Dictionary {
     pub fn push(&mut self, word: &[u16]) {
         self.chars.extend_from_slice(word);
         self.lengths.push(word.len() as u16);
+    }
+
+    /// Puts a word in front of the one with this number.
+    pub fn insert(&mut self, number: usize, word: &[u16]) {
+        let start = self.start(number);
+        self.lengths.insert(number, word.len() as u16);
+        self.chars.splice(start..start, word.iter().copied());
     }
 
     pub fn remove(&mut self, number: usize) {

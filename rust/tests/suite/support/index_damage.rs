@@ -7,6 +7,7 @@ use super::random::Random;
 pub enum IndexDamage {
     ChangeKind,
     ChangeValue,
+    FullWidthValue,
     SwapKeys,
     RepeatKey,
     CountOneMore,
@@ -23,9 +24,10 @@ pub enum IndexDamage {
 }
 
 impl IndexDamage {
-    pub const ALL: [IndexDamage; 15] = [
+    pub const ALL: [IndexDamage; 16] = [
         IndexDamage::ChangeKind,
         IndexDamage::ChangeValue,
+        IndexDamage::FullWidthValue,
         IndexDamage::SwapKeys,
         IndexDamage::RepeatKey,
         IndexDamage::CountOneMore,
@@ -47,12 +49,14 @@ impl IndexDamage {
         let header = 2 + 3 * keys;
         let line = 2 + 3 * random.place(keys);
         let other = 2 + 3 * random.place(keys);
+        let last_line = header - 3;
         let position = random.within(header, index.len() - 1);
         let beside = random.within(header, index.len() - 1);
         let place = random.place(index.len());
         match self {
             IndexDamage::ChangeKind => index[line] = random.one_of(&[0, 1, 2, 0xFFFF]),
             IndexDamage::ChangeValue => index[line + 1] = near(index[line + 1], random),
+            IndexDamage::FullWidthValue => index[last_line + 1] = full_width(index[last_line + 1]),
             IndexDamage::SwapKeys => {
                 index.swap(line, other);
                 index.swap(line + 1, other + 1);
@@ -73,6 +77,14 @@ impl IndexDamage {
             IndexDamage::AddNumber => index.push(random.within(0, 40) as u16),
             IndexDamage::ChangeNumber => index[place] = near(index[place], random),
         }
+    }
+}
+
+/// The full-width form of a character that has one, else some full-width form.
+fn full_width(character: u16) -> u16 {
+    match character {
+        0x21..=0x7E => character + 0xFEE0,
+        _ => 0xFF01 + character % 0x5E,
     }
 }
 

@@ -24,6 +24,18 @@ pub fn lookup(bytes: &[u8]) -> String {
     expected
 }
 
+/// The program prints this for the sheet.
+#[track_caller]
+pub fn prints(sheet: impl AsRef<[u8]>, expected: &str) {
+    assert_eq!(lookup(sheet.as_ref()), expected);
+}
+
+/// The program refuses the sheet with this number.
+#[track_caller]
+pub fn refuses(sheet: impl AsRef<[u8]>, number: u32) {
+    prints(sheet, &format!("(refused {number})\n"));
+}
+
 /// Bytes to read where a test fails, not too many of them.
 fn few(bytes: &[u8]) -> String {
     let some = &bytes[..bytes.len().min(1_000)];

@@ -2,6 +2,7 @@
 //! random dictionaries and texts, the ways to damage them, and calls that hold
 //! the library to all that it says of the slices lent.
 
+pub mod admission;
 pub mod building;
 pub mod call;
 pub mod damage;

@@ -29,6 +29,10 @@ impl Random {
         self.next() as u16
     }
 
+    pub fn full_width_form(&mut self) -> u16 {
+        self.within(0xFF01, 0xFF5E) as u16
+    }
+
     pub fn one_of<T: Copy>(&mut self, choices: &[T]) -> T {
         choices[self.place(choices.len())]
     }

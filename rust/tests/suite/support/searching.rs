@@ -76,10 +76,10 @@ fn assert_answers(call: Call, lent: [&[u16]; 4], output_len: usize, expected: Re
 }
 
 /// Dictionaries, indexes, strings and outputs that meet each number, put
-/// together in all ways: the lowest number is answered. `size` numbers are just
-/// enough for the answer to ab in the index of abcdab.
+/// together in all ways: the first number in the order of the tests is answered.
+/// `size` numbers are just enough for the answer to ab in the index of abcdab.
 #[track_caller]
-pub fn assert_lowest_number(
+pub fn assert_first_number(
     answer: impl Fn(&Dictionary, &[u16], &[u16], usize) -> Result<Vec<u16>, u32>,
     size: usize,
 ) {
@@ -92,7 +92,8 @@ pub fn assert_lowest_number(
 }
 
 /// Dictionaries, indexes and strings, good ones and some for each number that
-/// refuses one, put together in all ways, each with the lowest number.
+/// refuses one, put together in all ways, each with the first number in the order
+/// of the tests.
 pub fn for_good_and_refused(mut lend: impl FnMut(&Dictionary, &[u16], &[u16], Option<u32>)) {
     let abcdab: &[u16] = &[6, 3, 0, 0, 1, 0, 1, 1, 0, 2, 1, 5, 1, 2];
     let long = "a".repeat(257);

@@ -1,6 +1,7 @@
 //! Job sheets: how one is written, and what the program prints for it, read
 //! plainly from the definition.
 
+use super::dictionary::Dictionary;
 use super::oracle::{self, Key};
 
 /// What a sheet says.
@@ -109,19 +110,11 @@ fn character(digits: &str) -> Option<u16> {
     u16::from_str_radix(digits, 16).ok().filter(|_| four)
 }
 
-/// The sheet, or the lowest of 2, 3 and 6 over its words and finds. It is too
-/// short to meet 1.
+/// The sheet, or the number that refuses its words as a dictionary, or 6 over its
+/// finds. It is too short to meet 1.
 fn tested(sheet: Sheet) -> Result<Sheet, u32> {
-    if sheet
-        .words
-        .iter()
-        .any(|word| !(1..=32).contains(&word.len()))
-    {
-        return Err(2);
-    }
-    if !sheet.words.is_sorted_by(|one, next| one < next) {
-        return Err(3);
-    }
+    let Dictionary { chars, lengths } = Dictionary::of(&sheet.words);
+    oracle::admit(&chars, &lengths)?;
     if sheet
         .finds
         .iter()
@@ -132,7 +125,8 @@ fn tested(sheet: Sheet) -> Result<Sheet, u32> {
     Ok(sheet)
 }
 
-/// The index, key after key, and where each string stands in the text.
+/// The index of the replaced text, key after key, and where each replaced string
+/// stands in it.
 fn printed(sheet: &Sheet) -> String {
     let lines = oracle::lines_of(&sheet.words, &sheet.text);
     let entries: usize = lines.iter().map(|(_, positions)| positions.len()).sum();

@@ -1,6 +1,7 @@
 //! Texts, alone and together with a dictionary that has to do with them.
 
 use super::dictionary::Dictionary;
+use super::oracle::replaced;
 use super::random::Random;
 
 /// The characters of a string.
@@ -13,7 +14,24 @@ pub fn random_over(alphabet: &[u16], random: &mut Random, n: usize) -> Vec<u16> 
     (0..n).map(|_| random.one_of(alphabet)).collect()
 }
 
-/// A dictionary and a text.
+/// The 65,442 characters that are no full-width form, each once, falling.
+pub fn every_replaced_character() -> Vec<u16> {
+    (0..=0xFF00).chain(0xFF5F..=0xFFFF).rev().collect()
+}
+
+/// The same lettering, with each character that comes in both widths in one of
+/// them, drawn evenly.
+pub fn in_either_width(lettering: &[u16], random: &mut Random) -> Vec<u16> {
+    let mut drawn = replaced(lettering);
+    for character in &mut drawn {
+        if (0x21..=0x7E).contains(character) && random.within(0, 1) == 0 {
+            *character += 0xFEE0;
+        }
+    }
+    drawn
+}
+
+/// A dictionary and a text, in one width or in both.
 #[derive(Clone, Debug)]
 pub struct Subject {
     pub dictionary: Dictionary,
@@ -26,19 +44,25 @@ impl Subject {
         let alphabet = few_characters(random);
         let longest_word = random.one_of(&[1, 2, 3, 6, 32]);
         let most = random.within(0, 60);
-        let dictionary = Dictionary::random_over(&alphabet, random, most, longest_word);
+        let word_alphabet = replaced(&alphabet);
+        let dictionary = Dictionary::random_over(&word_alphabet, random, most, longest_word);
         let n = random.within(0, longest_text);
-        let text = random_over(&alphabet, random, n);
+        let mut text = random_over(&alphabet, random, n);
+        if random.within(0, 1) == 0 {
+            text = in_either_width(&text, random);
+        }
         Subject { dictionary, text }
     }
 
-    /// Kana and a few hundred kanji, with words of 1 to 32 characters cut from
-    /// the text and from another one, so that they overlap and nest.
+    /// Kana, a few hundred kanji, and digits in either width, with words of 1 to 32
+    /// characters cut from the text and from another one, so that they overlap and
+    /// nest.
     pub fn of_japanese(random: &mut Random, longest_text: usize) -> Subject {
         let kanji = random.within(1, 400) as u16;
-        let alphabet: Vec<u16> = (0x3041..0x3097).chain(0x4E00..0x4E00 + kanji).collect();
+        let kana_and_digits = (0x3041..0x3097).chain(0x30..0x3A);
+        let alphabet: Vec<u16> = kana_and_digits.chain(0x4E00..0x4E00 + kanji).collect();
         let n = random.within(1, longest_text);
-        let text = random_over(&alphabet, random, n);
+        let text = in_either_width(&random_over(&alphabet, random, n), random);
         let other = random_over(&alphabet, random, 64);
         let mut words = Vec::new();
         for _ in 0..random.within(0, 120) {
@@ -81,19 +105,23 @@ impl Subject {
     }
 }
 
-/// A string of 1 to 32 characters that stands in the text, mostly a short one.
+/// A word of 1 to 32 characters that stands in the replaced text, mostly a short
+/// one.
 fn part_of(text: &[u16], random: &mut Random) -> Vec<u16> {
     let start = random.place(text.len());
     let most = random.one_of(&[1, 2, 2, 3, 4, 8, 32]);
     let long = random.within(1, most).min(text.len() - start);
-    text[start..start + long].to_vec()
+    replaced(&text[start..start + long])
 }
 
-/// One to five characters. Half of the time they are equal in their low bits,
-/// which hash tables go by.
+/// One to five characters, some of them around the first and the last full-width
+/// form and what these are replaced by. Half of the time they are equal in their
+/// low bits, which hash tables go by.
 fn few_characters(random: &mut Random) -> Vec<u16> {
     let count = random.within(1, 5);
-    let first = random.one_of(&[0x0000, 0x0061, 0x3042, 0x4E00, 0xFFFF]);
+    let first = random.one_of(&[
+        0x0000, 0x0020, 0x0061, 0x007E, 0x3042, 0x4E00, 0xFF00, 0xFF5E, 0xFFFF,
+    ]);
     let step = random.one_of(&[1, 37, 0x0800, 0x2000]);
     (0..count as u16)
         .map(|place| first ^ place.wrapping_mul(step))

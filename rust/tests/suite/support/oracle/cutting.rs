@@ -2,10 +2,12 @@
 
 use super::Opened;
 
-/// The same n, and the keys that bear on the string with all their positions.
+/// The same n, and the keys that bear on the replaced string with all their
+/// positions.
 pub fn cut_down(opened: &Opened, string: &[u16]) -> Vec<u16> {
+    let string = super::replaced(string);
     let mut lines = opened.lines.clone();
-    lines.retain(|(key, _)| bears(&key.spells(&opened.words), string));
+    lines.retain(|(key, _)| bears(&key.spells(&opened.words), &string));
     super::numbers(opened.n, &lines)
 }
 

@@ -59,14 +59,14 @@ pub fn build(
     super::put(index_of(&super::split(chars, lengths), text), output_len)
 }
 
-/// The numbers of the text's complete maximal word index.
+/// The numbers of the complete maximal word index of the replaced text.
 pub fn index_of(words: &[Vec<u16>], text: &[u16]) -> Vec<u16> {
     numbers(text.len() as u16, &lines_of(words, text))
 }
 
 /// Its lines.
 pub fn lines_of(words: &[Vec<u16>], text: &[u16]) -> Vec<Line> {
-    let complete = complete(words, text);
+    let complete = complete(words, &super::replaced(text));
     let mut lines = BTreeMap::<Key, Vec<u16>>::new();
     for (at, standing) in complete.iter().enumerate() {
         for entry in standing {

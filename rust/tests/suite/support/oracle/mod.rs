@@ -1,16 +1,18 @@
 //! The definitions read as plainly as they are written, with little regard to
-//! cost.
+//! cost. Texts and strings are taken as they are lent, and replaced here.
 
 mod cutting;
 mod index;
 mod reading;
 mod reception;
+mod replaced;
 mod searching;
 
 pub use cutting::cut_down;
 pub use index::{Key, Line, build, index_of, lines_of, numbers};
 pub use reading::{Opened, open, tally};
 pub use reception::receive;
+pub use replaced::{is_full_width, replaced};
 pub use searching::{answer, find, first, places_in_text};
 
 /// Admission: the number of words, or the number of the refusal.
@@ -26,6 +28,9 @@ pub fn admit(chars: &[u16], lengths: &[u16]) -> Result<usize, u32> {
     let words = split(chars, lengths);
     if words.windows(2).any(|pair| pair[0] >= pair[1]) {
         return Err(3);
+    }
+    if words.concat().into_iter().any(is_full_width) {
+        return Err(12);
     }
     Ok(words.len())
 }

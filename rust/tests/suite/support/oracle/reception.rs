@@ -3,8 +3,8 @@
 use super::Opened;
 use crate::support::dictionary::Dictionary;
 
-/// Reception: the text that has the index, or the number of the refusal, for a
-/// work slice of this length.
+/// Reception: the replaced text that has the index, or the number of the
+/// refusal, for a work slice of this length.
 pub fn receive(dictionary: &Dictionary, numbers: &[u16], work_len: usize) -> Result<Vec<u16>, u32> {
     let opened = super::open(&dictionary.chars, &dictionary.lengths, numbers)?;
     if work_len < 8 * usize::from(opened.n) {
@@ -13,9 +13,9 @@ pub fn receive(dictionary: &Dictionary, numbers: &[u16], work_len: usize) -> Res
     text_of(&opened).ok_or(9)
 }
 
-/// The text that has this index, if one does. Where a text has it, every entry
-/// stands in the text and every position is covered: so it is the text that the
-/// entries show.
+/// The replaced text that has this index, if one does. Where a text has it, every
+/// entry stands in the text and every position is covered: so it is the text that
+/// the entries show.
 fn text_of(opened: &Opened) -> Option<Vec<u16>> {
     let mut shown = vec![None; usize::from(opened.n)];
     for (start, spelt) in opened.entries() {
@@ -27,6 +27,8 @@ fn text_of(opened: &Opened) -> Option<Vec<u16>> {
         }
     }
     let text: Vec<u16> = shown.into_iter().collect::<Option<_>>()?;
+    let is_replaced = !text.iter().copied().any(super::is_full_width);
     let numbers = super::numbers(opened.n, &opened.lines);
-    (super::index_of(&opened.words, &text) == numbers).then_some(text)
+    let has_it = super::index_of(&opened.words, &text) == numbers;
+    (is_replaced && has_it).then_some(text)
 }

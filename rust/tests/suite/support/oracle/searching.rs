@@ -31,18 +31,19 @@ fn open_for(dictionary: &Dictionary, numbers: &[u16], string: &[u16]) -> Result<
     }
 }
 
-/// The positions of which each place of the string laid there is covered by an
-/// entry that agrees.
+/// The positions of which each place of the replaced string laid there is covered
+/// by an entry that agrees.
 pub fn find(opened: &Opened, string: &[u16]) -> Vec<u16> {
     found(opened, string).collect()
 }
 
 /// The same, one by one.
 fn found(opened: &Opened, string: &[u16]) -> impl Iterator<Item = u16> {
+    let string = super::replaced(string);
     let mut entries = opened.entries();
     entries.sort();
     let last = (usize::from(opened.n) + 1).saturating_sub(string.len());
-    let is_found = move |&laid: &usize| is_found(laid, string, &entries);
+    let is_found = move |&laid: &usize| is_found(laid, &string, &entries);
     (1..=last).filter(is_found).map(|laid| laid as u16)
 }
 
@@ -64,8 +65,9 @@ fn is_found(laid: usize, string: &[u16], entries: &[(usize, Vec<u16>)]) -> bool 
     covered.iter().all(|&place| place)
 }
 
-/// The positions at which a string stands in a text.
+/// The positions at which a string stands in a text, both replaced.
 pub fn places_in_text(text: &[u16], string: &[u16]) -> Vec<u16> {
+    let (text, string) = (super::replaced(text), super::replaced(string));
     let windows = text.windows(string.len()).zip(1..=u16::MAX);
     windows
         .filter(|(window, _)| *window == string)
