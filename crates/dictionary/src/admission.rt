@@ -12,7 +12,7 @@ ghost use lib.Dec.{eqb};
 ghost use lib.ListN.{length};
 ghost use Rattle.spec.specs.Dictionary.{lengths-good, total, words-from, word-before, ascend, dictionary-refusal};
 ghost use Rattle.spec.specs.Calls.{Admit-says};
-ghost use Rattle.laws.specs.WordCode.{part, code, Neighbours};
+ghost use Rattle.laws.specs.WordCode.{Equal-front, part, code, Reads-three, Neighbours};
 ghost use Rattle.laws.specs.Admission.{Fitting};
 use crate::numbers::lesser;
 use folding::forms::holds_full_width;
@@ -53,14 +53,12 @@ fn digit(present: bool, character: u16) -> u64
     if present { number } else { 0 }
 }
 
-// The first three characters of the word from `at` to `end` as one number. A read past the word is of the next word, and not used.
-fn prefix_code(chars: &[u16], at: usize, end: usize) -> u64
-    requires { ⌜ (at < end) × (end ≤ length (now chars)) ⌝ }
+// The first three characters of the word from `at` to `end` as one number, where `second` and `third` are the places of the two after the
+// first, if the word has them. A read past the word is not used.
+fn code_at(chars: &[u16], at: usize, end: usize, second: usize, third: usize) -> u64
+    requires { ⌜ Reads-three (now chars) at end second third ⌝ }
     ensures { λ r. ⌜ r ≡ code (part (now (chars .entry)) at end) ⌝ }
 {
-    let last = chars.len() - 1;
-    let second = next_within(at, last);
-    let third = next_within(second, last);
     let long = end - at;
     let a = digit(true, chars[at]);
     let b = digit(1 < long, chars[second]);
@@ -68,12 +66,63 @@ fn prefix_code(chars: &[u16], at: usize, end: usize) -> u64
     (a * 131072 + b) * 131072 + c
 }
 
+// The same for a word near the end of the characters: no place past the last one is read.
+fn last_code(chars: &[u16], at: usize, end: usize) -> u64
+    requires { ⌜ (at < end) × (end ≤ length (now chars)) ⌝ }
+    ensures { λ r. ⌜ r ≡ code (part (now (chars .entry)) at end) ⌝ }
+{
+    let last = chars.len() - 1;
+    let second = next_within(at, last);
+    let third = next_within(second, last);
+    code_at(chars, at, end, second, third)
+}
+
+// The first three characters of the word from `at` to `end` as one number.
+fn prefix_code(chars: &[u16], at: usize, end: usize) -> u64
+    requires { ⌜ (at < end) × (end ≤ length (now chars)) ⌝ }
+    ensures { λ r. ⌜ r ≡ code (part (now (chars .entry)) at end) ⌝ }
+{
+    let third = at + 2;
+    if third < chars.len() {
+        return code_at(chars, at, end, at + 1, third);
+    }
+    last_code(chars, at, end)
+}
+
+// How many characters two long words are known to begin with alike, out of the first `shared`, looked at four at a time; 0 for short
+// words.
+fn equal_fours(left: &[u16], right: &[u16], shared: usize) -> usize
+    requires { ⌜ (shared ≤ length (now left)) × (shared ≤ length (now right)) ⌝ }
+    ensures { λ r. ⌜ Equal-front (now (left .entry)) (now (right .entry)) r ⌝ }
+{
+    if shared < 8 {
+        return 0;
+    }
+    let mut i = 0;
+    while i + 3 < shared {
+        if left[i] != right[i] {
+            return i;
+        }
+        if left[i + 1] != right[i + 1] {
+            return i;
+        }
+        if left[i + 2] != right[i + 2] {
+            return i;
+        }
+        if left[i + 3] != right[i + 3] {
+            return i;
+        }
+        i += 4;
+    }
+    i
+}
+
 // Whether one word comes before another, character by character, a proper prefix first.
 fn comes_before(left: &[u16], right: &[u16]) -> bool
     ensures { λ r. ⌜ r ≡ word-before (now (left .entry)) (now (right .entry)) ⌝ }
 {
     let shared = lesser(left.len(), right.len());
-    let mut i = 0;
+    let mut i = equal_fours(left, right, shared);
     while i < shared {
         let x = left[i];
         let y = right[i];

@@ -49,7 +49,7 @@ module _ (ls : List ℕ) (i : ℕ) where
 
 -- THE REFUSAL
 
--- the lowest number over a dictionary and the lengths of the finds
+-- the first line met over a dictionary and then the lengths of the finds
 unfoldable pub parts-refusal : (chars words finds : List ℕ) → ℕ
 parts-refusal cs ws fs = or-else (dictionary-refusal cs ws) (cond (some-length-wrong fs) 6 0)
 

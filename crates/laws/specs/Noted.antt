@@ -1,5 +1,5 @@
 -- Reception by lines noted at places: what the scan of a painted text registers is held to the line noted where it starts, and
--- the number registered to M. For every readable slice it accepts exactly if `received`. Assumes nothing.
+-- the number registered to M. For every readable slice it accepts exactly if `is-index`. Assumes nothing.
 use mathlib.Core.Path.{_≡_, refl, sym, ap, _∙_, subst}
 use mathlib.Core.Bool.{Bool, true, false, _&&_}
 use mathlib.Core.Logic.{inl, inr}
@@ -141,7 +141,7 @@ module _ (lex : Lexicon) (good : Good-lexicon lex) (g : ℕ) (xs : List ℕ) (ca
           noted-right-put lex xs note noted e (entries-sound lex good (recovered lex xs) chars e i .from) here
           (λ f n a. is-index-own-places lex good g xs r f e n here a)
 
-  -- Accepted exactly if received, for any painting that is the recovered text where the numbers are received.
+  -- Accepted exactly if the numbers are the index of what they show, for any painting that is the recovered text where they are.
   pub accepts-exact :
       (us : List ℕ) → Chars us → length us ≡ n-of xs → (is-index g lex xs ≡ true → us ≡ recovered lex xs) →
       accepts lex note xs us ≡ is-index g lex xs

@@ -110,7 +110,7 @@ module _ (lex : Lexicon) (ts : List ℕ) where
           let (e, m, lo, hi) = cover (suc i) (omega arith) (omega arith) in
           paint-writes es us i within stand e m lo hi
 
--- WHERE NUMBERS ARE RECEIVED
+-- WHERE NUMBERS ARE THE INDEX OF WHAT THEY SHOW
 
 module _ (lex : Lexicon) (good : Good-lexicon lex) (g : ℕ) (xs : List ℕ) (taken : is-index g lex xs ≡ true) where
   -- Their entries, painted in any order, give the recovered text.

@@ -1,5 +1,5 @@
--- The text that reception paints into its work slice, and the notes behind it: the test of both accepts exactly where the index is
--- received, and the painting is then the recovered text. Assumes nothing.
+-- The text that reception paints into its work slice, and the notes behind it: the test of both accepts exactly where the index is that
+-- of what it shows, and the painting is then the recovered text; without full-width forms in it, the index is received. Assumes nothing.
 use mathlib.Core.Path.{_≡_, refl, sym, _∙_}
 use mathlib.Core.Bool.{Bool, true, false, not}
 use mathlib.Core.List.{List, []}

@@ -28,7 +28,7 @@ use Rattle.laws.specs.Building.{puts-accepted, puts-refused, output-refu
 unfoldable pub or-work-short : (refusal : ℕ) (index : List ℕ) (work : ℕ) → ℕ
 or-work-short refusal xs w = or-else refusal (cond (work-short (n-of xs) w) 7 0)
 
--- the refusals that need no painting: 1 to 3, 5, 7
+-- the refusals that need no painting: 1 to 3, 12, 5, 7
 abbrev pub delivery-refusal : (chars lengths index : List ℕ) → (work : ℕ) → ℕ
 delivery-refusal cs ls xs w = or-work-short (index-refusal cs ls xs) xs w
 

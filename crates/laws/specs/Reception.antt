@@ -1,5 +1,5 @@
 -- Reception as it is done: paint the entries, note the lines, scan the painting. For every readable slice that accepts exactly if
--- `received`, and the painting is then the recovered text. Assumes nothing.
+-- `is-index`, and the painting is then the recovered text. Assumes nothing.
 use mathlib.Core.Path.{_≡_, refl, _∙_}
 use mathlib.Core.Bool.{true}
 use mathlib.Core.Logic.{inl, inr, ⊎-elim}

@@ -2,14 +2,15 @@
 use mathlib.Core.Path.{_≡_, refl, sym, ap, _∙_}
 use mathlib.Core.Bool.{Bool, true, false, _||_}
 use mathlib.Core.Logic.{_⊎_, inl, inr, ⊎-elim}
-use mathlib.Core.List.{List, [], _∷_, append-nil, _++_}
+use mathlib.Core.List.{List, [], _∷_}
 use Prim.Native.Nat.{ℕ, zero, suc, _+_, _-_, _≤_, _<_}
 use native.Mathlib.Omega.{arith}
 use native.Mathlib.Numerals.{add-one}
 use lib.Dec.{leb}
+use lib.Bits.{bitAnd, bitOr, or-add-and, and-le-l, and-le-r}
 use lib.ListN.{length, getD, take, drop, length-drop, drop-of-length-le}
-use lib.Seq.{drop-cons, getD-drop, ext-getD}
-use borrow.Author.Tests.{le-leb, leb-true, leb-false, lt-leb}
+use lib.Seq.{drop-cons, ext-getD}
+use borrow.Author.Tests.{le-leb, leb-true}
 use Rattle.basics.specs.Bools.{clash, true-or-false, false-put, and-put, and-left, and-right, or-none, or-false}
 use Rattle.basics.specs.Member.{In}
 use Rattle.spec.specs.Replaced.{first-form, last-form, form-distance, is-full-width, replaced-char, replaced, holds-full-width}
@@ -115,6 +116,27 @@ holds-step xs i h = ap holds-full-width (drop-cons xs i 0 h) ∙ rw (add-one i)
 pub holds-end : (xs : List ℕ) (i : ℕ) → length xs ≤ i → holds-full-width (drop i xs) ≡ false
 unfolding holds-full-width
 holds-end xs i h = rw (drop-of-length-le xs h)
+
+-- where `all` is 0, no form stands before i: each excess over FF00 was put to it with a bitwise or
+abbrev pub Exceeds : (text : List ℕ) → (all i : ℕ) → Type 0
+Exceeds xs all i = (i ≤ length xs) × (all ≡ 0 → holds-full-width (drop i xs) ≡ holds-full-width xs)
+
+pub exceeds-step :
+    (xs : List ℕ) (all i : ℕ) → i < length xs → Exceeds xs all i → Exceeds xs (bitOr all (getD xs i 0 - 65280)) (i + 1)
+exceeds-step xs all i below h = (
+  omega arith,
+  λ e.
+      let sum : bitOr all (getD xs i 0 - 65280) + bitAnd all (getD xs i 0 - 65280) ≡ all + (getD xs i 0 - 65280) =
+      or-add-and all (getD xs i 0 - 65280) in
+      let none : all ≡ 0 = omega (arith, and-le-r all (getD xs i 0 - 65280)) in
+      let low : getD xs i 0 < first-form = omega (arith, and-le-l all (getD xs i 0 - 65280)) in
+      ap (λ (b : Bool). b || holds-full-width (drop (i + 1) xs)) (sym (below-form (getD xs i 0) low))
+      ∙ sym (holds-step xs i below)
+      ∙ h .1 none,
+)
+
+pub exceeds-end : (xs : List ℕ) (all i : ℕ) → length xs ≤ i → Exceeds xs all i → all ≡ 0 → holds-full-width xs ≡ false
+exceeds-end xs all i past h e = sym (h .1 e) ∙ holds-end xs i past
 
 -- what was held before i, or what those from i on hold, is what all hold
 abbrev pub Held : (text : List ℕ) → (held : Bool) → (i : ℕ) → Type 0

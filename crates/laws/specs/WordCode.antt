@@ -51,6 +51,25 @@ module _ (w v : List ℕ) (i : ℕ) where
       rw (drop-of-length-le w read, drop-cons v i 0) (sym (lt-ltb (length w) (length v) (omega arith))))
       (le-or-lt (length v) i)
 
+-- the words from i on compare as the words do
+abbrev pub Equal-front : (w v : List ℕ) → (i : ℕ) → Type 0
+Equal-front w v i = (i ≤ length w) × (i ≤ length v) × (word-before (drop i w) (drop i v) ≡ word-before w v)
+
+-- one equal character more, and four
+equal-one :
+    (w v : List ℕ) (i j : ℕ) → j ≡ i + 1 → i < length w → i < length v → getD w i 0 ≡ getD v i 0 → Equal-front w v i → Equal-front w v j
+equal-one w v i j next a b same h =
+    rw next (omega arith, omega arith, sym (before-same w v i a b same) ∙ h .2)
+
+pub equal-four :
+    (w v : List ℕ) (i : ℕ) → i + 3 < length w → i + 3 < length v → getD w i 0 ≡ getD v i 0 → getD w (i + 1) 0 ≡ getD v (i + 1) 0 →
+    getD w (i + 2) 0 ≡ getD v (i + 2) 0 → getD w (i + 3) 0 ≡ getD v (i + 3) 0 → Equal-front w v i → Equal-front w v (i + 4)
+equal-four w v i a b first second third fourth h =
+    equal-one w v (i + 3) (i + 4) (omega arith) a b fourth
+    (equal-one w v (i + 2) (i + 3) (omega arith) (omega arith) (omega arith) third
+    (equal-one w v (i + 1) (i + 2) (omega arith) (omega arith) (omega arith) second
+    (equal-one w v i (i + 1) (omega arith) (omega arith) (omega arith) first h)))
+
 -- THE PACKED START OF A WORD
 
 -- one more than the first character, 0 where there is none
@@ -180,6 +199,15 @@ digit-read cs at end i s order room here =
     getD-take (end - at) (drop at cs) i 0 inside ∙ getD-drop at cs i 0 ∙ ap (λ (j : ℕ). getD cs j 0) (sym (here inside)) in
     rw (lt-ltb i (end - at) inside, drop-cons (part cs at end) i 0 some, read))
     (le-or-lt (end - at) i)
+
+-- where the word's first three characters are read: the second and the third only if it has them, and within the slice
+pub record Reads-three (cs : List ℕ) (at end s t : ℕ) : Type 0 where
+  pub some : at < end
+  pub room : end ≤ length cs
+  pub second-in : s < length cs
+  pub third-in : t < length cs
+  pub second : 1 < end - at → s ≡ at + 1
+  pub third : 2 < end - at → t ≡ at + 2
 
 -- three digits so read make the code of the word
 pub code-read :

@@ -2,9 +2,9 @@
 -- computation. Assumes nothing.
 use mathlib.Core.Path.{_≡_, refl}
 use mathlib.Core.Bool.{true, false}
-use mathlib.Core.List.{List, [], _∷_, _++_}
+use mathlib.Core.List.{List, [], _∷_}
 use Prim.Native.Nat.{ℕ}
-use lib.ListN.{length, replicate}
+use lib.ListN.{replicate}
 use Rattle.spec.specs.Replaced.{is-full-width, replaced-char, replaced, holds-full-width}
 use Rattle.spec.specs.Dictionary.{longest-text, lexicon, is-char, all-chars, is-text, words-from, total, too-large, length-good, lengths-good, lengths-wrong, word-before, ascend, disordered, some-full-width, unreplaced, dictionary-refusal}
 use Rattle.spec.specs.Words.{key, same, listed, is-word, spells, stands, entry, contains, same-key, same-entry, key-entries, word-entries, lone-entries, complete, in-another, maximal, entries}

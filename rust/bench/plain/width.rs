@@ -11,10 +11,12 @@ pub fn copy_replaced(characters: &[u16], copy: &mut [u16]) {
     }
 }
 
-/// Whether one of the characters is a full-width form.
+/// Whether one of the characters is a full-width form. Few characters lie above
+/// FF00, and it takes less to see that none does.
 pub fn holds_full_width(characters: &[u16]) -> bool {
-    let forms = characters.iter().map(|&character| is_full_width(character));
-    forms.fold(false, |some, one| some | one)
+    let excess = |all, &character: &u16| all | character.saturating_sub(0xFF00);
+    characters.iter().fold(0, excess) != 0
+        && characters.iter().any(|&character| is_full_width(character))
 }
 
 fn is_full_width(character: u16) -> bool {

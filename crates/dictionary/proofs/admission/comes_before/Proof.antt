@@ -1,18 +1,15 @@
 -- `comes_before` meets its contract. The invariant: the words from i on compare as the words do. The measure is how many shared
 -- places are left. Assumes nothing.
-use mathlib.Core.Path.{_≡_, refl, sym, _∙_}
-use Prim.Native.Nat.{_-_, _≤_}
+use mathlib.Core.Path.{sym, _∙_}
+use Prim.Native.Nat.{_-_}
 use native.Mathlib.Omega.{arith}
 use borrow.Author.Needs.{needs}
-use lib.ListN.{length, drop}
-use Rattle.spec.specs.Dictionary.{word-before}
-use Rattle.laws.specs.WordCode.{before-differ, before-same, before-read}
+use Rattle.laws.specs.WordCode.{Equal-front, before-differ, before-same, before-read}
 use Rattle.dictionary.proofs.admission.comes_before.Statement.{statement}
 use Rattle.dictionary.proofs.admission.comes_before.Tie as tie
 
 abbrev Inv-loop : tie.InvT-loop
-Inv-loop left right shared i₀ i =
-    (i ≤ length left) × (i ≤ length right) × (word-before (drop i left) (drop i right) ≡ word-before left right)
+Inv-loop left right shared i₀ i = Equal-front left right i
 
 abbrev μ-loop : tie.MeasureT-loop
 μ-loop left right shared i₀ i = shared - i
@@ -20,8 +17,11 @@ abbrev μ-loop : tie.MeasureT-loop
 lesser-requires : tie.Need-lesser-requires Inv-loop μ-loop
 lesser-requires c κs = search needs
 
+equal-fours-requires : tie.Need-equal-fours-requires Inv-loop μ-loop
+equal-fours-requires c κs = (omega (arith, c .lesser .ensures), omega (arith, c .lesser .ensures))
+
 loop-holds : tie.Need-loop-holds Inv-loop μ-loop
-loop-holds c = (omega arith, omega arith, refl)
+loop-holds c = c .equal-fours .ensures
 
 mul-x : tie.Need-mul-x Inv-loop μ-loop
 mul-x c = search needs
@@ -37,7 +37,7 @@ shared-slice-read-y c = search needs
 
 returns : tie.Need-returns Inv-loop μ-loop
 returns c =
-    let start = c .before .before .before .before .before .before .before .before in
+    let start = c .before .before .before .before .before .before .before .before .before in
     let walk = c .before .before .before .before .loop in
     sym (before-differ (start .args .left .now) (start .args .right .now) (walk .i) (omega arith) (omega arith) (c .if1 .taken)) ∙ walk .inv .2
 
@@ -49,7 +49,7 @@ loop-less c = search needs
 
 loop-again : tie.Need-loop-again Inv-loop μ-loop
 loop-again c =
-    let start = c .before .before .before .before .before .before .before .before in
+    let start = c .before .before .before .before .before .before .before .before .before in
     let walk = c .before .before .before .before .loop in (
       omega arith,
       omega arith,
@@ -58,7 +58,7 @@ loop-again c =
 
 returns-2 : tie.Need-returns-2 Inv-loop μ-loop
 returns-2 c =
-    let start = c .before .before .before .before .before in
+    let start = c .before .before .before .before .before .before in
     let walk = c .before .loop in
     sym (before-read (start .args .left .now) (start .args .right .now) (walk .i) (omega arith) (walk .inv .0) (walk .inv .1)) ∙ walk .inv .2
 
@@ -69,6 +69,7 @@ comes-before-spec =
     Inv-loop
     μ-loop
     lesser-requires
+    equal-fours-requires
     loop-holds
     mul-x
     shared-slice-read-x

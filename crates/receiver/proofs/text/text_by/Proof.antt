@@ -1,6 +1,6 @@
 -- `text_by` meets its contract: where the index is that of what it shows, it is received exactly if that holds no full-width form.
 -- Assumes nothing.
-use mathlib.Core.Path.{_≡_, sym}
+use mathlib.Core.Path.{sym}
 use native.Mathlib.Omega.{arith}
 use lib.ListN.{length}
 use Prim.Native.Nat.{_≤_}

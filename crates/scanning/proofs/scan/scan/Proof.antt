@@ -1,6 +1,5 @@
 -- `scan` meets its contract. The invariant: the marks of the places passed, and what the scan will register from there on. The
 -- measure is how many places are left. Assumes nothing.
-use mathlib.Core.Path.{_≡_}
 use Prim.Native.Nat.{_-_}
 use native.Mathlib.Omega.{arith}
 use lib.ListN.{length, take, drop}

@@ -1,0 +1,60 @@
+-- `excesses` meets its contract. The invariant: where it is 0, no full-width form stands before i. The measure is how many characters are
+-- left. Assumes nothing.
+use mathlib.Core.Path.{refl}
+use Prim.Native.Nat.{_-_}
+use native.Mathlib.Omega.{arith}
+use lib.ListN.{length}
+use borrow.Author.Needs.{needs}
+use Rattle.laws.specs.Replacing.{Exceeds, exceeds-step, exceeds-end}
+use Rattle.folding.proofs.forms.excesses.Statement.{statement}
+use Rattle.folding.proofs.forms.excesses.Tie as tie
+
+abbrev Inv-loop : tie.InvT-loop
+Inv-loop text all₀ i₀ all i = Exceeds text all i
+
+abbrev μ-loop : tie.MeasureT-loop
+μ-loop text all₀ i₀ all i = length text - i
+
+loop-holds : tie.Need-loop-holds Inv-loop μ-loop
+loop-holds c = (omega arith, λ e. refl)
+
+mul-excess : tie.Need-mul-excess Inv-loop μ-loop
+mul-excess c = search needs
+
+shared-slice-read-excess : tie.Need-shared-slice-read-excess Inv-loop μ-loop
+shared-slice-read-excess c = search needs
+
+excess-requires : tie.Need-excess-requires Inv-loop μ-loop
+excess-requires c κs = search needs
+
+add-i : tie.Need-add-i Inv-loop μ-loop
+add-i c = search needs
+
+loop-less : tie.Need-loop-less Inv-loop μ-loop
+loop-less c = search needs
+
+loop-again : tie.Need-loop-again Inv-loop μ-loop
+loop-again c =
+    let turn = c .before .before .before .loop in
+    rw (c .excess .ensures)
+    (exceeds-step (c .before .before .before .before .before .args .text .now) (turn .all) (turn .i) (c .before .before .loop-test .taken) (turn .inv))
+
+returns : tie.Need-returns Inv-loop μ-loop
+returns c =
+    let turn = c .before .loop in
+    exceeds-end (c .before .before .before .args .text .now) (turn .all) (turn .i) (c .loop-test .left) (turn .inv)
+
+pub excesses-spec : {M : Type 1} → statement M
+excesses-spec =
+    tie.close
+    (tie.spec
+    Inv-loop
+    μ-loop
+    loop-holds
+    mul-excess
+    shared-slice-read-excess
+    excess-requires
+    add-i
+    loop-less
+    loop-again
+    returns)

@@ -1,0 +1,60 @@
+-- `find_full_width` meets its contract. The invariant: what was held so far, or what the characters left hold, is what the text holds.
+-- The measure is how many characters are left. Assumes nothing.
+use mathlib.Core.Path.{refl}
+use Prim.Native.Nat.{_-_}
+use native.Mathlib.Omega.{arith}
+use lib.ListN.{length}
+use borrow.Author.Needs.{needs}
+use Rattle.laws.specs.Replacing.{Held, held-step, held-end}
+use Rattle.folding.proofs.forms.find_full_width.Statement.{statement}
+use Rattle.folding.proofs.forms.find_full_width.Tie as tie
+
+abbrev Inv-loop : tie.InvT-loop
+Inv-loop text held₀ i₀ held i = Held text held i
+
+abbrev μ-loop : tie.MeasureT-loop
+μ-loop text held₀ i₀ held i = length text - i
+
+loop-holds : tie.Need-loop-holds Inv-loop μ-loop
+loop-holds c = (omega arith, refl)
+
+mul-is-full-width : tie.Need-mul-is-full-width Inv-loop μ-loop
+mul-is-full-width c = search needs
+
+shared-slice-read-is-full-width : tie.Need-shared-slice-read-is-full-width Inv-loop μ-loop
+shared-slice-read-is-full-width c = search needs
+
+is-full-width-requires : tie.Need-is-full-width-requires Inv-loop μ-loop
+is-full-width-requires c κs = search needs
+
+add-i : tie.Need-add-i Inv-loop μ-loop
+add-i c = search needs
+
+loop-less : tie.Need-loop-less Inv-loop μ-loop
+loop-less c = search needs
+
+loop-again : tie.Need-loop-again Inv-loop μ-loop
+loop-again c =
+    let turn = c .before .before .before .loop in
+    rw (c .is-full-width .ensures)
+    (held-step (c .before .before .before .before .before .args .text .now) (turn .held) (turn .i) (c .before .before .loop-test .taken) (turn .inv))
+
+returns : tie.Need-returns Inv-loop μ-loop
+returns c =
+    let turn = c .before .loop in
+    held-end (c .before .before .before .args .text .now) (turn .held) (turn .i) (c .loop-test .left) (turn .inv)
+
+pub find-full-width-spec : {M : Type 1} → statement M
+find-full-width-spec =
+    tie.close
+    (tie.spec
+    Inv-loop
+    μ-loop
+    loop-holds
+    mul-is-full-width
+    shared-slice-read-is-full-width
+    is-full-width-requires
+    add-i
+    loop-less
+    loop-again
+    returns)
