@@ -86,7 +86,8 @@ admit-decides :
     Decides (dictionary-rows cs ls) (r .refusal) (r .count ≡ length ls) (r .count ≡ 0)
 unfolding Admit-says
 admit-decides cs ls r says =
-    answers-decides (dictionary-rows cs ls) (dictionary-refusal cs ls) (dictionary-first cs ls) (dictionary-numbered cs ls) (length ls) r says
+    answers-decides (dictionary-rows cs ls) (dictionary-refusal cs ls) (dictionary-first cs ls) (dictionary-numbered cs ls)
+    (length ls) r says
 
 build-decides :
     (cs ls ts : List ℕ) (r : Answer) (o z w v : List ℕ) → Build-says cs ls ts r o z w v →

@@ -30,6 +30,7 @@ pub mod Columns
 pub mod WordChains
 pub mod Found
 pub mod ScanMarks
+pub mod TextBehind
 pub mod KeyOrder
 pub mod Flat
 pub mod FlatOrder

@@ -7,7 +7,7 @@ use Prim.Native.Nat.{ℕ, suc, _+_, _*_, _-_, _≤_, _<_}
 use native.Mathlib.Nat.{sub-zero}
 use native.Mathlib.Numerals.{add-one}
 use native.Mathlib.Omega.{arith}
-use lib.ListN.{length, getD, take, drop, set, length-set, length-drop}
+use lib.ListN.{length, getD, take, drop, set, length-set}
 use lib.Seq.{getD-set-same, getD-set-other, take-suc-set, drop-set-lt, drop-drop, getD-take, length-take-le}
 use borrow.Author.Tests.{ne-eqb}
 use Rattle.basics.specs.Bools.{le-or-lt}
@@ -168,7 +168,7 @@ pub record Marking (lex : Lexicon) (ts old work : List ℕ) (i e : ℕ) : Type 0
   pub exact : marked-from lex 1 (take i work) ts ++ scan (longest-at lex ts) (length ts - i) (i + 1) (e + 1) ≡ make-index lex ts
 
 module _ (lex : Lexicon) (ts old : List ℕ) (room : length ts ≤ length old) where
-  marking-start : Marking lex ts old old 0 0
+  pub marking-start : Marking lex ts old old 0 0
   unfolding make-index marked-from
   marking-start =
       record {
@@ -184,7 +184,7 @@ module _ (lex : Lexicon) (ts old : List ℕ) (room : length ts ≤ length old) w
     marking-room : i < length ts → i < length work
     marking-room below = omega (arith, h .size)
 
-    marking-step :
+    pub marking-step :
         (mark end : ℕ) → i < length ts → Stepped lex ts (i + 1) (e + 1) mark (end + 1) → Marking lex ts old (set work i mark) (i + 1) end
     marking-step mark end below s =
         record {
@@ -242,7 +242,7 @@ module _ (lex : Lexicon) (ts old : List ℕ) (room : length ts ≤ length old) w
       all : i ≡ length ts
       all = omega (arith, h .within)
 
-      marking-end : Marks lex ts (take (length ts) work)
+      pub marking-end : Marks lex ts (take (length ts) work)
       unfolding scan
       marking-end =
           record {
@@ -259,52 +259,5 @@ module _ (lex : Lexicon) (ts old : List ℕ) (room : length ts ≤ length old) w
               let done : length ts - length ts ≡ 0 = omega arith in
               rw (all, done) at (h .exact)
 
-      marking-rest : drop (length ts) work ≡ drop (length ts) old
+      pub marking-rest : drop (length ts) work ≡ drop (length ts) old
       marking-rest = rw all at (h .rest)
-
--- THE TEXT BEHIND THE MARKS: it stands in the n numbers after those that take the marks, and is lent to each step
-
-module _ (lex : Lexicon) (old : List ℕ) (n : ℕ) (room : 2 * n ≤ length old) where
-  long : length (take n (drop n old)) ≡ n
-  long = length-take-le n (drop n old) (omega (arith, length-drop n old))
-
-  pub behind-start : Marking lex (take n (drop n old)) old old 0 0
-  behind-start = marking-start lex (take n (drop n old)) old (omega (arith, long))
-
-  module _ (work : List ℕ) (i e : ℕ) (h : Marking lex (take n (drop n old)) old work i e) where
-    -- the text stays
-    kept : take (2 * n - n) (drop n work) ≡ take n (drop n old)
-    kept =
-        let sum : i + (n - i) ≡ n = omega (arith, h .within, long) in
-        let once : 2 * n - n ≡ n = omega arith in
-        rw once
-        (ap (λ (l : List ℕ). take n l)
-        (ap (λ (k : ℕ). drop k work) (sym sum)
-        ∙ sym (drop-drop (n - i) i work)
-        ∙ ap (λ (l : List ℕ). drop (n - i) l) (h .rest)
-        ∙ drop-drop (n - i) i old
-        ∙ ap (λ (k : ℕ). drop k old) sum))
-
-    pub behind-below : i < n → i < length (take (2 * n - n) (drop n work))
-    behind-below below = rw kept (omega (arith, long))
-
-    pub behind-end-within : e ≤ length (take (2 * n - n) (drop n work))
-    behind-end-within = rw kept (h .end)
-
-    pub behind-room : i < n → i < length work
-    behind-room below = omega (arith, h .size, room)
-
-    pub behind-step :
-        (mark end : ℕ) → i < n → Stepped lex (take (2 * n - n) (drop n work)) (i + 1) (e + 1) mark (end + 1) →
-        Marking lex (take n (drop n old)) old (set work i mark) (i + 1) end
-    behind-step mark end below s =
-        marking-step lex (take n (drop n old)) old (omega (arith, long)) work i e h mark end (omega (arith, long)) (rw kept at s)
-
-    module _ (past : n ≤ i) where
-      pub behind-marks : Marks lex (take n (drop n old)) (take n work)
-      behind-marks =
-          rw long at (marking-end lex (take n (drop n old)) old (omega (arith, long)) work i e h (omega (arith, long)))
-
-      pub behind-rest : drop n work ≡ drop n old
-      behind-rest =
-          rw long at (marking-rest lex (take n (drop n old)) old (omega (arith, long)) work i e h (omega (arith, long)))

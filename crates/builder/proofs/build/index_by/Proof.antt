@@ -30,23 +30,28 @@ returns : tie.Need-returns
 returns c =
     let start = c .before .before .before .before .before .before .before .before .before .before .before .before .before .before .before .before .before in
     let k = c .before .before .before .before .before .before .before .before .link in
-    marked-refused (replaced (start .args .text .now)) (start .args .marks .now) (k .last .1 .0) (k .last .1 .1 .0) (k .last .1 .1 .1 .0) (k .result .keys)
+    marked-refused (replaced (start .args .text .now)) (start .args .marks .now) (k .last .1 .0) (k .last .1 .1 .0)
+    (k .last .1 .1 .1 .0) (k .result .keys)
     (k .result .entries) (start .pre .0) (k .ensures) (start .args .output .now) (c .if1 .taken)
 
 write-index-requires : tie.Need-write-index-requires
 write-index-requires c κs =
     let start = c .before .before .before .before .before .before .before .before .before .before .before .before .before .before .before .before .before .before .before .before .before in
     let k = c .before .before .before .before .before .before .before .before .before .before .before .before .link in (
-      linked-listable (replaced (start .args .text .now)) (start .args .marks .now) (k .last .1 .0) (k .last .1 .1 .0) (k .last .1 .1 .1 .0) (k .result .keys)
+      linked-listable (replaced (start .args .text .now)) (start .args .marks .now) (k .last .1 .0) (k .last .1 .1 .0)
+          (k .last .1 .1 .1 .0) (k .result .keys)
           (k .result .entries) (start .pre .0) (k .ensures),
       (
         (
-          linked-keys (replaced (start .args .text .now)) (start .args .marks .now) (k .last .1 .0) (k .last .1 .1 .0) (k .last .1 .1 .1 .0) (k .result .keys)
+          linked-keys (replaced (start .args .text .now)) (start .args .marks .now) (k .last .1 .0) (k .last .1 .1 .0)
+              (k .last .1 .1 .1 .0) (k .result .keys)
               (k .result .entries) (start .pre .0) (k .ensures),
-          few-keys (replaced (start .args .text .now)) (start .args .marks .now) (k .last .1 .0) (k .last .1 .1 .0) (k .last .1 .1 .1 .0) (k .result .keys)
+          few-keys (replaced (start .args .text .now)) (start .args .marks .now) (k .last .1 .0) (k .last .1 .1 .0)
+              (k .last .1 .1 .1 .0) (k .result .keys)
               (k .result .entries) (start .pre .0) (k .ensures),
         ),
-        linked-room (replaced (start .args .text .now)) (start .args .marks .now) (k .last .1 .0) (k .last .1 .1 .0) (k .last .1 .1 .1 .0) (k .result .keys)
+        linked-room (replaced (start .args .text .now)) (start .args .marks .now) (k .last .1 .0) (k .last .1 .1 .0)
+            (k .last .1 .1 .1 .0) (k .result .keys)
             (k .result .entries) (start .pre .0) (k .ensures) (start .args .output .now) (c .before .before .before .before .if1 .left),
       ),
     )
@@ -67,7 +72,8 @@ returns-2 : tie.Need-returns-2
 returns-2 c =
     let start = c .before .before .before .before .before .before .before .before .before .before .before .before .before .before .before .before .before .before .before .before .before .before .before .before in
     let k = c .before .before .before .before .before .before .before .before .before .before .before .before .before .before .before .link in
-    marked-put (replaced (start .args .text .now)) (start .args .marks .now) (k .last .1 .0) (k .last .1 .1 .0) (k .last .1 .1 .1 .0) (k .result .keys)
+    marked-put (replaced (start .args .text .now)) (start .args .marks .now) (k .last .1 .0) (k .last .1 .1 .0) (k .last .1 .1 .1 .0)
+    (k .result .keys)
     (k .result .entries) (start .pre .0) (k .ensures) (start .args .output .now) (c .before .before .write-index .last .1 .1 .1 .1 .0) (c .before .before .before .before .before .before .before .if1 .left) (c .before .before .write-index .ensures)
 
 pub index-by-spec : {M : Type 1} → statement M

@@ -14,11 +14,13 @@ use Rattle.jobsheet.proofs.finds.put_find.Tie as tie
 -- the positions found are the front of the slice lent for them
 positions-in-hand :
     (c : tie.After-search-tabled) → let a = c .before .before .before .before .before .before .before .before .before .before .args in
-    In-hand (find (lexicon (a .chars .now) (a .lengths .now)) (a .index .now) (replaced (a .string .now))) (c .search-tabled .result .count) (c .search-tabled .last .1 .1 .1 .1 .1 .1 .0)
+    In-hand (find (lexicon (a .chars .now) (a .lengths .now)) (a .index .now) (replaced (a .string .now)))
+    (c .search-tabled .result .count) (c .search-tabled .last .1 .1 .1 .1 .1 .1 .0)
 positions-in-hand c =
     let s = c .before .before .before .before .before .before .before .before .before .before in
     let a = s .args in
-    found-in-hand (lexicon (a .chars .now) (a .lengths .now)) (a .index .now) (replaced (a .string .now)) (c .search-tabled .result) (a .found .now) (c .search-tabled .last .1 .1 .1 .1 .1 .1 .0)
+    found-in-hand (lexicon (a .chars .now) (a .lengths .now)) (a .index .now) (replaced (a .string .now)) (c .search-tabled .result)
+    (a .found .now) (c .search-tabled .last .1 .1 .1 .1 .1 .1 .0)
     (record { some = omega (arith, s .pre .0 .1 .some, length-replaced (a .string .now)); short = omega (arith, s .pre .0 .1 .short, length-replaced (a .string .now)) })
     (s .pre .0 .2) (c .search-tabled .ensures)
 
@@ -31,7 +33,8 @@ slice-reshare-prefix-put-found-line c = positions-in-hand (c .before .before .be
 slice-aggregate-put-found-line : tie.Need-slice-aggregate-put-found-line
 slice-aggregate-put-found-line c =
     let searched = c .before .before .before .before .search-tabled in
-    sym (length-take-le (searched .result .count) (searched .last .1 .1 .1 .1 .1 .1 .0) (positions-in-hand (c .before .before .before .before) .room))
+    sym
+    (length-take-le (searched .result .count) (searched .last .1 .1 .1 .1 .1 .1 .0) (positions-in-hand (c .before .before .before .before) .room))
 
 put-found-line-requires : tie.Need-put-found-line-requires
 put-found-line-requires c κs =

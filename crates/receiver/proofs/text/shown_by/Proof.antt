@@ -14,7 +14,8 @@ use Rattle.receiver.proofs.text.shown_by.Tie as tie
 shared-slice-read-n : tie.Need-shared-slice-read-n
 shared-slice-read-n c =
     let start = c .before .before .before .before .before .before .before .before in
-    omega (arith, delivered (start .args .chars .now) (start .args .lengths .now) (start .args .index .now) (length (start .args .work .now)) (start .pre .0) .fits .has-header)
+    omega
+    (arith, delivered (start .args .chars .now) (start .args .lengths .now) (start .args .index .now) (length (start .args .work .now)) (start .pre .0) .fits .has-header)
 
 cast-n : tie.Need-cast-n
 cast-n c = omega (arith, c .shared-slice-known7 .given 0)
@@ -33,7 +34,8 @@ note-behind-requires c κs =
     let xs = start .args .index .now in
     let w = start .args .work .now in
     let met = delivered cs ls xs (length w) (start .pre .0) in (
-      readable-notes (lexicon cs ls) (delivered-lexicon cs ls xs (length w) (λ i h. omega (arith, c .before .before .before .before .before .before .before .before .before .before .before .before .shared-slice-known .given i)) (start .pre .0)) longest-text xs (met .can-read) (n-of xs) (omega arith),
+      readable-notes (lexicon cs ls)
+          (delivered-lexicon cs ls xs (length w) (λ i h. omega (arith, c .before .before .before .before .before .before .before .before .before .before .before .before .shared-slice-known .given i)) (start .pre .0)) longest-text xs (met .can-read) (n-of xs) (omega arith),
       omega (arith, met .room, c .before .before .before .paint-front .kept .1 .1 .1 .1 .1 .0),
     )
 
@@ -47,8 +49,10 @@ test-parts-requires c κs =
     let met = delivered cs ls xs (length w) (start .pre .0) in (
       start .pre .1,
       met .fits,
-      tried-noted cs ls xs w (λ i h. omega (arith, c .before .before .before .before .before .before .before .before .before .before .before .before .before .before .before .before .shared-slice-known .given i)) (λ i h. omega (arith, c .before .before .before .before .before .before .before .before .before .before .slice-known .given i)) (start .pre .0) (c .before .before .before .before .before .before .before .paint-front .last .1 .1 .1 .1 .1 .0) (c .before .before .before .note-behind .last .1 .1 .0) (take (n-of xs) (drop (n-of xs) (c .before .before .before .note-behind .last .1 .1 .0))) (c .before .before .before .before .before .before .before .paint-front .ensures) (c .before .before .before .note-behind .ensures .0) (c .before .before .before .note-behind .ensures .1),
-      omega (arith, met .room, c .before .before .before .before .before .before .before .paint-front .kept .1 .1 .1 .1 .1 .0, c .before .before .before .note-behind .kept .1 .1 .0),
+      tried-noted cs ls xs w
+          (λ i h. omega (arith, c .before .before .before .before .before .before .before .before .before .before .before .before .before .before .before .before .shared-slice-known .given i)) (λ i h. omega (arith, c .before .before .before .before .before .before .before .before .before .before .slice-known .given i)) (start .pre .0) (c .before .before .before .before .before .before .before .paint-front .last .1 .1 .1 .1 .1 .0) (c .before .before .before .note-behind .last .1 .1 .0) (take (n-of xs) (drop (n-of xs) (c .before .before .before .note-behind .last .1 .1 .0))) (c .before .before .before .before .before .before .before .paint-front .ensures) (c .before .before .before .note-behind .ensures .0) (c .before .before .before .note-behind .ensures .1),
+      omega
+          (arith, met .room, c .before .before .before .before .before .before .before .paint-front .kept .1 .1 .1 .1 .1 .0, c .before .before .before .note-behind .kept .1 .1 .0),
     )
 
 same-length : tie.Need-same-length
@@ -61,7 +65,8 @@ returns c =
     let ls = start .args .lengths .now in
     let xs = start .args .index .now in
     let w = start .args .work .now in
-    read-back cs ls xs w (λ i h. omega (arith, c .before .before .before .before .before .before .before .before .before .before .before .before .before .before .before .before .before .shared-slice-known .given i)) (λ i h. omega (arith, c .before .before .before .before .before .before .before .before .before .before .before .slice-known .given i)) (start .pre .0) (c .before .before .before .before .before .before .before .before .paint-front .last .1 .1 .1 .1 .1 .0) (c .before .before .before .before .note-behind .last .1 .1 .0) (take (n-of xs) (drop (n-of xs) (c .before .before .before .before .note-behind .last .1 .1 .0))) (c .before .before .before .before .before .before .before .before .paint-front .ensures) (c .before .before .before .before .note-behind .ensures .0) (c .before .before .before .before .note-behind .ensures .1) (c .test-parts .result) (c .test-parts .ensures)
+    read-back cs ls xs w
+    (λ i h. omega (arith, c .before .before .before .before .before .before .before .before .before .before .before .before .before .before .before .before .before .shared-slice-known .given i)) (λ i h. omega (arith, c .before .before .before .before .before .before .before .before .before .before .before .slice-known .given i)) (start .pre .0) (c .before .before .before .before .before .before .before .before .paint-front .last .1 .1 .1 .1 .1 .0) (c .before .before .before .before .note-behind .last .1 .1 .0) (take (n-of xs) (drop (n-of xs) (c .before .before .before .before .note-behind .last .1 .1 .0))) (c .before .before .before .before .before .before .before .before .paint-front .ensures) (c .before .before .before .before .note-behind .ensures .0) (c .before .before .before .before .note-behind .ensures .1) (c .test-parts .result) (c .test-parts .ensures)
 
 pub shown-by-spec : {M : Type 1} → statement M
 shown-by-spec =

@@ -24,18 +24,24 @@ returns : tie.Need-returns
 returns c =
     let start = c .before .before .before .before .before .before .before .before .before .before .before .before in
     let call = c .before .before .before .shown-by in
-    not-tried (lexicon (start .args .chars .now) (start .args .lengths .now)) (start .args .index .now) (call .last .1 .1 .1 .1 .1 .1 .0) (call .result) (call .ensures)
+    not-tried (lexicon (start .args .chars .now) (start .args .lengths .now)) (start .args .index .now)
+    (call .last .1 .1 .1 .1 .1 .1 .0) (call .result) (call .ensures)
     (not-true (call .result) (c .if1 .taken))
 
-room : (c : tie.After-shared-slice-known7) → n-of (c .before .before .before .before .before .before .before .before .before .before .before .before .before .args .index .now) ≤ length (c .before .before .before .before .shown-by .last .1 .1 .1 .1 .1 .1 .0)
+room :
+    (c : tie.After-shared-slice-known7) →
+    n-of (c .before .before .before .before .before .before .before .before .before .before .before .before .before .args .index .now)
+    ≤ length (c .before .before .before .before .shown-by .last .1 .1 .1 .1 .1 .1 .0)
 room c =
     let start = c .before .before .before .before .before .before .before .before .before .before .before .before .before in
-    omega (arith, delivered (start .args .chars .now) (start .args .lengths .now) (start .args .index .now) (length (start .args .work .now)) (start .pre .0) .room, c .before .before .before .before .shown-by .kept .1 .1 .1 .1 .1 .1 .0)
+    omega
+    (arith, delivered (start .args .chars .now) (start .args .lengths .now) (start .args .index .now) (length (start .args .work .now)) (start .pre .0) .room, c .before .before .before .before .shown-by .kept .1 .1 .1 .1 .1 .1 .0)
 
 shared-slice-read-n : tie.Need-shared-slice-read-n
 shared-slice-read-n c =
     let start = c .before .before .before .before .before .before .before .before .before .before .before .before .before in
-    omega (arith, delivered (start .args .chars .now) (start .args .lengths .now) (start .args .index .now) (length (start .args .work .now)) (start .pre .0) .fits .has-header)
+    omega
+    (arith, delivered (start .args .chars .now) (start .args .lengths .now) (start .args .index .now) (length (start .args .work .now)) (start .pre .0) .fits .has-header)
 
 cast-n : tie.Need-cast-n
 cast-n c = omega (arith, c .shared-slice-known7 .given 0)
@@ -46,7 +52,8 @@ slice-reshare-prefix-holds-full-width c = room c
 slice-aggregate-holds-full-width : tie.Need-slice-aggregate-holds-full-width
 slice-aggregate-holds-full-width c =
     let start = c .before .before .before .before .before .before .before .before .before .before .before .before .before .before in
-    sym (length-take-le (n-of (start .args .index .now)) (c .before .before .before .before .before .shown-by .last .1 .1 .1 .1 .1 .1 .0) (room (c .before)))
+    sym
+    (length-take-le (n-of (start .args .index .now)) (c .before .before .before .before .before .shown-by .last .1 .1 .1 .1 .1 .1 .0) (room (c .before)))
 
 holds-full-width-requires : tie.Need-holds-full-width-requires
 holds-full-width-requires c κs = search needs
@@ -58,7 +65,8 @@ returns-2 : tie.Need-returns-2
 returns-2 c =
     let start = c .before .before .before .before .before .before .before .before .before .before .before .before .before .before .before in
     let call = c .before .before .before .before .before .before .shown-by in
-    tried (lexicon (start .args .chars .now) (start .args .lengths .now)) (start .args .index .now) (call .last .1 .1 .1 .1 .1 .1 .0) (call .result) (call .ensures)
+    tried (lexicon (start .args .chars .now) (start .args .lengths .now)) (start .args .index .now) (call .last .1 .1 .1 .1 .1 .1 .0)
+    (call .result) (call .ensures)
     (not-false (call .result) (c .before .before .before .if1 .left)) (c .holds-full-width .result) (c .holds-full-width .ensures)
 
 pub text-by-spec : {M : Type 1} → statement M

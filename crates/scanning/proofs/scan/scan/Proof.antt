@@ -5,7 +5,8 @@ use native.Mathlib.Omega.{arith}
 use lib.ListN.{length, take, drop}
 use borrow.Author.Needs.{needs}
 use Rattle.spec.specs.Dictionary.{lexicon}
-use Rattle.laws.specs.ScanMarks.{Marking, behind-start, behind-below, behind-end-within, behind-room, behind-step, behind-marks, behind-rest}
+use Rattle.laws.specs.ScanMarks.{Marking}
+use Rattle.laws.specs.TextBehind.{behind-start, behind-below, behind-end-within, behind-room, behind-step, behind-marks, behind-rest}
 use Rattle.scanning.proofs.scan.scan.Statement.{statement}
 use Rattle.scanning.proofs.scan.scan.Tie as tie
 
@@ -34,7 +35,8 @@ part-step-start : tie.Need-part-step-start Inv-loop μ-loop
 part-step-start c = search needs
 
 part-step-end : tie.Need-part-step-end Inv-loop μ-loop
-part-step-end c = omega (arith, c .before .before .loop .inv .size, c .before .before .before .before .before .before .before .before .before .pre .1)
+part-step-end c =
+    omega (arith, c .before .before .loop .inv .size, c .before .before .before .before .before .before .before .before .before .pre .1)
 
 step-requires : tie.Need-step-requires Inv-loop μ-loop
 step-requires c κs =
@@ -42,7 +44,8 @@ step-requires c κs =
     let start = c .before .before .before .before .before .before .before .before .before .before in
     let lex = lexicon (start .args .chars .now) (start .args .lengths .now) in (
       start .pre .0,
-      behind-below lex (start .args .work .now) (start .args .n) (start .pre .1) (turn .work) (turn .at) (turn .end) (turn .inv) (c .before .before .loop-test .taken),
+      behind-below lex (start .args .work .now) (start .args .n) (start .pre .1) (turn .work) (turn .at) (turn .end) (turn .inv)
+          (c .before .before .loop-test .taken),
       behind-end-within lex (start .args .work .now) (start .args .n) (start .pre .1) (turn .work) (turn .at) (turn .end) (turn .inv),
     )
 
@@ -78,8 +81,10 @@ returns c =
     let turn = c .before .loop in
     let start = c .before .before .before .before .before .before .before .before in
     let lex = lexicon (start .args .chars .now) (start .args .lengths .now) in (
-      behind-marks lex (start .args .work .now) (start .args .n) (start .pre .1) (turn .work) (turn .at) (turn .end) (turn .inv) (c .loop-test .left),
-      behind-rest lex (start .args .work .now) (start .args .n) (start .pre .1) (turn .work) (turn .at) (turn .end) (turn .inv) (c .loop-test .left),
+      behind-marks lex (start .args .work .now) (start .args .n) (start .pre .1) (turn .work) (turn .at) (turn .end) (turn .inv)
+          (c .loop-test .left),
+      behind-rest lex (start .args .work .now) (start .args .n) (start .pre .1) (turn .work) (turn .at) (turn .end) (turn .inv)
+          (c .loop-test .left),
     )
 
 pub scan-spec : {M : Type 1} → statement M

@@ -22,7 +22,8 @@ returns c =
     let a = c .before .before .before .before .before .before .before .before .before .args in
     let starts = c .before .starts-of in
     let found = c .first-of-starts in
-    first-in-all (lexicon (a .chars .now) (a .lengths .now)) (a .index .now) (a .string .now) (starts .result) (found .result) (starts .ensures) (found .ensures)
+    first-in-all (lexicon (a .chars .now) (a .lengths .now)) (a .index .now) (a .string .now) (starts .result) (found .result)
+    (starts .ensures) (found .ensures)
 
 pub first-plain-spec : {M : Type 1} → statement M
 first-plain-spec =

@@ -25,7 +25,8 @@ returns c =
     let a = c .before .before .before .before .before .before .before .before .before .before .before .before .before .args in
     let starts = c .before .before .before .before .starts-of in
     let searched = c .before .before .search-starts in
-    all-starts (lexicon (a .chars .now) (a .lengths .now)) (a .index .now) (a .string .now) (searched .result) (a .output .now) (searched .last .1 .1 .1 .1 .1 .1 .1 .0)
+    all-starts (lexicon (a .chars .now) (a .lengths .now)) (a .index .now) (a .string .now) (searched .result) (a .output .now)
+    (searched .last .1 .1 .1 .1 .1 .1 .1 .0)
     (starts .result) (starts .ensures) (searched .ensures)
 
 pub search-plain-spec : {M : Type 1} → statement M
