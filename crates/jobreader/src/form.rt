@@ -8,18 +8,46 @@ ghost use Rattle.basics.specs.Placed.{Wrote};
 ghost use Rattle.spec.specs.Words.{same};
 ghost use Rattle.spec.specs.JobSheet.{ends-well, is-form, string-in};
 ghost use Rattle.laws.specs.FormReading.{spaced-at, character-at};
+ghost use Rattle.laws.specs.Digits.{spaced-character};
 use crate::digits;
+
+// No character.
+const NONE: u32 = 65536;
+
+// The character whose space and four digits stand at a place, or 65,536 where something else stands there. A byte that is no digit
+// ends the reading: digits that are read side by side compile to vector instructions, whose constants take read-only memory.
+fn spaced_character(line: &[u8], at: usize) -> u32
+    requires { ⌜ at + 5 ≤ length (now line) ⌝ }
+    ensures { λ r. ⌜ r ≡ spaced-character (now (line .entry)) at ⌝ }
+{
+    if line[at] != b' ' {
+        return NONE;
+    }
+    let a = digits::value_of(line[at + 1]) as u32;
+    if a == 16 {
+        return NONE;
+    }
+    let b = digits::value_of(line[at + 2]) as u32;
+    if b == 16 {
+        return NONE;
+    }
+    let c = digits::value_of(line[at + 3]) as u32;
+    if c == 16 {
+        return NONE;
+    }
+    let d = digits::value_of(line[at + 4]) as u32;
+    if d == 16 {
+        return NONE;
+    }
+    ((a * 16 + b) * 16 + c) * 16 + d
+}
 
 // Whether a space and four digits stand at a place.
 fn is_spaced(line: &[u8], at: usize) -> bool
     requires { ⌜ at + 5 ≤ length (now line) ⌝ }
     ensures { λ r. ⌜ r ≡ spaced-at (now (line .entry)) at ⌝ }
 {
-    let a = digits::value_of(line[at + 1]);
-    let b = digits::value_of(line[at + 2]);
-    let c = digits::value_of(line[at + 3]);
-    let d = digits::value_of(line[at + 4]);
-    (line[at] == b' ') & (a < 16) & (b < 16) & (c < 16) & (d < 16)
+    spaced_character(line, at) < NONE
 }
 
 // The character whose digits stand after the space at a place.
@@ -27,11 +55,7 @@ fn character(line: &[u8], at: usize) -> u16
     requires { ⌜ (at + 5 ≤ length (now line)) × (spaced-at (now line) at ≡ true) ⌝ }
     ensures { λ r. ⌜ r ≡ character-at (now (line .entry)) at ⌝ }
 {
-    let a = digits::value_of(line[at + 1]) as u32;
-    let b = digits::value_of(line[at + 2]) as u32;
-    let c = digits::value_of(line[at + 3]) as u32;
-    let d = digits::value_of(line[at + 4]) as u32;
-    (((a * 16 + b) * 16 + c) * 16 + d) as u16
+    spaced_character(line, at) as u16
 }
 
 // Whether a line begins with a head.

@@ -12,39 +12,19 @@ use borrow.Author.Tests.{ne-eqb, eqb-true, eqb-false}
 use Rattle.basics.specs.Bools.{clash, not-get, and-put, and-left, and-right}
 use Rattle.basics.specs.Member.{In, in-append-get, all-cons}
 use Rattle.spec.specs.Words.{same}
-use Rattle.spec.specs.JobSheet.{line-feed, space, closing, head-length, is-digit, character, is-spaced, ends-well, characters, is-form, string-in, onto-first, lines, forms, after}
+use Rattle.spec.specs.JobSheet.{line-feed, space, closing, head-length, character, is-spaced, ends-well, characters, is-form, string-in, onto-first, lines, forms, after}
 use Rattle.spec.specs.JobAnswer.{digit-byte, hexadecimal}
 use Rattle.spec.specs.SheetForms.{spelled, form, Characters}
 use Rattle.laws.specs.Strings.{same-get, same-self}
 use Rattle.laws.specs.Hexadecimal.{written-is-digit, digit-no-feed, character-small, character-read, character-written}
 use Rattle.laws.specs.FormReading.{form-ends}
+use Rattle.laws.specs.Digits.{Spaced, spaced-get}
 use Rattle.laws.specs.LineReading.{forms-some, forms-none}
 
 -- WHAT FOLLOWS THE HEAD, without the LF
 
 abbrev pub tail-of : (chars : List ℕ) → List ℕ
 tail-of cs = spelled cs ++ closing ∷ []
-
-record Spaced (x a b c d : ℕ) : Type 0 where
-  gap : x ≡ space
-  first : is-digit a ≡ true
-  second : is-digit b ≡ true
-  third : is-digit c ≡ true
-  fourth : is-digit d ≡ true
-
-spaced-get : (x a b c d : ℕ) → is-spaced x a b c d ≡ true → Spaced x a b c d
-unfolding is-spaced
-spaced-get x a b c d t =
-    let three = and-left (((eqb x space && is-digit a) && is-digit b) && is-digit c) (is-digit d) t in
-    let two = and-left ((eqb x space && is-digit a) && is-digit b) (is-digit c) three in
-    let one = and-left (eqb x space && is-digit a) (is-digit b) two in
-    record {
-      gap = eqb-true x space (and-left (eqb x space) (is-digit a) one);
-      first = and-right (eqb x space) (is-digit a) one;
-      second = and-right (eqb x space && is-digit a) (is-digit b) two;
-      third = and-right ((eqb x space && is-digit a) && is-digit b) (is-digit c) three;
-      fourth = and-right (((eqb x space && is-digit a) && is-digit b) && is-digit c) (is-digit d) t;
-    }
 
 -- what ends well is rendered from its characters
 tail-back : (rest : List ℕ) → ends-well rest ≡ true → tail-of (characters rest) ≡ rest

@@ -8,7 +8,7 @@ use native.Mathlib.Omega.{arith}
 use lib.Dec.{leb}
 use borrow.Author.Tests.{lt-ltb, le-leb, lt-leb, ltb-true, leb-true}
 use Rattle.basics.specs.Bools.{clash, true-or-false, le-or-lt, and-left, and-right}
-use Rattle.spec.specs.JobSheet.{digit, is-digit, character}
+use Rattle.spec.specs.JobSheet.{no-digit, digit, is-digit, character}
 use Rattle.spec.specs.JobAnswer.{digit-byte, hexadecimal}
 use Rattle.laws.specs.Printing.{digit-byte-decimal, digit-byte-letter}
 
@@ -18,24 +18,33 @@ use Rattle.laws.specs.Printing.{digit-byte-decimal, digit-byte-letter}
 abbrev Digit : ℕ → Type 0
 Digit b = ((48 ≤ b) × (b ≤ 57)) ⊎ ((65 ≤ b) × (b ≤ 70))
 
-digit-figure : (b : ℕ) → 48 ≤ b → b ≤ 57 → digit b ≡ b - 48
+-- what a test of both bounds says
+pub between-get : {low high : ℕ} (b : ℕ) → (leb low b && leb b high) ≡ true → (low ≤ b) × (b ≤ high)
+between-get {low} {high} b t = (
+  leb-true low b (and-left (leb low b) (leb b high) t),
+  leb-true b high (and-right (leb low b) (leb b high) t),
+)
+
+pub digit-figure : (b : ℕ) → 48 ≤ b → b ≤ 57 → digit b ≡ b - 48
 unfolding digit
 digit-figure b low high = rw (le-leb 48 b low, le-leb b 57 high)
 
-digit-letter : (b : ℕ) → 65 ≤ b → b ≤ 70 → digit b ≡ b - 55
+pub digit-letter : (b : ℕ) → 65 ≤ b → b ≤ 70 → digit b ≡ b - 55
 unfolding digit
 digit-letter b low high = rw (le-leb 48 b (omega arith), lt-leb b 57 (omega arith), le-leb 65 b low, le-leb b 70 high)
+
+pub digit-none : (b : ℕ) → (leb 48 b && leb b 57) ≡ false → (leb 65 b && leb b 70) ≡ false → digit b ≡ no-digit
+unfolding digit
+digit-none b figure letter = rw (figure, letter)
 
 digit-get : (b : ℕ) → is-digit b ≡ true → Digit b
 unfolding is-digit digit
 digit-get b t =
     ⊎-elim
-    (λ (p : (leb 48 b && leb b 57) ≡ true).
-    inl (leb-true 48 b (and-left (leb 48 b) (leb b 57) p), leb-true b 57 (and-right (leb 48 b) (leb b 57) p)))
+    (λ (p : (leb 48 b && leb b 57) ≡ true). inl (between-get b p))
     (λ (q : (leb 48 b && leb b 57) ≡ false).
     ⊎-elim
-    (λ (p : (leb 65 b && leb b 70) ≡ true).
-    inr (leb-true 65 b (and-left (leb 65 b) (leb b 70) p), leb-true b 70 (and-right (leb 65 b) (leb b 70) p)))
+    (λ (p : (leb 65 b && leb b 70) ≡ true). inr (between-get b p))
     (λ (r : (leb 65 b && leb b 70) ≡ false). clash t (rw (q, r) refl))
     (true-or-false (leb 65 b && leb b 70)))
     (true-or-false (leb 48 b && leb b 57))

@@ -94,12 +94,12 @@ pub mod Opening
 pub mod Printing
 pub mod IndexPrinting
 pub mod FormReading
+pub mod Hexadecimal
 pub mod Digits
 pub mod LineReading
 pub mod SheetReading
 pub mod WholeSheet
 pub mod JobReading
-pub mod Hexadecimal
 pub mod FormRendering
 pub mod SheetChars
 pub mod SheetRendering

@@ -3,7 +3,7 @@
 use mathlib.Core.Path.{_≡_, refl}
 use mathlib.Core.Bool.{Bool, true, false}
 use mathlib.Core.List.{List, [], _∷_, _++_}
-use Prim.Native.Nat.{ℕ}
+use Prim.Native.Nat.{ℕ, zero, suc}
 use Prim.Native.String.{String}
 use lib.ListN.{length, replicate}
 use Rattle.spec.specs.Replaced.{is-full-width, replaced-char, replaced, holds-full-width}
@@ -69,6 +69,20 @@ Prints s t = job-answer (bytes s) ≡ bytes t
 abbrev finds : ℕ → List ℕ
 finds k = bytes "(text)\n" ++ run-together (replicate k (bytes "(find 0061)\n"))
 
+-- the values of so many bytes, from one on
+abbrev values-from : (byte count : ℕ) → List ℕ
+values-from b zero = []
+values-from b (suc k) = digit b ∷ values-from (suc b) k
+
+-- the values of all bytes: 48 come before `0`, seven between `9` and `A`, and 185 after `F`
+abbrev all-values : List ℕ
+all-values =
+    replicate 48 16
+    ++ (0 ∷ 1 ∷ 2 ∷ 3 ∷ 4 ∷ 5 ∷ 6 ∷ 7 ∷ 8 ∷ 9 ∷ [])
+    ++ replicate 7 16
+    ++ (10 ∷ 11 ∷ 12 ∷ 13 ∷ 14 ∷ 15 ∷ [])
+    ++ replicate 185 16
+
 -- ROWS
 
 pub record Job-examples : Type 0 where
@@ -77,6 +91,7 @@ pub record Job-examples : Type 0 where
   pub lone-keys : job-answer lone-input ≡ lone-output
   pub only-a-text : Prints "(text)\n" "(index 0 0 0)\n"
   pub more-than-nine : decimal 2047 ≡ bytes "2047"
+  pub every-byte : values-from 0 256 ≡ all-values
   pub four-digits : hexadecimal 0xABCD ≡ bytes "ABCD"
   pub upper-case : Prints "(text 004A)\n" "(index 1 1 1)\n(key lone 004A (1))\n"
   pub empty-word : Prints "(word)\n(text 0061)\n" "(refused 2)\n"
@@ -114,6 +129,7 @@ job-examples =
       lone-keys = refl;
       only-a-text = refl;
       more-than-nine = refl;
+      every-byte = refl;
       four-digits = refl;
       upper-case = refl;
       empty-word = refl;

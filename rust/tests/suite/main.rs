@@ -6,6 +6,7 @@ mod characters;
 mod cutting;
 mod damaged_reception;
 mod dense_searching;
+mod digits;
 mod first;
 mod first_windows;
 mod full_width;

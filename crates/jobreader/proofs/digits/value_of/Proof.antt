@@ -1,19 +1,33 @@
--- `value_of` meets its contract: the table is that of `digit` at the numbers 0 to 255. Assumes nothing.
+-- `value_of` meets its contract: its comparisons are those of `digit`. Assumes nothing.
+use mathlib.Core.Path.{sym, _∙_}
+use native.Mathlib.Omega.{arith}
 use borrow.Author.Needs.{needs}
-use Rattle.spec.specs.JobSheet.{digit}
-use Rattle.laws.specs.Digits.{table-at, digit-at-most}
+use Rattle.laws.specs.Hexadecimal.{between-get, digit-figure, digit-letter, digit-none}
 use Rattle.jobreader.proofs.digits.value_of.Statement.{statement}
 use Rattle.jobreader.proofs.digits.value_of.Tie as tie
 
-array-read-result : tie.Need-array-read-result
-array-read-result c = search needs
+sub-result : tie.Need-sub-result
+sub-result c = omega (arith, between-get (c .before .args .byte) (c .if1 .taken))
 
 returns : tie.Need-returns
-unfolding digit
-returns c = (
-  table-at digit 256 (c .args .byte) (search needs),
-  rw (table-at digit 256 (c .args .byte) (search needs)) (digit-at-most (c .args .byte)),
-)
+returns c =
+    let bounds = between-get (c .before .args .byte) (c .if1 .taken) in
+    (sym (digit-figure (c .before .args .byte) (omega (arith, bounds)) (omega (arith, bounds))), omega (arith, bounds))
+
+sub-result-2 : tie.Need-sub-result-2
+sub-result-2 c = omega (arith, between-get (c .before .before .args .byte) (c .if2 .taken))
+
+add-result : tie.Need-add-result
+add-result c = search needs
+
+returns-2 : tie.Need-returns-2
+returns-2 c =
+    let bounds = between-get (c .before .before .args .byte) (c .if2 .taken) in
+    let value = digit-letter (c .before .before .args .byte) (omega (arith, bounds)) (omega (arith, bounds)) in
+    (omega (arith, bounds) ∙ sym value, omega (arith, bounds))
+
+returns-3 : tie.Need-returns-3
+returns-3 c = (sym (digit-none (c .before .before .args .byte) (c .before .if1 .left) (c .if2 .left)), omega arith)
 
 pub value-of-spec : {M : Type 1} → statement M
-value-of-spec = tie.close (tie.spec array-read-result returns)
+value-of-spec = tie.close (tie.spec sub-result returns sub-result-2 add-result returns-2 returns-3)
