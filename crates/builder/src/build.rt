@@ -79,7 +79,9 @@ fn index_marks(text: &[u16], output: &mut [u16], marks: &mut [u16]) -> Answer
 fn finish(text: &[u16], output: &mut [u16], work: &mut [u16]) -> Answer
     requires { ⌜ length (now text) ≤ length (now work) ⌝ }
     requires { ⌜ Linkable (replaced (now text)) (take (length (now text)) (now work)) ⌝ }
-    ensures { λ r. ⌜ Marked-says (take (length (now (text .entry))) (now (work .entry))) (replaced (now (text .entry))) r (now (output .entry)) (now (output .exit)) ⌝ }
+    ensures { λ r. ⌜
+        Marked-says (take (length (now (text .entry))) (now (work .entry))) (replaced (now (text .entry))) r (now (output .entry))
+        (now (output .exit)) ⌝ }
 {
     let n = text.len();
     index_marks(text, output, &mut work[..n])
@@ -98,7 +100,10 @@ fn index_with(
 ) -> Answer
     requires { ⌜ early-refusal (now chars) (now lengths) (now text) (length (now work)) ≡ 0 ⌝ }
     requires { ⌜ Blank (now heads) (now links) (now starts) ⌝ }
-    ensures { λ r. ⌜ Puts (build-refusal (now (chars .entry)) (now (lengths .entry)) (now (text .entry)) (length (now (output .entry))) (length (now (work .entry)))) (index-of (lexicon (now (chars .entry)) (now (lengths .entry))) (replaced (now (text .entry)))) r (now (output .entry)) (now (output .exit)) ⌝ }
+    ensures { λ r. ⌜
+        Puts (build-refusal (now (chars .entry)) (now (lengths .entry)) (now (text .entry)) (length (now (output .entry)))
+        (length (now (work .entry)))) (index-of (lexicon (now (chars .entry)) (now (lengths .entry))) (replaced (now (text .entry)))) r
+        (now (output .entry)) (now (output .exit)) ⌝ }
 {
     hang_words(chars, lengths, heads, links, starts);
     scan_replaced(chars, lengths, heads, links, starts, text, work);
@@ -114,7 +119,10 @@ fn index_text(
     work: &mut [u16],
 ) -> Answer
     requires { ⌜ early-refusal (now chars) (now lengths) (now text) (length (now work)) ≡ 0 ⌝ }
-    ensures { λ r. ⌜ Puts (build-refusal (now (chars .entry)) (now (lengths .entry)) (now (text .entry)) (length (now (output .entry))) (length (now (work .entry)))) (index-of (lexicon (now (chars .entry)) (now (lengths .entry))) (replaced (now (text .entry)))) r (now (output .entry)) (now (output .exit)) ⌝ }
+    ensures { λ r. ⌜
+        Puts (build-refusal (now (chars .entry)) (now (lengths .entry)) (now (text .entry)) (length (now (output .entry)))
+        (length (now (work .entry)))) (index-of (lexicon (now (chars .entry)) (now (lengths .entry))) (replaced (now (text .entry)))) r
+        (now (output .entry)) (now (output .exit)) ⌝ }
 {
     let mut heads = [0u16; 10240];
     let mut links = [0u16; 4096];
@@ -131,8 +139,8 @@ fn index_text(
     )
 }
 
-// Builds the index of a text, replaced first: refusals 1, 2, 3, 12, 4, 7, 8; accepted it answers the count of numbers written. The work slice is cleared
-// on every path.
+// Builds the index of a text, replaced first: refusals 1, 2, 3, 12, 4, 7, 8; accepted it answers the count of numbers written. The work
+// slice is cleared on every path.
 pub fn build(
     chars: &[u16],
     lengths: &[u16],

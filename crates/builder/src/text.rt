@@ -14,7 +14,8 @@ use scanning::scan::scan;
 // Writes the replaced text to the numbers after those that the marks take.
 fn replace_behind(text: &[u16], work: &mut [u16])
     requires { ⌜ 2 * length (now text) ≤ length (now work) ⌝ }
-    ensures { λ _. ⌜ take (length (now (text .entry))) (drop (length (now (text .entry))) (now (work .exit))) ≡ replaced (now (text .entry)) ⌝ }
+    ensures { λ _. ⌜
+        take (length (now (text .entry))) (drop (length (now (text .entry))) (now (work .exit))) ≡ replaced (now (text .entry)) ⌝ }
 {
     let n = text.len();
     let behind = 2 * n;
@@ -32,7 +33,9 @@ pub(crate) fn scan_replaced(
     work: &mut [u16],
 )
     requires { ⌜ Tables (now chars) (now lengths) (now heads) (now links) (now starts) × (2 * length (now text) ≤ length (now work)) ⌝ }
-    ensures { λ _. ⌜ Marks (lexicon (now (chars .entry)) (now (lengths .entry))) (replaced (now (text .entry))) (take (length (now (text .entry))) (now (work .exit))) ⌝ }
+    ensures { λ _. ⌜
+        Marks (lexicon (now (chars .entry)) (now (lengths .entry))) (replaced (now (text .entry)))
+        (take (length (now (text .entry))) (now (work .exit))) ⌝ }
 {
     replace_behind(text, work);
     scan(chars, lengths, heads, links, starts, text.len(), work);

@@ -119,8 +119,12 @@ fn cut_string<'a>(
     string: &[u16],
     output: &mut [u16],
 ) -> Answer
-    requires { ⌜ Can-read (now chars) (now lengths) (now index) × Is-string (now string) × (keys-of (now index) ≤ 65535) × (keys ≡ keys-of (now index)) ⌝ }
-    ensures { λ r. ⌜ Sized (cut-down (lexicon (now (chars .entry)) (now (lengths .entry))) (now (index .entry)) (replaced (now (string .entry)))) r (now (output .entry)) (now (output .exit)) ⌝ }
+    requires { ⌜
+        Can-read (now chars) (now lengths) (now index) × Is-string (now string) × (keys-of (now index) ≤ 65535) ×
+        (keys ≡ keys-of (now index)) ⌝ }
+    ensures { λ r. ⌜
+        Sized (cut-down (lexicon (now (chars .entry)) (now (lengths .entry))) (now (index .entry)) (replaced (now (string .entry)))) r
+        (now (output .entry)) (now (output .exit)) ⌝ }
 {
     let long = string.len();
     let own = replaced_string(string);

@@ -39,7 +39,9 @@ fn code_of(mark: u16, character: u16) -> usize
 pub fn link(text: &[u16], marks: &mut [u16], heads: &mut [u16], pages: &mut [u8]) -> Groups
     requires { ⌜ Linkable (replaced (now text)) (now marks) ⌝ }
     requires { ⌜ Fresh (now heads) (now pages) ⌝ }
-    ensures { λ r. ⌜ Links (replaced (now (text .entry))) (now (marks .entry)) (now (marks .exit)) (now (heads .exit)) (now (pages .exit)) (r .keys) (r .entries) 0 ⌝ }
+    ensures { λ r. ⌜
+        Links (replaced (now (text .entry))) (now (marks .entry)) (now (marks .exit))
+        (now (heads .exit)) (now (pages .exit)) (r .keys) (r .entries) 0 ⌝ }
 {
     let mut keys = 0;
     let mut entries = 0;

@@ -27,8 +27,11 @@ fn put_find<'a>(
     at: usize,
 ) -> usize
     requires { ⌜ Opened (now chars) (now lengths) (now index) (now words) (now lists) × Is-string (now string) × (n-of (now index) ≤ length (now found)) ⌝ }
-    requires { ⌜ at + length (found-line (find (lexicon (now chars) (now lengths)) (now index) (replaced (now string)))) ≤ length (now out) ⌝ }
-    ensures { λ r. ⌜ Wrote (found-line (find (lexicon (now (chars .entry)) (now (lengths .entry))) (now (index .entry)) (replaced (now (string .entry))))) at (now (out .entry)) r (now (out .exit)) ⌝ }
+    requires { ⌜
+        at + length (found-line (find (lexicon (now chars) (now lengths)) (now index) (replaced (now string)))) ≤ length (now out) ⌝ }
+    ensures { λ r. ⌜
+        Wrote (found-line (find (lexicon (now (chars .entry)) (now (lengths .entry))) (now (index .entry))
+        (replaced (now (string .entry))))) at (now (out .entry)) r (now (out .exit)) ⌝ }
 {
     let answer = search_tabled(chars, lengths, index, words, lists, string, found);
     let count = answer.count;

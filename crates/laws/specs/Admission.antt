@@ -14,7 +14,8 @@ use Rattle.basics.specs.Bools.{and-left, and-right}
 use Rattle.laws.specs.Replacing.{words-hold}
 use Rattle.laws.specs.WordCode.{part}
 use Rattle.spec.specs.Replaced.{holds-full-width}
-use Rattle.spec.specs.Dictionary.{words-from, total, too-large, length-good, lengths-good, lengths-wrong, word-before, ascend, disordered, unreplaced, dictionary-refusal}
+use Rattle.spec.specs.Dictionary.{words-from, total, too-large, length-good, lengths-good, lengths-wrong, word-before, ascend, disordered}
+use Rattle.spec.specs.Dictionary.{unreplaced, dictionary-refusal}
 
 -- THE LENGTHS
 

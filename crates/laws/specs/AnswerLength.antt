@@ -45,7 +45,8 @@ module _ (s : List ℕ) where
       (shown-short cs ls (index-of (lexicon cs ls) (replaced ts)) (finds-on s)
       (index-usable cs ls ts (words-on-chars s) (text-on-chars s) (good .admits) (good .text-short))
       (chars-small (index-of (lexicon cs ls) (replaced ts))
-      (index-chars (lexicon cs ls) (replaced ts) (reached-lexicon cs ls (words-on-chars s) (good .admits)) (replaced-chars ts (text-on-chars s))
+      (index-chars (lexicon cs ls) (replaced ts) (reached-lexicon cs ls (words-on-chars s) (good .admits))
+      (replaced-chars ts (text-on-chars s))
       (omega (arith, good .text-short, length-replaced ts))))
       (good .finds-few))
 

@@ -113,7 +113,8 @@ module _ (cs ls ts : List ℕ) (w : ℕ) where
       go :
           (a : Bool) → eqb (dictionary-refusal cs ls) 0 ≡ a → (b : Bool) → ltb 65535 (length ts) ≡ b → (c : Bool) →
           ltb w (8 * length ts) ≡ c →
-          cond a (cond b 4 (cond c 7 (cond (output-short (length (index-of (lexicon cs ls) (replaced ts))) o) 8 0))) (dictionary-refusal cs ls)
+          cond a (cond b 4 (cond c 7 (cond (output-short (length (index-of (lexicon cs ls) (replaced ts))) o) 8 0)))
+          (dictionary-refusal cs ls)
           ≡ cond a (cond b 4 (cond c 7 0)) (dictionary-refusal cs ls)
       go false p b q c r = refl
       go true p true q c r = refl
@@ -241,7 +242,8 @@ module _ (cs ls ts : List ℕ) (w : ℕ) (o : List ℕ) where
 
   -- what follows the scan answers for the call
   pub build-marked :
-      Chars cs → Chars ts → early-refusal cs ls ts w ≡ 0 → (ms : List ℕ) → Marks (lexicon cs ls) (replaced ts) ms → (r : Answer) (z : List ℕ) →
+      Chars cs → Chars ts → early-refusal cs ls ts w ≡ 0 → (ms : List ℕ) → Marks (lexicon cs ls) (replaced ts) ms →
+      (r : Answer) (z : List ℕ) →
       Marked-says ms (replaced ts) r o z →
       Puts (build-refusal cs ls ts (length o) w) (index-of (lexicon cs ls) (replaced ts)) r o z
   build-marked chars text none ms marks r z puts =

@@ -1,5 +1,5 @@
--- The model of reception, but for full-width forms. A list of characters is the text of a readable slice exactly if each entry registered in it is one of the
--- slice, and there are as many. Assumes nothing.
+-- The model of reception, but for full-width forms. A list of characters is the text of a readable slice exactly if each entry registered
+-- in it is one of the slice, and there are as many. Assumes nothing.
 use mathlib.Core.Path.{_≡_, sym, ap, _∙_, subst}
 use mathlib.Core.Bool.{true}
 use mathlib.Core.List.{List}

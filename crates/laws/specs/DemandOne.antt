@@ -28,7 +28,9 @@ use Rattle.spec.specs.Demands.{First-demand}
 use Rattle.spec.specs.JobAnswer.{job-answer, Job-says}
 use Rattle.laws.specs.Answering.{accepted-yes, accepted-no}
 use Rattle.laws.specs.Recover.{length-recovered}
-use Rattle.laws.specs.RefusalRows.{First, Numbered, decides, output-first, dictionary-first, dictionary-numbered, build-first, index-first, index-numbered, reception-first, recovery-first, string-first, string-numbered, find-first}
+use Rattle.laws.specs.RefusalRows.{First, Numbered, decides, output-first, dictionary-first, dictionary-numbered, build-first}
+use Rattle.laws.specs.RefusalRows.{index-first, index-numbered, reception-first, recovery-first, string-first, string-numbered}
+use Rattle.laws.specs.RefusalRows.{find-first}
 use Rattle.laws.specs.ProgramRows.{prints, prints-only}
 
 -- WHAT COMES BACK
@@ -96,7 +98,8 @@ build-decides :
 unfolding Build-says zeros
 build-decides cs ls ts r o z w v says = (
   puts-decides (build-rows cs ls ts o w) (build-refusal cs ls ts (length o) (length w)) (build-first cs ls ts o w)
-      (omega arith, (omega arith, (omega arith, (omega arith, (omega arith, (omega arith, (omega arith, tt))))))) (index-of (lexicon cs ls) (replaced ts)) r o z
+      (omega arith, (omega arith, (omega arith, (omega arith, (omega arith, (omega arith, (omega arith, tt)))))))
+      (index-of (lexicon cs ls) (replaced ts)) r o z
       (says .0) (λ none h. none 8 (inr (inr (inr (inr (inr (inr (inl (refl, h))))))))),
   says .1,
 )
@@ -120,7 +123,8 @@ module _ (cs ls xs : List ℕ) where
       ⊎-elim
       (λ (can : readable longest-text (lexicon cs ls) xs ≡ true).
       none 9
-      (inr (inr (inr (inr (inr (inr (inl (refl, (can, λ text. none 8 (inr (inr (inr (inr (inr (inr (inr (inl (refl, (short, text))))))))))))))))))))
+      (inr (inr (inr (inr (inr (inr
+      (inl (refl, (can, λ text. none 8 (inr (inr (inr (inr (inr (inr (inr (inl (refl, (short, text))))))))))))))))))))
       (λ (f : readable longest-text (lexicon cs ls) xs ≡ false). none 5 (inr (inr (inr (inr (inl (refl, f)))))))
       (true-or-false (readable longest-text (lexicon cs ls) xs))
 

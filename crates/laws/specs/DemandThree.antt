@@ -35,7 +35,8 @@ module _ (cs ls xs : List ℕ) (w : List ℕ) (chars : all-chars cs ≡ true) (r
       true-put (received longest-text (lexicon cs ls) xs)
       (λ f.
       h .none-met 9
-      (inr (inr (inr (inr (inr (inr (inl (refl, (can-read, λ t. clash (demand-three longest-text cs ls xs is-admitted .1 (t .0) (t .1)) f))))))))))
+      (inr (inr (inr (inr (inr (inr
+      (inl (refl, (can-read, λ t. clash (demand-three longest-text cs ls xs is-admitted .1 (t .0) (t .1)) f))))))))))
 
   accepted-text : (ts : List ℕ) × Delivered cs ls xs ts
   unfolding Demand-three

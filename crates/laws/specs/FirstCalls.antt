@@ -53,7 +53,8 @@ module _ (cs ls xs s : List ℕ) (f : FirstAnswer) (says : First-says cs ls xs s
       ⊎-elim
       (λ (h : Accepts (string-rows cs ls xs s) (f .refusal) (f .position ≡ first-position (lexicon cs ls) xs (replaced s))).
       omega (arith, h .number))
-      (λ (h : Refuses (string-rows cs ls xs s) (f .refusal) (f .position ≡ 0)). among (first-meets (string-rows cs ls xs s) (f .refusal) (h .first)))
+      (λ (h : Refuses (string-rows cs ls xs s) (f .refusal) (f .position ≡ 0)).
+      among (first-meets (string-rows cs ls xs s) (f .refusal) (h .first)))
       (first-demand .firsts cs ls xs s f says)
     where
       among : Meets (string-rows cs ls xs s) (f .refusal) → ⊥
@@ -131,8 +132,11 @@ module _ (cs ls xs s : List ℕ) (f h : FirstAnswer) (says : First-says cs ls xs
       First-says cs ls ys s h → (h .refusal ≡ 0) × (h .position ≡ f .position)
   same-answer ys some can same other =
       let a = position-accepted cs ls xs s f says some in
-      let b = other-first cs ls xs ys s (a .none-met) can h other in
-      (b .0, b .1 ∙ first-there (lexicon cs ls) xs ys (replaced s) (f .position) some (subst (λ (m : ℕ). Same-to (f .position + m - 1) xs ys) (sym (length-replaced s)) same) (a .result))
+      let b = other-first cs ls xs ys s (a .none-met) can h other in (
+        b .0,
+        b .1 ∙ first-there (lexicon cs ls) xs ys (replaced s) (f .position) some
+            (subst (λ (m : ℕ). Same-to (f .position + m - 1) xs ys) (sym (length-replaced s)) same) (a .result),
+      )
 
   kept-answer :
       1 ≤ f .position → First-says cs ls (index-to (f .position + length s - 1) xs) s h → (h .refusal ≡ 0) × (h .position ≡ f .position)

@@ -12,7 +12,8 @@ use borrow.Author.Tests.{ne-eqb, eqb-true, eqb-false}
 use Rattle.basics.specs.Bools.{clash, not-get, and-put, and-left, and-right}
 use Rattle.basics.specs.Member.{In, in-append-get, all-cons}
 use Rattle.spec.specs.Words.{same}
-use Rattle.spec.specs.JobSheet.{line-feed, space, closing, head-length, character, is-spaced, ends-well, characters, is-form, string-in, onto-first, lines, forms, after}
+use Rattle.spec.specs.JobSheet.{line-feed, space, closing, head-length, character, is-spaced, ends-well, characters}
+use Rattle.spec.specs.JobSheet.{is-form, string-in, onto-first, lines, forms, after}
 use Rattle.spec.specs.JobAnswer.{digit-byte, hexadecimal}
 use Rattle.spec.specs.SheetForms.{spelled, form, Characters}
 use Rattle.laws.specs.Strings.{same-get, same-self}

@@ -110,7 +110,8 @@ pub record Parts-good (cs ls ts fs ns : List ℕ) : Type 0 where
 unfoldable pub printed-of : (chars lengths text strings counts : List ℕ) → List ℕ
 printed-of cs ls ts fs ns = shown cs ls (index-of (lexicon cs ls) (replaced ts)) fs ns
 
-pub index-shown : (cs ls ts fs ns xs : List ℕ) → xs ≡ index-of (lexicon cs ls) (replaced ts) → shown cs ls xs fs ns ≡ printed-of cs ls ts fs ns
+pub index-shown :
+    (cs ls ts fs ns xs : List ℕ) → xs ≡ index-of (lexicon cs ls) (replaced ts) → shown cs ls xs fs ns ≡ printed-of cs ls ts fs ns
 unfolding printed-of
 index-shown cs ls ts fs ns xs e = rw e
 

@@ -12,7 +12,8 @@ use lib.Seq.{length-take-le}
 use borrow.Author.Tests.{le-ltb, le-leb, eq-eqb, ltb-false, leb-true, eqb-true, not-false}
 use Rattle.basics.specs.Bools.{clash, and-put, and-left, and-right, or-none}
 use Rattle.basics.specs.Member.{In}
-use Rattle.spec.specs.Dictionary.{all-chars, words-from, lexicon, total, too-large, length-good, lengths-good, lengths-wrong, word-before, ascend, disordered, some-full-width, unreplaced, dictionary-refusal, admitted}
+use Rattle.spec.specs.Dictionary.{all-chars, words-from, lexicon, total, too-large, length-good, lengths-good, lengths-wrong, word-before}
+use Rattle.spec.specs.Dictionary.{ascend, disordered, some-full-width, unreplaced, dictionary-refusal, admitted}
 use Rattle.laws.specs.Facts.{Chars, Good-lexicon}
 use Rattle.laws.specs.Replacing.{words-plain-get}
 use Rattle.laws.specs.Chars.{all-chars-get, all-chars-put, chars-take, chars-drop}

@@ -34,7 +34,9 @@ use Rattle.laws.specs.CutSame.{covered-fewer, find-bearing}
 use Rattle.laws.specs.CutReadable.{n-of-cut, lines-in-cut, cut-readable}
 use Rattle.laws.specs.FirstPositions.{first-heads-find, first-stands}
 use Rattle.laws.specs.Criterion.{counted-index, index-taken, is-index-all, is-index-count}
-use Rattle.laws.specs.Received.{Is-index, is-index-get, Received, received-get, received-put, received-reads, readable-chars, readable-small, index-recovered, index-can-read, is-index-received, is-index-recovered, index-find, index-injective}
+use Rattle.laws.specs.Received.{Is-index, is-index-get, Received, received-get, received-put, received-reads, readable-chars}
+use Rattle.laws.specs.Received.{readable-small, index-recovered, index-can-read, is-index-received, is-index-recovered, index-find}
+use Rattle.laws.specs.Received.{index-injective}
 
 -- THE SECOND DEMAND
 

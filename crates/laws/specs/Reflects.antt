@@ -11,11 +11,13 @@ use borrow.Author.Tests.{ltb-true, ltb-false, leb-true, leb-false, eqb-true, eqb
 use Rattle.basics.specs.Bools.{Reflects, clash, false-put, not-get}
 use Rattle.basics.specs.Member.{In}
 use Rattle.spec.specs.Replaced.{first-form, last-form, is-full-width, holds-full-width}
-use Rattle.spec.specs.Dictionary.{longest-text, Lexicon, total, words-from, too-large, length-good, lengths-good, lengths-wrong, ascend, disordered, some-full-width, unreplaced}
+use Rattle.spec.specs.Dictionary.{longest-text, Lexicon, total, words-from, too-large, length-good, lengths-good, lengths-wrong, ascend}
+use Rattle.spec.specs.Dictionary.{disordered, some-full-width, unreplaced}
 use Rattle.spec.specs.Index.{readable}
 use Rattle.spec.specs.Calls.{text-too-long, unreadable, string-wrong, work-short, output-short}
 use Rattle.spec.specs.JobSheet.{some-string-wrong}
-use Rattle.spec.specs.RefusalTable.{Too-large, Lengths-wrong, Disordered, Unreplaced, Text-too-long, Unreadable, String-wrong, Work-short, Output-short}
+use Rattle.spec.specs.RefusalTable.{Too-large, Lengths-wrong, Disordered, Unreplaced, Text-too-long, Unreadable, String-wrong, Work-short}
+use Rattle.spec.specs.RefusalTable.{Output-short}
 use Rattle.laws.specs.Replacing.{form-get, form-put}
 
 -- TESTS AND FACTS

@@ -11,19 +11,24 @@ use borrow.Author.Tests.{eq-eqb, ne-eqb, not-false}
 use Rattle.basics.specs.Bools.{Reflects, clash, not-get, and-put}
 use Rattle.basics.specs.Member.{In}
 use Rattle.spec.specs.Replaced.{replaced}
-use Rattle.spec.specs.Dictionary.{longest-text, lexicon, all-chars, too-large, lengths-wrong, disordered, unreplaced, dictionary-refusal, admitted}
+use Rattle.spec.specs.Dictionary.{longest-text, lexicon, all-chars, too-large, lengths-wrong, disordered, unreplaced, dictionary-refusal}
+use Rattle.spec.specs.Dictionary.{admitted}
 use Rattle.spec.specs.Numbers.{index-of}
 use Rattle.spec.specs.Index.{n-of}
 use Rattle.spec.specs.Reception.{recovered, received}
 use Rattle.spec.specs.Calls.{text-too-long, unreadable, string-wrong, work-short, output-short, no-text, or-else, build-refusal, index-refusal, reception-refusal, recovery-refusal, string-refusal, find-refusal}
 use Rattle.spec.specs.JobSheet.{run-together, lengths-of, some-string-wrong, contents-refusal}
 use Rattle.spec.specs.Beyond.{Demand-three}
-use Rattle.spec.specs.RefusalTable.{Too-large, Lengths-wrong, Disordered, Unreplaced, Text-too-long, Unreadable, String-wrong, Work-short, Output-short, Recovery-short, No-text, Has-text, Row, row, Meets, First-met, Accepts, Refuses, Decides, dictionary-rows, build-rows, index-rows, reception-rows, recovery-rows, string-rows, find-rows}
+use Rattle.spec.specs.RefusalTable.{Too-large, Lengths-wrong, Disordered, Unreplaced, Text-too-long, Unreadable, String-wrong, Work-short}
+use Rattle.spec.specs.RefusalTable.{Output-short, Recovery-short, No-text, Has-text, Row, row, Meets, First-met, Accepts, Refuses}
+use Rattle.spec.specs.RefusalTable.{Decides, dictionary-rows, build-rows, index-rows, reception-rows, recovery-rows, string-rows}
+use Rattle.spec.specs.RefusalTable.{find-rows}
 use Rattle.spec.specs.ProgramDemand.{parts-rows}
 use Rattle.laws.specs.Answering.{or-else-some, or-else-none}
 use Rattle.laws.specs.IndexRefusal.{index-accepted}
 use Rattle.laws.specs.Promises.{demand-three}
-use Rattle.laws.specs.Reflects.{reflects-lt, reflects-too-large, reflects-lengths-wrong, reflects-disordered, reflects-unreplaced, reflects-text, reflects-unreadable, reflects-string, reflects-finds, reflects-work, reflects-output}
+use Rattle.laws.specs.Reflects.{reflects-lt, reflects-too-large, reflects-lengths-wrong, reflects-disordered, reflects-unreplaced}
+use Rattle.laws.specs.Reflects.{reflects-text, reflects-unreadable, reflects-string, reflects-finds, reflects-work, reflects-output}
 
 -- ROWS IN ORDER
 

@@ -10,7 +10,8 @@ use lib.ListN.{length}
 use borrow.Author.Tests.{eqb-true}
 use Rattle.basics.specs.Bools.{false-put, iff-eq, and-right}
 use Rattle.spec.specs.Replaced.{is-full-width, replaced, holds-full-width}
-use Rattle.spec.specs.Dictionary.{Lexicon, words-from, lexicon, total, too-large, lengths-good, lengths-wrong, disordered, some-full-width, unreplaced, dictionary-refusal, admitted}
+use Rattle.spec.specs.Dictionary.{Lexicon, words-from, lexicon, total, too-large, lengths-good, lengths-wrong, disordered}
+use Rattle.spec.specs.Dictionary.{some-full-width, unreplaced, dictionary-refusal, admitted}
 use Rattle.spec.specs.Words.{Key, key, spells}
 use Rattle.spec.specs.Numbers.{index-of}
 use Rattle.spec.specs.Index.{readable}
@@ -18,11 +19,13 @@ use Rattle.spec.specs.Reception.{recovered, is-index, received}
 use Rattle.spec.specs.Search.{find}
 use Rattle.spec.specs.First.{first-position}
 use Rattle.spec.specs.Cut.{cut-down}
-use Rattle.spec.specs.Calls.{text-too-long, string-wrong, build-refusal, string-refusal, find-refusal, Build-says, Search-says, Cut-says, First-says}
+use Rattle.spec.specs.Calls.{text-too-long, string-wrong, build-refusal, string-refusal, find-refusal, Build-says, Search-says, Cut-says}
+use Rattle.spec.specs.Calls.{First-says}
 use Rattle.spec.specs.JobAnswer.{index-lines, found-line, found-lines, answer-lines}
 use Rattle.spec.specs.ReplacedPromise.{Replacement, Lone-form, As-before, Same-lettering, Either-width}
 use Rattle.laws.specs.Facts.{key-eq, Plain, Good-lexicon, Is-key}
-use Rattle.laws.specs.Replacing.{form-put, below-form, above-form, char-lowered, char-stays, length-replaced, getD-replaced, replaced-none, plain-kept, replaced-chars, words-hold}
+use Rattle.laws.specs.Replacing.{form-put, below-form, above-form, char-lowered, char-stays, length-replaced, getD-replaced}
+use Rattle.laws.specs.Replacing.{replaced-none, plain-kept, replaced-chars, words-hold}
 use Rattle.laws.specs.Chars.{all-chars-get, replaced-is-text}
 use Rattle.laws.specs.Lexicon.{admitted-lexicon}
 use Rattle.laws.specs.Keys.{Is-word-key, Is-lone-key, key-kinds, spells-in, spells-lone}

@@ -144,8 +144,12 @@ Held xs held i = (i ≤ length xs) × ((held || holds-full-width (drop i xs)) �
 
 pub held-step :
     (xs : List ℕ) (held : Bool) (i : ℕ) → i < length xs → Held xs held i → Held xs (held || is-full-width (getD xs i 0)) (i + 1)
-held-step xs held i below h =
-    (omega arith, or-assoc held (is-full-width (getD xs i 0)) (holds-full-width (drop (i + 1) xs)) ∙ ap (λ (b : Bool). held || b) (sym (holds-step xs i below)) ∙ h .1)
+held-step xs held i below h = (
+  omega arith,
+  or-assoc held (is-full-width (getD xs i 0)) (holds-full-width (drop (i + 1) xs))
+      ∙ ap (λ (b : Bool). held || b) (sym (holds-step xs i below))
+      ∙ h .1,
+)
 
 pub held-end : (xs : List ℕ) (held : Bool) (i : ℕ) → length xs ≤ i → Held xs held i → held ≡ holds-full-width xs
 held-end xs held i past h =

@@ -109,7 +109,8 @@ module _ (cs ls xs s : List ℕ) (r : Answer) (o : List ℕ) where
   search-long = finds-long cs ls xs s (find (lexicon cs ls) xs (replaced s)) r o
 
   pub search-says :
-      index-refusal cs ls xs ≡ 0 → Is-string s → (z : List ℕ) → Sized (find (lexicon cs ls) xs (replaced s)) r o z → Search-says cs ls xs s r o z
+      index-refusal cs ls xs ≡ 0 → Is-string s → (z : List ℕ) → Sized (find (lexicon cs ls) xs (replaced s)) r o z →
+      Search-says cs ls xs s r o z
   unfolding Search-says
   search-says = finds-sized cs ls xs s (find (lexicon cs ls) xs (replaced s)) r o
 
@@ -130,6 +131,7 @@ module _ (cs ls xs s : List ℕ) (r : Answer) (o : List ℕ) where
   cut-too-long = finds-long cs ls xs s (cut-down (lexicon cs ls) xs (replaced s)) r o
 
   pub cut-says :
-      index-refusal cs ls xs ≡ 0 → Is-string s → (z : List ℕ) → Sized (cut-down (lexicon cs ls) xs (replaced s)) r o z → Cut-says cs ls xs s r o z
+      index-refusal cs ls xs ≡ 0 → Is-string s → (z : List ℕ) → Sized (cut-down (lexicon cs ls) xs (replaced s)) r o z →
+      Cut-says cs ls xs s r o z
   unfolding Cut-says
   cut-says = finds-sized cs ls xs s (cut-down (lexicon cs ls) xs (replaced s)) r o

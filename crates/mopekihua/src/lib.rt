@@ -1,8 +1,8 @@
 // The face of the library: every public operation once, for C and Rust to link. No operation has a `requires`, and each contract
 // fixes the answer and the final content of every slice lent to be written, for refused input too. A slice lent to be read
 // stays as it was by its type. A refusal is the number of the first line that is met, in the order given. Texts and search strings are
-// replaced first: each full-width form, FF01 to FF5E, by the character FEE0 lower. What is lent as characters holds characters, by its type too: building, reception and recovery say so
-// in a clause of their own, since the demands (`spec/specs/Demands.antt`) ask for it.
+// replaced first: each full-width form, FF01 to FF5E, by the character FEE0 lower. What is lent as characters holds characters, by its
+// type too: building, reception and recovery say so in a clause of their own, since the demands (`spec/specs/Demands.antt`) ask for it.
 ghost use mathlib.Core.Path.{_≡_};
 ghost use mathlib.Core.Bool.{true};
 ghost use Rattle.spec.specs.Dictionary.{all-chars};

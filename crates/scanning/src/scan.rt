@@ -60,7 +60,8 @@ pub fn scan(
     work: &mut [u16],
 )
     requires { ⌜ Tables (now chars) (now lengths) (now heads) (now links) (now starts) × (2 * n ≤ length (now work)) ⌝ }
-    ensures marks { λ r. ⌜ Marks (lexicon (now (chars .entry)) (now (lengths .entry))) (take n (drop n (now (work .entry)))) (take n (now (work .exit))) ⌝ }
+    ensures marks { λ r. ⌜
+        Marks (lexicon (now (chars .entry)) (now (lengths .entry))) (take n (drop n (now (work .entry)))) (take n (now (work .exit))) ⌝ }
     ensures rest { λ r. ⌜ drop n (now (work .exit)) ≡ drop n (now (work .entry)) ⌝ }
 {
     let behind = 2 * n;

@@ -44,7 +44,8 @@ fn first_tabled<'a>(
     string: &[u16],
 ) -> usize
     requires { ⌜ Opened (now chars) (now lengths) (now index) (now words) (now lists) × Is-string (now string) ⌝ }
-    ensures { λ r. ⌜ r ≡ first-position (lexicon (now (chars .entry)) (now (lengths .entry))) (now (index .entry)) (replaced (now (string .entry))) ⌝ }
+    ensures { λ r. ⌜
+        r ≡ first-position (lexicon (now (chars .entry)) (now (lengths .entry))) (now (index .entry)) (replaced (now (string .entry))) ⌝ }
 {
     let long = string.len();
     let own = replaced_string(string);
@@ -61,7 +62,8 @@ fn first_filled<'a>(
     lists: &mut [u32],
 ) -> usize
     requires { ⌜ Can-read (now chars) (now lengths) (now index) × (keys ≡ keys-of (now index)) × Is-string (now string) × (keys ≤ length (now lists)) ⌝ }
-    ensures { λ r. ⌜ r ≡ first-position (lexicon (now (chars .entry)) (now (lengths .entry))) (now (index .entry)) (replaced (now (string .entry))) ⌝ }
+    ensures { λ r. ⌜
+        r ≡ first-position (lexicon (now (chars .entry)) (now (lengths .entry))) (now (index .entry)) (replaced (now (string .entry))) ⌝ }
 {
     let mut words = [0u16; 4096];
     fill_words(lengths, &mut words);
@@ -78,7 +80,8 @@ fn first_few_lines<'a>(
     string: &[u16],
 ) -> usize
     requires { ⌜ Can-read (now chars) (now lengths) (now index) × (keys ≡ keys-of (now index)) × Is-string (now string) × (keys ≤ 1024) ⌝ }
-    ensures { λ r. ⌜ r ≡ first-position (lexicon (now (chars .entry)) (now (lengths .entry))) (now (index .entry)) (replaced (now (string .entry))) ⌝ }
+    ensures { λ r. ⌜
+        r ≡ first-position (lexicon (now (chars .entry)) (now (lengths .entry))) (now (index .entry)) (replaced (now (string .entry))) ⌝ }
 {
     let mut lists = [0u32; 1024];
     first_filled(chars, lengths, index, keys, string, &mut lists)
@@ -93,7 +96,8 @@ fn first_some_lines<'a>(
     string: &[u16],
 ) -> usize
     requires { ⌜ Can-read (now chars) (now lengths) (now index) × (keys ≡ keys-of (now index)) × Is-string (now string) × (keys ≤ 8192) ⌝ }
-    ensures { λ r. ⌜ r ≡ first-position (lexicon (now (chars .entry)) (now (lengths .entry))) (now (index .entry)) (replaced (now (string .entry))) ⌝ }
+    ensures { λ r. ⌜
+        r ≡ first-position (lexicon (now (chars .entry)) (now (lengths .entry))) (now (index .entry)) (replaced (now (string .entry))) ⌝ }
 {
     let mut lists = [0u32; 8192];
     first_filled(chars, lengths, index, keys, string, &mut lists)
@@ -108,7 +112,8 @@ fn first_many_lines<'a>(
     string: &[u16],
 ) -> usize
     requires { ⌜ Can-read (now chars) (now lengths) (now index) × (keys ≡ keys-of (now index)) × Is-string (now string) ⌝ }
-    ensures { λ r. ⌜ r ≡ first-position (lexicon (now (chars .entry)) (now (lengths .entry))) (now (index .entry)) (replaced (now (string .entry))) ⌝ }
+    ensures { λ r. ⌜
+        r ≡ first-position (lexicon (now (chars .entry)) (now (lengths .entry))) (now (index .entry)) (replaced (now (string .entry))) ⌝ }
 {
     let mut lists = [0u32; 65536];
     first_filled(chars, lengths, index, keys, string, &mut lists)
@@ -123,7 +128,8 @@ fn first_lines<'a>(
     string: &[u16],
 ) -> usize
     requires { ⌜ Can-read (now chars) (now lengths) (now index) × (keys ≡ keys-of (now index)) × Is-string (now string) ⌝ }
-    ensures { λ r. ⌜ r ≡ first-position (lexicon (now (chars .entry)) (now (lengths .entry))) (now (index .entry)) (replaced (now (string .entry))) ⌝ }
+    ensures { λ r. ⌜
+        r ≡ first-position (lexicon (now (chars .entry)) (now (lengths .entry))) (now (index .entry)) (replaced (now (string .entry))) ⌝ }
 {
     if keys <= 1024 {
         return first_few_lines(chars, lengths, index, keys, string);

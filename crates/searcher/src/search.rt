@@ -58,7 +58,9 @@ pub fn search_tabled<'a>(
     output: &mut [u16],
 ) -> Answer
     requires { ⌜ Opened (now chars) (now lengths) (now index) (now words) (now lists) × Is-string (now string) ⌝ }
-    ensures { λ r. ⌜ Sized (find (lexicon (now (chars .entry)) (now (lengths .entry))) (now (index .entry)) (replaced (now (string .entry)))) r (now (output .entry)) (now (output .exit)) ⌝ }
+    ensures { λ r. ⌜
+        Sized (find (lexicon (now (chars .entry)) (now (lengths .entry))) (now (index .entry)) (replaced (now (string .entry)))) r
+        (now (output .entry)) (now (output .exit)) ⌝ }
 {
     let long = string.len();
     let own = replaced_string(string);
@@ -76,7 +78,9 @@ fn search_filled<'a>(
     output: &mut [u16],
 ) -> Answer
     requires { ⌜ Can-read (now chars) (now lengths) (now index) × (keys ≡ keys-of (now index)) × Is-string (now string) × (keys ≤ length (now lists)) ⌝ }
-    ensures { λ r. ⌜ Sized (find (lexicon (now (chars .entry)) (now (lengths .entry))) (now (index .entry)) (replaced (now (string .entry)))) r (now (output .entry)) (now (output .exit)) ⌝ }
+    ensures { λ r. ⌜
+        Sized (find (lexicon (now (chars .entry)) (now (lengths .entry))) (now (index .entry)) (replaced (now (string .entry)))) r
+        (now (output .entry)) (now (output .exit)) ⌝ }
 {
     let mut words = [0u16; 4096];
     fill_words(lengths, &mut words);
@@ -94,7 +98,9 @@ fn search_few_lines<'a>(
     output: &mut [u16],
 ) -> Answer
     requires { ⌜ Can-read (now chars) (now lengths) (now index) × (keys ≡ keys-of (now index)) × Is-string (now string) × (keys ≤ 1024) ⌝ }
-    ensures { λ r. ⌜ Sized (find (lexicon (now (chars .entry)) (now (lengths .entry))) (now (index .entry)) (replaced (now (string .entry)))) r (now (output .entry)) (now (output .exit)) ⌝ }
+    ensures { λ r. ⌜
+        Sized (find (lexicon (now (chars .entry)) (now (lengths .entry))) (now (index .entry)) (replaced (now (string .entry)))) r
+        (now (output .entry)) (now (output .exit)) ⌝ }
 {
     let mut lists = [0u32; 1024];
     search_filled(chars, lengths, index, keys, string, &mut lists, output)
@@ -110,7 +116,9 @@ fn search_some_lines<'a>(
     output: &mut [u16],
 ) -> Answer
     requires { ⌜ Can-read (now chars) (now lengths) (now index) × (keys ≡ keys-of (now index)) × Is-string (now string) × (keys ≤ 8192) ⌝ }
-    ensures { λ r. ⌜ Sized (find (lexicon (now (chars .entry)) (now (lengths .entry))) (now (index .entry)) (replaced (now (string .entry)))) r (now (output .entry)) (now (output .exit)) ⌝ }
+    ensures { λ r. ⌜
+        Sized (find (lexicon (now (chars .entry)) (now (lengths .entry))) (now (index .entry)) (replaced (now (string .entry)))) r
+        (now (output .entry)) (now (output .exit)) ⌝ }
 {
     let mut lists = [0u32; 8192];
     search_filled(chars, lengths, index, keys, string, &mut lists, output)
@@ -126,7 +134,9 @@ fn search_many_lines<'a>(
     output: &mut [u16],
 ) -> Answer
     requires { ⌜ Can-read (now chars) (now lengths) (now index) × (keys ≡ keys-of (now index)) × Is-string (now string) ⌝ }
-    ensures { λ r. ⌜ Sized (find (lexicon (now (chars .entry)) (now (lengths .entry))) (now (index .entry)) (replaced (now (string .entry)))) r (now (output .entry)) (now (output .exit)) ⌝ }
+    ensures { λ r. ⌜
+        Sized (find (lexicon (now (chars .entry)) (now (lengths .entry))) (now (index .entry)) (replaced (now (string .entry)))) r
+        (now (output .entry)) (now (output .exit)) ⌝ }
 {
     let mut lists = [0u32; 65536];
     search_filled(chars, lengths, index, keys, string, &mut lists, output)
@@ -142,7 +152,9 @@ fn search_lines<'a>(
     output: &mut [u16],
 ) -> Answer
     requires { ⌜ Can-read (now chars) (now lengths) (now index) × (keys ≡ keys-of (now index)) × Is-string (now string) ⌝ }
-    ensures { λ r. ⌜ Sized (find (lexicon (now (chars .entry)) (now (lengths .entry))) (now (index .entry)) (replaced (now (string .entry)))) r (now (output .entry)) (now (output .exit)) ⌝ }
+    ensures { λ r. ⌜
+        Sized (find (lexicon (now (chars .entry)) (now (lengths .entry))) (now (index .entry)) (replaced (now (string .entry)))) r
+        (now (output .entry)) (now (output .exit)) ⌝ }
 {
     if keys <= 1024 {
         return search_few_lines(chars, lengths, index, keys, string, output);

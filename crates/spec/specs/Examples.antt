@@ -8,7 +8,9 @@ use lib.Dec.{eqb}
 use lib.IntN.{pos, negsuc}
 use lib.ListN.{length, replicate}
 use Rattle.spec.specs.Replaced.{is-full-width, replaced-char, replaced, holds-full-width}
-use Rattle.spec.specs.Dictionary.{longest-text, Lexicon, lexicon, dictionary-refusal, is-char, words-from, total, too-large, length-good, lengths-good, lengths-wrong, word-before, ascend, disordered, some-full-width, unreplaced}
+use Rattle.spec.specs.Dictionary.{longest-text, Lexicon, lexicon, dictionary-refusal, is-char, words-from, total, too-large}
+use Rattle.spec.specs.Dictionary.{length-good, lengths-good, lengths-wrong, word-before, ascend, disordered, some-full-width}
+use Rattle.spec.specs.Dictionary.{unreplaced}
 use Rattle.spec.specs.Words.{Entry, key, same, listed, is-word, spells, stands, entry, contains, same-key, same-entry, key-entries, word-entries, lone-entries, complete, in-another, maximal, entries}
 use Rattle.spec.specs.Numbers.{index-of, key-before, entry-before, into, sorted, line, with-entry, lines-of, directory, positions, numbers}
 use Rattle.spec.specs.Index.{entries-of, readable, counts-from, lines-from, lines-in, kinds-good, key-good, keys-ascend, rise-from, last-of, line-good, lines-good, lengths-fit}
@@ -150,7 +152,16 @@ pub no-place : (m : ℕ) → 1 - suc m ≡ 0
 no-place m = omega arith
 
 pub examples : Examples
-unfolding scan raise reach-places reach-key reach-back reach-first reach-stage reach-stages reach is-char words-from lexicon total too-large length-good lengths-good lengths-wrong word-before ascend disordered is-full-width replaced-char replaced holds-full-width some-full-width unreplaced dictionary-refusal key same listed is-word spells stands entry contains same-key same-entry key-entries word-entries lone-entries complete in-another maximal entries key-before entry-before into sorted line with-entry lines-of directory positions numbers index-of counts-from entries-of lines-from lines-in kinds-good key-good keys-ascend rise-from last-of line-good lines-good lengths-fit readable lies-on shown-by or-shown shown char-or recovered-from recovered is-index received places-from places overlaps equal-from agrees offset in-offsets string-start key-start agrees-at covers covered all-covered found-from find lies-from lies-in joins-from joins bears bearing cut-down of-length tally-from tally shorter unreadable work-short output-short no-text or-else index-refusal reception-refusal recovery-refusal bytes decimal-within decimal digit-byte hexadecimal spaced index-line key-name key-line key-lines index-lines
+unfolding scan raise reach-places reach-key reach-back reach-first reach-stage reach-stages reach is-char words-from lexicon total
+    too-large length-good lengths-good lengths-wrong word-before ascend disordered is-full-width replaced-char replaced holds-full-width
+    some-full-width unreplaced dictionary-refusal key same listed is-word spells stands entry contains same-key same-entry key-entries
+    word-entries lone-entries complete in-another maximal entries key-before entry-before into sorted line with-entry lines-of directory
+    positions numbers index-of counts-from entries-of lines-from lines-in kinds-good key-good keys-ascend rise-from last-of line-good
+    lines-good lengths-fit readable lies-on shown-by or-shown shown char-or recovered-from recovered is-index received places-from places
+    overlaps equal-from agrees offset in-offsets string-start key-start agrees-at covers covered all-covered found-from find lies-from
+    lies-in joins-from joins bears bearing cut-down of-length tally-from tally shorter unreadable work-short output-short no-text or-else
+    index-refusal reception-refusal recovery-refusal bytes decimal-within decimal digit-byte hexadecimal spaced index-line key-name
+    key-line key-lines index-lines
 examples =
     record {
       starred =

@@ -6,16 +6,22 @@ use mathlib.Core.List.{List, [], _∷_}
 use Prim.Native.Nat.{ℕ}
 use lib.ListN.{replicate}
 use Rattle.spec.specs.Replaced.{is-full-width, replaced-char, replaced, holds-full-width}
-use Rattle.spec.specs.Dictionary.{longest-text, lexicon, is-char, all-chars, is-text, words-from, total, too-large, length-good, lengths-good, lengths-wrong, word-before, ascend, disordered, some-full-width, unreplaced, dictionary-refusal}
-use Rattle.spec.specs.Words.{key, same, listed, is-word, spells, stands, entry, contains, same-key, same-entry, key-entries, word-entries, lone-entries, complete, in-another, maximal, entries}
-use Rattle.spec.specs.Numbers.{index-of, key-before, entry-before, into, sorted, line, with-entry, lines-of, directory, positions, numbers}
-use Rattle.spec.specs.Index.{entries-of, readable, counts-from, lines-from, lines-in, kinds-good, key-good, keys-ascend, rise-from, last-of, line-good, lines-good, lengths-fit}
+use Rattle.spec.specs.Dictionary.{longest-text, lexicon, is-char, all-chars, is-text, words-from, total, too-large, length-good}
+use Rattle.spec.specs.Dictionary.{lengths-good, lengths-wrong, word-before, ascend, disordered, some-full-width, unreplaced}
+use Rattle.spec.specs.Dictionary.{dictionary-refusal}
+use Rattle.spec.specs.Words.{key, same, listed, is-word, spells, stands, entry, contains, same-key, same-entry, key-entries}
+use Rattle.spec.specs.Words.{word-entries, lone-entries, complete, in-another, maximal, entries}
+use Rattle.spec.specs.Numbers.{index-of, key-before, entry-before, into, sorted, line, with-entry, lines-of, directory, positions}
+use Rattle.spec.specs.Numbers.{numbers}
+use Rattle.spec.specs.Index.{entries-of, readable, counts-from, lines-from, lines-in, kinds-good, key-good, keys-ascend, rise-from}
+use Rattle.spec.specs.Index.{last-of, line-good, lines-good, lengths-fit}
 use Rattle.spec.specs.Reception.{lies-on, shown-by, or-shown, shown, char-or, recovered-from, recovered, is-index, received}
 use Rattle.spec.specs.Search.{find, overlaps, equal-from, agrees, covers, covered, all-covered, found-from}
 use Rattle.spec.specs.First.{first-of, first-position}
 use Rattle.spec.specs.Cut.{bears, cut-down, lies-from, lies-in, joins-from, joins, bearing}
 use Rattle.spec.specs.Tally.{tally, of-length, tally-from}
-use Rattle.spec.specs.Calls.{text-too-long, unreadable, string-wrong, work-short, output-short, no-text, or-else, build-refusal, index-refusal, reception-refusal, recovery-refusal, string-refusal}
+use Rattle.spec.specs.Calls.{text-too-long, unreadable, string-wrong, work-short, output-short, no-text, or-else, build-refusal}
+use Rattle.spec.specs.Calls.{index-refusal, reception-refusal, recovery-refusal, string-refusal}
 use Rattle.spec.specs.Examples.{a, b, A-chars, A-lengths, A, abcdab}
 
 -- the full-width forms of a, b, c, d
@@ -80,7 +86,14 @@ pub record Replaced-tried : Type 0 where
   pub form-cut-out : cut-down A lone-form (replaced (0xFF21 ∷ [])) ≡ 2 ∷ 1 ∷ 1 ∷ 0x41 ∷ 1 ∷ 1 ∷ []
 
 pub replaced-tried : Replaced-tried
-unfolding is-char all-chars is-text words-from lexicon total too-large length-good lengths-good lengths-wrong word-before ascend disordered is-full-width replaced-char replaced holds-full-width some-full-width unreplaced dictionary-refusal key same listed is-word spells stands entry contains same-key same-entry key-entries word-entries lone-entries complete in-another maximal entries key-before entry-before into sorted line with-entry lines-of directory positions numbers index-of counts-from entries-of lines-from lines-in kinds-good key-good keys-ascend rise-from last-of line-good lines-good lengths-fit readable lies-on shown-by or-shown shown char-or recovered-from recovered is-index received overlaps equal-from agrees covers covered all-covered found-from find first-of first-position lies-from lies-in joins-from joins bears bearing cut-down of-length tally-from tally text-too-long unreadable string-wrong work-short output-short no-text or-else build-refusal index-refusal reception-refusal recovery-refusal string-refusal
+unfolding is-char all-chars is-text words-from lexicon total too-large length-good lengths-good lengths-wrong word-before ascend
+    disordered is-full-width replaced-char replaced holds-full-width some-full-width unreplaced dictionary-refusal key same listed is-word
+    spells stands entry contains same-key same-entry key-entries word-entries lone-entries complete in-another maximal entries key-before
+    entry-before into sorted line with-entry lines-of directory positions numbers index-of counts-from entries-of lines-from lines-in
+    kinds-good key-good keys-ascend rise-from last-of line-good lines-good lengths-fit readable lies-on shown-by or-shown shown char-or
+    recovered-from recovered is-index received overlaps equal-from agrees covers covered all-covered found-from find first-of
+    first-position lies-from lies-in joins-from joins bears bearing cut-down of-length tally-from tally text-too-long unreadable
+    string-wrong work-short output-short no-text or-else build-refusal index-refusal reception-refusal recovery-refusal string-refusal
 replaced-tried =
     record {
       first-form = refl;

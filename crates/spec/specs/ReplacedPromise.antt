@@ -7,7 +7,8 @@ use Prim.Native.Nat.{ℕ, _+_, _*_, _≤_, _<_}
 use lib.ListN.{length, getD}
 use Rattle.basics.specs.Member.{In}
 use Rattle.spec.specs.Replaced.{first-form, last-form, form-distance, is-full-width, replaced-char, replaced, holds-full-width}
-use Rattle.spec.specs.Dictionary.{longest-text, Lexicon, all-chars, is-text, lexicon, too-large, lengths-wrong, disordered, dictionary-refusal, admitted}
+use Rattle.spec.specs.Dictionary.{longest-text, Lexicon, all-chars, is-text, lexicon, too-large, lengths-wrong, disordered}
+use Rattle.spec.specs.Dictionary.{dictionary-refusal, admitted}
 use Rattle.spec.specs.Words.{key, is-word}
 use Rattle.spec.specs.Numbers.{Line, index-of}
 use Rattle.spec.specs.Index.{n-of, entries-of, lines-in, key-good, readable}
@@ -66,7 +67,8 @@ pub record As-before : Type 0 where
 
 -- EITHER WIDTH
 
--- "No two texts have the same index" is said of replaced texts; two lent texts have the same index exactly if they are the same when replaced.
+-- "No two texts have the same index" is said of replaced texts; two lent texts have the same index exactly if they are the same when
+-- replaced.
 unfoldable pub Same-lettering : Type 0
 Same-lettering =
     (cs ls ts us : List ℕ) → admitted cs ls ≡ true → all-chars ts ≡ true → all-chars us ≡ true →

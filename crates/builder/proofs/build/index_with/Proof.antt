@@ -28,14 +28,17 @@ scan-replaced-requires c κs =
 
 finish-requires : tie.Need-finish-requires
 finish-requires c κs =
-    let start = c .before .before .before .before .before .before .before .before .before .before .before .before .before .before .before .before .before .before .before .before .before .before .before .before .before .before .before in
+    let scanned = c .before .before .before .before in
+    let tables = scanned .before .before .before .before .before .before .before .before .before .before .before in
+    let given = tables .before .before .before .before .before .before .before .before .before .before .before in
+    let start = given .before in
     let cs = start .args .chars .now in
     let ls = start .args .lengths .now in
     let ts = start .args .text .now in
     let w = length (start .args .work .now) in (
-      omega (arith, reached cs ls ts w (start .pre .0) .room, c .before .before .before .before .scan-replaced .kept .1 .1 .1 .1 .1 .1 .0),
-      front-linkable cs ls ts w (c .before .before .before .before .scan-replaced .last .1 .1 .1 .1 .1 .1 .0)
-          (λ i h. omega (arith, c .before .before .before .before .before .before .before .before .before .before .before .before .before .before .before .before .before .before .before .before .before .before .before .before .before .before .shared-slice-known .given i)) (start .pre .0) (c .before .before .before .before .scan-replaced .ensures),
+      omega (arith, reached cs ls ts w (start .pre .0) .room, scanned .scan-replaced .kept .1 .1 .1 .1 .1 .1 .0),
+      front-linkable cs ls ts w (scanned .scan-replaced .last .1 .1 .1 .1 .1 .1 .0)
+          (λ i h. omega (arith, given .shared-slice-known .given i)) (start .pre .0) (scanned .scan-replaced .ensures),
     )
 
 same-length : tie.Need-same-length
@@ -63,7 +66,9 @@ returns c =
     let work = c .before .before .before .before .before .before .before .before .before .scan-replaced .last .1 .1 .1 .1 .1 .1 .0 in
     build-marked cs ls ts w (start .args .output .now)
     (λ i h. omega (arith, c .before .before .before .before .before .before .before .before .before .before .before .before .before .before .before .before .before .before .before .before .before .before .before .before .before .before .before .before .before .before .before .shared-slice-known .given i)) (λ i h. omega (arith, c .before .before .before .before .before .before .before .before .before .before .before .before .before .before .before .before .before .before .before .before .before .before .before .before .before .before .before .before .before .shared-slice-known3 .given i))
-    (start .pre .0) (take (length ts) work) (c .before .before .before .before .before .before .before .before .before .scan-replaced .ensures) (c .before .before .before .before .finish .result) (c .before .before .before .before .finish .last .1 .0)
+    (start .pre .0) (take (length ts) work)
+    (c .before .before .before .before .before .before .before .before .before .scan-replaced .ensures)
+    (c .before .before .before .before .finish .result) (c .before .before .before .before .finish .last .1 .0)
     (c .before .before .before .before .finish .ensures)
 
 pub index-with-spec : {M : Type 1} → statement M

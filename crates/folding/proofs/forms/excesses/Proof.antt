@@ -37,7 +37,8 @@ loop-again : tie.Need-loop-again Inv-loop μ-loop
 loop-again c =
     let turn = c .before .before .before .loop in
     rw (c .excess .ensures)
-    (exceeds-step (c .before .before .before .before .before .args .text .now) (turn .all) (turn .i) (c .before .before .loop-test .taken) (turn .inv))
+    (exceeds-step (c .before .before .before .before .before .args .text .now) (turn .all) (turn .i) (c .before .before .loop-test .taken)
+    (turn .inv))
 
 returns : tie.Need-returns Inv-loop μ-loop
 returns c =

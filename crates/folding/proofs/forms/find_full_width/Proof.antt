@@ -37,7 +37,8 @@ loop-again : tie.Need-loop-again Inv-loop μ-loop
 loop-again c =
     let turn = c .before .before .before .loop in
     rw (c .is-full-width .ensures)
-    (held-step (c .before .before .before .before .before .args .text .now) (turn .held) (turn .i) (c .before .before .loop-test .taken) (turn .inv))
+    (held-step (c .before .before .before .before .before .args .text .now) (turn .held) (turn .i) (c .before .before .loop-test .taken)
+    (turn .inv))
 
 returns : tie.Need-returns Inv-loop μ-loop
 returns c =

@@ -20,8 +20,11 @@ abbrev μ-loop : tie.MeasureT-loop
 
 loop-holds : tie.Need-loop-holds Inv-loop μ-loop
 loop-holds c =
-    let start = c .before .before in
-    (omega arith, writing-start (replaced (start .args .text .now)) 0 (start .args .slots .now) (omega (arith, start .pre, length-replaced (start .args .text .now))))
+    let start = c .before .before in (
+      omega arith,
+      writing-start (replaced (start .args .text .now)) 0 (start .args .slots .now)
+          (omega (arith, start .pre, length-replaced (start .args .text .now))),
+    )
 
 mul-replace : tie.Need-mul-replace Inv-loop μ-loop
 mul-replace c = search needs
@@ -64,7 +67,8 @@ returns c =
     let start = c .before .before .before .before in
     let turn = c .before .loop in
     text-put (replaced (start .args .text .now)) (start .args .slots .now) (turn .slots) (turn .i)
-    (copy-end (replaced (start .args .text .now)) (turn .i) (turn .inv .1) (omega (arith, c .loop-test .left, length-replaced (start .args .text .now))))
+    (copy-end (replaced (start .args .text .now)) (turn .i) (turn .inv .1)
+    (omega (arith, c .loop-test .left, length-replaced (start .args .text .now))))
 
 pub replace-into-spec : {M : Type 1} → statement M
 replace-into-spec =

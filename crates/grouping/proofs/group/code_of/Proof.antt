@@ -21,12 +21,17 @@ sub-result c = search needs
 
 returns : tie.Need-returns
 returns c =
-    let start = c .before .before in
-    (rw (c .replace .ensures) (coded-lone (start .args .mark) (replaced-char (start .args .character)) (c .before .if1 .taken)), omega (arith, c .replace .ok))
+    let start = c .before .before in (
+      rw (c .replace .ensures) (coded-lone (start .args .mark) (replaced-char (start .args .character)) (c .before .if1 .taken)),
+      omega (arith, c .replace .ok),
+    )
 
 returns-2 : tie.Need-returns-2
-returns-2 c =
-    (coded-word (c .before .args .mark) (replaced-char (c .before .args .character)) (λ (z : c .before .args .mark ≡ 0). omega arith) (c .if1 .left), omega arith)
+returns-2 c = (
+  coded-word (c .before .args .mark) (replaced-char (c .before .args .character)) (λ (z : c .before .args .mark ≡ 0). omega arith)
+      (c .if1 .left),
+  omega arith,
+)
 
 pub code-of-spec : {M : Type 1} → statement M
 code-of-spec = tie.close (tie.spec replace-requires cast-result add-result sub-result returns returns-2)

@@ -40,7 +40,8 @@ text-below c =
 loop-holds : tie.Need-loop-holds Inv-loop μ-loop
 loop-holds c =
     let start = c .before .before .before .before in
-    links-start (replaced (start .args .text .now)) (start .args .marks .now) (start .args .heads .now) (start .args .pages .now) (start .pre .1)
+    links-start (replaced (start .args .text .now)) (start .args .marks .now) (start .args .heads .now) (start .args .pages .now)
+    (start .pre .1)
 
 sub-p : tie.Need-sub-p Inv-loop μ-loop
 sub-p c = omega arith
@@ -106,8 +107,11 @@ loop-again : tie.Need-loop-again Inv-loop μ-loop
 loop-again c =
     let start = c .before .before .before .before .before .before .before .before .before .before .before .before in
     let l = c .before .before .before .before .before .before .before .loop in
-    links-new (replaced (start .args .text .now)) (start .args .marks .now) (l .marks) (l .heads) (l .pages) (l .keys) (l .entries) (l .p) (l .p - 1)
-    (omega (arith, c .before .before .before .before .before .before .loop-test .taken)) (l .inv) (c .before .before .code-of .result) (rw (← getD-replaced (start .args .text .now) (l .p - 1)) at (c .before .before .code-of .ensures .0)) (c .before .before .code-of .ensures .1) (c .if2 .taken)
+    links-new (replaced (start .args .text .now)) (start .args .marks .now) (l .marks) (l .heads) (l .pages) (l .keys) (l .entries)
+    (l .p) (l .p - 1)
+    (omega (arith, c .before .before .before .before .before .before .loop-test .taken)) (l .inv) (c .before .before .code-of .result)
+    (rw (← getD-replaced (start .args .text .now) (l .p - 1)) at (c .before .before .code-of .ensures .0))
+    (c .before .before .code-of .ensures .1) (c .if2 .taken)
 
 loop-less-2 : tie.Need-loop-less-2 Inv-loop μ-loop
 loop-less-2 c = omega (arith, c .before .before .before .before .before .before .loop-test .taken)
@@ -116,8 +120,11 @@ loop-again-2 : tie.Need-loop-again-2 Inv-loop μ-loop
 loop-again-2 c =
     let start = c .before .before .before .before .before .before .before .before .before .before .before .before in
     let l = c .before .before .before .before .before .before .before .loop in
-    links-more (replaced (start .args .text .now)) (start .args .marks .now) (l .marks) (l .heads) (l .pages) (l .keys) (l .entries) (l .p) (l .p - 1)
-    (omega (arith, c .before .before .before .before .before .before .loop-test .taken)) (l .inv) (c .before .before .code-of .result) (rw (← getD-replaced (start .args .text .now) (l .p - 1)) at (c .before .before .code-of .ensures .0)) (c .before .before .code-of .ensures .1) (c .if2 .left)
+    links-more (replaced (start .args .text .now)) (start .args .marks .now) (l .marks) (l .heads) (l .pages) (l .keys) (l .entries)
+    (l .p) (l .p - 1)
+    (omega (arith, c .before .before .before .before .before .before .loop-test .taken)) (l .inv) (c .before .before .code-of .result)
+    (rw (← getD-replaced (start .args .text .now) (l .p - 1)) at (c .before .before .code-of .ensures .0))
+    (c .before .before .code-of .ensures .1) (c .if2 .left)
 
 loop-less-3 : tie.Need-loop-less-3 Inv-loop μ-loop
 loop-less-3 c = omega (arith, c .before .before .loop-test .taken)
@@ -126,8 +133,10 @@ loop-again-3 : tie.Need-loop-again-3 Inv-loop μ-loop
 loop-again-3 c =
     let start = c .before .before .before .before .before .before .before .before in
     let l = c .before .before .before .loop in
-    links-passed (replaced (start .args .text .now)) (start .args .marks .now) (l .marks) (l .heads) (l .pages) (l .keys) (l .entries) (l .p) (l .p - 1)
-    (omega (arith, c .before .before .loop-test .taken)) (l .inv) (coded-none (getD (l .marks) (l .p - 1) 0) (getD (replaced (start .args .text .now)) (l .p - 1) 0) (c .if1 .left))
+    links-passed (replaced (start .args .text .now)) (start .args .marks .now) (l .marks) (l .heads) (l .pages) (l .keys) (l .entries)
+    (l .p) (l .p - 1)
+    (omega (arith, c .before .before .loop-test .taken)) (l .inv)
+    (coded-none (getD (l .marks) (l .p - 1) 0) (getD (replaced (start .args .text .now)) (l .p - 1) 0) (c .if1 .left))
 
 same-length : tie.Need-same-length Inv-loop μ-loop
 same-length c = c .before .loop .inv .linked .long

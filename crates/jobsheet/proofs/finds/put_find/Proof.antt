@@ -21,7 +21,10 @@ positions-in-hand c =
     let a = s .args in
     found-in-hand (lexicon (a .chars .now) (a .lengths .now)) (a .index .now) (replaced (a .string .now)) (c .search-tabled .result)
     (a .found .now) (c .search-tabled .last .1 .1 .1 .1 .1 .1 .0)
-    (record { some = omega (arith, s .pre .0 .1 .some, length-replaced (a .string .now)); short = omega (arith, s .pre .0 .1 .short, length-replaced (a .string .now)) })
+    (record {
+      some = omega (arith, s .pre .0 .1 .some, length-replaced (a .string .now));
+      short = omega (arith, s .pre .0 .1 .short, length-replaced (a .string .now));
+    })
     (s .pre .0 .2) (c .search-tabled .ensures)
 
 search-tabled-requires : tie.Need-search-tabled-requires
@@ -34,7 +37,8 @@ slice-aggregate-put-found-line : tie.Need-slice-aggregate-put-found-line
 slice-aggregate-put-found-line c =
     let searched = c .before .before .before .before .search-tabled in
     sym
-    (length-take-le (searched .result .count) (searched .last .1 .1 .1 .1 .1 .1 .0) (positions-in-hand (c .before .before .before .before) .room))
+    (length-take-le (searched .result .count) (searched .last .1 .1 .1 .1 .1 .1 .0)
+    (positions-in-hand (c .before .before .before .before) .room))
 
 put-found-line-requires : tie.Need-put-found-line-requires
 put-found-line-requires c κs =

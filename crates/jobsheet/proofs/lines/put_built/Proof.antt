@@ -18,7 +18,8 @@ use Rattle.jobsheet.proofs.lines.put_built.Tie as tie
 -- the index is the front of the slice lent for it
 index-in-hand :
     (c : tie.After-build) → let a = c .before .before .before .before .before .before .before .before .before .before .before .before .args in
-    In-hand (index-of (lexicon (a .chars .now) (a .lengths .now)) (replaced (a .text .now))) (c .build .result .count) (c .build .last .1 .1 .1 .0)
+    In-hand (index-of (lexicon (a .chars .now) (a .lengths .now)) (replaced (a .text .now))) (c .build .result .count)
+    (c .build .last .1 .1 .1 .0)
 index-in-hand c =
     let s = c .before .before .before .before .before .before .before .before .before .before .before .before in
     let a = s .args in

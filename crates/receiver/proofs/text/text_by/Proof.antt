@@ -34,14 +34,21 @@ room :
     ≤ length (c .before .before .before .before .shown-by .last .1 .1 .1 .1 .1 .1 .0)
 room c =
     let start = c .before .before .before .before .before .before .before .before .before .before .before .before .before in
-    omega
-    (arith, delivered (start .args .chars .now) (start .args .lengths .now) (start .args .index .now) (length (start .args .work .now)) (start .pre .0) .room, c .before .before .before .before .shown-by .kept .1 .1 .1 .1 .1 .1 .0)
+    omega (
+      arith,
+      delivered (start .args .chars .now) (start .args .lengths .now) (start .args .index .now) (length (start .args .work .now))
+          (start .pre .0) .room,
+      c .before .before .before .before .shown-by .kept .1 .1 .1 .1 .1 .1 .0,
+    )
 
 shared-slice-read-n : tie.Need-shared-slice-read-n
 shared-slice-read-n c =
     let start = c .before .before .before .before .before .before .before .before .before .before .before .before .before in
-    omega
-    (arith, delivered (start .args .chars .now) (start .args .lengths .now) (start .args .index .now) (length (start .args .work .now)) (start .pre .0) .fits .has-header)
+    omega (
+      arith,
+      delivered (start .args .chars .now) (start .args .lengths .now) (start .args .index .now) (length (start .args .work .now))
+          (start .pre .0) .fits .has-header,
+    )
 
 cast-n : tie.Need-cast-n
 cast-n c = omega (arith, c .shared-slice-known7 .given 0)
@@ -53,7 +60,8 @@ slice-aggregate-holds-full-width : tie.Need-slice-aggregate-holds-full-width
 slice-aggregate-holds-full-width c =
     let start = c .before .before .before .before .before .before .before .before .before .before .before .before .before .before in
     sym
-    (length-take-le (n-of (start .args .index .now)) (c .before .before .before .before .before .shown-by .last .1 .1 .1 .1 .1 .1 .0) (room (c .before)))
+    (length-take-le (n-of (start .args .index .now)) (c .before .before .before .before .before .shown-by .last .1 .1 .1 .1 .1 .1 .0)
+    (room (c .before)))
 
 holds-full-width-requires : tie.Need-holds-full-width-requires
 holds-full-width-requires c κs = search needs

@@ -70,7 +70,8 @@ loop-again c =
     let turn = c .before .before .before .before .loop in
     let start = c .before .before .before .before .before .before .before .before .before .before .before in
     behind-step (lexicon (start .args .chars .now) (start .args .lengths .now)) (start .args .work .now) (start .args .n) (start .pre .1)
-    (turn .work) (turn .at) (turn .end) (turn .inv) (c .step .result .mark) (c .step .result .end) (c .before .before .before .loop-test .taken)
+    (turn .work) (turn .at) (turn .end) (turn .inv) (c .step .result .mark) (c .step .result .end)
+    (c .before .before .before .loop-test .taken)
     (c .step .ensures)
 
 same-length : tie.Need-same-length Inv-loop μ-loop

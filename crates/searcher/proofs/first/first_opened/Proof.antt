@@ -51,7 +51,12 @@ first-lines-requires c κs =
 cast-position : tie.Need-cast-position
 cast-position c =
     let a = c .before .before .before .before .before .before .before .before .args in
-    omega (arith, c .first-lines .ensures, first-position-small (lexicon (a .chars .now) (a .lengths .now)) (a .index .now) (replaced (a .string .now)), c .before .before .before .before .before .shared-slice-known3 .given 0)
+    omega (
+      arith,
+      c .first-lines .ensures,
+      first-position-small (lexicon (a .chars .now) (a .lengths .now)) (a .index .now) (replaced (a .string .now)),
+      c .before .before .before .before .before .shared-slice-known3 .given 0,
+    )
 
 returns-4 : tie.Need-returns-4
 returns-4 c =
