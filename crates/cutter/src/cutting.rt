@@ -15,6 +15,7 @@ ghost use Rattle.spec.specs.Calls.{in-front};
 ghost use Rattle.laws.specs.Slices.{Fits};
 ghost use Rattle.basics.specs.Writing.{over};
 ghost use Rattle.laws.specs.Judging.{Judged, Is-size};
+use copying::slices::write_list;
 
 // How many keys bear on a string, and how many positions they have.
 pub struct Size {
@@ -73,18 +74,6 @@ fn write_directory(
             output[at + 2] = index[2 + 3 * here + 2];
             at += 3;
         }
-    }
-}
-
-// Writes a list from `from` on.
-fn write_list(places: &[u16], from: usize, output: &mut [u16])
-    requires { ⌜ from + length (now places) ≤ length (now output) ⌝ }
-    ensures { λ r. ⌜ now (output .exit) ≡ over (take from (now (output .entry)) ++ now (places .entry)) (now (output .entry)) ⌝ }
-{
-    let mut i = 0;
-    while i < places.len() {
-        output[from + i] = places[i];
-        i += 1;
     }
 }
 

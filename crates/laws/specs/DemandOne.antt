@@ -21,8 +21,11 @@ use Rattle.spec.specs.Search.{find}
 use Rattle.spec.specs.First.{first-position}
 use Rattle.spec.specs.Cut.{cut-down}
 use Rattle.spec.specs.Tally.{tally}
+use Rattle.spec.specs.Gaps.{gap-form, restored}
 use Rattle.spec.specs.Calls.{output-short, zeros, Answers, in-front, Puts, build-refusal, index-refusal, reception-refusal, recovery-refusal, string-refusal, find-refusal, Admit-says, Build-says, Receive-says, Recover-says, Search-says, Cut-says, First-says, Tally-says}
 use Rattle.spec.specs.RefusalTable.{Written, Untouched, Cleared, Output-short, Row, row, Meets, Decides, dictionary-rows, build-rows, index-rows, reception-rows, recovery-rows, string-rows, find-rows}
+use Rattle.spec.specs.Calls.{gaps-refusal, To-gaps-says, From-gaps-says}
+use Rattle.spec.specs.RefusalTable.{gaps-rows}
 use Rattle.spec.specs.ProgramDemand.{Answered}
 use Rattle.spec.specs.Demands.{First-demand}
 use Rattle.spec.specs.JobAnswer.{job-answer, Job-says}
@@ -30,7 +33,7 @@ use Rattle.laws.specs.Answering.{accepted-yes, accepted-no}
 use Rattle.laws.specs.Recover.{length-recovered}
 use Rattle.laws.specs.RefusalRows.{First, Numbered, decides, output-first, dictionary-first, dictionary-numbered, build-first}
 use Rattle.laws.specs.RefusalRows.{index-first, index-numbered, reception-first, recovery-first, string-first, string-numbered}
-use Rattle.laws.specs.RefusalRows.{find-first}
+use Rattle.laws.specs.RefusalRows.{find-first, gaps-first}
 use Rattle.laws.specs.ProgramRows.{prints, prints-only}
 
 -- WHAT COMES BACK
@@ -148,6 +151,14 @@ module _ (cs ls xs : List ℕ) where
       (omega arith, (omega arith, (omega arith, (omega arith, (omega arith, (omega arith, (omega arith, tt))))))) ys r o z puts
       (λ none h. none 8 (inr (inr (inr (inr (inr (inr (inl (refl, h)))))))))
 
+  gaps-decides :
+      (ys : List ℕ) (r : Answer) (o z : List ℕ) → Puts (gaps-refusal cs ls xs (length ys) (length o)) ys r o z →
+      Decides (gaps-rows cs ls xs ys o) (r .refusal) (Written ys r o z) (Untouched r o z)
+  gaps-decides ys r o z puts =
+      puts-decides (gaps-rows cs ls xs ys o) (gaps-refusal cs ls xs (length ys) (length o)) (gaps-first cs ls xs ys o)
+      (omega arith, (omega arith, (omega arith, (omega arith, (omega arith, (omega arith, tt)))))) ys r o z puts
+      (λ none h. none 8 (inr (inr (inr (inr (inr (inl (refl, h))))))))
+
   first-position-decides :
       (s : List ℕ) (r : FirstAnswer) → First-says cs ls xs s r →
       Decides (string-rows cs ls xs s) (r .refusal) (r .position ≡ first-position (lexicon cs ls) xs (replaced s)) (r .position ≡ 0)
@@ -190,7 +201,7 @@ job-decides s r o z says =
     }
 
 pub first-demand : First-demand
-unfolding Search-says Cut-says
+unfolding Search-says Cut-says To-gaps-says From-gaps-says
 first-demand =
     record {
       admits = admit-decides;
@@ -201,5 +212,7 @@ first-demand =
       cuts = λ cs ls xs s r o z says. find-decides cs ls xs s (cut-down (lexicon cs ls) xs (replaced s)) r o z says;
       firsts = first-position-decides;
       tallies = tally-decides;
+      rearranges = λ cs ls xs r o z says. gaps-decides cs ls xs (gap-form xs) r o z says;
+      restores = λ cs ls ds r o z says. gaps-decides cs ls (restored ds) (restored ds) r o z says;
       prints = job-decides;
     }

@@ -11,8 +11,7 @@ use borrow.Author.Tests.{le-leb, leb-true}
 use Rattle.basics.specs.Bools.{iff-eq, le-or-lt}
 use Rattle.spec.specs.Words.{Key, key}
 use Rattle.spec.specs.Numbers.{key-before, Line, line}
-use Rattle.spec.specs.Index.{header, count-at, lines-from, keys-ascend}
-use Rattle.laws.specs.WordCode.{Small}
+use Rattle.spec.specs.Index.{value-at, count-at, lines-from, keys-ascend}
 use Rattle.laws.specs.KeyOrder.{key-before-get, key-before-put}
 
 -- kind and value as one number
@@ -62,7 +61,9 @@ codes-all [] s = refl
 codes-all (l ∷ ls) s =
     codes-keys 0 l ls s ∙ ap (λ (b : Bool). b && keys-ascend (l ∷ ls)) (le-leb 0 (key-code (l .key-of)) (omega arith))
 
-pub small-lines : (k i : ℕ) (xs ps : List ℕ) → Small xs → Small-values (lines-from k i xs ps)
+pub small-lines :
+    (k i : ℕ) (xs ps : List ℕ) → ((j : ℕ) → j < i + k → value-at xs j < 65536) → Small-values (lines-from k i xs ps)
 unfolding lines-from line key
 small-lines zero i xs ps s = tt
-small-lines (suc k) i xs ps s = (omega (arith, s (header + 3 * i + 1)), small-lines k (suc i) xs (drop (count-at xs i) ps) s)
+small-lines (suc k) i xs ps s =
+    (s i (omega arith), small-lines k (suc i) xs (drop (count-at xs i) ps) (λ j below. s j (omega arith)))

@@ -46,17 +46,17 @@ module _ (cs ls : List ℕ) (h : Is-admitted cs ls) where
 
 -- A WORD'S LINE
 
-module _ (cs ls : List ℕ) (h : Is-admitted cs ls) (n least v c : ℕ) (ps : List ℕ) where
-  pub word-low : v < least → false ≡ line-fits (lexicon cs ls) n least (key 0 v) c ps
+module _ (read : List ℕ → List ℕ) (cs ls : List ℕ) (h : Is-admitted cs ls) (n least v c : ℕ) (ps : List ℕ) where
+  pub word-low : v < least → false ≡ line-fits read (lexicon cs ls) n least (key 0 v) c ps
   unfolding line-fits key-fits key
   word-low low = rw (lt-leb least (0 * 65536 + v) (omega arith))
 
-  pub word-high : length ls ≤ v → false ≡ line-fits (lexicon cs ls) n least (key 0 v) c ps
+  pub word-high : length ls ≤ v → false ≡ line-fits read (lexicon cs ls) n least (key 0 v) c ps
   unfolding line-fits key-fits key-good key
   word-high high = rw (le-ltb v (length (lexicon cs ls .words)) (omega (arith, word-count cs ls h)), and-false (leb least (0 * 65536 + v)))
 
   pub word-fits :
-      least ≤ v → v < length ls → places-good n (getD ls v 0) c ps ≡ line-fits (lexicon cs ls) n least (key 0 v) c ps
+      least ≤ v → v < length ls → places-good read n (getD ls v 0) c ps ≡ line-fits read (lexicon cs ls) n least (key 0 v) c ps
   unfolding line-fits key-fits key-good key spells
   word-fits order below =
       rw (
@@ -67,24 +67,24 @@ module _ (cs ls : List ℕ) (h : Is-admitted cs ls) (n least v c : ℕ) (ps : Li
 
 -- A LONE CHARACTER'S LINE
 
-module _ (lex : Lexicon) (n least v c : ℕ) (ps : List ℕ) where
-  pub lone-low : v < least → false ≡ line-fits lex n (65536 + least) (key 1 v) c ps
+module _ (read : List ℕ → List ℕ) (lex : Lexicon) (n least v c : ℕ) (ps : List ℕ) where
+  pub lone-low : v < least → false ≡ line-fits read lex n (65536 + least) (key 1 v) c ps
   unfolding line-fits key-fits key
   lone-low low = rw (lt-leb (65536 + least) (1 * 65536 + v) (omega arith))
 
-  pub lone-word : is-word lex (v ∷ []) ≡ true → false ≡ line-fits lex n (65536 + least) (key 1 v) c ps
+  pub lone-word : is-word lex (v ∷ []) ≡ true → false ≡ line-fits read lex n (65536 + least) (key 1 v) c ps
   unfolding line-fits key-fits key-good key
   lone-word t = rw (t, and-false (is-char v), and-false (leb (65536 + least) (1 * 65536 + v)))
 
   pub lone-fits :
       least ≤ v → v < 65536 → is-word lex (v ∷ []) ≡ false →
-      places-good n 1 c ps ≡ line-fits lex n (65536 + least) (key 1 v) c ps
+      places-good read n 1 c ps ≡ line-fits read lex n (65536 + least) (key 1 v) c ps
   unfolding line-fits key-fits key-good key spells is-char
   lone-fits order small none =
       rw (le-leb (65536 + least) (1 * 65536 + v) (omega arith), lt-ltb v 65536 small, none)
 
   -- after the words, any other kind
-  pub kind-other : (k : ℕ) → v < 65536 → (k ≡ 1 → ⊥) → line-fits lex n (65536 + least) (key k v) c ps ≡ false
+  pub kind-other : (k : ℕ) → v < 65536 → (k ≡ 1 → ⊥) → line-fits read lex n (65536 + least) (key k v) c ps ≡ false
   unfolding line-fits key-fits key
   kind-other zero small other = rw (lt-leb (65536 + least) (0 * 65536 + v) (omega arith))
   kind-other (suc zero) small other = absurd (other refl)

@@ -81,7 +81,14 @@ pub mod AgreeWalk
 pub mod Shorter
 pub mod Offset32
 pub mod KeyNumbers
+pub mod WithLists
 pub mod LineWalk
+pub mod GapLists
+pub mod ReadLists
+pub mod GapWriting
+pub mod GapSums
+pub mod GapParts
+pub mod GapForms
 pub mod LineSteps
 pub mod KeyTests
 pub mod LoneWords
@@ -129,6 +136,7 @@ pub mod ProgramRows
 pub mod DemandOne
 pub mod Delivery
 pub mod FirstCalls
+pub mod GapCalls
 pub mod PublishedIndex
 pub mod DemandTwo
 pub mod DemandThree

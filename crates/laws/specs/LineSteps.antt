@@ -8,31 +8,33 @@ use native.Mathlib.Numerals.{add-one}
 use native.Mathlib.Omega.{arith}
 use lib.Dec.{ltb, leb, eqb}
 use lib.ListN.{length, getD, take, drop, length-drop, drop-of-length-le}
-use lib.Seq.{drop-cons, drop-drop, getD-take, getD-drop, length-take-le}
+use lib.Seq.{drop-cons, drop-drop}
 use borrow.Author.Tests.{le-leb, lt-leb, eq-eqb, eqb-true}
 use Rattle.basics.specs.Bools.{iff-eq}
 use Rattle.spec.specs.Dictionary.{Lexicon}
 use Rattle.spec.specs.Words.{key}
 use Rattle.spec.specs.Index.{header, n-of, keys-of, kind-at, value-at, count-at, key-at, rise-from, last-of}
 use Rattle.laws.specs.KeyNumbers.{key-code}
-use Rattle.laws.specs.LineWalk.{fits-get, places-good, key-fits, line-fits, rest-good, walk-good}
+use Rattle.laws.specs.LineWalk.{fits-get, as-is, list-good, places-good, key-fits, line-fits, rest-good, walk-good}
 
 -- THE LINES
 
 -- before line i: its positions start at `at`, its key's number is `least` or more, and what is left decides
-pub record Lines-read (lex : Lexicon) (xs : List ℕ) (i at least : ℕ) : Type 0 where
+pub record Lines-read (read : List ℕ → List ℕ) (lex : Lexicon) (xs : List ℕ) (i at least : ℕ) : Type 0 where
   pub within : i ≤ keys-of xs
   pub room : at ≤ length xs
-  pub tested : rest-good lex (n-of xs) (keys-of xs - i) i least xs (drop at xs) ≡ walk-good lex xs
+  pub tested : rest-good read lex (n-of xs) (keys-of xs - i) i least xs (drop at xs) ≡ walk-good read lex xs
 
-pub lines-start : (lex : Lexicon) (xs : List ℕ) → header + 3 * keys-of xs ≤ length xs → Lines-read lex xs 0 (header + 3 * keys-of xs) 0
+pub lines-start :
+    (read : List ℕ → List ℕ) (lex : Lexicon) (xs : List ℕ) → header + 3 * keys-of xs ≤ length xs →
+    Lines-read read lex xs 0 (header + 3 * keys-of xs) 0
 unfolding walk-good
-lines-start lex xs dir =
+lines-start read lex xs dir =
     let z : keys-of xs - 0 ≡ keys-of xs = omega arith in
     record { within = omega arith; room = dir; tested = rw z }
 
-module _ (lex : Lexicon) (xs : List ℕ) (i at least : ℕ) (h : Lines-read lex xs i at least) where
-  pub lines-end : keys-of xs ≤ i → eqb at (length xs) ≡ walk-good lex xs
+module _ (read : List ℕ → List ℕ) (lex : Lexicon) (xs : List ℕ) (i at least : ℕ) (h : Lines-read read lex xs i at least) where
+  pub lines-end : keys-of xs ≤ i → eqb at (length xs) ≡ walk-good read lex xs
   unfolding rest-good
   lines-end past =
       let z : keys-of xs - i ≡ 0 = omega (arith, h .within) in
@@ -43,30 +45,36 @@ module _ (lex : Lexicon) (xs : List ℕ) (i at least : ℕ) (h : Lines-read lex 
 
   module _ (below : i < keys-of xs) where
     cut :
-        (line-fits lex (n-of xs) least (key-at xs i) (count-at xs i) (drop at xs)
-        && rest-good lex (n-of xs) (keys-of xs - (i + 1)) (i + 1) (suc (key-code (key-at xs i))) xs (drop (at + count-at xs i) xs))
-        ≡ walk-good lex xs
+        (line-fits read lex (n-of xs) least (key-at xs i) (count-at xs i) (drop at xs)
+        && rest-good read lex (n-of xs) (keys-of xs - (i + 1)) (i + 1) (suc (key-code (key-at xs i))) xs (drop (at + count-at xs i) xs))
+        ≡ walk-good read lex xs
     unfolding rest-good
     cut =
         let z : keys-of xs - i ≡ suc (keys-of xs - (i + 1)) = omega arith in
         rw (add-one i, ← drop-drop (count-at xs i) at xs) (rw (z, add-one i) at (h .tested))
 
     pub lines-stop :
-        line-fits lex (n-of xs) least (key-at xs i) (count-at xs i) (drop at xs) ≡ false → false ≡ walk-good lex xs
+        line-fits read lex (n-of xs) least (key-at xs i) (count-at xs i) (drop at xs) ≡ false → false ≡ walk-good read lex xs
     lines-stop f = rw f at cut
 
     pub lines-step :
-        line-fits lex (n-of xs) least (key-at xs i) (count-at xs i) (drop at xs) ≡ true →
-        Lines-read lex xs (i + 1) (at + count-at xs i) (key-code (key-at xs i) + 1)
+        line-fits read lex (n-of xs) least (key-at xs i) (count-at xs i) (drop at xs) ≡ true →
+        Lines-read read lex xs (i + 1) (at + count-at xs i) (key-code (key-at xs i) + 1)
     lines-step t =
         record {
           within = omega arith;
-          room = omega (arith, fits-get lex (n-of xs) least (key-at xs i) (count-at xs i) (drop at xs) t .present, length-drop at xs, h .room);
+          room =
+              omega (
+                arith,
+                fits-get read lex (n-of xs) least (key-at xs i) (count-at xs i) (drop at xs) t .present,
+                length-drop at xs,
+                h .room,
+              );
           tested = rw (add-one (key-code (key-at xs i))) (rw t at cut);
         }
 
     -- where no word key can stand, the least number may be that of a lone key
-    pub lines-raise : 1 ≤ kind-at xs i → least ≤ 65536 → Lines-read lex xs i at 65536
+    pub lines-raise : 1 ≤ kind-at xs i → least ≤ 65536 → Lines-read read lex xs i at 65536
     unfolding rest-good line-fits key-fits key
     lines-raise lone small =
         let z : keys-of xs - i ≡ suc (keys-of xs - (i + 1)) = omega arith in
@@ -74,17 +82,18 @@ module _ (lex : Lexicon) (xs : List ℕ) (i at least : ℕ) (h : Lines-read lex 
           within = h .within;
           room = h .room;
           tested =
-              rw z
-              (ap (λ (b : Bool). b && rest-good lex (n-of xs) (keys-of xs - (i + 1)) (suc i) (suc (key-code (key-at xs i))) xs (drop (count-at xs i) (drop at xs))) (sym alike)
-              ∙ rw z at (h .tested));
+              let rest =
+              rest-good read lex (n-of xs) (keys-of xs - (i + 1)) (suc i) (suc (key-code (key-at xs i))) xs
+              (drop (count-at xs i) (drop at xs)) in
+              rw z (ap (λ (b : Bool). b && rest) (sym alike) ∙ rw z at (h .tested));
         }
       where
         code : key-code (key-at xs i) ≡ kind-at xs i * 65536 + value-at xs i
         code = refl
 
         alike :
-            line-fits lex (n-of xs) least (key-at xs i) (count-at xs i) (drop at xs)
-            ≡ line-fits lex (n-of xs) 65536 (key-at xs i) (count-at xs i) (drop at xs)
+            line-fits read lex (n-of xs) least (key-at xs i) (count-at xs i) (drop at xs)
+            ≡ line-fits read lex (n-of xs) 65536 (key-at xs i) (count-at xs i) (drop at xs)
         alike =
             rw (le-leb least (key-code (key-at xs i)) (omega (arith, code)), le-leb 65536 (key-code (key-at xs i)) (omega (arith, code)))
 
@@ -120,48 +129,39 @@ unfolding last-of
 last-is p [] = refl
 last-is p (q ∷ ps) = last-is q ps
 
--- `count` positions from `at` on
-module _ (xs : List ℕ) (at n l c : ℕ) (room : at ≤ length xs) where
-  abbrev places : List ℕ
-  places = drop at xs
+-- ascending numbers, and the key that ends at the last of them
+module _ (ps : List ℕ) (n l : ℕ) (some : 1 ≤ length ps) where
+  last-read : last-of ps ≡ getD ps (length ps - 1) 0
+  last-read = by-list ps some
+    where
+      by-list : (ps : List ℕ) → 1 ≤ length ps → last-of ps ≡ getD ps (length ps - 1) 0
+      by-list [] some = absurd (omega arith)
+      by-list (p ∷ ps) some =
+          let place : length (p ∷ ps) - 1 ≡ length ps = omega arith in
+          last-is p ps ∙ ap (λ (j : ℕ). getD (p ∷ ps) j 0) (sym place)
 
-  pub places-missing : length xs - at < c → false ≡ places-good n l c (drop at xs)
+  pub list-late : n + 1 < getD ps (length ps - 1) 0 + l → false ≡ list-good as-is n l ps
+  unfolding list-good
+  list-late h = rw (lt-leb (last-of ps + l) (suc n) (omega (arith, last-read)))
+
+  pub list-rises : getD ps (length ps - 1) 0 + l ≤ n + 1 → rise-from 1 ps ≡ list-good as-is n l ps
+  unfolding list-good
+  list-rises h = rw (le-leb (last-of ps + l) (suc n) (omega (arith, last-read)))
+
+-- `count` numbers from `at` on
+module _ (read : List ℕ → List ℕ) (xs : List ℕ) (at n l c : ℕ) where
+  pub places-missing : length xs - at < c → false ≡ places-good read n l c (drop at xs)
   unfolding places-good
-  places-missing h = rw (lt-leb c (length places) (omega (arith, length-drop at xs)))
+  places-missing h = rw (lt-leb c (length (drop at xs)) (omega (arith, length-drop at xs)))
 
-  pub places-none : c ≡ 0 → false ≡ places-good n l c (drop at xs)
+  pub places-none : c ≡ 0 → false ≡ places-good read n l c (drop at xs)
   unfolding places-good
-  places-none h = rw (lt-leb 1 c (omega arith), and-false (leb c (length places)))
+  places-none h = rw (lt-leb 1 c (omega arith), and-false (leb c (length (drop at xs))))
 
-  module _ (present : c ≤ length xs - at) (some : c ≡ 0 → ⊥) where
-    last-read : last-of (take c places) ≡ getD xs (at + c - 1) 0
-    last-read =
-        by-list (take c places) (length-take-le c places (omega (arith, length-drop at xs))) refl
-      where
-        by-list : (ps : List ℕ) → length ps ≡ c → ps ≡ take c places → last-of ps ≡ getD xs (at + c - 1) 0
-        by-list [] long e = absurd (some (sym long))
-        by-list (p ∷ ps) long e =
-            let place : at + c - 1 ≡ at + length ps = omega arith in
-            let inside : length ps < c = omega arith in
-            last-is p ps
-            ∙ ap (λ (q : List ℕ). getD q (length ps) 0) e
-            ∙ getD-take c places (length ps) 0 inside
-            ∙ getD-drop at xs (length ps) 0
-            ∙ ap (λ (j : ℕ). getD xs j 0) (sym place)
-
-    pub places-late : n + 1 < getD xs (at + c - 1) 0 + l → false ≡ places-good n l c (drop at xs)
-    unfolding places-good
-    places-late h =
-        rw (lt-leb (last-of (take c places) + l) (suc n) (omega (arith, last-read)), and-false (leb c (length places) && leb 1 c))
-
-    pub places-rise :
-        getD xs (at + c - 1) 0 + l ≤ n + 1 → rise-from 1 (take (at + c - at) (drop at xs)) ≡ places-good n l c (drop at xs)
-    unfolding places-good
-    places-rise h =
-        let long : at + c - at ≡ c = omega arith in
-        rw (
-          long,
-          le-leb c (length places) (omega (arith, length-drop at xs)),
-          le-leb 1 c (omega arith),
-          le-leb (last-of (take c places) + l) (suc n) (omega (arith, last-read)),
-        )
+  pub places-there :
+      at ≤ length xs → c ≤ length xs - at → (c ≡ 0 → ⊥) →
+      list-good read n l (take (at + c - at) (drop at xs)) ≡ places-good read n l c (drop at xs)
+  unfolding places-good
+  places-there room present some =
+      let long : at + c - at ≡ c = omega arith in
+      rw (long, le-leb c (length (drop at xs)) (omega (arith, length-drop at xs)), le-leb 1 c (omega arith))

@@ -58,39 +58,41 @@ below-cons : (b x : ℕ) (xs : List ℕ) → x < b → Below b xs → Below b (x
 below-cons b x xs h p y (inl e) = omega arith
 below-cons b x xs h p y (inr m) = p y m
 
--- characters and n are below the bound
-module _ (lex : Lexicon) (good : Good-lexicon lex) (bound : ℕ) (wide : 65536 ≤ bound) (n : ℕ) (short : n < bound) where
-  place-below : (l : Line) → Good-line lex n l → Below bound (l .places)
+-- n is below the bound
+module _ (lex : Lexicon) (good : Good-lexicon lex) (bound : ℕ) (n : ℕ) (short : n < bound) where
+  pub place-below : (l : Line) → Good-line lex n l → Below bound (l .places)
   place-below l h p m =
       omega (arith, h .fits p m, spells-some lex good (l .key-of) (h .is-key))
 
-  directory-below :
-      (ls : List Line) → ((l : Line) → In l ls → Good-line lex n l) → length (positions ls) < bound → Below bound (directory ls)
-  unfolding directory positions
-  directory-below [] each few = λ x m. absurd m
-  directory-below (l ∷ ls) each few =
-      let both : length (l .places ++ positions ls) ≡ length (l .places) + length (positions ls) = length-append (l .places)
-      (positions ls) in
-      let h : Good-line lex n l = each l (inl refl) in
-      below-cons bound (l .key-of .kind) (l .key-of .value ∷ length (l .places) ∷ directory ls)
-      (omega (arith, h .is-key .kind-small))
-      (below-cons bound (l .key-of .value) (length (l .places) ∷ directory ls)
-      (omega (arith, value-below lex good (l .key-of) (h .is-key)))
-      (below-cons bound (length (l .places)) (directory ls) (omega arith)
-      (directory-below ls (λ m i. each m (inr i)) (omega arith))))
-
-  positions-below : (ls : List Line) → ((l : Line) → In l ls → Good-line lex n l) → Below bound (positions ls)
+  pub positions-below : (ls : List Line) → ((l : Line) → In l ls → Good-line lex n l) → Below bound (positions ls)
   unfolding positions
   positions-below [] each = λ x m. absurd m
   positions-below (l ∷ ls) each =
       below-append bound (l .places) (positions ls) (place-below l (each l (inl refl))) (positions-below ls (λ m i. each m (inr i)))
 
-  pub numbers-below : (ls : List Line) → Good-lines lex n ls → length (positions ls) < bound → Below bound (numbers n ls)
-  unfolding numbers
-  numbers-below ls lines few =
-      below-cons bound n (length ls ∷ (directory ls ++ positions ls)) short
-      (below-cons bound (length ls) (directory ls ++ positions ls) (omega (arith, lines-few lex n ls (lines .each)))
-      (below-append bound (directory ls) (positions ls) (directory-below ls (lines .each) few) (positions-below ls (lines .each))))
+  -- and so are characters
+  module _ (wide : 65536 ≤ bound) where
+    directory-below :
+        (ls : List Line) → ((l : Line) → In l ls → Good-line lex n l) → length (positions ls) < bound → Below bound (directory ls)
+    unfolding directory positions
+    directory-below [] each few = λ x m. absurd m
+    directory-below (l ∷ ls) each few =
+        let both : length (l .places ++ positions ls) ≡ length (l .places) + length (positions ls) = length-append (l .places)
+        (positions ls) in
+        let h : Good-line lex n l = each l (inl refl) in
+        below-cons bound (l .key-of .kind) (l .key-of .value ∷ length (l .places) ∷ directory ls)
+        (omega (arith, h .is-key .kind-small))
+        (below-cons bound (l .key-of .value) (length (l .places) ∷ directory ls)
+        (omega (arith, value-below lex good (l .key-of) (h .is-key)))
+        (below-cons bound (length (l .places)) (directory ls) (omega arith)
+        (directory-below ls (λ m i. each m (inr i)) (omega arith))))
+
+    pub numbers-below : (ls : List Line) → Good-lines lex n ls → length (positions ls) < bound → Below bound (numbers n ls)
+    unfolding numbers
+    numbers-below ls lines few =
+        below-cons bound n (length ls ∷ (directory ls ++ positions ls)) short
+        (below-cons bound (length ls) (directory ls ++ positions ls) (omega (arith, lines-few lex n ls (lines .each)))
+        (below-append bound (directory ls) (positions ls) (directory-below ls (lines .each) few) (positions-below ls (lines .each))))
 
 -- THE INDEX OF A TEXT
 
@@ -99,7 +101,7 @@ pub index-below :
     Below bound (index-of lex ts)
 unfolding index-of
 index-below lex ts good chars bound wide short =
-    numbers-below lex good bound wide (length ts) short (lines-of (sorted (entries lex ts)))
+    numbers-below lex good bound (length ts) short wide (lines-of (sorted (entries lex ts)))
     (rw lines-in-index at (index-lines-good lex good ts chars))
     (omega (
       arith,

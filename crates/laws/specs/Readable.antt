@@ -20,7 +20,7 @@ use Rattle.laws.specs.Slices.{n-of-numbers, keys-of-numbers, directory-s
 
 -- FROM FACTS TO TESTS
 
-last-in : (p : ℕ) (ps : List ℕ) → In (last-of (p ∷ ps)) (p ∷ ps)
+pub last-in : (p : ℕ) (ps : List ℕ) → In (last-of (p ∷ ps)) (p ∷ ps)
 unfolding last-of
 last-in p [] = inl refl
 last-in p (q ∷ ps) = inr (last-in q ps)

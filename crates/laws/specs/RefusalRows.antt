@@ -17,12 +17,13 @@ use Rattle.spec.specs.Numbers.{index-of}
 use Rattle.spec.specs.Index.{n-of}
 use Rattle.spec.specs.Reception.{recovered, received}
 use Rattle.spec.specs.Calls.{text-too-long, unreadable, string-wrong, work-short, output-short, no-text, or-else, build-refusal, index-refusal, reception-refusal, recovery-refusal, string-refusal, find-refusal}
+use Rattle.spec.specs.Calls.{gaps-refusal}
 use Rattle.spec.specs.JobSheet.{run-together, lengths-of, some-string-wrong, contents-refusal}
 use Rattle.spec.specs.Beyond.{Demand-three}
 use Rattle.spec.specs.RefusalTable.{Too-large, Lengths-wrong, Disordered, Unreplaced, Text-too-long, Unreadable, String-wrong, Work-short}
 use Rattle.spec.specs.RefusalTable.{Output-short, Recovery-short, No-text, Has-text, Row, row, Meets, First-met, Accepts, Refuses}
 use Rattle.spec.specs.RefusalTable.{Decides, dictionary-rows, build-rows, index-rows, reception-rows, recovery-rows, string-rows}
-use Rattle.spec.specs.RefusalTable.{find-rows}
+use Rattle.spec.specs.RefusalTable.{find-rows, gaps-rows}
 use Rattle.spec.specs.ProgramDemand.{parts-rows}
 use Rattle.laws.specs.Answering.{or-else-some, or-else-none}
 use Rattle.laws.specs.IndexRefusal.{index-accepted}
@@ -174,6 +175,10 @@ module _ (cs ls xs : List ℕ) where
   unfolding find-refusal
   find-first s ys o =
       first-then (string-rows cs ls xs s) _ (string-numbered s) _ _ (string-first s) (λ a. output-first ys o)
+
+  pub gaps-first : (ys o : List ℕ) → First (gaps-rows cs ls xs ys o) (gaps-refusal cs ls xs (length ys) (length o))
+  unfolding gaps-refusal
+  gaps-first ys o = first-then (index-rows cs ls xs) _ index-numbered _ _ index-first (λ a. output-first ys o)
 
 module _ (ws fs : List (List ℕ)) where
   pub parts-first : First (parts-rows ws fs) (contents-refusal ws fs)

@@ -32,7 +32,7 @@ unfoldable pub Sized : (result : List ℕ) → Answer → (out out-now : List �
 Sized ys r o z = Puts (cond (output-short (length ys) (length o)) 8 0) ys r o z
 
 -- a refusal, and nothing written
-refused : (n : ℕ) (ys : List ℕ) (r : Answer) (o : List ℕ) → (n ≡ 0 → ⊥) → r .refusal ≡ n → r .count ≡ 0 → Puts n ys r o o
+pub refused : (n : ℕ) (ys : List ℕ) (r : Answer) (o : List ℕ) → (n ≡ 0 → ⊥) → r .refusal ≡ n → r .count ≡ 0 → Puts n ys r o o
 unfolding Puts
 refused n ys r o some number none =
     (answers-refused n (length ys) r number some none, sym (accepted-no n (in-front ys o) o some))

@@ -7,6 +7,7 @@ ghost use mathlib.Core.Path.{_≡_};
 ghost use mathlib.Core.Bool.{true};
 ghost use Rattle.spec.specs.Dictionary.{all-chars};
 ghost use Rattle.spec.specs.Calls.{Admit-says, Build-says, Cut-says, First-says, Receive-says, Recover-says, Search-says, Tally-says};
+ghost use Rattle.spec.specs.Calls.{From-gaps-says, To-gaps-says};
 use spec::Answer;
 use spec::FirstAnswer;
 use spec::TallyAnswer;
@@ -122,4 +123,35 @@ pub extern "C" fn mopekihua_tally<'a>(
     ensures { λ r. ⌜ Tally-says (now (chars .entry)) (now (lengths .entry)) (now (index .entry)) r ⌝ }
 {
     postings::tallying::tally(chars, lengths, index)
+}
+
+// Rearranges an index into its gap form: under each key the first position stays, and each later one becomes its distance from the one
+// before. Refusals 1, 2, 3, 12, 5, 8, which leave the output as it was; accepted it answers the count of numbers written to the front of
+// the output, as many as the index has.
+#[no_mangle]
+pub extern "C" fn mopekihua_to_gaps(
+    chars: &[u16],
+    lengths: &[u16],
+    index: &[u16],
+    output: &mut [u16],
+) -> Answer
+    ensures { λ r. ⌜
+        To-gaps-says (now (chars .entry)) (now (lengths .entry)) (now (index .entry)) r (now (output .entry)) (now (output .exit)) ⌝ }
+{
+    gaps::form::to_gaps(chars, lengths, index, output)
+}
+
+// Restores an index from its gap form, the inverse. Refusals 1, 2, 3, 12, 5, 8, which leave the output as it was, 5 where what is lent
+// restores to no readable index; accepted it answers the count of numbers written to the front of the output.
+#[no_mangle]
+pub extern "C" fn mopekihua_from_gaps(
+    chars: &[u16],
+    lengths: &[u16],
+    gaps: &[u16],
+    output: &mut [u16],
+) -> Answer
+    ensures { λ r. ⌜
+        From-gaps-says (now (chars .entry)) (now (lengths .entry)) (now (gaps .entry)) r (now (output .entry)) (now (output .exit)) ⌝ }
+{
+    gaps::form::from_gaps(chars, lengths, gaps, output)
 }

@@ -2,7 +2,7 @@
 //
 // Where two entries contradict one another, one of them does not stand in what was painted.
 ghost use mathlib.Core.Path.{_≡_};
-ghost use lib.ListN.{length, replicate};
+ghost use lib.ListN.{length};
 ghost use Rattle.basics.specs.Bools.{Reflects};
 ghost use Rattle.spec.specs.Dictionary.{lexicon};
 ghost use Rattle.spec.specs.Index.{n-of, lines-in};
@@ -11,17 +11,7 @@ ghost use Rattle.laws.specs.Tables.{Can-read, Word-starts};
 ghost use Rattle.laws.specs.PaintedSearch.{painted-over};
 use crate::painting::paint_entries;
 use crate::showing::shows;
-
-// Sets one character over the whole text.
-fn fill(text: &mut [u16], ground: u16)
-    ensures { λ r. ⌜ now (text .exit) ≡ replicate (length (now (text .entry))) ground ⌝ }
-{
-    let mut i = 0;
-    while i < text.len() {
-        text[i] = ground;
-        i += 1;
-    }
-}
+use copying::slices::fill;
 
 // Paints every entry of a readable index over a ground. Answers whether every entry stands in what was painted.
 pub fn paint_shown(

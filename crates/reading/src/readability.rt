@@ -2,7 +2,8 @@
 //
 // One walk over the directory, with the positions of each line as it is reached: the lines of words first, then those of lone
 // characters. Whether a lone character is a word is told by a walk over the words beside the lines, since both ascend. Sums are
-// in `usize`, so that no number of keys and no count wraps. The cost is linear in the index and the dictionary.
+// in `usize`, so that no number of keys and no count wraps. The cost is linear in the index and the dictionary. A gap form is tested by
+// the same walk, without restoring it: only a line's list is read in another way.
 ghost use mathlib.Core.Path.{_≡_};
 ghost use mathlib.Core.List.{[], _∷_};
 ghost use Prim.Native.Nat.{_+_, _*_, _≤_, _<_};
@@ -10,9 +11,11 @@ ghost use lib.ListN.{length, drop};
 ghost use Rattle.spec.specs.Dictionary.{longest-text, lexicon};
 ghost use Rattle.spec.specs.Words.{key, is-word};
 ghost use Rattle.spec.specs.Index.{header, keys-of, rise-from, readable};
+ghost use Rattle.spec.specs.Gaps.{prefix-sums, with-lists};
 ghost use Rattle.spec.specs.Calls.{index-refusal};
 ghost use Rattle.laws.specs.Lexicon.{Is-admitted};
-ghost use Rattle.laws.specs.LineWalk.{places-good, line-fits, walk-good};
+ghost use Rattle.laws.specs.LineWalk.{as-is, list-good, places-good, line-fits, walk-good};
+ghost use Rattle.laws.specs.ReadLists.{read-as};
 ghost use Rattle.laws.specs.LineSteps.{Lines-read};
 ghost use Rattle.laws.specs.LoneWords.{Passed, Reached};
 
@@ -32,10 +35,43 @@ fn rise(places: &[u16]) -> bool
     good
 }
 
-// Whether `count` positions from `at` on are there, at least one, ascending, and a key of `long` characters ends by n at the last.
-fn places_good(index: &[u16], at: usize, count: usize, n: usize, long: usize) -> bool
-    requires { ⌜ (at ≤ length (now index)) × (n ≤ 65535) × (long ≤ 65535) ⌝ }
-    ensures { λ r. ⌜ r ≡ places-good n long count (drop at (now (index .entry))) ⌝ }
+// Whether positions ascend from 1 or more, and a key of `long` characters ends by n at the last of them.
+fn positions_good(places: &[u16], n: usize, long: usize) -> bool
+    requires { ⌜ (1 ≤ length (now places)) × (n ≤ 65535) × (long ≤ 65535) ⌝ }
+    ensures { λ r. ⌜ r ≡ list-good as-is n long (now (places .entry)) ⌝ }
+{
+    let last = places[places.len() - 1] as usize;
+    if n + 1 < last + long {
+        return false;
+    }
+    rise(places)
+}
+
+// The same of the positions that gaps come to: they ascend from 1 if no gap is 0, and the last of them is the sum of all gaps, which
+// 32 bits hold.
+fn gaps_good(gaps: &[u16], n: usize, long: usize) -> bool
+    requires { ⌜ (1 ≤ length (now gaps)) × (length (now gaps) ≤ 65535) × (n ≤ 65535) × (long ≤ 65535) ⌝ }
+    ensures { λ r. ⌜ r ≡ list-good prefix-sums n long (now (gaps .entry)) ⌝ }
+{
+    let mut good = true;
+    let mut sum: u32 = 0;
+    let mut i = 0;
+    while i < gaps.len() {
+        let gap = gaps[i];
+        good = good & (0 < gap);
+        sum += gap as u32;
+        i += 1;
+    }
+    if n + 1 < sum as usize + long {
+        return false;
+    }
+    good
+}
+
+// Whether `count` numbers from `at` on are there, at least one, and are the positions, or the gaps, of a key of `long` characters.
+fn places_good(index: &[u16], at: usize, count: usize, n: usize, long: usize, as_gaps: bool) -> bool
+    requires { ⌜ (at ≤ length (now index)) × (n ≤ 65535) × (long ≤ 65535) × (count ≤ 65535) ⌝ }
+    ensures { λ r. ⌜ r ≡ places-good (read-as as_gaps) n long count (drop at (now (index .entry))) ⌝ }
 {
     if index.len() - at < count {
         return false;
@@ -44,11 +80,11 @@ fn places_good(index: &[u16], at: usize, count: usize, n: usize, long: usize) ->
         return false;
     }
     let end = at + count;
-    let last = index[end - 1] as usize;
-    if n + 1 < last + long {
-        return false;
+    if as_gaps {
+        gaps_good(&index[at..end], n, long)
+    } else {
+        positions_good(&index[at..end], n, long)
     }
-    rise(&index[at..end])
 }
 
 // Whether a word's directory line is good, where word numbers from `least` on are allowed.
@@ -61,9 +97,12 @@ fn word_line_good(
     least: usize,
     value: usize,
     count: usize,
+    as_gaps: bool,
 ) -> bool
-    requires { ⌜ Is-admitted (now chars) (now lengths) × (at ≤ length (now index)) × (n ≤ 65535) ⌝ }
-    ensures { λ r. ⌜ r ≡ line-fits (lexicon (now (chars .entry)) (now (lengths .entry))) n least (key 0 value) count (drop at (now (index .entry))) ⌝ }
+    requires { ⌜ Is-admitted (now chars) (now lengths) × (at ≤ length (now index)) × (n ≤ 65535) × (count ≤ 65535) ⌝ }
+    ensures { λ r. ⌜
+        r ≡ line-fits (read-as as_gaps) (lexicon (now (chars .entry)) (now (lengths .entry))) n least (key 0 value) count
+        (drop at (now (index .entry))) ⌝ }
 {
     if value < least {
         return false;
@@ -71,7 +110,7 @@ fn word_line_good(
     if lengths.len() <= value {
         return false;
     }
-    places_good(index, at, count, n, lengths[value] as usize)
+    places_good(index, at, count, n, lengths[value] as usize, as_gaps)
 }
 
 // A word's number and where its characters start.
@@ -114,9 +153,18 @@ fn is_reached(chars: &[u16], lengths: &[u16], place: Place, value: u16) -> bool
 }
 
 // Whether the lines from `from` on are good, where only lone characters may follow; the positions of the first start at `start`.
-fn lone_lines(chars: &[u16], lengths: &[u16], index: &[u16], from: usize, start: usize) -> bool
-    requires { ⌜ Is-admitted (now chars) (now lengths) × (header + 3 * keys-of (now index) ≤ length (now index)) × Lines-read (lexicon (now chars) (now lengths)) (now index) from start 65536 ⌝ }
-    ensures { λ r. ⌜ r ≡ walk-good (lexicon (now (chars .entry)) (now (lengths .entry))) (now (index .entry)) ⌝ }
+fn lone_lines(
+    chars: &[u16],
+    lengths: &[u16],
+    index: &[u16],
+    from: usize,
+    start: usize,
+    as_gaps: bool,
+) -> bool
+    requires { ⌜
+        Is-admitted (now chars) (now lengths) × (header + 3 * keys-of (now index) ≤ length (now index)) ×
+        Lines-read (read-as as_gaps) (lexicon (now chars) (now lengths)) (now index) from start 65536 ⌝ }
+    ensures { λ r. ⌜ r ≡ walk-good (read-as as_gaps) (lexicon (now (chars .entry)) (now (lengths .entry))) (now (index .entry)) ⌝ }
 {
     let n = index[0] as usize;
     let keys = index[1] as usize;
@@ -138,7 +186,7 @@ fn lone_lines(chars: &[u16], lengths: &[u16], index: &[u16], from: usize, start:
         if is_reached(chars, lengths, words, value) {
             return false;
         }
-        if !places_good(index, at, count, n, 1) {
+        if !places_good(index, at, count, n, 1, as_gaps) {
             return false;
         }
         at += count;
@@ -149,9 +197,11 @@ fn lone_lines(chars: &[u16], lengths: &[u16], index: &[u16], from: usize, start:
 }
 
 // Whether all lines are good, and their positions are all that follows the directory.
-fn lines_good(chars: &[u16], lengths: &[u16], index: &[u16]) -> bool
-    requires { ⌜ Is-admitted (now chars) (now lengths) × (header ≤ length (now index)) × (header + 3 * keys-of (now index) ≤ length (now index)) ⌝ }
-    ensures { λ r. ⌜ r ≡ walk-good (lexicon (now (chars .entry)) (now (lengths .entry))) (now (index .entry)) ⌝ }
+fn lines_good(chars: &[u16], lengths: &[u16], index: &[u16], as_gaps: bool) -> bool
+    requires { ⌜
+        Is-admitted (now chars) (now lengths) × (header ≤ length (now index)) ×
+        (header + 3 * keys-of (now index) ≤ length (now index)) ⌝ }
+    ensures { λ r. ⌜ r ≡ walk-good (read-as as_gaps) (lexicon (now (chars .entry)) (now (lengths .entry))) (now (index .entry)) ⌝ }
 {
     let n = index[0] as usize;
     let keys = index[1] as usize;
@@ -160,11 +210,11 @@ fn lines_good(chars: &[u16], lengths: &[u16], index: &[u16]) -> bool
     let mut i = 0;
     while i < keys {
         if index[2 + 3 * i] != 0 {
-            return lone_lines(chars, lengths, index, i, at);
+            return lone_lines(chars, lengths, index, i, at, as_gaps);
         }
         let value = index[2 + 3 * i + 1] as usize;
         let count = index[2 + 3 * i + 2] as usize;
-        if !word_line_good(chars, lengths, index, at, n, least, value, count) {
+        if !word_line_good(chars, lengths, index, at, n, least, value, count, as_gaps) {
             return false;
         }
         at = at + count;
@@ -174,10 +224,12 @@ fn lines_good(chars: &[u16], lengths: &[u16], index: &[u16]) -> bool
     at == index.len()
 }
 
-// Whether an index is readable, with a dictionary that is admitted.
-fn readable(chars: &[u16], lengths: &[u16], index: &[u16]) -> bool
+// Whether an index is readable, or what a gap form restores to, with a dictionary that is admitted.
+fn readable(chars: &[u16], lengths: &[u16], index: &[u16], as_gaps: bool) -> bool
     requires { ⌜ Is-admitted (now chars) (now lengths) ⌝ }
-    ensures { λ r. ⌜ r ≡ readable longest-text (lexicon (now (chars .entry)) (now (lengths .entry))) (now (index .entry)) ⌝ }
+    ensures { λ r. ⌜
+        r ≡ readable longest-text (lexicon (now (chars .entry)) (now (lengths .entry)))
+        (with-lists (read-as as_gaps) (now (index .entry))) ⌝ }
 {
     if index.len() < 2 {
         return false;
@@ -186,19 +238,28 @@ fn readable(chars: &[u16], lengths: &[u16], index: &[u16]) -> bool
     if index.len() < 2 + 3 * keys {
         return false;
     }
-    lines_good(chars, lengths, index)
+    lines_good(chars, lengths, index, as_gaps)
+}
+
+// The number of the first line of 1, 2, 3, 12 and 5 that dictionary and numbers meet, or 0; the numbers are an index, or a gap form, of
+// which 5 asks what it restores to.
+pub fn refusal_as(chars: &[u16], lengths: &[u16], index: &[u16], as_gaps: bool) -> u32
+    ensures { λ r. ⌜
+        r ≡ index-refusal (now (chars .entry)) (now (lengths .entry)) (with-lists (read-as as_gaps) (now (index .entry))) ⌝ }
+{
+    let refusal = dictionary::admission::refusal_of(chars, lengths);
+    if refusal != 0 {
+        return refusal;
+    }
+    if !readable(chars, lengths, index, as_gaps) {
+        return 5;
+    }
+    0
 }
 
 // The number of the first line of 1, 2, 3, 12 and 5 that dictionary and index meet, or 0.
 pub fn refusal_of(chars: &[u16], lengths: &[u16], index: &[u16]) -> u32
     ensures { λ r. ⌜ r ≡ index-refusal (now (chars .entry)) (now (lengths .entry)) (now (index .entry)) ⌝ }
 {
-    let refusal = dictionary::admission::refusal_of(chars, lengths);
-    if refusal != 0 {
-        return refusal;
-    }
-    if !readable(chars, lengths, index) {
-        return 5;
-    }
-    0
+    refusal_as(chars, lengths, index, false)
 }

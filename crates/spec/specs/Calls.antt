@@ -15,6 +15,7 @@ use Rattle.spec.specs.Search.{find}
 use Rattle.spec.specs.First.{first-position}
 use Rattle.spec.specs.Cut.{cut-down}
 use Rattle.spec.specs.Tally.{tally}
+use Rattle.spec.specs.Gaps.{gap-form, restored}
 use Rattle.spec.specs.declared.Answer.{Answer}
 use Rattle.spec.specs.declared.FirstAnswer.{FirstAnswer}
 use Rattle.spec.specs.declared.TallyAnswer.{TallyAnswer}
@@ -81,6 +82,10 @@ string-refusal cs ls xs s = or-else (index-refusal cs ls xs) (cond (string-wrong
 unfoldable pub find-refusal : (chars lengths index string : List ℕ) → (result output : ℕ) → ℕ
 find-refusal cs ls xs s r o = or-else (string-refusal cs ls xs s) (cond (output-short r o) 8 0)
 
+-- 1 to 3, 12, 5, 8: the gap form and its inverse, with the index that 5 asks about and the length of their result
+unfoldable pub gaps-refusal : (chars lengths index : List ℕ) → (result output : ℕ) → ℕ
+gaps-refusal cs ls xs r o = or-else (index-refusal cs ls xs) (cond (output-short r o) 8 0)
+
 -- ANSWERS AND SLICES
 
 -- a value where no line is met, and another on a refusal
@@ -142,3 +147,13 @@ Tally-says cs ls xs r =
     (r .refusal ≡ n)
     × (r .count ≡ accepted n (entries-of xs) 0)
     × (r .«by_length» ≡ accepted n (tally (lexicon cs ls) xs) (replicate 32 0))
+
+-- Document 02: "under each key the first position stays and each later one becomes its distance from the one before"
+unfoldable pub To-gaps-says : (chars lengths index : List ℕ) → Answer → (out out-now : List ℕ) → Type 0
+To-gaps-says cs ls xs r o z =
+    let form = gap-form xs in Puts (gaps-refusal cs ls xs (length form) (length o)) form r o z
+
+-- "The inverse restores the index exactly [..]. A gap form that restores to no readable index meets 5".
+unfoldable pub From-gaps-says : (chars lengths gaps : List ℕ) → Answer → (out out-now : List ℕ) → Type 0
+From-gaps-says cs ls ds r o z =
+    let index = restored ds in Puts (gaps-refusal cs ls index (length index) (length o)) index r o z

@@ -17,12 +17,15 @@ use Rattle.spec.specs.Search.{find}
 use Rattle.spec.specs.First.{first-position}
 use Rattle.spec.specs.Cut.{cut-down}
 use Rattle.spec.specs.Tally.{tally}
+use Rattle.spec.specs.Gaps.{gap-form, restored}
 use Rattle.spec.specs.Promise.{places, Query}
 use Rattle.spec.specs.Beyond.{Under, Text-of, Exactly-places, First-stands}
 use Rattle.spec.specs.Published.{Item, item, maximal-items}
 use Rattle.spec.specs.JobAnswer.{Job-says}
 use Rattle.spec.specs.Calls.{Admit-says, Build-says, Receive-says, Recover-says, Search-says, Cut-says, First-says, Tally-says}
+use Rattle.spec.specs.Calls.{To-gaps-says, From-gaps-says}
 use Rattle.spec.specs.RefusalTable.{Written, Untouched, Cleared, Has-text, dictionary-rows, build-rows, index-rows, reception-rows, recovery-rows, string-rows, find-rows, Decides}
+use Rattle.spec.specs.RefusalTable.{gaps-rows}
 use Rattle.spec.specs.ProgramDemand.{Answered}
 use Rattle.spec.specs.declared.Answer.{Answer}
 use Rattle.spec.specs.declared.FirstAnswer.{FirstAnswer}
@@ -62,6 +65,14 @@ pub record First-demand : Type 0 where
       Decides (index-rows cs ls xs) (r .refusal)
       ((r .count ≡ entries-of xs) × (r .«by_length» ≡ tally (lexicon cs ls) xs))
       ((r .count ≡ 0) × (r .«by_length» ≡ replicate 32 0))
+  pub rearranges :
+      (cs ls xs : List ℕ) (r : Answer) (o z : List ℕ) → To-gaps-says cs ls xs r o z →
+      let form = gap-form xs in
+      Decides (gaps-rows cs ls xs form o) (r .refusal) (Written form r o z) (Untouched r o z)
+  pub restores :
+      (cs ls ds : List ℕ) (r : Answer) (o z : List ℕ) → From-gaps-says cs ls ds r o z →
+      let index = restored ds in
+      Decides (gaps-rows cs ls index index o) (r .refusal) (Written index r o z) (Untouched r o z)
   pub prints : (s : List ℕ) (r : Answer) (o z : List ℕ) → Job-says s r o z → Answered s r o z
 
 -- THE SECOND DEMAND: "The index built from a text and a dictionary is exactly the complete maximal word index of the published

@@ -9,11 +9,13 @@ pub mod Search
 pub mod First
 pub mod Cut
 pub mod Tally
+pub mod Gaps
 pub mod Calls
 pub mod Promise
 pub mod Beyond
 pub mod FirstPromise
 pub mod ReplacedPromise
+pub mod GapsPromise
 pub mod Published
 pub mod JobSheet
 pub mod JobAnswer
@@ -26,4 +28,5 @@ pub mod Models
 pub mod Examples
 pub mod FirstExamples
 pub mod ReplacedExamples
+pub mod GapsExamples
 pub mod JobExamples

@@ -117,6 +117,9 @@ string-rows cs ls xs s = index-rows cs ls xs ++ (row 6 (String-wrong s) ∷ [])
 abbrev pub find-rows : (chars lengths index string result out : List ℕ) → List Row
 find-rows cs ls xs s found o = string-rows cs ls xs s ++ (row 8 (Output-short found o) ∷ [])
 
+abbrev pub gaps-rows : (chars lengths index result out : List ℕ) → List Row
+gaps-rows cs ls xs ys o = index-rows cs ls xs ++ (row 8 (Output-short ys o) ∷ [])
+
 -- WHAT IS DECIDED
 
 -- the line with number n is one of these, and is met

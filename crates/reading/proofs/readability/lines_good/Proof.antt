@@ -6,16 +6,18 @@ use native.Mathlib.Omega.{arith}
 use borrow.Author.Tests.{not-true, not-false}
 use Rattle.spec.specs.Dictionary.{lexicon}
 use Rattle.laws.specs.LineSteps.{Lines-read, lines-start, lines-end, lines-raise}
+use Rattle.laws.specs.ReadLists.{read-as}
 use Rattle.laws.specs.LineKinds.{word-stop, word-step}
 use borrow.Author.Needs.{needs}
 use Rattle.reading.proofs.readability.lines_good.Statement.{statement}
 use Rattle.reading.proofs.readability.lines_good.Tie as tie
 
 abbrev Inv-loop : tie.InvT-loop
-Inv-loop chars lengths index n keys at₀ least₀ i₀ at least i = Lines-read (lexicon chars lengths) index i at least × (least ≤ 65536)
+Inv-loop chars lengths index as-gaps n keys at₀ least₀ i₀ at least i =
+    Lines-read (read-as as-gaps) (lexicon chars lengths) index i at least × (least ≤ 65536)
 
 abbrev μ-loop : tie.MeasureT-loop
-μ-loop chars lengths index n keys at₀ least₀ i₀ at least i = keys - i
+μ-loop chars lengths index as-gaps n keys at₀ least₀ i₀ at least i = keys - i
 
 shared-slice-read-n : tie.Need-shared-slice-read-n Inv-loop μ-loop
 shared-slice-read-n c = omega (arith, c .before .before .before .before .pre .1)
@@ -36,7 +38,11 @@ add-at : tie.Need-add-at Inv-loop μ-loop
 add-at c = omega (arith, c .before .before .before .before .before .pre .2)
 
 loop-holds : tie.Need-loop-holds Inv-loop μ-loop
-loop-holds c = (lines-start (lexicon (c .before .before .before .before .before .args .chars .now) (c .before .before .before .before .before .args .lengths .now)) (c .before .before .before .before .before .args .index .now) (c .before .before .before .before .before .pre .2), omega arith)
+loop-holds c =
+    let start = c .before .before .before .before .before in
+    let args = start .args in
+    let lex = lexicon (args .chars .now) (args .lengths .now) in
+    (lines-start (read-as (args .as-gaps)) lex (args .index .now) (start .pre .2), omega arith)
 
 mul-if1 : tie.Need-mul-if1 Inv-loop μ-loop
 mul-if1 c = search needs
@@ -54,7 +60,13 @@ lone-lines-requires : tie.Need-lone-lines-requires Inv-loop μ-loop
 lone-lines-requires c κs =
     let start = c .before .before .before .before .before .before .before .before .before in
     let walk = c .before .before .before .loop in
-    (start .pre .0, start .pre .2, lines-raise (lexicon (start .args .chars .now) (start .args .lengths .now)) (start .args .index .now) (walk .i) (walk .at) (walk .least) (walk .inv .0) (c .before .before .loop-test .taken) (omega (arith, c .if1 .taken)) (walk .inv .1))
+    let args = start .args in
+    let lex = lexicon (args .chars .now) (args .lengths .now) in (
+      start .pre .0,
+      start .pre .2,
+      lines-raise (read-as (args .as-gaps)) lex (args .index .now) (walk .i) (walk .at) (walk .least) (walk .inv .0)
+          (c .before .before .loop-test .taken) (omega (arith, c .if1 .taken)) (walk .inv .1),
+    )
 
 returns : tie.Need-returns Inv-loop μ-loop
 returns c = c .lone-lines .ensures
@@ -96,19 +108,36 @@ cast-count : tie.Need-cast-count Inv-loop μ-loop
 cast-count c = omega (arith, c .shared-slice-known8 .given (2 + 3 * c .before .before .before .before .before .loop .i + 2))
 
 word-line-good-requires : tie.Need-word-line-good-requires Inv-loop μ-loop
-word-line-good-requires c κs = (c .before .before .before .before .before .before .before .before .before .before .before .pre .0, c .before .before .before .before .before .loop .inv .0 .room, omega (arith, c .shared-slice-known8 .given 0))
+word-line-good-requires c κs =
+    let start = c .before .before .before .before .before .before .before .before .before .before .before in
+    let walk = c .before .before .before .before .before .loop in
+    let known = c .shared-slice-known8 in
+    (start .pre .0, walk .inv .0 .room, omega (arith, known .given 0), omega (arith, known .given (2 + 3 * walk .i + 2)))
 
 returns-2 : tie.Need-returns-2 Inv-loop μ-loop
 returns-2 c =
-    let start = c .before .before .before .before .before .before .before .before .before .before .before .before .before in
-    let walk = c .before .before .before .before .before .before .before .loop in
-    word-stop (lexicon (start .args .chars .now) (start .args .lengths .now)) (start .args .index .now) (walk .i) (walk .at) (walk .least) (walk .inv .0) (c .before .before .before .before .before .before .loop-test .taken) (c .before .before .before .before .if1 .left) (sym (c .before .word-line-good .ensures) ∙ not-true (c .before .word-line-good .result) (c .if2 .taken))
+    let word = c .before .before .before .before in
+    let test = word .before .before in
+    let start = test .before .before .before .before .before .before .before in
+    let walk = test .before .loop in
+    let args = start .args in
+    let lex = lexicon (args .chars .now) (args .lengths .now) in
+    let bad = sym (c .before .word-line-good .ensures) ∙ not-true (c .before .word-line-good .result) (c .if2 .taken) in
+    word-stop (read-as (args .as-gaps)) lex (args .index .now) (walk .i) (walk .at) (walk .least) (walk .inv .0) (test .loop-test .taken)
+    (word .if1 .left) bad
 
 add-at-2 : tie.Need-add-at-2 Inv-loop μ-loop
 add-at-2 c =
-    let start = c .before .before .before .before .before .before .before .before .before .before .before .before .before in
-    let walk = c .before .before .before .before .before .before .before .loop in
-    let next = word-step (lexicon (start .args .chars .now) (start .args .lengths .now)) (start .args .index .now) (walk .i) (walk .at) (walk .least) (walk .inv .0) (c .before .before .before .before .before .before .loop-test .taken) (c .before .before .before .before .if1 .left) (sym (c .before .word-line-good .ensures) ∙ not-false (c .before .word-line-good .result) (c .if2 .left)) in
+    let word = c .before .before .before .before in
+    let test = word .before .before in
+    let start = test .before .before .before .before .before .before .before in
+    let walk = test .before .loop in
+    let args = start .args in
+    let lex = lexicon (args .chars .now) (args .lengths .now) in
+    let good = sym (c .before .word-line-good .ensures) ∙ not-false (c .before .word-line-good .result) (c .if2 .left) in
+    let next =
+    word-step (read-as (args .as-gaps)) lex (args .index .now) (walk .i) (walk .at) (walk .least) (walk .inv .0) (test .loop-test .taken)
+    (word .if1 .left) good in
     omega (arith, next .room)
 
 add-least : tie.Need-add-least Inv-loop μ-loop
@@ -122,14 +151,25 @@ loop-less c = omega (arith, c .before .before .before .before .before .before .l
 
 loop-again : tie.Need-loop-again Inv-loop μ-loop
 loop-again c =
-    let start = c .before .before .before .before .before .before .before .before .before .before .before .before .before in
-    let walk = c .before .before .before .before .before .before .before .loop in (
-      word-step (lexicon (start .args .chars .now) (start .args .lengths .now)) (start .args .index .now) (walk .i) (walk .at) (walk .least) (walk .inv .0) (c .before .before .before .before .before .before .loop-test .taken) (c .before .before .before .before .if1 .left) (sym (c .before .word-line-good .ensures) ∙ not-false (c .before .word-line-good .result) (c .if2 .left)),
+    let word = c .before .before .before .before in
+    let test = word .before .before in
+    let start = test .before .before .before .before .before .before .before in
+    let walk = test .before .loop in
+    let args = start .args in
+    let lex = lexicon (args .chars .now) (args .lengths .now) in
+    let good = sym (c .before .word-line-good .ensures) ∙ not-false (c .before .word-line-good .result) (c .if2 .left) in (
+      word-step (read-as (args .as-gaps)) lex (args .index .now) (walk .i) (walk .at) (walk .least) (walk .inv .0) (test .loop-test .taken)
+          (word .if1 .left) good,
       omega (arith, c .before .before .shared-slice-known8 .given (2 + 3 * walk .i + 1)),
     )
 
 returns-3 : tie.Need-returns-3 Inv-loop μ-loop
-returns-3 c = lines-end (lexicon (c .before .before .before .before .before .before .before .args .chars .now) (c .before .before .before .before .before .before .before .args .lengths .now)) (c .before .before .before .before .before .before .before .args .index .now) (c .before .loop .i) (c .before .loop .at) (c .before .loop .least) (c .before .loop .inv .0) (c .loop-test .left)
+returns-3 c =
+    let start = c .before .before .before .before .before .before .before in
+    let walk = c .before .loop in
+    let args = start .args in
+    let lex = lexicon (args .chars .now) (args .lengths .now) in
+    lines-end (read-as (args .as-gaps)) lex (args .index .now) (walk .i) (walk .at) (walk .least) (walk .inv .0) (c .loop-test .left)
 
 pub lines-good-spec : {M : Type 1} → statement M
 lines-good-spec =

@@ -8,16 +8,19 @@ use Prim.Native.Nat.{_+_, _*_, _-_}
 use native.Mathlib.Omega.{arith}
 use Rattle.spec.specs.Dictionary.{lexicon}
 use Rattle.laws.specs.LineSteps.{Lines-read, lines-end}
+use Rattle.laws.specs.ReadLists.{read-as}
 use Rattle.laws.specs.LoneWords.{Passed, passed-start, passed-raise}
 use borrow.Author.Needs.{needs}
 use Rattle.reading.proofs.readability.lone_lines.Statement.{statement}
 use Rattle.reading.proofs.readability.lone_lines.Tie as tie
 
 abbrev Inv-loop : tie.InvT-loop
-Inv-loop chars lengths index from start n keys at₀ least₀ words₀ i₀ at least words i = Lines-read (lexicon chars lengths) index i at (65536 + least) × Passed chars lengths (words .word) (words .at) least
+Inv-loop chars lengths index from start as-gaps n keys at₀ least₀ words₀ i₀ at least words i =
+    Lines-read (read-as as-gaps) (lexicon chars lengths) index i at (65536 + least)
+    × Passed chars lengths (words .word) (words .at) least
 
 abbrev μ-loop : tie.MeasureT-loop
-μ-loop chars lengths index from start n keys at₀ least₀ words₀ i₀ at least words i = keys - i
+μ-loop chars lengths index from start as-gaps n keys at₀ least₀ words₀ i₀ at least words i = keys - i
 
 shared-slice-read-n : tie.Need-shared-slice-read-n Inv-loop μ-loop
 shared-slice-read-n c = omega (arith, c .before .before .before .before .pre .1)
@@ -81,18 +84,28 @@ cast-count c = omega (arith, c .shared-slice-known8 .given (2 + 3 * c .before .b
 
 returns : tie.Need-returns Inv-loop μ-loop
 returns c =
-    let start = c .before .before .before .before .before .before .before .before .before .before .before in
-    let walk = c .before .before .before .before .before .loop in
-    other-stop (lexicon (start .args .chars .now) (start .args .lengths .now)) (start .args .index .now) (walk .i) (walk .at) (walk .least) (walk .inv .0) (c .before .before .before .before .loop-test .taken) (omega (arith, c .before .shared-slice-known8 .given (2 + 3 * walk .i + 1))) (c .if1 .taken)
+    let test = c .before .before .before .before in
+    let start = test .before .before .before .before .before .before .before in
+    let walk = test .before .loop in
+    let known = c .before .shared-slice-known8 in
+    let args = start .args in
+    let lex = lexicon (args .chars .now) (args .lengths .now) in
+    other-stop (read-as (args .as-gaps)) lex (args .index .now) (walk .i) (walk .at) (walk .least) (walk .inv .0) (test .loop-test .taken)
+    (omega (arith, known .given (2 + 3 * walk .i + 1))) (c .if1 .taken)
 
 cast-if2 : tie.Need-cast-if2 Inv-loop μ-loop
 cast-if2 c = omega (arith, c .before .shared-slice-known8 .given (2 + 3 * c .before .before .before .before .before .loop .i + 1))
 
 returns-2 : tie.Need-returns-2 Inv-loop μ-loop
 returns-2 c =
-    let start = c .before .before .before .before .before .before .before .before .before .before .before .before in
-    let walk = c .before .before .before .before .before .before .loop in
-    low-stop (lexicon (start .args .chars .now) (start .args .lengths .now)) (start .args .index .now) (walk .i) (walk .at) (walk .least) (walk .inv .0) (c .before .before .before .before .before .loop-test .taken) (omega (arith, c .before .before .shared-slice-known8 .given (2 + 3 * walk .i + 1))) (c .before .if1 .left) (c .if2 .taken)
+    let test = c .before .before .before .before .before in
+    let start = test .before .before .before .before .before .before .before in
+    let walk = test .before .loop in
+    let known = c .before .before .shared-slice-known8 in
+    let args = start .args in
+    let lex = lexicon (args .chars .now) (args .lengths .now) in
+    low-stop (read-as (args .as-gaps)) lex (args .index .now) (walk .i) (walk .at) (walk .least) (walk .inv .0) (test .loop-test .taken)
+    (omega (arith, known .given (2 + 3 * walk .i + 1))) (c .before .if1 .left) (c .if2 .taken)
 
 skip-below-requires : tie.Need-skip-below-requires Inv-loop μ-loop
 skip-below-requires c κs =
@@ -105,27 +118,55 @@ is-reached-requires c κs = c .skip-below .ensures
 
 returns-3 : tie.Need-returns-3 Inv-loop μ-loop
 returns-3 c =
-    let start = c .before .before .before .before .before .before .before .before .before .before .before .before .before .before .before in
-    let walk = c .before .before .before .before .before .before .before .before .before .loop in
-    listed-stop (lexicon (start .args .chars .now) (start .args .lengths .now)) (start .args .index .now) (walk .i) (walk .at) (walk .least) (walk .inv .0) (c .before .before .before .before .before .before .before .before .loop-test .taken) (omega (arith, c .before .before .before .before .before .shared-slice-known8 .given (2 + 3 * walk .i + 1))) (c .before .before .before .before .if1 .left) (sym (c .before .is-reached .ensures) ∙ c .if3 .taken)
+    let kind = c .before .before .before .before in
+    let known = kind .before .shared-slice-known8 in
+    let test = kind .before .before .before .before in
+    let start = test .before .before .before .before .before .before .before in
+    let walk = test .before .loop in
+    let args = start .args in
+    let lex = lexicon (args .chars .now) (args .lengths .now) in
+    listed-stop (read-as (args .as-gaps)) lex (args .index .now) (walk .i) (walk .at) (walk .least) (walk .inv .0) (test .loop-test .taken)
+    (omega (arith, known .given (2 + 3 * walk .i + 1))) (kind .if1 .left) (sym (c .before .is-reached .ensures) ∙ c .if3 .taken)
 
 places-good-requires : tie.Need-places-good-requires Inv-loop μ-loop
 places-good-requires c κs =
     let start = c .before .before .before .before .before .before .before .before .before .before .before .before .before .before .before in
     let walk = c .before .before .before .before .before .before .before .before .before .loop in
-    (walk .inv .0 .room, omega (arith, c .before .before .before .before .before .shared-slice-known8 .given 0), omega arith)
+    let known = c .before .before .before .before .before .shared-slice-known8 in
+    (walk .inv .0 .room, omega (arith, known .given 0), omega arith, omega (arith, known .given (2 + 3 * walk .i + 2)))
 
 returns-4 : tie.Need-returns-4 Inv-loop μ-loop
 returns-4 c =
-    let start = c .before .before .before .before .before .before .before .before .before .before .before .before .before .before .before .before .before in
-    let walk = c .before .before .before .before .before .before .before .before .before .before .before .loop in
-    lone-stop (lexicon (start .args .chars .now) (start .args .lengths .now)) (start .args .index .now) (walk .i) (walk .at) (walk .least) (walk .inv .0) (c .before .before .before .before .before .before .before .before .before .before .loop-test .taken) (omega (arith, c .before .before .before .before .before .before .before .shared-slice-known8 .given (2 + 3 * walk .i + 1))) (c .before .before .before .before .before .before .if1 .left) (c .before .before .before .before .before .if2 .left) (sym (c .before .before .before .is-reached .ensures) ∙ c .before .before .if3 .left) (sym (c .before .places-good .ensures) ∙ not-true (c .before .places-good .result) (c .if4 .taken))
+    let reached = c .before .before in
+    let low = reached .before .before .before in
+    let kind = low .before in
+    let known = kind .before .shared-slice-known8 in
+    let test = kind .before .before .before .before in
+    let start = test .before .before .before .before .before .before .before in
+    let walk = test .before .loop in
+    let args = start .args in
+    let lex = lexicon (args .chars .now) (args .lengths .now) in
+    let unlisted = sym (reached .before .is-reached .ensures) ∙ reached .if3 .left in
+    let bad = sym (c .before .places-good .ensures) ∙ not-true (c .before .places-good .result) (c .if4 .taken) in
+    lone-stop (read-as (args .as-gaps)) lex (args .index .now) (walk .i) (walk .at) (walk .least) (walk .inv .0) (test .loop-test .taken)
+    (omega (arith, known .given (2 + 3 * walk .i + 1))) (kind .if1 .left) (low .if2 .left) unlisted bad
 
 add-at : tie.Need-add-at Inv-loop μ-loop
 add-at c =
-    let start = c .before .before .before .before .before .before .before .before .before .before .before .before .before .before .before .before .before in
-    let walk = c .before .before .before .before .before .before .before .before .before .before .before .loop in
-    let next = lone-step (lexicon (start .args .chars .now) (start .args .lengths .now)) (start .args .index .now) (walk .i) (walk .at) (walk .least) (walk .inv .0) (c .before .before .before .before .before .before .before .before .before .before .loop-test .taken) (omega (arith, c .before .before .before .before .before .before .before .shared-slice-known8 .given (2 + 3 * walk .i + 1))) (c .before .before .before .before .before .before .if1 .left) (c .before .before .before .before .before .if2 .left) (sym (c .before .before .before .is-reached .ensures) ∙ c .before .before .if3 .left) (sym (c .before .places-good .ensures) ∙ not-false (c .before .places-good .result) (c .if4 .left)) in
+    let reached = c .before .before in
+    let low = reached .before .before .before in
+    let kind = low .before in
+    let known = kind .before .shared-slice-known8 in
+    let test = kind .before .before .before .before in
+    let start = test .before .before .before .before .before .before .before in
+    let walk = test .before .loop in
+    let args = start .args in
+    let lex = lexicon (args .chars .now) (args .lengths .now) in
+    let unlisted = sym (reached .before .is-reached .ensures) ∙ reached .if3 .left in
+    let good = sym (c .before .places-good .ensures) ∙ not-false (c .before .places-good .result) (c .if4 .left) in
+    let next =
+    lone-step (read-as (args .as-gaps)) lex (args .index .now) (walk .i) (walk .at) (walk .least) (walk .inv .0) (test .loop-test .taken)
+    (omega (arith, known .given (2 + 3 * walk .i + 1))) (kind .if1 .left) (low .if2 .left) unlisted good in
     omega (arith, next .room)
 
 cast-least : tie.Need-cast-least Inv-loop μ-loop
@@ -142,14 +183,30 @@ loop-less c = omega (arith, c .before .before .before .before .before .before .b
 
 loop-again : tie.Need-loop-again Inv-loop μ-loop
 loop-again c =
-    let start = c .before .before .before .before .before .before .before .before .before .before .before .before .before .before .before .before .before in
-    let walk = c .before .before .before .before .before .before .before .before .before .before .before .loop in (
-      lone-step (lexicon (start .args .chars .now) (start .args .lengths .now)) (start .args .index .now) (walk .i) (walk .at) (walk .least) (walk .inv .0) (c .before .before .before .before .before .before .before .before .before .before .loop-test .taken) (omega (arith, c .before .before .before .before .before .before .before .shared-slice-known8 .given (2 + 3 * walk .i + 1))) (c .before .before .before .before .before .before .if1 .left) (c .before .before .before .before .before .if2 .left) (sym (c .before .before .before .is-reached .ensures) ∙ c .before .before .if3 .left) (sym (c .before .places-good .ensures) ∙ not-false (c .before .places-good .result) (c .if4 .left)),
+    let reached = c .before .before in
+    let low = reached .before .before .before in
+    let kind = low .before in
+    let known = kind .before .shared-slice-known8 in
+    let test = kind .before .before .before .before in
+    let start = test .before .before .before .before .before .before .before in
+    let walk = test .before .loop in
+    let args = start .args in
+    let lex = lexicon (args .chars .now) (args .lengths .now) in
+    let unlisted = sym (reached .before .is-reached .ensures) ∙ reached .if3 .left in
+    let good = sym (c .before .places-good .ensures) ∙ not-false (c .before .places-good .result) (c .if4 .left) in (
+      lone-step (read-as (args .as-gaps)) lex (args .index .now) (walk .i) (walk .at) (walk .least) (walk .inv .0) (test .loop-test .taken)
+          (omega (arith, known .given (2 + 3 * walk .i + 1))) (kind .if1 .left) (low .if2 .left) unlisted good,
       passed-raise (start .args .chars .now) (start .args .lengths .now) (c .before .before .before .before .skip-below .result .word) (c .before .before .before .before .skip-below .result .at) (getD (start .args .index .now) (2 + 3 * walk .i + 1) 0) ((getD (start .args .index .now) (2 + 3 * walk .i + 1) 0) + 1) (omega arith) (c .before .before .before .before .skip-below .ensures .passed),
     )
 
 returns-5 : tie.Need-returns-5 Inv-loop μ-loop
-returns-5 c = lines-end (lexicon (c .before .before .before .before .before .before .before .args .chars .now) (c .before .before .before .before .before .before .before .args .lengths .now)) (c .before .before .before .before .before .before .before .args .index .now) (c .before .loop .i) (c .before .loop .at) (65536 + c .before .loop .least) (c .before .loop .inv .0) (c .loop-test .left)
+returns-5 c =
+    let start = c .before .before .before .before .before .before .before in
+    let walk = c .before .loop in
+    let args = start .args in
+    let lex = lexicon (args .chars .now) (args .lengths .now) in
+    lines-end (read-as (args .as-gaps)) lex (args .index .now) (walk .i) (walk .at) (65536 + walk .least) (walk .inv .0)
+    (c .loop-test .left)
 
 pub lone-lines-spec : {M : Type 1} → statement M
 lone-lines-spec =

@@ -2,16 +2,25 @@
 use mathlib.Core.Path.{_∙_}
 use native.Mathlib.Omega.{arith}
 use lib.ListN.{drop}
+use Rattle.laws.specs.ReadLists.{read-as}
 use Rattle.laws.specs.KeyTests.{word-low, word-high, word-fits}
 use borrow.Author.Needs.{needs}
 use Rattle.reading.proofs.readability.word_line_good.Statement.{statement}
 use Rattle.reading.proofs.readability.word_line_good.Tie as tie
 
 returns : tie.Need-returns
-returns c = word-low (c .before .before .before .before .args .chars .now) (c .before .before .before .before .args .lengths .now) (c .before .before .before .before .pre .0) (c .before .before .before .before .args .n) (c .before .before .before .before .args .least) (c .before .before .before .before .args .value) (c .before .before .before .before .args .count) (drop (c .before .before .before .before .args .at) (c .before .before .before .before .args .index .now)) (c .if1 .taken)
+returns c =
+    let start = c .before .before .before .before in
+    let args = start .args in
+    word-low (read-as (args .as-gaps)) (args .chars .now) (args .lengths .now) (start .pre .0) (args .n) (args .least) (args .value)
+    (args .count) (drop (args .at) (args .index .now)) (c .if1 .taken)
 
 returns-2 : tie.Need-returns-2
-returns-2 c = word-high (c .before .before .before .before .before .args .chars .now) (c .before .before .before .before .before .args .lengths .now) (c .before .before .before .before .before .pre .0) (c .before .before .before .before .before .args .n) (c .before .before .before .before .before .args .least) (c .before .before .before .before .before .args .value) (c .before .before .before .before .before .args .count) (drop (c .before .before .before .before .before .args .at) (c .before .before .before .before .before .args .index .now)) (c .if2 .taken)
+returns-2 c =
+    let start = c .before .before .before .before .before in
+    let args = start .args in
+    word-high (read-as (args .as-gaps)) (args .chars .now) (args .lengths .now) (start .pre .0) (args .n) (args .least) (args .value)
+    (args .count) (drop (args .at) (args .index .now)) (c .if2 .taken)
 
 mul-places-good : tie.Need-mul-places-good
 mul-places-good c = search needs
@@ -23,10 +32,17 @@ cast-places-good : tie.Need-cast-places-good
 cast-places-good c = omega (arith, c .shared-slice-known4 .given (c .before .before .before .before .before .before .args .value))
 
 places-good-requires : tie.Need-places-good-requires
-places-good-requires c κs = (c .before .before .before .before .before .before .pre .1, c .before .before .before .before .before .before .pre .2, omega (arith, c .shared-slice-known4 .given (c .before .before .before .before .before .before .args .value)))
+places-good-requires c κs =
+    let start = c .before .before .before .before .before .before in
+    (start .pre .1, start .pre .2, omega (arith, c .shared-slice-known4 .given (start .args .value)), start .pre .3)
 
 returns-3 : tie.Need-returns-3
-returns-3 c = c .places-good .ensures ∙ word-fits (c .before .before .before .before .before .before .before .args .chars .now) (c .before .before .before .before .before .before .before .args .lengths .now) (c .before .before .before .before .before .before .before .pre .0) (c .before .before .before .before .before .before .before .args .n) (c .before .before .before .before .before .before .before .args .least) (c .before .before .before .before .before .before .before .args .value) (c .before .before .before .before .before .before .before .args .count) (drop (c .before .before .before .before .before .before .before .args .at) (c .before .before .before .before .before .before .before .args .index .now)) (c .before .before .before .if1 .left) (c .before .before .if2 .left)
+returns-3 c =
+    let start = c .before .before .before .before .before .before .before in
+    let args = start .args in
+    c .places-good .ensures
+    ∙ word-fits (read-as (args .as-gaps)) (args .chars .now) (args .lengths .now) (start .pre .0) (args .n) (args .least) (args .value)
+    (args .count) (drop (args .at) (args .index .now)) (c .before .before .before .if1 .left) (c .before .before .if2 .left)
 
 pub word-line-good-spec : {M : Type 1} → statement M
 word-line-good-spec =

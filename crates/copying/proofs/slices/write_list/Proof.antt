@@ -4,18 +4,18 @@ use native.Mathlib.Omega.{arith}
 use borrow.Author.Needs.{needs}
 use lib.ListN.{length}
 use Rattle.laws.specs.Cutting.{Copying, copying-start, copying-room, copying-step, copying-end}
-use Rattle.cutter.proofs.cutting.write_list.Statement.{statement}
-use Rattle.cutter.proofs.cutting.write_list.Tie as tie
+use Rattle.copying.proofs.slices.write_list.Statement.{statement}
+use Rattle.copying.proofs.slices.write_list.Tie as tie
 
 abbrev Inv-loop : tie.InvT-loop
-Inv-loop places from output₀ i₀ output i =
-    Copying places from output₀ output i
+Inv-loop list from output₀ i₀ output i =
+    Copying list from output₀ output i
 
 abbrev μ-loop : tie.MeasureT-loop
-μ-loop places from output₀ i₀ output i = length places - i
+μ-loop list from output₀ i₀ output i = length list - i
 
 loop-holds : tie.Need-loop-holds Inv-loop μ-loop
-loop-holds c = copying-start (c .args .places .now) (c .args .from) (c .args .output .now) (c .pre)
+loop-holds c = copying-start (c .args .list .now) (c .args .from) (c .args .output .now) (c .pre)
 
 mul-output : tie.Need-mul-output Inv-loop μ-loop
 mul-output c = search needs
@@ -35,7 +35,7 @@ slice-write-output : tie.Need-slice-write-output Inv-loop μ-loop
 slice-write-output c =
     let a = c .before .before .before .args in
     let l = c .before .before .loop in
-    copying-room (a .places .now) (a .from) (a .output .now) (l .output) (l .i) (l .inv) (c .before .loop-test .taken)
+    copying-room (a .list .now) (a .from) (a .output .now) (l .output) (l .i) (l .inv) (c .before .loop-test .taken)
 
 add-i : tie.Need-add-i Inv-loop μ-loop
 add-i c = search needs
@@ -47,7 +47,7 @@ loop-again : tie.Need-loop-again Inv-loop μ-loop
 loop-again c =
     let a = c .before .before .before .args in
     let l = c .before .before .loop in
-    copying-step (a .places .now) (a .from) (a .output .now) (l .output) (l .i) (l .inv) (c .before .loop-test .taken)
+    copying-step (a .list .now) (a .from) (a .output .now) (l .output) (l .i) (l .inv) (c .before .loop-test .taken)
 
 same-length : tie.Need-same-length Inv-loop μ-loop
 same-length c = c .before .loop .inv .way .long
@@ -56,7 +56,7 @@ returns : tie.Need-returns Inv-loop μ-loop
 returns c =
     let a = c .before .before .args in
     let l = c .before .loop in
-    copying-end (a .places .now) (a .from) (a .output .now) (l .output) (l .i) (l .inv) (c .loop-test .left)
+    copying-end (a .list .now) (a .from) (a .output .now) (l .output) (l .i) (l .inv) (c .loop-test .left)
 
 pub write-list-spec : {M : Type 1} → statement M
 write-list-spec =

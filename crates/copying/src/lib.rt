@@ -1,0 +1,2 @@
+// Slices copied and filled.
+pub mod slices;

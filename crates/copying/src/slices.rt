@@ -1,0 +1,29 @@
+// A list copied into a slice, and a slice filled with one number. Both loops become calls of memcpy and memset.
+ghost use mathlib.Core.Path.{_≡_};
+ghost use mathlib.Core.List.{_++_};
+ghost use Prim.Native.Nat.{_+_, _≤_};
+ghost use lib.ListN.{length, take, replicate};
+ghost use Rattle.basics.specs.Writing.{over};
+
+// Writes a list from `from` on.
+pub fn write_list(list: &[u16], from: usize, output: &mut [u16])
+    requires { ⌜ from + length (now list) ≤ length (now output) ⌝ }
+    ensures { λ r. ⌜ now (output .exit) ≡ over (take from (now (output .entry)) ++ now (list .entry)) (now (output .entry)) ⌝ }
+{
+    let mut i = 0;
+    while i < list.len() {
+        output[from + i] = list[i];
+        i += 1;
+    }
+}
+
+// Sets one number over the whole slice.
+pub fn fill(slice: &mut [u16], number: u16)
+    ensures { λ r. ⌜ now (slice .exit) ≡ replicate (length (now (slice .entry))) number ⌝ }
+{
+    let mut i = 0;
+    while i < slice.len() {
+        slice[i] = number;
+        i += 1;
+    }
+}

@@ -1,0 +1,20 @@
+-- `from_gaps` meets its contract: it is what both directions say, in one of them. Assumes nothing.
+use Rattle.laws.specs.GapCalls.{from-gaps-said}
+use borrow.Author.Needs.{needs}
+use Rattle.gaps.proofs.form.from_gaps.Statement.{statement}
+use Rattle.gaps.proofs.form.from_gaps.Tie as tie
+
+put-form-requires : tie.Need-put-form-requires
+put-form-requires c κs = search needs
+
+same-length : tie.Need-same-length
+same-length c = search needs
+
+returns : tie.Need-returns
+returns c =
+    let a = c .before .before .before .before .before .before .before .before .args in
+    from-gaps-said (a .chars .now) (a .lengths .now) (a .gaps .now) (c .before .before .put-form .result) (a .output .now) _
+    (c .before .before .put-form .ensures)
+
+pub from-gaps-spec : {M : Type 1} → statement M
+from-gaps-spec = tie.close (tie.spec put-form-requires same-length returns)

@@ -1,0 +1,178 @@
+-- `put_firsts` meets its contract. The invariant: the lists before line i stand, and all from it on are as one. The measure is how many
+-- lines are left. Assumes nothing.
+use mathlib.Core.Path.{_≡_, sym, ap, _∙_}
+use Prim.Native.Nat.{ℕ, _+_, _*_, _-_, _<_}
+use native.Mathlib.Omega.{arith}
+use lib.ListN.{length, getD, drop, length-drop}
+use lib.Seq.{getD-drop}
+use Rattle.spec.specs.Index.{header, keys-of}
+use Rattle.laws.specs.GapWriting.{Firsts, firsts-start, firsts-step, firsts-end}
+use Rattle.laws.specs.GapParts.{first-as, pair-as, counts-all, line-there}
+use borrow.Author.Needs.{needs}
+use Rattle.gaps.proofs.writing.put_firsts.Statement.{statement}
+use Rattle.gaps.proofs.writing.put_firsts.Tie as tie
+
+abbrev Inv-loop : tie.InvT-loop
+Inv-loop index keys restore part₀ first at₀ i₀ part at i =
+    Firsts (first-as restore) (pair-as restore) index (drop (header + 3 * keys-of index) index) part i at
+
+abbrev μ-loop : tie.MeasureT-loop
+μ-loop index keys restore part₀ first at₀ i₀ part at i = keys - i
+
+mul-first : tie.Need-mul-first Inv-loop μ-loop
+mul-first c = search needs
+
+add-first : tie.Need-add-first Inv-loop μ-loop
+add-first c = search needs
+
+loop-holds : tie.Need-loop-holds Inv-loop μ-loop
+loop-holds c =
+    let start = c .before .before in
+    let a = start .args in
+    let xs = a .index .now in
+    firsts-start (first-as (a .restore)) (pair-as (a .restore)) xs (drop (header + 3 * keys-of xs) xs)
+    (start .pre .2 .0) (a .part .now) (start .pre .2 .1) (counts-all xs (start .pre .0 .fits))
+
+add-first-number : tie.Need-add-first-number Inv-loop μ-loop
+add-first-number c =
+    let start = c .before .before .before .before in
+    let walk = c .before .loop in
+    let a = start .args in
+    let below : walk .i < keys-of (a .index .now) = omega (arith, c .loop-test .taken, start .pre .1) in
+    let there = line-there (a .restore) (a .index .now) (walk .part) (walk .i) (walk .at) (start .pre .0) (walk .inv) below in
+    omega (arith, there .read, start .pre .1, start .good)
+
+mul-first-number : tie.Need-mul-first-number Inv-loop μ-loop
+mul-first-number c =
+    let start = c .before .before .before .before in
+    let walk = c .before .loop in
+    let a = start .args in
+    let below : walk .i < keys-of (a .index .now) = omega (arith, c .loop-test .taken, start .pre .1) in
+    let there = line-there (a .restore) (a .index .now) (walk .part) (walk .i) (walk .at) (start .pre .0) (walk .inv) below in
+    omega (arith, there .read, start .pre .1, start .good)
+
+shared-slice-read-first-number : tie.Need-shared-slice-read-first-number Inv-loop μ-loop
+shared-slice-read-first-number c =
+    let start = c .before .before .before .before .before in
+    let walk = c .before .before .loop in
+    let a = start .args in
+    let below : walk .i < keys-of (a .index .now) = omega (arith, c .before .loop-test .taken, start .pre .1) in
+    let there = line-there (a .restore) (a .index .now) (walk .part) (walk .i) (walk .at) (start .pre .0) (walk .inv) below in
+    omega (arith, there .read, start .pre .1)
+
+first-number-requires : tie.Need-first-number-requires Inv-loop μ-loop
+first-number-requires c κs = search needs
+
+mul-part : tie.Need-mul-part Inv-loop μ-loop
+mul-part c =
+    let start = c .before .before .before .before .before .before in
+    let walk = c .before .before .before .loop in
+    let a = start .args in
+    let below : walk .i < keys-of (a .index .now) = omega (arith, c .before .before .loop-test .taken, start .pre .1) in
+    let there = line-there (a .restore) (a .index .now) (walk .part) (walk .i) (walk .at) (start .pre .0) (walk .inv) below in
+    omega (arith, there .write, walk .inv .long, length-drop (header + 3 * keys-of (a .index .now)) (a .index .now), start .good)
+
+slice-write-part : tie.Need-slice-write-part Inv-loop μ-loop
+slice-write-part c =
+    let start = c .before .before .before .before .before .before in
+    let walk = c .before .before .before .loop in
+    let a = start .args in
+    let below : walk .i < keys-of (a .index .now) = omega (arith, c .before .before .loop-test .taken, start .pre .1) in
+    let there = line-there (a .restore) (a .index .now) (walk .part) (walk .i) (walk .at) (start .pre .0) (walk .inv) below in
+    there .write
+
+mul-at : tie.Need-mul-at Inv-loop μ-loop
+mul-at c = search needs
+
+add-at : tie.Need-add-at Inv-loop μ-loop
+add-at c = search needs
+
+add-at-2 : tie.Need-add-at-2 Inv-loop μ-loop
+add-at-2 c = search needs
+
+mul-at-2 : tie.Need-mul-at-2 Inv-loop μ-loop
+mul-at-2 c = search needs
+
+shared-slice-read-at : tie.Need-shared-slice-read-at Inv-loop μ-loop
+shared-slice-read-at c = search needs
+
+cast-at : tie.Need-cast-at Inv-loop μ-loop
+cast-at c = omega (arith, c .shared-slice-known3 .given (2 + 3 * c .before .before .before .before .loop .i + 2))
+
+add-at-3 : tie.Need-add-at-3 Inv-loop μ-loop
+add-at-3 c =
+    let start = c .before .before .before .before .before .before .before in
+    let walk = c .before .before .before .before .loop in
+    let a = start .args in
+    let below : walk .i < keys-of (a .index .now) = omega (arith, c .before .before .before .loop-test .taken, start .pre .1) in
+    let there = line-there (a .restore) (a .index .now) (walk .part) (walk .i) (walk .at) (start .pre .0) (walk .inv) below in
+    omega (arith, there .next, start .good)
+
+add-i : tie.Need-add-i Inv-loop μ-loop
+add-i c = search needs
+
+loop-less : tie.Need-loop-less Inv-loop μ-loop
+loop-less c = search needs
+
+loop-again : tie.Need-loop-again Inv-loop μ-loop
+loop-again c =
+    let start = c .before .before .before .before .before .before .before in
+    let walk = c .before .before .before .before .loop in
+    let a = start .args in
+    let below : walk .i < keys-of (a .index .now) = omega (arith, c .before .before .before .loop-test .taken, start .pre .1) in
+    let there = line-there (a .restore) (a .index .now) (walk .part) (walk .i) (walk .at) (start .pre .0) (walk .inv) below in
+    let xs = a .index .now in
+    let ps = drop (header + 3 * keys-of xs) xs in
+    let first : c .before .first-number .result ≡ first-as (a .restore) (getD ps (walk .at) 0) =
+    c .before .first-number .ensures
+    ∙ ap (first-as (a .restore))
+    (ap (λ (j : ℕ). getD xs j 0) (omega (arith, start .pre .1)) ∙ sym (getD-drop (header + 3 * keys-of xs) xs (walk .at) 0)) in
+    rw first
+    (firsts-step (first-as (a .restore)) (pair-as (a .restore)) xs ps (walk .part) (walk .i) (walk .at) (walk .inv) below
+    (start .pre .0 .some (walk .i) below))
+
+same-length : tie.Need-same-length Inv-loop μ-loop
+same-length c =
+    let start = c .before .before .before .before in
+    let a = start .args in
+    let xs = a .index .now in
+    let begun =
+    firsts-start (first-as (a .restore)) (pair-as (a .restore)) xs (drop (header + 3 * keys-of xs) xs)
+    (start .pre .2 .0) (a .part .now) (start .pre .2 .1) (counts-all xs (start .pre .0 .fits)) in
+    c .before .loop .inv .long ∙ sym (begun .long)
+
+returns : tie.Need-returns Inv-loop μ-loop
+returns c =
+    let start = c .before .before .before .before in
+    let a = start .args in
+    let walk = c .before .loop in
+    firsts-end (first-as (a .restore)) (pair-as (a .restore)) (a .index .now) (drop (header + 3 * keys-of (a .index .now)) (a .index .now))
+    (walk .part) (walk .i) (walk .at) (walk .inv) (omega (arith, c .loop-test .left, start .pre .1))
+
+pub put-firsts-spec : {M : Type 1} → statement M
+put-firsts-spec =
+    tie.close
+    (tie.spec
+    Inv-loop
+    μ-loop
+    mul-first
+    add-first
+    loop-holds
+    add-first-number
+    mul-first-number
+    shared-slice-read-first-number
+    first-number-requires
+    mul-part
+    slice-write-part
+    mul-at
+    add-at
+    add-at-2
+    mul-at-2
+    shared-slice-read-at
+    cast-at
+    add-at-3
+    add-i
+    loop-less
+    loop-again
+    same-length
+    returns)

@@ -1,0 +1,85 @@
+-- `write_distances` meets its contract. The invariant: the distances before i stand. The measure is how many are left. Assumes nothing.
+use Prim.Native.Nat.{_-_}
+use native.Mathlib.Omega.{arith}
+use lib.ListN.{length}
+use Rattle.laws.specs.GapWriting.{Distances, distances-start, distances-step, distances-end}
+use borrow.Author.Needs.{needs}
+use Rattle.gaps.proofs.writing.write_distances.Statement.{statement}
+use Rattle.gaps.proofs.writing.write_distances.Tie as tie
+
+abbrev Inv-loop : tie.InvT-loop
+Inv-loop run part₀ i₀ part i = Distances run part₀ part i
+
+abbrev μ-loop : tie.MeasureT-loop
+μ-loop run part₀ i₀ part i = length part₀ - i
+
+loop-holds : tie.Need-loop-holds Inv-loop μ-loop
+loop-holds c = distances-start (c .before .before .args .run .now) (c .before .before .args .part .now) (c .before .before .pre)
+
+mul-distance : tie.Need-mul-distance Inv-loop μ-loop
+mul-distance c = search needs
+
+shared-slice-read-distance : tie.Need-shared-slice-read-distance Inv-loop μ-loop
+shared-slice-read-distance c = search needs
+
+add-distance : tie.Need-add-distance Inv-loop μ-loop
+add-distance c = search needs
+
+mul-distance-2 : tie.Need-mul-distance-2 Inv-loop μ-loop
+mul-distance-2 c = search needs
+
+shared-slice-read-distance-2 : tie.Need-shared-slice-read-distance-2 Inv-loop μ-loop
+shared-slice-read-distance-2 c = search needs
+
+distance-requires : tie.Need-distance-requires Inv-loop μ-loop
+distance-requires c κs = search needs
+
+mul-part : tie.Need-mul-part Inv-loop μ-loop
+mul-part c = search needs
+
+slice-write-part : tie.Need-slice-write-part Inv-loop μ-loop
+slice-write-part c = search needs
+
+add-i : tie.Need-add-i Inv-loop μ-loop
+add-i c = search needs
+
+loop-less : tie.Need-loop-less Inv-loop μ-loop
+loop-less c = search needs
+
+loop-again : tie.Need-loop-again Inv-loop μ-loop
+loop-again c =
+    let start = c .before .before .before .before .before .before .before in
+    let walk = c .before .before .before .before .loop in
+    rw (c .distance .ensures)
+    (distances-step (start .args .run .now) (start .args .part .now) (start .pre) (walk .part) (walk .i) (walk .inv)
+    (c .before .before .before .loop-test .taken))
+
+same-length : tie.Need-same-length Inv-loop μ-loop
+same-length c = c .before .loop .inv .way .long
+
+returns : tie.Need-returns Inv-loop μ-loop
+returns c =
+    let start = c .before .before .before .before in
+    let walk = c .before .loop in
+    distances-end (start .args .run .now) (start .args .part .now) (start .pre) (walk .part) (walk .i) (walk .inv) (c .loop-test .left)
+
+pub write-distances-spec : {M : Type 1} → statement M
+write-distances-spec =
+    tie.close
+    (tie.spec
+    Inv-loop
+    μ-loop
+    loop-holds
+    mul-distance
+    shared-slice-read-distance
+    add-distance
+    mul-distance-2
+    shared-slice-read-distance-2
+    distance-requires
+    mul-part
+    slice-write-part
+    add-i
+    loop-less
+    loop-again
+    same-length
+    returns)

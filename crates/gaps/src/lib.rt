@@ -1,0 +1,3 @@
+// The gap form of an index, and its inverse.
+pub mod form;
+mod writing;

@@ -1,0 +1,104 @@
+// Writing the lists of a gap form, and those of a restored one.
+//
+// Most lists are short, so that a loop for each list costs more than the numbers in it. All positions are therefore written in one pass
+// as if they were one list, and a walk over the directory then puts the first of each list right. For gaps that pass takes differences.
+// For positions it adds gaps up, and masks say where a sum begins anew: 0 at the first gap of a list, all ones at the others.
+ghost use mathlib.Core.Path.{_≡_};
+ghost use mathlib.Core.Bool.{true, false};
+ghost use Prim.Native.Nat.{ℕ, suc, _+_, _*_, _-_, _≤_};
+ghost use lib.ListN.{length, getD, drop};
+ghost use Rattle.spec.specs.Index.{header, keys-of};
+ghost use Rattle.spec.specs.Gaps.{gaps-after, gaps, prefix-sums, lists-from};
+ghost use Rattle.laws.specs.GapWriting.{by-pairs, first-apart};
+ghost use Rattle.laws.specs.GapSums.{masked-sums, carry};
+ghost use Rattle.laws.specs.GapParts.{pair-as, first-as, Writable};
+use copying::slices::fill;
+
+// The distance of a position from the one before; 0 where it is not after it, which is so only at the first of a list.
+fn distance(before: u16, place: u16) -> u16
+    ensures { λ r. ⌜ r ≡ place - before ⌝ }
+{
+    if before < place { place - before } else { 0 }
+}
+
+// Writes the distance of each number of a run from the one before it.
+fn write_distances(run: &[u16], part: &mut [u16])
+    requires { ⌜ length (now run) ≡ suc (length (now part)) ⌝ }
+    ensures { λ r. ⌜ now (part .exit) ≡ gaps-after (getD (now (run .entry)) 0 0) (drop 1 (now (run .entry))) ⌝ }
+{
+    let mut i = 0;
+    while i < part.len() {
+        part[i] = distance(run[i], run[i + 1]);
+        i += 1;
+    }
+}
+
+// The first number of a list: a mask, or the position itself.
+fn first_number(restore: bool, place: u16) -> u16
+    ensures { λ r. ⌜ r ≡ first-as restore place ⌝ }
+{
+    if restore { 0 } else { place }
+}
+
+// Puts the first number of each list right, where all of them stand as if they were one.
+fn put_firsts(index: &[u16], keys: usize, restore: bool, part: &mut [u16])
+    requires { ⌜
+        Writable restore (now index) × (keys ≡ keys-of (now index)) ×
+        ((b : ℕ) × (now part ≡ by-pairs (pair-as restore) b (drop (header + 3 * keys-of (now index)) (now index)))) ⌝ }
+    ensures { λ r. ⌜
+        now (part .exit) ≡ lists-from (first-apart (first-as restore) (pair-as restore)) (keys-of (now (index .entry))) 0
+        (now (index .entry)) (drop (header + 3 * keys-of (now (index .entry))) (now (index .entry))) ⌝ }
+{
+    let first = 2 + 3 * keys;
+    let mut at = 0;
+    let mut i = 0;
+    while i < keys {
+        part[at] = first_number(restore, index[first + at]);
+        at += index[2 + 3 * i + 2] as usize;
+        i += 1;
+    }
+}
+
+// Adds gaps up in the place of their masks.
+fn add_up(gaps: &[u16], part: &mut [u16])
+    requires { ⌜
+        (length (now part) ≡ length (now gaps)) × ((j : ℕ) → getD (masked-sums 0 (now part) (now gaps)) j 0 ≤ carry) ⌝ }
+    ensures { λ r. ⌜ now (part .exit) ≡ masked-sums 0 (now (part .entry)) (now (gaps .entry)) ⌝ }
+{
+    let mut sum: u16 = 0;
+    let mut i = 0;
+    while i < gaps.len() {
+        sum = (sum & part[i]) + gaps[i];
+        part[i] = sum;
+        i += 1;
+    }
+}
+
+// Writes the gaps of every list of an index.
+pub(crate) fn write_gaps(index: &[u16], keys: usize, part: &mut [u16])
+    requires { ⌜
+        Writable false (now index) × (keys ≡ keys-of (now index)) ×
+        (length (now part) ≡ length (drop (header + 3 * keys-of (now index)) (now index))) ⌝ }
+    ensures { λ r. ⌜
+        now (part .exit) ≡ lists-from gaps (keys-of (now (index .entry))) 0 (now (index .entry))
+        (drop (header + 3 * keys-of (now (index .entry))) (now (index .entry))) ⌝ }
+{
+    let before = 1 + 3 * keys;
+    write_distances(&index[before..], part);
+    put_firsts(index, keys, false, part);
+}
+
+// Writes the positions of every list of a gap form.
+pub(crate) fn write_positions(index: &[u16], keys: usize, part: &mut [u16])
+    requires { ⌜
+        Writable true (now index) × (keys ≡ keys-of (now index)) ×
+        (length (now part) ≡ length (drop (header + 3 * keys-of (now index)) (now index))) ⌝ }
+    ensures { λ r. ⌜
+        now (part .exit) ≡ lists-from prefix-sums (keys-of (now (index .entry))) 0 (now (index .entry))
+        (drop (header + 3 * keys-of (now (index .entry))) (now (index .entry))) ⌝ }
+{
+    let first = 2 + 3 * keys;
+    fill(part, 65535);
+    put_firsts(index, keys, true, part);
+    add_up(&index[first..], part);
+}
