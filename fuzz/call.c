@@ -19,6 +19,8 @@ static const uint32_t refusals[OPERATIONS] = {
     [SEARCH] = DICTIONARY | BIT(5) | BIT(6) | BIT(8),
     [CUT] = DICTIONARY | BIT(5) | BIT(6) | BIT(8),
     [FIRST] = DICTIONARY | BIT(5) | BIT(6),
+    [TO_GAPS] = DICTIONARY | BIT(5) | BIT(8),
+    [FROM_GAPS] = DICTIONARY | BIT(5) | BIT(8),
 };
 
 /*
@@ -53,7 +55,8 @@ int takes_work(enum operation operation)
 int takes_output(enum operation operation)
 {
     return operation == BUILD || operation == RECOVER ||
-           operation == SEARCH || operation == CUT;
+           operation == SEARCH || operation == CUT ||
+           operation == TO_GAPS || operation == FROM_GAPS;
 }
 
 static answer plain(mopekihua_answer given)
@@ -90,9 +93,15 @@ static answer made(enum operation operation, const loan *lent, uint16_t *at[])
     case CUT:
         return plain(mopekihua_cut(DICTIONARY_LENT, LENT(INDEX), LENT(STRING),
                                    LENT(OUTPUT)));
-    default:
+    case FIRST:
         return located(mopekihua_first(DICTIONARY_LENT, LENT(INDEX),
                                        LENT(STRING)));
+    case TO_GAPS:
+        return plain(mopekihua_to_gaps(DICTIONARY_LENT, LENT(INDEX),
+                                       LENT(OUTPUT)));
+    default:
+        return plain(mopekihua_from_gaps(DICTIONARY_LENT, LENT(GAPS),
+                                         LENT(OUTPUT)));
     }
 }
 

@@ -8,11 +8,12 @@
 #include "mopekihua.h"
 
 enum operation {
-    ADMIT, BUILD, TALLY, RECEIVE, RECOVER, SEARCH, CUT, FIRST, OPERATIONS
+    ADMIT, BUILD, TALLY, RECEIVE, RECOVER, SEARCH, CUT, FIRST, TO_GAPS,
+    FROM_GAPS, OPERATIONS
 };
 
 /* The slices that are lent, those to be written last. */
-enum part { CHARS, LENGTHS, TEXT, INDEX, STRING, OUTPUT, WORK, PARTS };
+enum part { CHARS, LENGTHS, TEXT, INDEX, STRING, GAPS, OUTPUT, WORK, PARTS };
 
 typedef struct {
     const uint16_t *numbers;

@@ -13,67 +13,31 @@
  *   and that holds no full-width form;
  * - the cut-down index finds what the index finds, and the tally adds up;
  * - the first position is the head of what search finds, and the same without
- *   the entries that start behind the string laid there.
+ *   the entries that start behind the string laid there;
+ * - gap forms and restored forms are those of a plain reading, and each leads
+ *   back to the other.
  */
 #include <string.h>
 
+#include "ample.h"
 #include "call.h"
+#include "gaps.h"
 #include "input.h"
-#include "lend.h"
+#include "shown.h"
 #include "width.h"
 
 enum {
-    MOST_WORDS = MOPEKIHUA_MOST_WORDS,
     LONGEST_TEXT = MOPEKIHUA_LONGEST_TEXT,
     LONGEST_STRING = MOPEKIHUA_LONGEST_STRING
 };
-
-#define LONGEST_INDEX (MOPEKIHUA_INDEX_BOUND(LONGEST_TEXT) + MOST_CHANGES)
 
 /* Texts longer than this are handed only to the operation asked for. */
 #define SHORT_TEXT 4096
 
 /* Results of calls, each as long as it can be. */
-static uint16_t built[LONGEST_INDEX], delivered[LONGEST_INDEX];
+static uint16_t built[LONGEST_INDEX];
+static uint16_t delivered[LONGEST_INDEX], delivered_gaps[LONGEST_INDEX];
 static uint16_t result[LONGEST_INDEX], other[LONGEST_INDEX];
-static uint16_t shown[LONGEST_TEXT];
-
-/* The loan with another part. */
-static loan with(loan lent, enum part part, const uint16_t *numbers, size_t len)
-{
-    lent.parts[part] = (slice){numbers, len};
-    return lent;
-}
-
-/* The n that the work slice goes by. */
-static size_t stated_length(enum operation operation, const loan *lent)
-{
-    if (operation == BUILD)
-        return lent->parts[TEXT].len;
-    return lent->parts[INDEX].len > 0 ? lent->parts[INDEX].numbers[0] : 0;
-}
-
-/* A call with as much work space and output as it can ask for. */
-static answer ample(enum operation operation, loan lent, uint16_t *written)
-{
-    size_t n = stated_length(operation, &lent);
-
-    lent.parts[WORK].len = takes_work(operation) ? MOPEKIHUA_WORK_NEEDED(n) : 0;
-    if (operation == BUILD)
-        lent.parts[OUTPUT].len = n > LONGEST_TEXT ? 0 : MOPEKIHUA_INDEX_BOUND(n);
-    else if (operation == CUT)
-        lent.parts[OUTPUT].len = lent.parts[INDEX].len;
-    else
-        lent.parts[OUTPUT].len = takes_output(operation) ? n : 0;
-    return call(operation, &lent, written);
-}
-
-/* Whether this slice holds these numbers. */
-static int holds(slice lent, const uint16_t *numbers, size_t len)
-{
-    return lent.len == len &&
-           (len == 0 || memcmp(lent.numbers, numbers, len * sizeof *numbers) == 0);
-}
 
 /* The loan with its text, a short one, and its string replaced. */
 static loan with_replaced(loan lent)
@@ -127,39 +91,6 @@ static void check_index_of(const loan *lent)
         listed += is_listed;
     }
     require(listed == found.count, "positions past the text, or not in order");
-}
-
-/* Puts the text that the entries of a readable index show into shown. */
-static void show(const loan *lent)
-{
-    slice index = lent->parts[INDEX], lengths = lent->parts[LENGTHS];
-    size_t keys = index.numbers[1];
-    const uint16_t *position = index.numbers + 2 + 3 * keys;
-    static size_t starts[MOST_WORDS + 1];
-
-    for (size_t i = 0; i < lengths.len; i++)
-        starts[i + 1] = starts[i] + lengths.numbers[i];
-    memset(shown, 0, sizeof shown);
-    for (size_t i = 0; i < keys; i++) {
-        const uint16_t *line = index.numbers + 2 + 3 * i;
-        const uint16_t *spelt = line + 1;
-        size_t len = 1;
-        if (line[0] == 0) {
-            spelt = lent->parts[CHARS].numbers + starts[line[1]];
-            len = lengths.numbers[line[1]];
-        }
-        for (size_t j = 0; j < line[2]; j++, position++)
-            memcpy(shown + *position - 1, spelt, len * sizeof *spelt);
-    }
-}
-
-/* Whether the index is that of the text that it shows. */
-static int is_of_shown(const loan *lent)
-{
-    show(lent);
-    loan again = with(*lent, TEXT, shown, lent->parts[INDEX].numbers[0]);
-    answer rebuilt = ample(BUILD, again, other);
-    return holds(lent->parts[INDEX], other, rebuilt.count);
 }
 
 /* A string and its replaced string have the same answers. */
@@ -241,7 +172,7 @@ static void check_readable(const loan *lent)
 /*
  * The number of the first line of the table that is met, in the operation's
  * order, where work space and output are ample. The tally says whether the index
- * is readable.
+ * or the restored one is readable.
  */
 static uint32_t first_met(enum operation operation, const loan *lent)
 {
@@ -252,8 +183,10 @@ static uint32_t first_met(enum operation operation, const loan *lent)
         return dictionary;
     if (operation == BUILD)
         return lent->parts[TEXT].len > LONGEST_TEXT ? 4 : 0;
+    if (operation == FROM_GAPS)
+        return is_gap_form(lent) ? 0 : 5;
     uint32_t index = ample(TALLY, *lent, result).refusal;
-    if (operation == TALLY || index != 0)
+    if (operation == TALLY || operation == TO_GAPS || index != 0)
         return index;
     if (operation == SEARCH || operation == CUT || operation == FIRST)
         return string_len == 0 || string_len > LONGEST_STRING ? 6 : 0;
@@ -262,7 +195,7 @@ static uint32_t first_met(enum operation operation, const loan *lent)
     return is_of_shown(lent) ? 0 : 9;
 }
 
-/* What an accepted call answers, where that is not how much it writes. */
+/* What an accepted call answers, where that is known beforehand. */
 static int counts_right(enum operation operation, const loan *lent, answer given)
 {
     if (operation == ADMIT)
@@ -271,6 +204,10 @@ static int counts_right(enum operation operation, const loan *lent, answer given
         return given.count == stated_length(operation, lent);
     if (operation == FIRST)
         return given.count == head_found(lent);
+    if (operation == TO_GAPS)
+        return given.count == lent->parts[INDEX].len;
+    if (operation == FROM_GAPS)
+        return given.count == lent->parts[GAPS].len;
     return 1;
 }
 
@@ -305,15 +242,21 @@ static void check_asked(const input *in, loan lent)
                 "another result for this room");
 }
 
-/* The built index with the changes that are asked for. */
-static slice changed(const input *in, slice index)
+/* Makes the changes that are asked for, in an index or in a gap form. */
+static slice changed(const input *in, uint16_t *numbers, size_t len)
 {
-    size_t len = index.len;
-
-    memcpy(delivered, index.numbers, len * sizeof *delivered);
     for (size_t i = 0; i < in->changes; i++)
-        len = change_index(delivered, len, in->change[i]);
-    return (slice){delivered, len};
+        len = change_index(numbers, len, in->change[i]);
+    return (slice){numbers, len};
+}
+
+/* Delivers the built index and its gap form, each with its changes. */
+static void deliver(const input *in, loan *lent, size_t built_len)
+{
+    memcpy(delivered, built, built_len * sizeof *built);
+    put_gaps(delivered_gaps, built, built_len);
+    lent->parts[INDEX] = changed(in, delivered, built_len);
+    lent->parts[GAPS] = changed(in, delivered_gaps, built_len);
 }
 
 int LLVMFuzzerTestOneInput(const uint8_t *bytes, size_t len)
@@ -330,10 +273,13 @@ int LLVMFuzzerTestOneInput(const uint8_t *bytes, size_t len)
         lent.parts[INDEX] = (slice){built, index.count};
         if (text_len <= SHORT_TEXT)
             check_index_of(&lent);
-        lent.parts[INDEX] = changed(in, lent.parts[INDEX]);
+        deliver(in, &lent, index.count);
     }
-    if (text_len <= SHORT_TEXT && ample(TALLY, lent, result).refusal == 0)
-        check_readable(&lent);
+    if (text_len <= SHORT_TEXT) {
+        if (ample(TALLY, lent, result).refusal == 0)
+            check_readable(&lent);
+        check_gaps(&lent);
+    }
     check_asked(in, lent);
     return 0;
 }

@@ -279,6 +279,8 @@ const input *read_input(const uint8_t *data, size_t len)
     in.lent.parts[CHARS] = (slice){chars, chars_len};
     in.lent.parts[LENGTHS] = (slice){lengths, lengths_len};
     in.lent.parts[in.delivered ? INDEX : TEXT] = (slice){text, text_len};
+    if (in.delivered)
+        in.lent.parts[GAPS] = in.lent.parts[INDEX];
     in.lent.parts[STRING] = (slice){string, string_len};
     return &in;
 }

@@ -14,13 +14,16 @@
 typedef struct {
     enum operation operation;
 
-    /* The dictionary, the text and the string; the index if it is not built. */
+    /*
+     * The dictionary, the text and the string; the index and the gap form, of
+     * the same numbers, if the index is not built.
+     */
     loan lent;
 
     /* Whether the index is delivered as it is, and not built from the text. */
     int delivered;
 
-    /* What is done to an index that is built. */
+    /* What is done to an index that is built, and to its gap form. */
     size_t changes;
     change change[MOST_CHANGES];
 

@@ -18,7 +18,7 @@ enum side { AFTER, BEFORE, SIDES };
 #define LONGEST_SLICE (8 * 65600)
 
 /* The number of slices that a call is lent at most. */
-#define PLACES 7
+#define PLACES 8
 
 /*
  * Room for len numbers, none of it shared with another place. A forbidden page

@@ -398,6 +398,75 @@ mopekihua_answer mopekihua_cut(const uint16_t *chars, size_t chars_len,
                                const uint16_t *string, size_t string_len,
                                uint16_t *output, size_t output_len);
 
+/*
+ * Rearranges an index into its gap form, whose numbers are smaller and pack
+ * better: under each key the first position stays, and each later one becomes
+ * its distance from the one before (delta encoding). Header and directory stay,
+ * and the length is the same. mopekihua_from_gaps restores the index.
+ *
+ * The dictionary is lent as to mopekihua_admit, the index as to
+ * mopekihua_tally. The index need not be that of a text. With the words ab and
+ * bc the index of the text abcbcab, and its gap form, are
+ *
+ *   7  2    0 0 2   0 1 2    1 6   2 4
+ *   7  2    0 0 2   0 1 2    1 5   2 2
+ *
+ * Nothing in the numbers tells a gap form from an index, and it may be readable
+ * as another one: lend it to mopekihua_from_gaps only.
+ *
+ * Answers, the first that applies:
+ *   MOPEKIHUA_DICTIONARY_TOO_LARGE, MOPEKIHUA_LENGTHS_WRONG,
+ *   MOPEKIHUA_WORDS_NOT_ASCENDING,
+ *   MOPEKIHUA_FULL_WIDTH_WORD       as mopekihua_admit answers
+ *   MOPEKIHUA_INDEX_NOT_READABLE    the index is not readable, as for
+ *                                   mopekihua_tally
+ *   MOPEKIHUA_OUTPUT_TOO_SHORT      output_len is below index_len
+ *   MOPEKIHUA_ACCEPTED              the gap form is written to the front of
+ *                                   output; count is index_len
+ *
+ * output past count is left as it was; after a refusal all of output is. For
+ * slices lent as said above the call always returns, whatever they hold, in
+ * time linear in the dictionary and the index.
+ */
+mopekihua_answer mopekihua_to_gaps(const uint16_t *chars, size_t chars_len,
+                                   const uint16_t *lengths, size_t lengths_len,
+                                   const uint16_t *index, size_t index_len,
+                                   uint16_t *output, size_t output_len);
+
+/*
+ * Restores an index from its gap form: under each key the first number stays,
+ * and to each later one all those before it under the same key are added
+ * (prefix sums). Header and directory stay, and the length is the same.
+ *
+ * The dictionary is lent as to mopekihua_admit, the gap form as
+ * mopekihua_to_gaps writes it. It may come from elsewhere and hold anything. It
+ * is accepted if its restored form is readable, as for mopekihua_tally, whether
+ * a text has that or not. So a gap of 0 is refused, a sum at which the last
+ * character of the key falls after n, and a number too many or too few. Sums do
+ * not wrap: 3 and then a gap of 65,534 make 65,537, which is past every n.
+ *
+ * The index that mopekihua_to_gaps was lent is restored exactly, and for every
+ * gap form accepted mopekihua_to_gaps gives the same gap form again.
+ *
+ * Answers, the first that applies:
+ *   MOPEKIHUA_DICTIONARY_TOO_LARGE, MOPEKIHUA_LENGTHS_WRONG,
+ *   MOPEKIHUA_WORDS_NOT_ASCENDING,
+ *   MOPEKIHUA_FULL_WIDTH_WORD       as mopekihua_admit answers
+ *   MOPEKIHUA_INDEX_NOT_READABLE    the restored form is not readable
+ *   MOPEKIHUA_OUTPUT_TOO_SHORT      output_len is below gaps_len
+ *   MOPEKIHUA_ACCEPTED              the index is written to the front of
+ *                                   output; count is gaps_len
+ *
+ * output past count is left as it was; after a refusal all of output is. For
+ * slices lent as said above the call always returns, whatever they hold, in
+ * time linear in the dictionary and the gap form.
+ */
+mopekihua_answer mopekihua_from_gaps(const uint16_t *chars, size_t chars_len,
+                                     const uint16_t *lengths,
+                                     size_t lengths_len, const uint16_t *gaps,
+                                     size_t gaps_len, uint16_t *output,
+                                     size_t output_len);
+
 #ifdef __cplusplus
 }
 #endif

@@ -6,7 +6,9 @@
 //! each word. Adversarial rows are the inputs on which a
 //! careless algorithm gets slow; their last column says how much a character
 //! costs there beside an ordinary one. A line that starts with "beside" has
-//! another operation of the library in the column of plain Rust.
+//! another operation of the library in the column of plain Rust. Below the long
+//! sheets of `to_gaps` and `from_gaps` stands how many bytes of index a second
+//! that is.
 //!
 //! Operations named on the command line are timed, or all:
 //! `cargo bench --bench speed -- build`.
@@ -27,7 +29,7 @@ use sheets::Sheets;
 /// Prints the rows of an operation.
 type Print = fn(&Sheets);
 
-/// The name of each operation, and its rows.
+/// The name of each operation, and its rows; `packing` prints sizes.
 const OPERATIONS: &[(&str, Print)] = &[
     ("admission", rows::admission::print),
     ("build", rows::building::print),
@@ -38,6 +40,9 @@ const OPERATIONS: &[(&str, Print)] = &[
     ("search", rows::searching::print),
     ("first", rows::first::print),
     ("cut", rows::cutting::print),
+    ("to_gaps", rows::gaps::print_to),
+    ("from_gaps", rows::gaps::print_from),
+    ("packing", rows::packing::print),
 ];
 
 fn main() {

@@ -78,6 +78,18 @@ pub fn print_beside(name: &str, time: f64, other: f64, calls: usize) {
     );
 }
 
+/// Under a row, how many bytes its programs take in a second: each took all of
+/// `bytes` once in its time.
+pub fn print_rates(race: Race, bytes: usize) {
+    let rate = |time: f64| format!("{:.2} GB/s", bytes as f64 / time);
+    println!(
+        "    {:<54} {:>11} {:>11}",
+        "of index",
+        rate(race.proved),
+        rate(race.plain)
+    );
+}
+
 fn per_call(time: f64, calls: usize) -> String {
     format!("{:.2} µs", time / calls as f64 / 1_000.0)
 }

@@ -44,6 +44,13 @@ impl Case {
         indexes.expect("the generators keep to the limits")
     }
 
+    /// The gap form of each index.
+    pub fn gap_forms(&self) -> Vec<Vec<u16>> {
+        let gaps_of = |index: &Vec<u16>| mopekihua::to_gaps(&self.chars, &self.lengths, index);
+        let forms: Result<_, _> = self.indexes().iter().map(gaps_of).collect();
+        forms.expect("an index that is built is readable")
+    }
+
     /// Eight strings of these lengths from each text, as far as it is as long.
     pub fn searches(&self, low: usize, high: usize) -> Vec<Search> {
         self.searches_in(low, high, 1)
@@ -94,6 +101,8 @@ pub struct Sheets {
     pub sizes: Vec<(&'static str, Case)>,
     /// A sheet of the largest size with many full-width forms, and its name.
     pub full_width: (&'static str, Case),
+    /// Long sheets, more than a branch predictor learns by heart, and their name.
+    pub many: (&'static str, Case),
 }
 
 impl Sheets {
@@ -107,27 +116,33 @@ impl Sheets {
                 by_rank.push(word);
             }
         }
-        let mut sheets = |count: usize, low: usize, high: usize| {
+        let sheets = |random: &mut Random, count: usize, low: usize, high: usize| {
             let texts = (0..count).map(|_| {
                 let n = random.within(low, high);
-                text(&mut random, &by_rank, n)
+                text(random, &by_rank, n)
             });
             Case::new(&words, texts.collect())
         };
-        let sizes = vec![
-            ("about 60 characters", sheets(32, 40, 80)),
-            ("about 300 characters", sheets(16, 250, 350)),
-            ("about 5,000 characters", sheets(4, 4_500, 5_500)),
-            ("about 60,000 characters", sheets(1, 60_000, 60_000)),
+        let sizes = [
+            ("about 60 characters", 32, 40, 80),
+            ("about 300 characters", 16, 250, 350),
+            ("about 5,000 characters", 4, 4_500, 5_500),
+            ("about 60,000 characters", 1, 60_000, 60_000),
         ];
+        let sizes = sizes.map(|(name, count, low, high)| {
+            let case = sheets(&mut random, count, low, high);
+            (name, case)
+        });
+        let many = sheets(&mut Random::seeded(16), 16, 30_000, 60_000);
         words.insert(DN.to_vec());
         let pipes = pipes(&mut random, &by_rank, 60_000);
         Sheets {
-            sizes,
+            sizes: sizes.into(),
             full_width: (
                 "60,000 characters with pipe sizes",
                 Case::new(&words, vec![pipes]),
             ),
+            many: ("16 sheets of 30,000 to 60,000 characters", many),
         }
     }
 }

@@ -129,4 +129,6 @@ functions! {
     search calls mopekihua_search(chars, lengths, index, string; output) -> Answer;
     first calls mopekihua_first(chars, lengths, index, string;) -> FirstAnswer;
     cut calls mopekihua_cut(chars, lengths, index, string; output) -> Answer;
+    to_gaps calls mopekihua_to_gaps(chars, lengths, index; output) -> Answer;
+    from_gaps calls mopekihua_from_gaps(chars, lengths, gaps; output) -> Answer;
 }

@@ -115,6 +115,29 @@
 //! its first position alone, which tells whether the string is left anywhere.
 //! [`cut`] leaves what a search for one string needs.
 //!
+//! # Gaps
+//!
+//! Small numbers pack better. In the gap form of an index the first position
+//! under each key stays, and each later one is its distance from the one before;
+//! the rest and the length are the same. [`to_gaps`] gives the gap form of a
+//! readable index, and [`from_gaps`] restores the index, exactly.
+//!
+//! ```
+//! use mopekihua::{Dictionary, Index};
+//!
+//! let dictionary = Dictionary::new(["図", "図面", "面"])?;
+//! let index = Index::build(&dictionary, "図面の図の図面")?;
+//! // 図 at 4; 図面 at 1 and 6; の at 3 and 5.
+//! assert_eq!(index.numbers()[11..], [4, 1, 6, 3, 5]);
+//! let gaps = index.to_gaps();
+//! assert_eq!(gaps[11..], [4, 1, 5, 3, 2]);
+//! assert_eq!(Index::from_gaps(&dictionary, &gaps)?, index);
+//! # Ok::<(), mopekihua::Error>(())
+//! ```
+//!
+//! Nothing in the numbers tells a gap form from an index, and it may be readable
+//! as another one: it is to be restored before any other call.
+//!
 //! # What is proved and what is not
 //!
 //! The library's code is proved: for every input, declined ones too, the
@@ -140,6 +163,7 @@ mod cutting;
 mod dictionary;
 mod error;
 mod ffi;
+mod gaps;
 mod index;
 mod output;
 mod query;
@@ -154,6 +178,7 @@ pub use characters::{CharacterError, Characters, characters_of, replaced, string
 pub use cutting::{cut, cut_into};
 pub use dictionary::Dictionary;
 pub use error::Error;
+pub use gaps::{from_gaps, from_gaps_into, to_gaps, to_gaps_into};
 pub use index::Index;
 pub use query::Query;
 pub use readable::{Key, Line, ReadableIndex};

@@ -6,9 +6,9 @@ use crate::{Dictionary, Index, Query, Refusal, Tally, cut, first, recover, searc
 ///
 /// Some text may have them as its index or none may. A [cut-down](Self::cut)
 /// index is usually that of no text; one that was damaged on its way may be
-/// readable still. Every readable index can be searched, cut down and tallied,
-/// and none of these calls is refused. For numbers that are to stand for a text,
-/// take [`Index`].
+/// readable still. Every readable index can be searched, cut down, tallied and
+/// rearranged into [gaps](crate#gaps), and none of these calls is refused. For
+/// numbers that are to stand for a text, take [`Index`].
 ///
 /// The numbers are never replaced: a lone character that is a
 /// [full-width form](crate#full-width-forms) is tallied, but no string finds it,

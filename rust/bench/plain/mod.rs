@@ -6,6 +6,7 @@ pub mod building;
 pub mod cutting;
 pub mod directory;
 pub mod first;
+pub mod gaps;
 pub mod matching;
 pub mod painted;
 pub mod reading;

@@ -1,14 +1,24 @@
 //! Readability and the tally: one walk over the directory with the positions of
 //! each line as it is reached, and for lone characters a walk over the words
-//! beside it, since both ascend.
+//! beside it, since both ascend. A gap form is read by the same walk.
 
 use super::admission::admit;
 use super::width::copy_replaced;
 
 /// The first of lines 1, 2, 3, 12 and 5 that dictionary and index meet, if any.
 pub fn admit_index(chars: &[u16], lengths: &[u16], index: &[u16]) -> Result<(), u32> {
+    admit_form(chars, lengths, index, false)
+}
+
+/// The same for the index that a gap form restores to.
+pub fn admit_gaps(chars: &[u16], lengths: &[u16], gaps: &[u16]) -> Result<(), u32> {
+    admit_form(chars, lengths, gaps, true)
+}
+
+/// The flag says whether lists are read as gaps.
+fn admit_form(chars: &[u16], lengths: &[u16], index: &[u16], as_gaps: bool) -> Result<(), u32> {
     admit(chars, lengths)?;
-    if readable(chars, lengths, index) {
+    if readable(chars, lengths, index, as_gaps) {
         Ok(())
     } else {
         Err(5)
@@ -53,7 +63,7 @@ pub fn tally(chars: &[u16], lengths: &[u16], index: &[u16]) -> Result<([u64; 32]
     Ok((by_length, index.len() - 2 - 3 * keys))
 }
 
-fn readable(chars: &[u16], lengths: &[u16], index: &[u16]) -> bool {
+fn readable(chars: &[u16], lengths: &[u16], index: &[u16], as_gaps: bool) -> bool {
     let &[n, keys, ref rest @ ..] = index else {
         return false;
     };
@@ -67,12 +77,13 @@ fn readable(chars: &[u16], lengths: &[u16], index: &[u16]) -> bool {
             return false;
         };
         if kind != 0 {
-            return lone_lines_good(chars, lengths, n, &directory[3 * place..], rest);
+            let directory = &directory[3 * place..];
+            return lone_lines_good(chars, lengths, n, directory, rest, as_gaps);
         }
         let Some(&long) = lengths.get(usize::from(value)) else {
             return false;
         };
-        if usize::from(value) < least || !places_good(&mut rest, count, n, long) {
+        if usize::from(value) < least || !places_good(&mut rest, count, n, long, as_gaps) {
             return false;
         }
         least = usize::from(value) + 1;
@@ -88,6 +99,7 @@ fn lone_lines_good(
     n: u16,
     directory: &[u16],
     positions: &[u16],
+    as_gaps: bool,
 ) -> bool {
     let mut rest = positions;
     let mut least = 0;
@@ -107,7 +119,7 @@ fn lone_lines_good(
         if word < lengths.len() && chars[at] == value && lengths[word] == 1 {
             return false;
         }
-        if !places_good(&mut rest, count, n, 1) {
+        if !places_good(&mut rest, count, n, 1, as_gaps) {
             return false;
         }
         least = usize::from(value) + 1;
@@ -118,7 +130,7 @@ fn lone_lines_good(
 /// Takes the positions of a key of `long` characters off the rest, and says
 /// whether they are there and good.
 #[inline]
-fn places_good(rest: &mut &[u16], count: u16, n: u16, long: u16) -> bool {
+fn places_good(rest: &mut &[u16], count: u16, n: u16, long: u16, as_gaps: bool) -> bool {
     let Some((places, after)) = rest.split_at_checked(usize::from(count)) else {
         return false;
     };
@@ -126,7 +138,11 @@ fn places_good(rest: &mut &[u16], count: u16, n: u16, long: u16) -> bool {
     let Some(&last) = places.last() else {
         return false;
     };
-    usize::from(last) + usize::from(long) <= usize::from(n) + 1 && rise(places)
+    let (n, long) = (usize::from(n), usize::from(long));
+    if as_gaps {
+        return gaps_good(places, n, long);
+    }
+    usize::from(last) + long <= n + 1 && rise(places)
 }
 
 /// Whether positions ascend strictly from 1 or more.
@@ -138,4 +154,16 @@ fn rise(places: &[u16]) -> bool {
         last = place;
     }
     good
+}
+
+/// Whether every gap is at least 1, and a key of `long` characters ends by n at
+/// their sum. A count is at most 65,535, so no sum wraps.
+fn gaps_good(gaps: &[u16], n: usize, long: usize) -> bool {
+    let mut good = true;
+    let mut sum: u32 = 0;
+    for &gap in gaps {
+        good &= gap != 0;
+        sum += u32::from(gap);
+    }
+    good & (sum as usize + long <= n + 1)
 }

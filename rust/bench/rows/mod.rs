@@ -4,6 +4,8 @@ pub mod admission;
 pub mod building;
 pub mod cutting;
 pub mod first;
+pub mod gaps;
+pub mod packing;
 pub mod reception;
 pub mod searching;
 mod strings;
@@ -85,6 +87,15 @@ impl<'a, I> Row<'a, I> {
         proved: impl Fn(&I, &mut Room) -> Result<T, u32>,
         plain: impl Fn(&I, &mut Room) -> Result<T, u32>,
     ) -> f64 {
+        self.print_race(proved, plain).proved / self.chars as f64
+    }
+
+    /// Prints the row, and answers the times of all calls.
+    fn print_race<T: Debug + PartialEq>(
+        &self,
+        proved: impl Fn(&I, &mut Room) -> Result<T, u32>,
+        plain: impl Fn(&I, &mut Room) -> Result<T, u32>,
+    ) -> Race {
         let (mut room, mut plain_room) = self.compare(&proved, &plain);
         let times = race(
             || {
@@ -99,7 +110,7 @@ impl<'a, I> Row<'a, I> {
             },
         );
         self.print_times(times);
-        times.proved / self.chars as f64
+        times
     }
 
     /// Sees that both programs accept every input, answer the same and write the

@@ -119,6 +119,7 @@ fn defined(operation: Operation, drawn: &Drawn, work_len: usize) -> Result<Accep
         text,
         index,
         string,
+        gaps,
     } = drawn;
     let Dictionary { chars, lengths } = dictionary;
     let ample = usize::MAX;
@@ -145,6 +146,8 @@ fn defined(operation: Operation, drawn: &Drawn, work_len: usize) -> Result<Accep
         Operation::Cut => {
             oracle::answer(dictionary, index, string, ample, oracle::cut_down).map(Accepted::writes)
         }
+        Operation::ToGaps => oracle::to_gaps(dictionary, index, ample).map(Accepted::writes),
+        Operation::FromGaps => oracle::from_gaps(dictionary, gaps, ample).map(Accepted::writes),
     }
 }
 
@@ -162,10 +165,16 @@ fn assert_made(
 ) -> u32 {
     let number = expected.as_ref().err().copied().unwrap_or(0);
     let expected = expected.unwrap_or_default();
-    let Dictionary { chars, lengths } = &drawn.dictionary;
+    let Drawn {
+        dictionary: Dictionary { chars, lengths },
+        text,
+        index,
+        string,
+        gaps,
+    } = drawn;
     assert_call_beside(
         random.character(),
-        [chars, lengths, &drawn.text, &drawn.index, &drawn.string],
+        [chars, lengths, text, index, string, gaps],
         &[
             Written::Output(output_len, &expected.written),
             Written::Used(work),
@@ -179,7 +188,7 @@ fn assert_made(
 /// The library's answer.
 fn answered(
     operation: Operation,
-    [chars, lengths, text, index, string]: [&[u16]; 5],
+    [chars, lengths, text, index, string, gaps]: [&[u16]; 6],
     [output, work]: [&mut [u16]; 2],
 ) -> Answer {
     let answer = match operation {
@@ -189,6 +198,8 @@ fn answered(
         Operation::Recover => ffi::recover(chars, lengths, index, output, work),
         Operation::Search => ffi::search(chars, lengths, index, string, output),
         Operation::Cut => ffi::cut(chars, lengths, index, string, output),
+        Operation::ToGaps => ffi::to_gaps(chars, lengths, index, output),
+        Operation::FromGaps => ffi::from_gaps(chars, lengths, gaps, output),
         Operation::Tally => {
             let tally = ffi::tally(chars, lengths, index);
             return (tally.refusal, tally.count, tally.by_length);

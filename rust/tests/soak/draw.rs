@@ -4,29 +4,44 @@ use crate::operation::{Operation, Part};
 use crate::support::damage::Damage;
 use crate::support::delivery::Delivery;
 use crate::support::dictionary::Dictionary;
+use crate::support::gap_damage::GapDamage;
 use crate::support::index_damage::IndexDamage;
 use crate::support::lent::leftover;
+use crate::support::oracle;
 use crate::support::random::Random;
 use crate::support::text::{Subject, in_either_width, random_over};
 
-/// A dictionary, and a text, an index and a string that have to do with it and
-/// with each other. A part that the operation does not take is empty.
+/// A dictionary, and a text, an index, a string and a gap form that have to do
+/// with it and with each other. A part that the operation does not take is empty.
 pub struct Drawn {
     pub dictionary: Dictionary,
     pub text: Vec<u16>,
     pub index: Vec<u16>,
     pub string: Vec<u16>,
+    pub gaps: Vec<u16>,
 }
 
 impl Drawn {
     /// Nothing of this is refused, but that no text may have the index.
     pub fn new(operation: Operation, random: &mut Random) -> Drawn {
         let takes = |part| operation.parts().contains(&part);
-        if takes(Part::Index) && random.within(0, 3) == 0 {
-            return Drawn::of_no_text(random);
+        let delivered = takes(Part::Index) || takes(Part::Gaps);
+        let mut drawn = match delivered && random.within(0, 3) == 0 {
+            true => Drawn::of_no_text(operation, random),
+            false => Drawn::of_text(delivered, random),
+        };
+        if takes(Part::Gaps) {
+            let index = std::mem::take(&mut drawn.index);
+            let gaps = oracle::to_gaps(&drawn.dictionary, &index, index.len());
+            drawn.gaps = gaps.expect("a readable index");
         }
+        drawn
+    }
+
+    /// A text, and its index where one is delivered.
+    fn of_text(delivered: bool, random: &mut Random) -> Drawn {
         let subject = subject(random);
-        let index = match takes(Part::Index) {
+        let index = match delivered {
             true => Delivery::of_text(&subject).index,
             false => Vec::new(),
         };
@@ -35,17 +50,21 @@ impl Drawn {
             dictionary: subject.dictionary,
             text: subject.text,
             index,
+            gaps: Vec::new(),
         }
     }
 
     /// A readable index that mostly no text has. Some have their entries around
     /// the last start of a window: `first` looks at 8,192 starts before it looks
-    /// at the rest, and has a smaller table for 1,024.
-    fn of_no_text(random: &mut Random) -> Drawn {
+    /// at the rest, and has a smaller table for 1,024. Some that go into gaps or
+    /// come from them have positions as far as these go.
+    fn of_no_text(operation: Operation, random: &mut Random) -> Drawn {
         let delivery = Delivery::random(random);
-        let delivery = match random.within(0, 9) {
-            0 => delivery.moved(1_024 - random.within(0, 6) as u16),
-            1 => delivery.moved(8_192 - random.within(0, 6) as u16),
+        let most = u16::MAX - delivery.index[0];
+        let delivery = match (random.within(0, 9), operation) {
+            (0, _) => delivery.moved(1_024 - random.within(0, 6) as u16),
+            (1, _) => delivery.moved(8_192 - random.within(0, 6) as u16),
+            (2 | 3, Operation::ToGaps | Operation::FromGaps) => delivery.moved(most),
             _ => delivery,
         };
         let length = random.within(1, 8);
@@ -54,6 +73,7 @@ impl Drawn {
             dictionary: delivery.dictionary,
             text: Vec::new(),
             index: delivery.index,
+            gaps: Vec::new(),
         }
     }
 
@@ -82,6 +102,7 @@ impl Drawn {
             Part::Text => lengthen(&mut self.text, random),
             Part::Index => damage_index(&mut self.index, random),
             Part::String => damage_string(&mut self.string, random),
+            Part::Gaps => damage_gaps(&mut self.gaps, random),
             Part::Work | Part::Output => (),
         }
     }
@@ -177,6 +198,19 @@ fn damage_index(index: &mut Vec<u16>, random: &mut Random) {
             random.one_of(&IndexDamage::ALL).apply(index, random);
         } else {
             index.push(random.within(0, 3) as u16);
+        }
+    }
+}
+
+/// As an index is damaged, or more often where the gaps are.
+fn damage_gaps(gaps: &mut Vec<u16>, random: &mut Random) {
+    if !has_positions(gaps) || random.within(0, 2) == 0 {
+        damage_index(gaps, random);
+        return;
+    }
+    for _ in 0..random.one_of(&[1, 1, 1, 2, 3]) {
+        if has_positions(gaps) {
+            random.one_of(&GapDamage::ALL).apply(gaps, random);
         }
     }
 }

@@ -11,6 +11,8 @@ pub enum Operation {
     Search,
     First,
     Cut,
+    ToGaps,
+    FromGaps,
 }
 
 /// What a call may be lent wrongly.
@@ -20,12 +22,13 @@ pub enum Part {
     Text,
     Index,
     String,
+    Gaps,
     Work,
     Output,
 }
 
 impl Operation {
-    pub const ALL: [Operation; 8] = [
+    pub const ALL: [Operation; 10] = [
         Operation::Admit,
         Operation::Build,
         Operation::Tally,
@@ -34,6 +37,8 @@ impl Operation {
         Operation::Search,
         Operation::First,
         Operation::Cut,
+        Operation::ToGaps,
+        Operation::FromGaps,
     ];
 
     pub fn name(self) -> &'static str {
@@ -46,12 +51,14 @@ impl Operation {
             Operation::Search => "search",
             Operation::First => "first",
             Operation::Cut => "cut",
+            Operation::ToGaps => "to_gaps",
+            Operation::FromGaps => "from_gaps",
         }
     }
 
     /// What it is lent.
     pub fn parts(self) -> &'static [Part] {
-        use Part::{Dictionary, Index, Output, String, Text, Work};
+        use Part::{Dictionary, Gaps, Index, Output, String, Text, Work};
         match self {
             Operation::Admit => &[Dictionary],
             Operation::Build => &[Dictionary, Text, Work, Output],
@@ -60,6 +67,8 @@ impl Operation {
             Operation::Recover => &[Dictionary, Index, Work, Output],
             Operation::First => &[Dictionary, Index, String],
             Operation::Search | Operation::Cut => &[Dictionary, Index, String, Output],
+            Operation::ToGaps => &[Dictionary, Index, Output],
+            Operation::FromGaps => &[Dictionary, Gaps, Output],
         }
     }
 
@@ -73,6 +82,7 @@ impl Operation {
             Operation::Recover => &[1, 2, 3, 12, 5, 7, 9, 8],
             Operation::First => &[1, 2, 3, 12, 5, 6],
             Operation::Search | Operation::Cut => &[1, 2, 3, 12, 5, 6, 8],
+            Operation::ToGaps | Operation::FromGaps => &[1, 2, 3, 12, 5, 8],
         }
     }
 }

@@ -31,13 +31,13 @@ impl Record {
             self.damaged, self.damaged_accepted
         );
         let head: String = NUMBERS.iter().map(|n| format!(" {n:>8}")).collect();
-        println!("{:<8} {:>9} {:>9}{head}", "", "calls", "accepted");
+        println!("{:<9} {:>9} {:>9}{head}", "", "calls", "accepted");
         for operation in Operation::ALL {
             let counts = self.counts[operation as usize];
             let (calls, accepted) = (counts.iter().sum::<u64>(), counts[0]);
             let cells = NUMBERS.map(|number| cell(operation, number, counts[number as usize]));
             let row = cells.concat();
-            println!("{:<8} {calls:>9} {accepted:>9}{row}", operation.name());
+            println!("{:<9} {calls:>9} {accepted:>9}{row}", operation.name());
         }
     }
 

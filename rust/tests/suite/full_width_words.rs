@@ -6,6 +6,7 @@ use crate::support::admission::{answers, lent};
 use crate::support::building::{Room, build};
 use crate::support::dictionary::Dictionary;
 use crate::support::first::first;
+use crate::support::gaps::{from_gaps, to_gaps};
 use crate::support::reading::tally;
 use crate::support::reception::recover;
 use crate::support::searching::{cut, search};
@@ -121,6 +122,8 @@ fn every_operation_refuses_a_form_in_a_word() {
     assert_eq!(search(&words, &index, &text, 3), Err(12));
     assert_eq!(first(&words, &index, &text), Err(12));
     assert_eq!(cut(&words, &index, &text, 10), Err(12));
+    assert_eq!(to_gaps(&words, &index, 10), Err(12));
+    assert_eq!(from_gaps(&words, &index, 10), Err(12));
 }
 
 /// Everything else that is lent is wrong too.
@@ -138,6 +141,8 @@ fn refusal_12_comes_before_all_that_follow_3() {
     }
     for index in [&[][..], &[3], &[3, 1, 2, 0, 1, 1], &[9, 0]] {
         assert_eq!(tally(&words, index), Err(12));
+        assert_eq!(to_gaps(&words, index, 0), Err(12));
+        assert_eq!(from_gaps(&words, index, 0), Err(12));
         for string in [&[][..], &[0x61; 257], &[0xFF41]] {
             assert_eq!(search(&words, index, string, 0), Err(12));
             assert_eq!(first(&words, index, string), Err(12));

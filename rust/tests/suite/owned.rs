@@ -232,8 +232,8 @@ fn an_index_from_elsewhere() {
     );
 }
 
-/// Its tally, its lines, a search, the first position and a cut-down index are
-/// those of the definition.
+/// Its tally, its lines, its gap form, a search, the first position and a cut-down
+/// index are those of the definition.
 #[track_caller]
 fn assert_answers(readable: &ReadableIndex, dictionary: &Lent) {
     let numbers = readable.numbers();
@@ -257,6 +257,10 @@ fn assert_answers(readable: &ReadableIndex, dictionary: &Lent) {
         assert_eq!(line.spelt, key.spells(&opened.words));
         assert_eq!(line.positions, positions);
     }
+    let gaps = readable.to_gaps();
+    assert_eq!(gaps, oracle::gap_form(&opened));
+    let restored = ReadableIndex::from_gaps(readable.dictionary(), &gaps);
+    assert_eq!(restored.as_ref(), Ok(readable));
 
     for line in readable.lines().take(4) {
         let query = Query::new(line.spelt).expect("a key is no longer than a query");

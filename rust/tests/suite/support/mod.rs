@@ -10,6 +10,8 @@ pub mod delivery;
 pub mod dictionary;
 pub mod entries;
 pub mod first;
+pub mod gap_damage;
+pub mod gaps;
 pub mod index_damage;
 pub mod lent;
 pub mod lists;

@@ -2,6 +2,7 @@
 //! cost. Texts and strings are taken as they are lent, and replaced here.
 
 mod cutting;
+mod gaps;
 mod index;
 mod reading;
 mod reception;
@@ -9,6 +10,7 @@ mod replaced;
 mod searching;
 
 pub use cutting::cut_down;
+pub use gaps::{from_gaps, gap_form, restored, to_gaps};
 pub use index::{Key, Line, build, index_of, lines_of, numbers};
 pub use reading::{Opened, open, tally};
 pub use reception::receive;
