@@ -1,7 +1,7 @@
 -- The statements of GapsPromise about numbers, proved: the gap form of an index, its inverse, and that no sum wraps. Assumes nothing.
 use mathlib.Core.Path.{_≡_, refl, sym, ap, _∙_}
 use mathlib.Core.Bool.{true}
-use mathlib.Core.Logic.{inl, inr, ⊎-elim}
+use mathlib.Core.Logic.{⊎-elim}
 use mathlib.Core.List.{List, [], _∷_}
 use Prim.Native.Nat.{ℕ, zero, suc, _+_, _*_, _-_, _≤_, _<_}
 use native.Mathlib.Omega.{arith}
@@ -13,7 +13,7 @@ use Rattle.spec.specs.Dictionary.{Lexicon, lexicon, total, admitted}
 use Rattle.spec.specs.Numbers.{Line, line, positions}
 use Rattle.spec.specs.Index.{header, n-of, keys-of, count-at, counts-from, last-of, lines-in, readable}
 use Rattle.spec.specs.Gaps.{gaps-after, sums-after, gaps, prefix-sums, lists-from, gap-form, restored}
-use Rattle.spec.specs.GapsPromise.{Gap-list, lines-with, Gaps-under-keys, Gaps-there-and-back, Sums-fit}
+use Rattle.spec.specs.GapsPromise.{Gap-list, Gaps-under-keys, Gaps-there-and-back, Sums-fit}
 use Rattle.laws.specs.Lexicon.{admitted-lexicon}
 use Rattle.laws.specs.Slices.{Fits, keys-of-numbers, positions-start}
 use Rattle.laws.specs.LineNumbers.{line-of, line-of-is, line-of-in}

@@ -10,10 +10,9 @@ use lib.Dec.{leb, ltb}
 use lib.ListN.{length, getD, drop, drop-of-length-le}
 use lib.Seq.{drop-cons}
 use borrow.Author.Tests.{le-leb, lt-leb, lt-ltb}
-use Rattle.basics.specs.Bools.{iff-eq}
 use Rattle.spec.specs.Dictionary.{total}
 use Rattle.spec.specs.Index.{rise-from, last-of}
-use Rattle.spec.specs.Gaps.{gaps-after, sums-after, gaps, prefix-sums}
+use Rattle.spec.specs.Gaps.{gaps-after, sums-after, prefix-sums}
 use Rattle.laws.specs.Facts.{Rise}
 use Rattle.laws.specs.LineWalk.{list-good}
 

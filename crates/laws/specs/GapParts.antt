@@ -8,9 +8,9 @@ use native.Mathlib.Omega.{arith}
 use lib.ListN.{length, getD, take, drop, replicate, length-append, length-drop, drop-of-length-le}
 use lib.Seq.{drop-drop, take-at, drop-at, length-take-le}
 use Rattle.basics.specs.Member.{In}
-use Rattle.basics.specs.Writing.{over, Writing, written, lent-tail, tail-back, lent-tail-is, tail-written}
+use Rattle.basics.specs.Writing.{over, Writing, lent-tail, tail-back, lent-tail-is, tail-written}
 use Rattle.spec.specs.Dictionary.{total}
-use Rattle.spec.specs.Numbers.{Line, line}
+use Rattle.spec.specs.Numbers.{Line}
 use Rattle.spec.specs.Index.{header, keys-of, count-at, counts-from, entries-of, lines-in}
 use Rattle.spec.specs.Gaps.{gaps-after, gaps, prefix-sums, lists-from, with-lists}
 use Rattle.laws.specs.Slices.{Fits}

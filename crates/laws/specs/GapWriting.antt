@@ -6,8 +6,7 @@ use native.Mathlib.Numerals.{add-one}
 use native.Mathlib.Omega.{arith}
 use lib.ListN.{length, getD, take, drop, set, length-drop, length-set, drop-of-length-le}
 use lib.Seq.{drop-cons, drop-drop, take-all, take-add, take-suc-set, drop-set-lt}
-use Rattle.basics.specs.Writing.{over, Writing, writes, written}
-use Rattle.spec.specs.Numbers.{line}
+use Rattle.basics.specs.Writing.{Writing, writes, written}
 use Rattle.spec.specs.Index.{keys-of, count-at, counts-from}
 use Rattle.spec.specs.Gaps.{gaps-after, gaps, lists-from}
 use Rattle.laws.specs.GapLists.{length-gaps}

@@ -1,22 +1,25 @@
 -- Readability of numbers whose lists are read through a function: the walk over the numbers themselves tells it of the numbers that they
 -- come to. Assumes nothing.
 use mathlib.Core.Path.{_≡_, refl, sym, ap, _∙_}
-use mathlib.Core.Bool.{Bool, true, false, _&&_, cond}
-use mathlib.Core.List.{List}
-use Prim.Native.Nat.{ℕ, zero, suc, _+_, _*_, _≤_, _<_}
+use mathlib.Core.Bool.{Bool, true, false, _&&_, and-true, cond}
+use mathlib.Core.List.{List, [], _∷_}
+use Prim.Native.Nat.{ℕ, zero, suc, _+_, _*_, _-_, _≤_, _<_}
+use native.Mathlib.Numerals.{add-one}
 use native.Mathlib.Omega.{arith}
-use lib.Dec.{eqb}
-use lib.ListN.{length, take, drop, take-append-drop}
+use lib.Dec.{ltb, leb}
+use lib.ListN.{length, getD, take, drop, length-drop, take-append-drop}
+use lib.Seq.{getD-take, getD-drop, length-take-le}
 use Rattle.spec.specs.Dictionary.{Lexicon}
 use Rattle.spec.specs.Words.{Key}
-use Rattle.spec.specs.Index.{header, n-of, keys-of, value-at, count-at, key-at, readable}
-use Rattle.spec.specs.Gaps.{prefix-sums, lists-from, with-lists, restored}
+use Rattle.spec.specs.Index.{header, n-of, keys-of, value-at, count-at, key-at, rise-from, last-of, readable}
+use Rattle.spec.specs.Gaps.{sums-after, prefix-sums, lists-from, with-lists, restored}
 use Rattle.laws.specs.KeyNumbers.{key-code}
 use Rattle.laws.specs.GapLists.{length-sums}
 use Rattle.laws.specs.WithLists.{Keeps-length, Same-lines, length-lists, front-list, later-lists}
 use Rattle.laws.specs.WithLists.{length-with, same-with, places-with, n-with, keys-with}
 use Rattle.laws.specs.LineWalk.{as-is, list-good, places-good, line-fits, rest-good, walk-good}
 use Rattle.laws.specs.LineWalk.{unreadable-header, unreadable-directory, readable-walk}
+use Rattle.laws.specs.LineSteps.{places-there}
 
 module _ (read : List ℕ → List ℕ) (keeps : Keeps-length read) where
   -- a line's numbers, and the list that they come to
@@ -108,3 +111,39 @@ module _ (b : Bool) (n l : ℕ) (ps : List ℕ) where
   pub good-positions : b ≡ false → list-good as-is n l ps ≡ list-good (read-as b) n l ps
   unfolding read-as list-good
   good-positions e = rw e
+
+  -- a list of one number, which is a position and its gap
+  pub good-only : length ps ≡ 1 → (leb (getD ps 0 0 + l) (n + 1) && ltb 0 (getD ps 0 0)) ≡ list-good (read-as b) n l ps
+  unfolding read-as list-good rise-from last-of sums-after
+  good-only one = by-list ps one
+    where
+      by-read : (b : Bool) (p : ℕ) → (leb (p + l) (n + 1) && ltb 0 p) ≡ list-good (read-as b) n l (p ∷ [])
+      by-read true p =
+          let z : 0 + p ≡ p = omega arith in
+          rw (add-one n, z) (ap (λ (t : Bool). leb (p + l) (suc n) && t) (sym (and-true (leb 1 p))))
+      by-read false p = rw (add-one n) (ap (λ (t : Bool). leb (p + l) (suc n) && t) (sym (and-true (leb 1 p))))
+
+      by-list : (ps : List ℕ) → length ps ≡ 1 → (leb (getD ps 0 0 + l) (n + 1) && ltb 0 (getD ps 0 0)) ≡ list-good (read-as b) n l ps
+      by-list [] one = absurd (omega arith)
+      by-list (p ∷ []) one = by-read b p
+      by-list (p ∷ q ∷ ps) one = absurd (omega arith)
+
+-- one number from `at` on
+pub places-only :
+    (b : Bool) (xs : List ℕ) (at n l c : ℕ) → at ≤ length xs → c ≤ length xs - at → c ≡ 1 →
+    (leb (getD xs at 0 + l) (n + 1) && ltb 0 (getD xs at 0)) ≡ places-good (read-as b) n l c (drop at xs)
+places-only b xs at n l c room present one =
+    ap (λ (p : ℕ). leb (p + l) (n + 1) && ltb 0 p) (sym first)
+    ∙ good-only b n l only long
+    ∙ places-there (read-as b) xs at n l c room present (λ (none : c ≡ 0). omega arith)
+  where
+    only : List ℕ
+    only = take (at + c - at) (drop at xs)
+
+    long : length only ≡ 1
+    long = length-take-le (at + c - at) (drop at xs) (omega (arith, length-drop at xs)) ∙ omega arith
+
+    first : getD only 0 0 ≡ getD xs at 0
+    first =
+        let here : at + 0 ≡ at = omega arith in
+        getD-take (at + c - at) (drop at xs) 0 0 (omega arith) ∙ getD-drop at xs 0 0 ∙ ap (λ (j : ℕ). getD xs j 0) here

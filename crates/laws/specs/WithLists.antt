@@ -1,15 +1,15 @@
 -- Numbers whose lists go through a function that keeps lengths: the directory stays, and the lines have the function's lists. Assumes
 -- nothing.
 use mathlib.Core.Path.{_≡_, refl, sym, ap, _∙_}
-use mathlib.Core.Logic.{_⊎_, inl, inr, ⊎-elim}
+use mathlib.Core.Logic.{inl, inr, ⊎-elim}
 use mathlib.Core.List.{List, [], _∷_, _++_, append-nil}
-use Prim.Native.Nat.{ℕ, zero, suc, _+_, _*_, _-_, _≤_, _<_}
+use Prim.Native.Nat.{ℕ, zero, suc, _+_, _*_, _≤_, _<_}
 use native.Mathlib.Omega.{arith}
 use lib.ListN.{length, getD, take, drop, length-append, length-drop, take-append-drop, drop-of-length-le, List·getD-append}
 use lib.Seq.{getD-take, take-at, drop-at, take-all, length-take-le}
 use Rattle.basics.specs.Bools.{le-or-lt}
 use Rattle.basics.specs.Member.{In}
-use Rattle.spec.specs.Words.{Key, key}
+use Rattle.spec.specs.Words.{key}
 use Rattle.spec.specs.Numbers.{Line, line, numbers}
 use Rattle.spec.specs.Index.{header, n-of, keys-of, kind-at, value-at, count-at, key-at, counts-from, entries-of, lines-from, lines-in}
 use Rattle.spec.specs.Gaps.{lists-from, with-lists}

@@ -68,7 +68,8 @@ fn gaps_good(gaps: &[u16], n: usize, long: usize) -> bool
     good
 }
 
-// Whether `count` numbers from `at` on are there, at least one, and are the positions, or the gaps, of a key of `long` characters.
+// Whether `count` numbers from `at` on are there, at least one, and are the positions, or the gaps, of a key of `long` characters. Most
+// lists have one number, which is both.
 fn places_good(index: &[u16], at: usize, count: usize, n: usize, long: usize, as_gaps: bool) -> bool
     requires { ⌜ (at ≤ length (now index)) × (n ≤ 65535) × (long ≤ 65535) × (count ≤ 65535) ⌝ }
     ensures { λ r. ⌜ r ≡ places-good (read-as as_gaps) n long count (drop at (now (index .entry))) ⌝ }
@@ -78,6 +79,10 @@ fn places_good(index: &[u16], at: usize, count: usize, n: usize, long: usize, as
     }
     if count == 0 {
         return false;
+    }
+    if count == 1 {
+        let only = index[at] as usize;
+        return (only + long <= n + 1) & (0 < only);
     }
     let end = at + count;
     if as_gaps {

@@ -128,7 +128,8 @@ fn lone_lines_good(
 }
 
 /// Takes the positions of a key of `long` characters off the rest, and says
-/// whether they are there and good.
+/// whether they are there and good. Most lists have one number, which is a
+/// position and its gap.
 #[inline]
 fn places_good(rest: &mut &[u16], count: u16, n: u16, long: u16, as_gaps: bool) -> bool {
     let Some((places, after)) = rest.split_at_checked(usize::from(count)) else {
@@ -139,6 +140,9 @@ fn places_good(rest: &mut &[u16], count: u16, n: u16, long: u16, as_gaps: bool) 
         return false;
     };
     let (n, long) = (usize::from(n), usize::from(long));
+    if count == 1 {
+        return (usize::from(last) + long <= n + 1) & (last > 0);
+    }
     if as_gaps {
         return gaps_good(places, n, long);
     }

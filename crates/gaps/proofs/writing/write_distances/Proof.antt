@@ -1,6 +1,5 @@
 -- `write_distances` meets its contract. The invariant: the distances before i stand. The measure is how many are left. Assumes nothing.
 use Prim.Native.Nat.{_-_}
-use native.Mathlib.Omega.{arith}
 use lib.ListN.{length}
 use Rattle.laws.specs.GapWriting.{Distances, distances-start, distances-step, distances-end}
 use borrow.Author.Needs.{needs}

@@ -1,9 +1,10 @@
 -- `places_good` meets its contract: each way to a return has met the tests of one law. Assumes nothing.
 use mathlib.Core.Path.{_∙_}
 use Prim.Native.Nat.{_+_, _-_}
+use native.Mathlib.Omega.{arith}
 use lib.ListN.{take, drop}
 use Rattle.laws.specs.LineSteps.{places-missing, places-none, places-there}
-use Rattle.laws.specs.ReadLists.{read-as, good-gaps, good-positions}
+use Rattle.laws.specs.ReadLists.{read-as, good-gaps, good-positions, places-only}
 use borrow.Author.Needs.{needs}
 use Rattle.reading.proofs.readability.places_good.Statement.{statement}
 use Rattle.reading.proofs.readability.places_good.Tie as tie
@@ -20,6 +21,32 @@ returns-2 : tie.Need-returns-2
 returns-2 c =
     let a = c .before .before .before .args in
     places-none (read-as (a .as-gaps)) (a .index .now) (a .at) (a .n) (a .long) (a .count) (c .if2 .taken)
+
+mul-only : tie.Need-mul-only
+mul-only c = search needs
+
+shared-slice-read-only : tie.Need-shared-slice-read-only
+shared-slice-read-only c = search needs
+
+cast-only : tie.Need-cast-only
+cast-only c =
+    let start = c .before .before .before .before .before in
+    omega (arith, c .shared-slice-known2 .given (start .args .at))
+
+add-result : tie.Need-add-result
+add-result c =
+    let start = c .before .before .before .before .before in
+    omega (arith, c .shared-slice-known2 .given (start .args .at), start .pre .2)
+
+add-result-2 : tie.Need-add-result-2
+add-result-2 c = search needs
+
+returns-3 : tie.Need-returns-3
+returns-3 c =
+    let start = c .before .before .before .before .before in
+    let a = start .args in
+    places-only (a .as-gaps) (a .index .now) (a .at) (a .n) (a .long) (a .count) (start .pre .0) (c .before .before .before .if1 .left)
+    (c .before .if3 .taken)
 
 add-end : tie.Need-add-end
 add-end c = search needs
@@ -54,25 +81,25 @@ part-positions-good-end c = search needs
 positions-good-requires : tie.Need-positions-good-requires
 positions-good-requires c κs = search needs
 
-returns-3 : tie.Need-returns-3
-returns-3 c =
-    let start = c .before .before .before .before .before .before in
+returns-4 : tie.Need-returns-4
+returns-4 c =
+    let start = c .before .before .before .before .before .before .before in
     let a = start .args in
     c .gaps-good .ensures
     ∙ good-gaps (a .as-gaps) (a .n) (a .long) (take (a .at + a .count - a .at) (drop (a .at) (a .index .now)))
-    (c .before .before .if3 .taken)
+    (c .before .before .if4 .taken)
     ∙ places-there (read-as (a .as-gaps)) (a .index .now) (a .at) (a .n) (a .long) (a .count) (start .pre .0)
-    (c .before .before .before .before .if1 .left) (c .before .before .before .if2 .left)
+    (c .before .before .before .before .before .if1 .left) (c .before .before .before .before .if2 .left)
 
-returns-4 : tie.Need-returns-4
-returns-4 c =
-    let start = c .before .before .before .before .before .before in
+returns-5 : tie.Need-returns-5
+returns-5 c =
+    let start = c .before .before .before .before .before .before .before in
     let a = start .args in
     c .positions-good .ensures
     ∙ good-positions (a .as-gaps) (a .n) (a .long) (take (a .at + a .count - a .at) (drop (a .at) (a .index .now)))
-    (c .before .before .if3 .left)
+    (c .before .before .if4 .left)
     ∙ places-there (read-as (a .as-gaps)) (a .index .now) (a .at) (a .n) (a .long) (a .count) (start .pre .0)
-    (c .before .before .before .before .if1 .left) (c .before .before .before .if2 .left)
+    (c .before .before .before .before .before .if1 .left) (c .before .before .before .before .if2 .left)
 
 pub places-good-spec : {M : Type 1} → statement M
 places-good-spec =
@@ -81,6 +108,12 @@ places-good-spec =
     sub-if1
     returns
     returns-2
+    mul-only
+    shared-slice-read-only
+    cast-only
+    add-result
+    add-result-2
+    returns-3
     add-end
     mul-gaps-good
     sub-gaps-good
@@ -92,5 +125,5 @@ places-good-spec =
     part-positions-good-start
     part-positions-good-end
     positions-good-requires
-    returns-3
-    returns-4)
+    returns-4
+    returns-5)
