@@ -1,4 +1,4 @@
-// A list copied into a slice, and a slice filled with one number. Both loops become calls of memcpy and memset.
+// A list copied into a slice, and a slice filled with one number.
 ghost use mathlib.Core.Path.{_≡_};
 ghost use mathlib.Core.List.{_++_};
 ghost use Prim.Native.Nat.{_+_, _≤_};
