@@ -1,6 +1,7 @@
 -- Laws on Booleans, numbers, membership and lists that speak of no index.
 pub mod Bools
 pub mod Member
+pub mod LowerBound
 pub mod Absent
 pub mod Order
 pub mod Steps

@@ -60,11 +60,11 @@ wrote-one b at old h = record { ends = refl; content = placed-one b at old h }
 pub record Writing (all : List ℕ) (start : ℕ) (old left : List ℕ) (at : ℕ) (now : List ℕ) : Type 0 where
   pub same-end : at + length left ≡ start + length all
   pub room : at + length left ≤ length now
-  pub long : length now ≡ length old
+  pub len : length now ≡ length old
   pub same-content : placed left at now ≡ placed all start old
 
 pub writing-start : (all : List ℕ) (start : ℕ) (old : List ℕ) → start + length all ≤ length old → Writing all start old all start old
-writing-start all start old h = record { same-end = refl; room = h; long = refl; same-content = refl }
+writing-start all start old h = record { same-end = refl; room = h; len = refl; same-content = refl }
 
 module _ {all : List ℕ} {start : ℕ} {old : List ℕ} where
   pub writing-room :
@@ -81,7 +81,7 @@ module _ {all : List ℕ} {start : ℕ} {old : List ℕ} where
       record {
         same-end = omega (arith, h .same-end, length-append new left);
         room = omega (arith, h .room, length-append new left);
-        long = kept ∙ h .long;
+        len = kept ∙ h .len;
         same-content = placed-append new left at now fits ∙ h .same-content;
       } in
       rw (w .ends, w .content) next

@@ -16,15 +16,15 @@ over new old = new ++ drop (length new) old
 pub record Writing (all old now todo : List ℕ) (at : ℕ) : Type 0 where
   pub so-far : take at now ++ todo ≡ all
   pub rest : drop at now ≡ drop at old
-  pub long : length now ≡ length old
+  pub len : length now ≡ length old
   pub room : at + length todo ≤ length old
 
 pub starts : (old xs : List ℕ) (at : ℕ) → at + length xs ≤ length old → Writing (take at old ++ xs) old old xs at
-starts old xs at h = record { so-far = refl; rest = refl; long = refl; room = h }
+starts old xs at h = record { so-far = refl; rest = refl; len = refl; room = h }
 
 module _ (all old now : List ℕ) (x : ℕ) (todo : List ℕ) (at : ℕ) (w : Writing all old now (x ∷ todo) at) where
   pub has-room : at < length now
-  has-room = omega (arith, w .room, w .long)
+  has-room = omega (arith, w .room, w .len)
 
   pub writes : Writing all old (set now at x) todo (at + 1)
   writes =
@@ -35,7 +35,7 @@ module _ (all old now : List ℕ) (x : ℕ) (todo : List ℕ) (at : ℕ) (w : Wr
             ∙ sym (drop-drop 1 at now)
             ∙ ap (λ (l : List ℕ). drop 1 l) (w .rest)
             ∙ drop-drop 1 at old;
-        long = length-set now at x ∙ w .long;
+        len = length-set now at x ∙ w .len;
         room = omega (arith, w .room);
       }
 
@@ -45,31 +45,31 @@ pub appends :
     Writing all old (over (take at now ++ xs) now) todo (at + length xs)
 appends all old now xs todo at w =
     record {
-      so-far = rw (take-at (take at now ++ xs) (drop (length (take at now ++ xs)) now) (at + length xs) long, append-assoc (take at now) xs todo) (w .so-far);
+      so-far = rw (take-at (take at now ++ xs) (drop (length (take at now ++ xs)) now) (at + length xs) len, append-assoc (take at now) xs todo) (w .so-far);
       rest =
-          drop-at (take at now ++ xs) (drop (length (take at now ++ xs)) now) (at + length xs) long
-          ∙ ap (λ (n : ℕ). drop n now) long
+          drop-at (take at now ++ xs) (drop (length (take at now ++ xs)) now) (at + length xs) len
+          ∙ ap (λ (n : ℕ). drop n now) len
           ∙ sym (drop-drop (length xs) at now)
           ∙ ap (λ (l : List ℕ). drop (length xs) l) (w .rest)
           ∙ drop-drop (length xs) at old;
-      long =
+      len =
           length-append (take at now ++ xs) (drop (length (take at now ++ xs)) now)
-          ∙ omega (arith, length-drop (length (take at now ++ xs)) now, long, room, w .long);
+          ∙ omega (arith, length-drop (length (take at now ++ xs)) now, len, room, w .len);
       room = omega (arith, w .room, length-append xs todo);
     }
   where
     room : at + length xs ≤ length now
-    room = omega (arith, w .room, w .long, length-append xs todo)
+    room = omega (arith, w .room, w .len, length-append xs todo)
 
-    long : length (take at now ++ xs) ≡ at + length xs
-    long = length-append (take at now) xs ∙ omega (arith, length-take-le at now (omega (arith, room)))
+    len : length (take at now ++ xs) ≡ at + length xs
+    len = length-append (take at now) xs ∙ omega (arith, length-take-le at now (omega (arith, room)))
 
 module _ (all old now : List ℕ) (at : ℕ) (w : Writing all old now [] at) where
   front : take at now ≡ all
   front = sym (append-nil (take at now)) ∙ w .so-far
 
   pub written-length : length all ≡ at
-  written-length = ap length (sym front) ∙ length-take-le at now (omega (arith, w .room, w .long))
+  written-length = ap length (sym front) ∙ length-take-le at now (omega (arith, w .room, w .len))
 
   pub written : now ≡ over all old
   written =
@@ -85,11 +85,11 @@ lent-on :
 lent-on all old now todo part at w e =
     rw (e, ← append-assoc (take at now) todo (drop (length todo) (drop at now)), w .so-far, drop-drop (length todo) at now)
     (ap (λ (l : List ℕ). all ++ l) (sym (drop-drop (length todo) at now) ∙ ap (λ (l : List ℕ). drop (length todo) l) (w .rest) ∙ drop-drop (length todo) at old)
-    ∙ ap (λ (n : ℕ). all ++ drop n old) long)
+    ∙ ap (λ (n : ℕ). all ++ drop n old) len)
   where
-    long : at + length todo ≡ length all
-    long =
-        let here : length (take at now) ≡ at = length-take-le at now (omega (arith, w .room, w .long)) in
+    len : at + length todo ≡ length all
+    len =
+        let here : length (take at now) ≡ at = length-take-le at now (omega (arith, w .room, w .len)) in
         omega (arith, ap length (w .so-far), length-append (take at now) todo)
 
 -- `&mut now[at..]` is lent: what the callee is lent, and what stands after it has left `part` there

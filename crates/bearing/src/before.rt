@@ -10,9 +10,9 @@ ghost use Rattle.spec.specs.Dictionary.{lexicon};
 ghost use Rattle.spec.specs.Index.{keys-of};
 ghost use Rattle.spec.specs.Search.{agrees};
 ghost use Rattle.spec.specs.Cut.{bears};
-ghost use Rattle.laws.specs.Tables.{Can-read, Word-starts};
-ghost use Rattle.laws.specs.Flagging.{Flags};
-ghost use Rattle.laws.specs.FlagWalks.{Backs};
+ghost use Rattle.laws.specs.Directory.Tables.{Can-read, Word-starts};
+ghost use Rattle.laws.specs.Cut.Flagging.{Flags};
+ghost use Rattle.laws.specs.Cut.FlagWalks.{Backs};
 use directory::lines::key_of;
 use postings::agreement::agrees_at;
 
@@ -40,18 +40,18 @@ pub(crate) fn flag_before<'a>(
     chars: &'a [u16],
     lengths: &[u16],
     index: &'a [u16],
-    words: &[u16],
+    word_starts: &[u16],
     string: &[u16],
-    ends: usize,
+    word_lines: usize,
     flags: &mut [u8],
 )
-    requires { ⌜ Can-read (now chars) (now lengths) (now index) × Word-starts (now lengths) (length (now lengths)) (now words) × (1 ≤ length (now string)) × (ends ≤ keys-of (now index)) × Flags (lexicon (now chars) (now lengths)) (now index) (now string) (now flags) ⌝ }
-    ensures { λ r. ⌜ Backs (lexicon (now (chars .entry)) (now (lengths .entry))) (now (index .entry)) (now (string .entry)) (now (flags .entry)) (now (flags .exit)) ends ⌝ }
+    requires { ⌜ Can-read (now chars) (now lengths) (now index) × Word-starts (now lengths) (length (now lengths)) (now «word_starts») × (1 ≤ length (now string)) × («word_lines» ≤ keys-of (now index)) × Flags (lexicon (now chars) (now lengths)) (now index) (now string) (now flags) ⌝ }
+    ensures { λ r. ⌜ Backs (lexicon (now (chars .entry)) (now (lengths .entry))) (now (index .entry)) (now (string .entry)) (now (flags .entry)) (now (flags .exit)) «word_lines» ⌝ }
 {
     let mut line = 0;
-    while line < ends {
+    while line < word_lines {
         let at = line;
-        let key = key_of(chars, lengths, index, words, at);
+        let key = key_of(chars, lengths, index, word_starts, at);
         line += 1;
         if begins_before(key, string) {
             flags[at] = 1;

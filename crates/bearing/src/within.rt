@@ -7,14 +7,14 @@ ghost use Prim.Native.Nat.{_≤_, _<_};
 ghost use lib.ListN.{length};
 ghost use Rattle.spec.specs.Dictionary.{lexicon};
 ghost use Rattle.spec.specs.Index.{keys-of};
-ghost use Rattle.laws.specs.Tables.{Can-read, Word-starts};
-ghost use Rattle.laws.specs.Narrowing.{Split};
-ghost use Rattle.laws.specs.Sizing.{Is-string};
-ghost use Rattle.laws.specs.Flagging.{Ones, Flags, Flagging, Flagged};
-ghost use Rattle.laws.specs.FlagWalks.{Offsets};
+ghost use Rattle.laws.specs.Directory.Tables.{Can-read, Word-starts};
+ghost use Rattle.laws.specs.Window.LineRanges.{Split};
+ghost use Rattle.laws.specs.Search.Sizing.{Is-string};
+ghost use Rattle.laws.specs.Cut.Flagging.{Ones, Flags, Flagging, Flagged};
+ghost use Rattle.laws.specs.Cut.FlagWalks.{Offsets};
 use directory::lines::word_length;
-use directory::narrowing::first_line;
-use directory::narrowing::narrow;
+use directory::ranges::line_lower_bound;
+use directory::ranges::equal_range;
 
 // Flags the lines `from` to `to` - 1.
 fn flag_lines(from: usize, to: usize, flags: &mut [u8])
@@ -33,18 +33,18 @@ fn flag_words(
     chars: &[u16],
     lengths: &[u16],
     index: &[u16],
-    words: &[u16],
+    word_starts: &[u16],
     string: &[u16],
     key_start: usize,
-    ends: usize,
+    word_lines: usize,
     flags: &mut [u8],
 )
-    requires { ⌜ Can-read (now chars) (now lengths) (now index) × Word-starts (now lengths) (length (now lengths)) (now words) × Split (now index) ends × Is-string (now string) × («key_start» < length (now string)) × Flags (lexicon (now chars) (now lengths)) (now index) (now string) (now flags) ⌝ }
-    ensures { λ r. ⌜ Flagging (lexicon (now (chars .entry)) (now (lengths .entry))) (now (index .entry)) (now (string .entry)) (now (flags .entry)) (now (flags .exit)) × Flagged (lexicon (now (chars .entry)) (now (lengths .entry))) (now (index .entry)) (now (string .entry)) 0 «key_start» 0 ends (now (flags .exit)) ⌝ }
+    requires { ⌜ Can-read (now chars) (now lengths) (now index) × Word-starts (now lengths) (length (now lengths)) (now «word_starts») × Split (now index) «word_lines» × Is-string (now string) × («key_start» < length (now string)) × Flags (lexicon (now chars) (now lengths)) (now index) (now string) (now flags) ⌝ }
+    ensures { λ r. ⌜ Flagging (lexicon (now (chars .entry)) (now (lengths .entry))) (now (index .entry)) (now (string .entry)) (now (flags .entry)) (now (flags .exit)) × Flagged (lexicon (now (chars .entry)) (now (lengths .entry))) (now (index .entry)) (now (string .entry)) 0 «key_start» 0 «word_lines» (now (flags .exit)) ⌝ }
 {
     let left = string.len() - key_start;
     let mut low = 0;
-    let mut high = ends;
+    let mut high = word_lines;
     let mut depth = 0;
     while low < high {
         if left <= depth {
@@ -56,9 +56,9 @@ fn flag_words(
             low += 1;
         } else {
             let character = string[key_start + depth];
-            let cut = narrow(chars, index, words, low, high, depth, character);
-            low = cut.from;
-            high = cut.to;
+            let range = equal_range(chars, index, word_starts, low, high, depth, character);
+            low = range.from;
+            high = range.to;
             depth += 1;
         }
     }
@@ -71,15 +71,15 @@ fn flag_lone(
     index: &[u16],
     string: &[u16],
     key_start: usize,
-    ends: usize,
+    word_lines: usize,
     flags: &mut [u8],
 )
-    requires { ⌜ Can-read (now chars) (now lengths) (now index) × Split (now index) ends × Is-string (now string) × («key_start» < length (now string)) × Flags (lexicon (now chars) (now lengths)) (now index) (now string) (now flags) ⌝ }
-    ensures { λ r. ⌜ Flagging (lexicon (now (chars .entry)) (now (lengths .entry))) (now (index .entry)) (now (string .entry)) (now (flags .entry)) (now (flags .exit)) × Flagged (lexicon (now (chars .entry)) (now (lengths .entry))) (now (index .entry)) (now (string .entry)) 0 «key_start» ends (keys-of (now (index .entry))) (now (flags .exit)) ⌝ }
+    requires { ⌜ Can-read (now chars) (now lengths) (now index) × Split (now index) «word_lines» × Is-string (now string) × («key_start» < length (now string)) × Flags (lexicon (now chars) (now lengths)) (now index) (now string) (now flags) ⌝ }
+    ensures { λ r. ⌜ Flagging (lexicon (now (chars .entry)) (now (lengths .entry))) (now (index .entry)) (now (string .entry)) (now (flags .entry)) (now (flags .exit)) × Flagged (lexicon (now (chars .entry)) (now (lengths .entry))) (now (index .entry)) (now (string .entry)) 0 «key_start» «word_lines» (keys-of (now (index .entry))) (now (flags .exit)) ⌝ }
 {
     let keys = index[1] as usize;
     let character = string[key_start];
-    let line = first_line(index, ends, keys, 1, character as usize);
+    let line = line_lower_bound(index, word_lines, keys, 1, character as usize);
     if line < keys {
         if index[2 + 3 * line + 1] == character {
             flags[line] = 1;
@@ -92,17 +92,17 @@ fn flag_offset(
     chars: &[u16],
     lengths: &[u16],
     index: &[u16],
-    words: &[u16],
+    word_starts: &[u16],
     string: &[u16],
     key_start: usize,
-    ends: usize,
+    word_lines: usize,
     flags: &mut [u8],
 )
-    requires { ⌜ Can-read (now chars) (now lengths) (now index) × Word-starts (now lengths) (length (now lengths)) (now words) × Split (now index) ends × Is-string (now string) × («key_start» < length (now string)) × Flags (lexicon (now chars) (now lengths)) (now index) (now string) (now flags) ⌝ }
+    requires { ⌜ Can-read (now chars) (now lengths) (now index) × Word-starts (now lengths) (length (now lengths)) (now «word_starts») × Split (now index) «word_lines» × Is-string (now string) × («key_start» < length (now string)) × Flags (lexicon (now chars) (now lengths)) (now index) (now string) (now flags) ⌝ }
     ensures { λ r. ⌜ Flagging (lexicon (now (chars .entry)) (now (lengths .entry))) (now (index .entry)) (now (string .entry)) (now (flags .entry)) (now (flags .exit)) × Flagged (lexicon (now (chars .entry)) (now (lengths .entry))) (now (index .entry)) (now (string .entry)) 0 «key_start» 0 (keys-of (now (index .entry))) (now (flags .exit)) ⌝ }
 {
-    flag_words(chars, lengths, index, words, string, key_start, ends, flags);
-    flag_lone(chars, lengths, index, string, key_start, ends, flags);
+    flag_words(chars, lengths, index, word_starts, string, key_start, word_lines, flags);
+    flag_lone(chars, lengths, index, string, key_start, word_lines, flags);
 }
 
 // Flags the lines whose keys agree with the string at an offset from 0 to the string's last place.
@@ -110,18 +110,18 @@ pub(crate) fn flag_within(
     chars: &[u16],
     lengths: &[u16],
     index: &[u16],
-    words: &[u16],
+    word_starts: &[u16],
     string: &[u16],
-    ends: usize,
+    word_lines: usize,
     flags: &mut [u8],
 )
-    requires { ⌜ Can-read (now chars) (now lengths) (now index) × Word-starts (now lengths) (length (now lengths)) (now words) × Split (now index) ends × Is-string (now string) × Flags (lexicon (now chars) (now lengths)) (now index) (now string) (now flags) ⌝ }
+    requires { ⌜ Can-read (now chars) (now lengths) (now index) × Word-starts (now lengths) (length (now lengths)) (now «word_starts») × Split (now index) «word_lines» × Is-string (now string) × Flags (lexicon (now chars) (now lengths)) (now index) (now string) (now flags) ⌝ }
     ensures { λ r. ⌜ Offsets (lexicon (now (chars .entry)) (now (lengths .entry))) (now (index .entry)) (now (string .entry)) (now (flags .entry)) (now (flags .exit)) (length (now (string .entry))) ⌝ }
 {
     let last = string.len() - 1;
     let mut key_start = 0;
     while key_start <= last {
-        flag_offset(chars, lengths, index, words, string, key_start, ends, flags);
+        flag_offset(chars, lengths, index, word_starts, string, key_start, word_lines, flags);
         key_start += 1;
     }
 }

@@ -9,13 +9,13 @@ ghost use Rattle.spec.specs.Replaced.{replaced};
 ghost use Rattle.spec.specs.Dictionary.{lexicon};
 ghost use Rattle.spec.specs.Numbers.{index-of};
 ghost use Rattle.spec.specs.Calls.{Puts, build-refusal, Build-says};
-ghost use Rattle.laws.specs.Linking.{Linkable, Fresh};
-ghost use Rattle.laws.specs.Building.{early-refusal, Marked-says, Blank};
+ghost use Rattle.laws.specs.Build.PostingChains.{Linkable, Fresh};
+ghost use Rattle.laws.specs.Build.Building.{early-refusal, Tokens-say, Blank};
 use crate::text::scan_replaced;
 use dictionary::admission::refusal_of;
-use grouping::group::link;
-use grouping::write::write_index;
-use matching::table::hang_words;
+use inversion::chains::chain_positions;
+use inversion::write::write_index;
+use matching::table::fill_match_table;
 use scanning::work::clear;
 use scanning::work::refuse;
 use spec::Answer;
@@ -41,24 +41,24 @@ fn early_refusal(chars: &[u16], lengths: &[u16], text: &[u16], work: usize) -> u
 fn index_by(
     text: &[u16],
     output: &mut [u16],
-    marks: &mut [u16],
+    tokens: &mut [u16],
     heads: &mut [u16],
     pages: &mut [u8],
 ) -> Answer
-    requires { ⌜ Linkable (replaced (now text)) (now marks) ⌝ }
+    requires { ⌜ Linkable (replaced (now text)) (now tokens) ⌝ }
     requires { ⌜ Fresh (now heads) (now pages) ⌝ }
-    ensures { λ r. ⌜ Marked-says (now (marks .entry)) (replaced (now (text .entry))) r (now (output .entry)) (now (output .exit)) ⌝ }
+    ensures { λ r. ⌜ Tokens-say (now (tokens .entry)) (replaced (now (text .entry))) r (now (output .entry)) (now (output .exit)) ⌝ }
 {
-    let groups = link(text, marks, heads, pages);
-    let keys = groups.keys;
-    let size = 2 + 3 * keys + groups.entries;
+    let counts = chain_positions(text, tokens, heads, pages);
+    let keys = counts.keys;
+    let size = 2 + 3 * keys + counts.entries;
     if output.len() < size {
         return Answer {
             refusal: 8,
             count: 0,
         };
     }
-    write_index(heads, pages, marks, keys, output);
+    write_index(heads, pages, tokens, keys, output);
     Answer {
         refusal: 0,
         count: size,
@@ -66,13 +66,13 @@ fn index_by(
 }
 
 // The same with heads and pages of its own.
-fn index_marks(text: &[u16], output: &mut [u16], marks: &mut [u16]) -> Answer
-    requires { ⌜ Linkable (replaced (now text)) (now marks) ⌝ }
-    ensures { λ r. ⌜ Marked-says (now (marks .entry)) (replaced (now (text .entry))) r (now (output .entry)) (now (output .exit)) ⌝ }
+fn index_tokens(text: &[u16], output: &mut [u16], tokens: &mut [u16]) -> Answer
+    requires { ⌜ Linkable (replaced (now text)) (now tokens) ⌝ }
+    ensures { λ r. ⌜ Tokens-say (now (tokens .entry)) (replaced (now (text .entry))) r (now (output .entry)) (now (output .exit)) ⌝ }
 {
     let mut heads = [0u16; 69632];
     let mut pages = [0u8; 1088];
-    index_by(text, output, marks, &mut heads, &mut pages)
+    index_by(text, output, tokens, &mut heads, &mut pages)
 }
 
 // The same for marks at the front of a longer slice.
@@ -80,11 +80,11 @@ fn finish(text: &[u16], output: &mut [u16], work: &mut [u16]) -> Answer
     requires { ⌜ length (now text) ≤ length (now work) ⌝ }
     requires { ⌜ Linkable (replaced (now text)) (take (length (now text)) (now work)) ⌝ }
     ensures { λ r. ⌜
-        Marked-says (take (length (now (text .entry))) (now (work .entry))) (replaced (now (text .entry))) r (now (output .entry))
+        Tokens-say (take (length (now (text .entry))) (now (work .entry))) (replaced (now (text .entry))) r (now (output .entry))
         (now (output .exit)) ⌝ }
 {
     let n = text.len();
-    index_marks(text, output, &mut work[..n])
+    index_tokens(text, output, &mut work[..n])
 }
 
 // What follows where no early refusal is met: the match table, the scan of the replaced text, and what its marks stand for.
@@ -96,17 +96,17 @@ fn index_with(
     work: &mut [u16],
     heads: &mut [u16],
     links: &mut [u16],
-    starts: &mut [u16],
+    word_starts: &mut [u16],
 ) -> Answer
     requires { ⌜ early-refusal (now chars) (now lengths) (now text) (length (now work)) ≡ 0 ⌝ }
-    requires { ⌜ Blank (now heads) (now links) (now starts) ⌝ }
+    requires { ⌜ Blank (now heads) (now links) (now «word_starts») ⌝ }
     ensures { λ r. ⌜
         Puts (build-refusal (now (chars .entry)) (now (lengths .entry)) (now (text .entry)) (length (now (output .entry)))
         (length (now (work .entry)))) (index-of (lexicon (now (chars .entry)) (now (lengths .entry))) (replaced (now (text .entry)))) r
         (now (output .entry)) (now (output .exit)) ⌝ }
 {
-    hang_words(chars, lengths, heads, links, starts);
-    scan_replaced(chars, lengths, heads, links, starts, text, work);
+    fill_match_table(chars, lengths, heads, links, word_starts);
+    scan_replaced(chars, lengths, heads, links, word_starts, text, work);
     finish(text, output, work)
 }
 
@@ -126,7 +126,7 @@ fn index_text(
 {
     let mut heads = [0u16; 10240];
     let mut links = [0u16; 4096];
-    let mut starts = [0u16; 4097];
+    let mut word_starts = [0u16; 4097];
     index_with(
         chars,
         lengths,
@@ -135,7 +135,7 @@ fn index_text(
         work,
         &mut heads,
         &mut links,
-        &mut starts,
+        &mut word_starts,
     )
 }
 

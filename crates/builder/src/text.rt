@@ -6,8 +6,8 @@ ghost use Prim.Native.Nat.{_*_, _≤_};
 ghost use lib.ListN.{length, take, drop};
 ghost use Rattle.spec.specs.Replaced.{replaced};
 ghost use Rattle.spec.specs.Dictionary.{lexicon};
-ghost use Rattle.laws.specs.WordTable.{Tables};
-ghost use Rattle.laws.specs.Marks.{Marks};
+ghost use Rattle.laws.specs.Match.MatchTable.{Tables};
+ghost use Rattle.laws.specs.Build.Tokens.{Tokens};
 use folding::forms::replace_into;
 use scanning::scan::scan;
 
@@ -28,15 +28,15 @@ pub(crate) fn scan_replaced(
     lengths: &[u16],
     heads: &[u16],
     links: &[u16],
-    starts: &[u16],
+    word_starts: &[u16],
     text: &[u16],
     work: &mut [u16],
 )
-    requires { ⌜ Tables (now chars) (now lengths) (now heads) (now links) (now starts) × (2 * length (now text) ≤ length (now work)) ⌝ }
+    requires { ⌜ Tables (now chars) (now lengths) (now heads) (now links) (now «word_starts») × (2 * length (now text) ≤ length (now work)) ⌝ }
     ensures { λ _. ⌜
-        Marks (lexicon (now (chars .entry)) (now (lengths .entry))) (replaced (now (text .entry)))
+        Tokens (lexicon (now (chars .entry)) (now (lengths .entry))) (replaced (now (text .entry)))
         (take (length (now (text .entry))) (now (work .exit))) ⌝ }
 {
     replace_behind(text, work);
-    scan(chars, lengths, heads, links, starts, text.len(), work);
+    scan(chars, lengths, heads, links, word_starts, text.len(), work);
 }

@@ -7,12 +7,12 @@ ghost use Rattle.spec.specs.Dictionary.{lexicon};
 ghost use Rattle.spec.specs.Index.{keys-of};
 ghost use Rattle.spec.specs.Cut.{cut-down};
 ghost use Rattle.spec.specs.Calls.{index-refusal, accepted, Cut-says};
-ghost use Rattle.laws.specs.Tables.{Can-read};
-ghost use Rattle.laws.specs.Sizing.{Is-string, Sized};
+ghost use Rattle.laws.specs.Directory.Tables.{Can-read};
+ghost use Rattle.laws.specs.Search.Sizing.{Is-string, Sized};
 use crate::cutting::size_flagged;
 use crate::cutting::write_cut;
 use bearing::bearing::flag_bearing;
-use directory::tables::fill_words;
+use directory::tables::fill_word_starts;
 use folding::forms::replaced_string;
 use opening::opened::open_index;
 use spec::Answer;
@@ -29,9 +29,9 @@ fn cut_lent<'a>(
     requires { ⌜ Can-read (now chars) (now lengths) (now index) × Is-string (now string) × (keys-of (now index) ≤ length (now flags)) × (now flags ≡ replicate (length (now flags)) 0) ⌝ }
     ensures { λ r. ⌜ Sized (cut-down (lexicon (now (chars .entry)) (now (lengths .entry))) (now (index .entry)) (now (string .entry))) r (now (output .entry)) (now (output .exit)) ⌝ }
 {
-    let mut words = [0u16; 4096];
-    fill_words(lengths, &mut words);
-    flag_bearing(chars, lengths, index, &words, string, flags);
+    let mut word_starts = [0u16; 4096];
+    fill_word_starts(lengths, &mut word_starts);
+    flag_bearing(chars, lengths, index, &word_starts, string, flags);
     let size = size_flagged(chars, lengths, index, string, flags);
     let count = 2 + 3 * size.keys + size.entries;
     if output.len() < count {
@@ -126,9 +126,9 @@ fn cut_string<'a>(
         Sized (cut-down (lexicon (now (chars .entry)) (now (lengths .entry))) (now (index .entry)) (replaced (now (string .entry)))) r
         (now (output .entry)) (now (output .exit)) ⌝ }
 {
-    let long = string.len();
+    let len = string.len();
     let own = replaced_string(string);
-    cut_lines(chars, lengths, index, keys, &own[..long], output)
+    cut_lines(chars, lengths, index, keys, &own[..len], output)
 }
 
 // Cuts an opened index down: writes the cut-down index for a string, and answers how many numbers it has, or the refusal.
@@ -147,14 +147,14 @@ fn cut_opened<'a>(
     if refusal != 0 {
         return Answer { refusal, count: 0 };
     }
-    let long = string.len();
-    if long == 0 {
+    let len = string.len();
+    if len == 0 {
         return Answer {
             refusal: 6,
             count: 0,
         };
     }
-    if 256 < long {
+    if 256 < len {
         return Answer {
             refusal: 6,
             count: 0,

@@ -8,13 +8,13 @@ ghost use mathlib.Core.List.{_++_};
 ghost use Prim.Native.Nat.{_+_, _*_, _≤_, _<_};
 ghost use lib.ListN.{length, take};
 ghost use Rattle.spec.specs.Dictionary.{lexicon};
-ghost use Rattle.spec.specs.Numbers.{directory, positions};
+ghost use Rattle.spec.specs.Numbers.{directory, all-positions};
 ghost use Rattle.spec.specs.Index.{keys-of, lines-in};
 ghost use Rattle.spec.specs.Cut.{bearing, cut-down};
 ghost use Rattle.spec.specs.Calls.{in-front};
-ghost use Rattle.laws.specs.Slices.{Fits};
+ghost use Rattle.laws.specs.Numbers.Slices.{Fits};
 ghost use Rattle.basics.specs.Writing.{over};
-ghost use Rattle.laws.specs.Judging.{Judged, Is-size};
+ghost use Rattle.laws.specs.Cut.ExactFlags.{Exact-flags, Is-size};
 use copying::slices::write_list;
 
 // How many keys bear on a string, and how many positions they have.
@@ -31,7 +31,7 @@ pub(crate) fn size_flagged(
     string: &[u16],
     flags: &[u8],
 ) -> Size
-    requires { ⌜ Fits (now index) × Judged (lexicon (now chars) (now lengths)) (now index) (now string) (keys-of (now index)) (now flags) ⌝ }
+    requires { ⌜ Fits (now index) × Exact-flags (lexicon (now chars) (now lengths)) (now index) (now string) (keys-of (now index)) (now flags) ⌝ }
     ensures { λ r. ⌜ Is-size (lexicon (now (chars .entry)) (now (lengths .entry))) (now (index .entry)) (now (string .entry)) (r .keys) (r .entries) ⌝ }
 {
     let count = index[1] as usize;
@@ -59,7 +59,7 @@ fn write_directory(
     from: usize,
     output: &mut [u16],
 )
-    requires { ⌜ Fits (now index) × Judged (lexicon (now chars) (now lengths)) (now index) (now string) (keys-of (now index)) (now flags) × (from + length (directory (bearing (lexicon (now chars) (now lengths)) (now string) (lines-in (now index)))) ≤ length (now output)) ⌝ }
+    requires { ⌜ Fits (now index) × Exact-flags (lexicon (now chars) (now lengths)) (now index) (now string) (keys-of (now index)) (now flags) × (from + length (directory (bearing (lexicon (now chars) (now lengths)) (now string) (lines-in (now index)))) ≤ length (now output)) ⌝ }
     ensures { λ r. ⌜ now (output .exit) ≡ over (take from (now (output .entry)) ++ directory (bearing (lexicon (now (chars .entry)) (now (lengths .entry))) (now (string .entry)) (lines-in (now (index .entry))))) (now (output .entry)) ⌝ }
 {
     let count = index[1] as usize;
@@ -86,8 +86,8 @@ fn write_positions(
     flags: &[u8],
     part: &mut [u16],
 )
-    requires { ⌜ Fits (now index) × Judged (lexicon (now chars) (now lengths)) (now index) (now string) (keys-of (now index)) (now flags) × (length (positions (bearing (lexicon (now chars) (now lengths)) (now string) (lines-in (now index)))) ≤ length (now part)) ⌝ }
-    ensures { λ r. ⌜ now (part .exit) ≡ over (positions (bearing (lexicon (now (chars .entry)) (now (lengths .entry))) (now (string .entry)) (lines-in (now (index .entry))))) (now (part .entry)) ⌝ }
+    requires { ⌜ Fits (now index) × Exact-flags (lexicon (now chars) (now lengths)) (now index) (now string) (keys-of (now index)) (now flags) × (length (all-positions (bearing (lexicon (now chars) (now lengths)) (now string) (lines-in (now index)))) ≤ length (now part)) ⌝ }
+    ensures { λ r. ⌜ now (part .exit) ≡ over (all-positions (bearing (lexicon (now (chars .entry)) (now (lengths .entry))) (now (string .entry)) (lines-in (now (index .entry))))) (now (part .entry)) ⌝ }
 {
     let count = index[1] as usize;
     let mut start = 2 + 3 * count;
@@ -116,7 +116,7 @@ pub(crate) fn write_cut(
     size: Size,
     output: &mut [u16],
 )
-    requires { ⌜ Fits (now index) × Judged (lexicon (now chars) (now lengths)) (now index) (now string) (keys-of (now index)) (now flags) × Is-size (lexicon (now chars) (now lengths)) (now index) (now string) (size .keys) (size .entries) × (length (cut-down (lexicon (now chars) (now lengths)) (now index) (now string)) ≤ length (now output)) ⌝ }
+    requires { ⌜ Fits (now index) × Exact-flags (lexicon (now chars) (now lengths)) (now index) (now string) (keys-of (now index)) (now flags) × Is-size (lexicon (now chars) (now lengths)) (now index) (now string) (size .keys) (size .entries) × (length (cut-down (lexicon (now chars) (now lengths)) (now index) (now string)) ≤ length (now output)) ⌝ }
     ensures { λ r. ⌜ now (output .exit) ≡ in-front (cut-down (lexicon (now (chars .entry)) (now (lengths .entry))) (now (index .entry)) (now (string .entry))) (now (output .entry)) ⌝ }
 {
     let keys = size.keys;

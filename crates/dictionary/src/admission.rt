@@ -12,8 +12,8 @@ ghost use lib.Dec.{eqb};
 ghost use lib.ListN.{length};
 ghost use Rattle.spec.specs.Dictionary.{lengths-good, total, words-from, word-before, ascend, dictionary-refusal};
 ghost use Rattle.spec.specs.Calls.{Admit-says};
-ghost use Rattle.laws.specs.WordCode.{Equal-front, part, code, Reads-three, Neighbours};
-ghost use Rattle.laws.specs.Admission.{Fitting};
+ghost use Rattle.laws.specs.Dictionary.WordCode.{Equal-front, part, code, Reads-three, Neighbours};
+ghost use Rattle.laws.specs.Dictionary.Admission.{Fitting};
 use crate::numbers::lesser;
 use folding::forms::holds_full_width;
 use spec::Answer;
@@ -27,9 +27,9 @@ fn lengths_fit(lengths: &[u16], count: usize) -> bool
     let mut good = true;
     let mut i = 0;
     while i < lengths.len() {
-        let long = lengths[i];
-        good = good & (1 <= long) & (long <= 32);
-        sum += long as u32;
+        let len = lengths[i];
+        good = good & (1 <= len) & (len <= 32);
+        sum += len as u32;
         i += 1;
     }
     good & (sum as usize == count)
@@ -59,10 +59,10 @@ fn code_at(chars: &[u16], at: usize, end: usize, second: usize, third: usize) ->
     requires { ⌜ Reads-three (now chars) at end second third ⌝ }
     ensures { λ r. ⌜ r ≡ code (part (now (chars .entry)) at end) ⌝ }
 {
-    let long = end - at;
+    let len = end - at;
     let a = digit(true, chars[at]);
-    let b = digit(1 < long, chars[second]);
-    let c = digit(2 < long, chars[third]);
+    let b = digit(1 < len, chars[second]);
+    let c = digit(2 < len, chars[third]);
     (a * 131072 + b) * 131072 + c
 }
 

@@ -1,4 +1,4 @@
 // The directory of an index by line: tables of starts, the key and the positions of a line, and binary search for keys.
 pub mod lines;
-pub mod narrowing;
+pub mod ranges;
 pub mod tables;

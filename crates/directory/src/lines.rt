@@ -7,24 +7,24 @@ ghost use lib.ListN.{length, getD, take, drop};
 ghost use Rattle.spec.specs.Dictionary.{lexicon};
 ghost use Rattle.spec.specs.Words.{spells};
 ghost use Rattle.spec.specs.Index.{keys-of, value-at, count-at, key-at};
-ghost use Rattle.laws.specs.Slices.{Fits};
-ghost use Rattle.laws.specs.Opened.{list-start};
-ghost use Rattle.laws.specs.Tables.{Can-read, Word-starts, List-starts};
+ghost use Rattle.laws.specs.Numbers.Slices.{Fits};
+ghost use Rattle.laws.specs.Directory.Opened.{list-start};
+ghost use Rattle.laws.specs.Directory.Tables.{Can-read, Word-starts, List-starts};
 
 // What the key of a line spells.
 pub fn key_of<'a>(
     chars: &'a [u16],
     lengths: &[u16],
     index: &'a [u16],
-    words: &[u16],
+    word_starts: &[u16],
     line: usize,
 ) -> &'a [u16]
-    requires { ⌜ Can-read (now chars) (now lengths) (now index) × Word-starts (now lengths) (length (now lengths)) (now words) × (line < keys-of (now index)) ⌝ }
+    requires { ⌜ Can-read (now chars) (now lengths) (now index) × Word-starts (now lengths) (length (now lengths)) (now «word_starts») × (line < keys-of (now index)) ⌝ }
     ensures { λ r. ⌜ now r ≡ spells (lexicon (now (chars .entry)) (now (lengths .entry))) (key-at (now (index .entry)) line) ⌝ }
 {
     if index[2 + 3 * line] == 0 {
         let word = index[2 + 3 * line + 1] as usize;
-        let start = words[word] as usize;
+        let start = word_starts[word] as usize;
         let end = start + lengths[word] as usize;
         &chars[start..end]
     } else {
@@ -44,11 +44,11 @@ pub fn word_length(lengths: &[u16], index: &[u16], line: usize) -> usize
 }
 
 // The positions of a line.
-pub fn places_of<'a>(index: &'a [u16], lists: &[u32], line: usize) -> &'a [u16]
-    requires { ⌜ Fits (now index) × List-starts (now index) (keys-of (now index)) (now lists) × (line < keys-of (now index)) ⌝ }
+pub fn positions_of<'a>(index: &'a [u16], list_starts: &[u32], line: usize) -> &'a [u16]
+    requires { ⌜ Fits (now index) × List-starts (now index) (keys-of (now index)) (now «list_starts») × (line < keys-of (now index)) ⌝ }
     ensures { λ r. ⌜ now r ≡ take (count-at (now (index .entry)) line) (drop (list-start (now (index .entry)) line) (now (index .entry))) ⌝ }
 {
-    let start = 2 + 3 * index[1] as usize + lists[line] as usize;
+    let start = 2 + 3 * index[1] as usize + list_starts[line] as usize;
     let end = start + index[2 + 3 * line + 2] as usize;
     &index[start..end]
 }

@@ -6,32 +6,32 @@ ghost use Prim.Native.Nat.{_≤_};
 ghost use lib.ListN.{length};
 ghost use Rattle.spec.specs.Dictionary.{total};
 ghost use Rattle.spec.specs.Index.{keys-of};
-ghost use Rattle.laws.specs.Slices.{Fits};
-ghost use Rattle.laws.specs.Tables.{Word-starts, List-starts};
+ghost use Rattle.laws.specs.Numbers.Slices.{Fits};
+ghost use Rattle.laws.specs.Directory.Tables.{Word-starts, List-starts};
 
 // Where each word's characters start.
-pub fn fill_words(lengths: &[u16], words: &mut [u16])
-    requires { ⌜ (total (now lengths) ≤ 65535) × (length (now lengths) ≤ length (now words)) ⌝ }
-    ensures { λ r. ⌜ Word-starts (now (lengths .entry)) (length (now (lengths .entry))) (now (words .exit)) ⌝ }
+pub fn fill_word_starts(lengths: &[u16], word_starts: &mut [u16])
+    requires { ⌜ (total (now lengths) ≤ 65535) × (length (now lengths) ≤ length (now «word_starts»)) ⌝ }
+    ensures { λ r. ⌜ Word-starts (now (lengths .entry)) (length (now (lengths .entry))) (now («word_starts» .exit)) ⌝ }
 {
     let mut at: usize = 0;
     let mut i = 0;
     while i < lengths.len() {
-        words[i] = at as u16;
+        word_starts[i] = at as u16;
         at += lengths[i] as usize;
         i += 1;
     }
 }
 
 // Where each of the `keys` lines' positions start, counted from the end of the directory.
-pub fn fill_lists(index: &[u16], keys: usize, lists: &mut [u32])
-    requires { ⌜ Fits (now index) × (keys ≡ keys-of (now index)) × (keys ≤ 65535) × (keys ≤ length (now lists)) ⌝ }
-    ensures { λ r. ⌜ List-starts (now (index .entry)) (keys-of (now (index .entry))) (now (lists .exit)) ⌝ }
+pub fn fill_list_starts(index: &[u16], keys: usize, list_starts: &mut [u32])
+    requires { ⌜ Fits (now index) × (keys ≡ keys-of (now index)) × (keys ≤ 65535) × (keys ≤ length (now «list_starts»)) ⌝ }
+    ensures { λ r. ⌜ List-starts (now (index .entry)) (keys-of (now (index .entry))) (now («list_starts» .exit)) ⌝ }
 {
     let mut at: usize = 0;
     let mut i = 0;
     while i < keys {
-        lists[i] = at as u32;
+        list_starts[i] = at as u32;
         at += index[2 + 3 * i + 2] as usize;
         i += 1;
     }

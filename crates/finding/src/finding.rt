@@ -4,17 +4,17 @@ ghost use Prim.Native.Nat.{_+_, _≤_};
 ghost use lib.ListN.{length, drop};
 ghost use Rattle.spec.specs.Calls.{in-front};
 ghost use Rattle.spec.specs.First.{first-of};
-ghost use Rattle.laws.specs.Window.{found-in};
-ghost use Rattle.laws.specs.Finding.{count-in, Next-found};
+ghost use Rattle.laws.specs.Window.Window.{found-in};
+ghost use Rattle.laws.specs.Window.Finding.{count-in, Next-found};
 
 // The first start that reaches `long` and more, counted from `first`; 0 where none does.
-pub fn first_found(reach: &[u16], long: usize, first: usize) -> usize
+pub fn first_found(reach: &[u16], len: usize, first: usize) -> usize
     requires { ⌜ first + length (now reach) ≤ 65536 ⌝ }
-    ensures { λ r. ⌜ r ≡ first-of (found-in long first (now (reach .entry))) ⌝ }
+    ensures { λ r. ⌜ r ≡ first-of (found-in len first (now (reach .entry))) ⌝ }
 {
     let mut i = 0;
     while i < reach.len() {
-        if long <= reach[i] as usize {
+        if len <= reach[i] as usize {
             return first + i;
         }
         i += 1;
@@ -23,25 +23,25 @@ pub fn first_found(reach: &[u16], long: usize, first: usize) -> usize
 }
 
 // How many starts reach `long` and more.
-pub(crate) fn count_found(reach: &[u16], long: usize) -> usize
-    ensures { λ r. ⌜ r ≡ count-in long (now (reach .entry)) ⌝ }
+pub(crate) fn count_found(reach: &[u16], len: usize) -> usize
+    ensures { λ r. ⌜ r ≡ count-in len (now (reach .entry)) ⌝ }
 {
     let mut count = 0;
     let mut i = 0;
     while i < reach.len() {
-        count += (long <= reach[i] as usize) as usize;
+        count += (len <= reach[i] as usize) as usize;
         i += 1;
     }
     count
 }
 
 // The first start from `from` on that reaches `long` and more, where there is one.
-fn next_found(reach: &[u16], long: usize, from: usize) -> usize
-    requires { ⌜ 1 ≤ count-in long (drop from (now reach)) ⌝ }
-    ensures { λ r. ⌜ Next-found long (now (reach .entry)) from r ⌝ }
+fn next_found(reach: &[u16], len: usize, from: usize) -> usize
+    requires { ⌜ 1 ≤ count-in len (drop from (now reach)) ⌝ }
+    ensures { λ r. ⌜ Next-found len (now (reach .entry)) from r ⌝ }
 {
     let mut i = from;
-    while (reach[i] as usize) < long {
+    while (reach[i] as usize) < len {
         i += 1;
     }
     i
@@ -50,18 +50,18 @@ fn next_found(reach: &[u16], long: usize, from: usize) -> usize
 // Writes the starts that reach `long` and more, of which there are `count`, to the front of the output.
 pub(crate) fn write_found(
     reach: &[u16],
-    long: usize,
+    len: usize,
     first: usize,
     count: usize,
     output: &mut [u16],
 )
-    requires { ⌜ (count ≡ length (found-in long first (now reach))) × (count ≤ length (now output)) × (first + length (now reach) ≤ 65536) ⌝ }
-    ensures { λ r. ⌜ now (output .exit) ≡ in-front (found-in long first (now (reach .entry))) (now (output .entry)) ⌝ }
+    requires { ⌜ (count ≡ length (found-in len first (now reach))) × (count ≤ length (now output)) × (first + length (now reach) ≤ 65536) ⌝ }
+    ensures { λ r. ⌜ now (output .exit) ≡ in-front (found-in len first (now (reach .entry))) (now (output .entry)) ⌝ }
 {
     let mut written = 0;
     let mut i = 0;
     while written < count {
-        let here = next_found(reach, long, i);
+        let here = next_found(reach, len, i);
         output[written] = (first + here) as u16;
         written += 1;
         i = here + 1;

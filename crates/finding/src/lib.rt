@@ -1,4 +1,4 @@
 // A window of starts, searched: what is found in it is counted, then written.
 pub mod finding;
-pub mod painted;
+pub mod text_scan;
 pub mod window;

@@ -6,12 +6,12 @@ ghost use mathlib.Core.Path.{_≡_};
 ghost use lib.ListN.{length};
 ghost use Rattle.spec.specs.Gaps.{with-lists};
 ghost use Rattle.spec.specs.Calls.{To-gaps-says, From-gaps-says};
-ghost use Rattle.laws.specs.GapParts.{write-as, Writable};
-ghost use Rattle.laws.specs.GapCalls.{Form-says};
+ghost use Rattle.laws.specs.Gaps.GapParts.{write-as, Writable};
+ghost use Rattle.laws.specs.Demands.GapCalls.{Form-says};
 use crate::writing::write_gaps;
 use crate::writing::write_positions;
 use copying::slices::write_list;
-use reading::readability::refusal_as;
+use readability::readability::refusal_as;
 use spec::Answer;
 
 // Writes the numbers with each list as gaps, or, to restore, as positions. The lists are written through the part of the form that

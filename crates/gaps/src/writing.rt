@@ -9,16 +9,16 @@ ghost use Prim.Native.Nat.{ℕ, suc, _+_, _*_, _-_, _≤_};
 ghost use lib.ListN.{length, getD, drop};
 ghost use Rattle.spec.specs.Index.{header, keys-of};
 ghost use Rattle.spec.specs.Gaps.{gaps-after, gaps, prefix-sums, lists-from};
-ghost use Rattle.laws.specs.GapWriting.{by-pairs, first-apart};
-ghost use Rattle.laws.specs.GapSums.{masked-sums, carry};
-ghost use Rattle.laws.specs.GapParts.{pair-as, first-as, Writable};
+ghost use Rattle.laws.specs.Gaps.GapWriting.{by-pairs, first-apart};
+ghost use Rattle.laws.specs.Gaps.GapSums.{masked-sums, carry};
+ghost use Rattle.laws.specs.Gaps.GapParts.{pair-as, first-as, Writable};
 use copying::slices::fill;
 
 // The distance of a position from the one before; 0 where it is not after it, which is so only at the first of a list.
-fn distance(before: u16, place: u16) -> u16
-    ensures { λ r. ⌜ r ≡ place - before ⌝ }
+fn distance(before: u16, position: u16) -> u16
+    ensures { λ r. ⌜ r ≡ position - before ⌝ }
 {
-    if before < place { place - before } else { 0 }
+    if before < position { position - before } else { 0 }
 }
 
 // Writes the distance of each number of a run from the one before it.
@@ -34,10 +34,10 @@ fn write_distances(run: &[u16], part: &mut [u16])
 }
 
 // The first number of a list: a mask, or the position itself.
-fn first_number(restore: bool, place: u16) -> u16
-    ensures { λ r. ⌜ r ≡ first-as restore place ⌝ }
+fn first_number(restore: bool, position: u16) -> u16
+    ensures { λ r. ⌜ r ≡ first-as restore position ⌝ }
 {
-    if restore { 0 } else { place }
+    if restore { 0 } else { position }
 }
 
 // Puts the first number of each list right, where all of them stand as if they were one.

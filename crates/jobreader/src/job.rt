@@ -3,7 +3,7 @@ ghost use mathlib.Core.Path.{_≡_};
 ghost use Prim.Native.Nat.{_+_, _≤_};
 ghost use lib.ListN.{length, take, drop};
 ghost use Rattle.spec.specs.JobSheet.{sheet-refusal};
-ghost use Rattle.laws.specs.JobReading.{some-length-wrong, parts-refusal, Job-parts};
+ghost use Rattle.laws.specs.JobSheet.JobReading.{some-length-wrong, parts-refusal, Job-parts};
 use crate::sheet;
 use dictionary::admission;
 
@@ -13,11 +13,11 @@ fn some_length_wrong(lengths: &[u16]) -> bool
 {
     let mut i = 0;
     while i < lengths.len() {
-        let long = lengths[i];
-        if long == 0 {
+        let len = lengths[i];
+        if len == 0 {
             return true;
         }
-        if 256 < long {
+        if 256 < len {
             return true;
         }
         i += 1;

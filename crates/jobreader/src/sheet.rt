@@ -4,9 +4,9 @@
 ghost use mathlib.Core.Path.{_≡_};
 ghost use Prim.Native.Nat.{_≤_};
 ghost use lib.ListN.{length};
-ghost use Rattle.laws.specs.LineReading.{Line-end, Form-end};
-ghost use Rattle.laws.specs.SheetReading.{Room, Forms-got};
-ghost use Rattle.laws.specs.WholeSheet.{Enough, Sheet-read};
+ghost use Rattle.laws.specs.JobSheet.LineReading.{Line-end, Form-end};
+ghost use Rattle.laws.specs.JobSheet.SheetReading.{Room, Forms-got};
+ghost use Rattle.laws.specs.JobSheet.WholeSheet.{Enough, Sheet-read};
 use crate::form;
 
 // Where the line that starts at `at` ends: at its LF, or at the end of the sheet.

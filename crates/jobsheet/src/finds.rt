@@ -8,9 +8,9 @@ ghost use Rattle.spec.specs.Dictionary.{lexicon, words-from};
 ghost use Rattle.spec.specs.Index.{n-of};
 ghost use Rattle.spec.specs.Search.{find};
 ghost use Rattle.spec.specs.JobAnswer.{found-line, found-lines};
-ghost use Rattle.laws.specs.Tables.{Opened};
-ghost use Rattle.laws.specs.Sizing.{Is-string};
-ghost use Rattle.laws.specs.JobAnswering.{Strings-good};
+ghost use Rattle.laws.specs.Directory.Tables.{Opened};
+ghost use Rattle.laws.specs.Search.Sizing.{Is-string};
+ghost use Rattle.laws.specs.JobSheet.JobAnswering.{Strings-good};
 use printer::print::put_found_line;
 use searcher::search::search_tabled;
 
@@ -19,21 +19,21 @@ fn put_find<'a>(
     chars: &'a [u16],
     lengths: &[u16],
     index: &'a [u16],
-    words: &[u16],
-    lists: &[u32],
+    word_starts: &[u16],
+    list_starts: &[u32],
     string: &[u16],
     found: &mut [u16],
     out: &mut [u8],
     at: usize,
 ) -> usize
-    requires { ⌜ Opened (now chars) (now lengths) (now index) (now words) (now lists) × Is-string (now string) × (n-of (now index) ≤ length (now found)) ⌝ }
+    requires { ⌜ Opened (now chars) (now lengths) (now index) (now «word_starts») (now «list_starts») × Is-string (now string) × (n-of (now index) ≤ length (now found)) ⌝ }
     requires { ⌜
         at + length (found-line (find (lexicon (now chars) (now lengths)) (now index) (replaced (now string)))) ≤ length (now out) ⌝ }
     ensures { λ r. ⌜
         Wrote (found-line (find (lexicon (now (chars .entry)) (now (lengths .entry))) (now (index .entry))
         (replaced (now (string .entry))))) at (now (out .entry)) r (now (out .exit)) ⌝ }
 {
-    let answer = search_tabled(chars, lengths, index, words, lists, string, found);
+    let answer = search_tabled(chars, lengths, index, word_starts, list_starts, string, found);
     let count = answer.count;
     put_found_line(out, at, &found[..count])
 }
@@ -43,15 +43,15 @@ pub(crate) fn put_finds<'a>(
     chars: &'a [u16],
     lengths: &[u16],
     index: &'a [u16],
-    words: &[u16],
-    lists: &[u32],
+    word_starts: &[u16],
+    list_starts: &[u32],
     strings: &[u16],
     counts: &[u16],
     found: &mut [u16],
     out: &mut [u8],
     at: usize,
 ) -> usize
-    requires { ⌜ Opened (now chars) (now lengths) (now index) (now words) (now lists) × Strings-good (now strings) (now counts) × (n-of (now index) ≤ length (now found)) ⌝ }
+    requires { ⌜ Opened (now chars) (now lengths) (now index) (now «word_starts») (now «list_starts») × Strings-good (now strings) (now counts) × (n-of (now index) ≤ length (now found)) ⌝ }
     requires { ⌜ at + length (found-lines (lexicon (now chars) (now lengths)) (now index) (words-from (now counts) (now strings))) ≤ length (now out) ⌝ }
     ensures { λ r. ⌜ Wrote (found-lines (lexicon (now (chars .entry)) (now (lengths .entry))) (now (index .entry)) (words-from (now (counts .entry)) (now (strings .entry)))) at (now (out .entry)) r (now (out .exit)) ⌝ }
 {
@@ -64,8 +64,8 @@ pub(crate) fn put_finds<'a>(
             chars,
             lengths,
             index,
-            words,
-            lists,
+            word_starts,
+            list_starts,
             &strings[from..next],
             found,
             out,

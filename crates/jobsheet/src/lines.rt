@@ -5,13 +5,13 @@ ghost use Prim.Native.Nat.{_≤_};
 ghost use lib.ListN.{length};
 ghost use Rattle.basics.specs.Placed.{Wrote};
 ghost use Rattle.spec.specs.Index.{keys-of};
-ghost use Rattle.laws.specs.Tables.{Can-read};
-ghost use Rattle.laws.specs.AcceptedCalls.{Usable};
-ghost use Rattle.laws.specs.JobAnswering.{Strings-good, Parts-good, shown, printed-of};
+ghost use Rattle.laws.specs.Directory.Tables.{Can-read};
+ghost use Rattle.laws.specs.JobSheet.AcceptedCalls.{Usable};
+ghost use Rattle.laws.specs.JobSheet.JobAnswering.{Strings-good, Parts-good, shown, printed-of};
 use crate::finds::put_finds;
 use builder::build::build;
-use directory::tables::fill_lists;
-use directory::tables::fill_words;
+use directory::tables::fill_list_starts;
+use directory::tables::fill_word_starts;
 use opening::opened::open_index;
 use printer::print::put_index_lines;
 
@@ -23,24 +23,24 @@ fn put_filled<'a>(
     keys: usize,
     strings: &[u16],
     counts: &[u16],
-    lists: &mut [u32],
+    list_starts: &mut [u32],
     found: &mut [u16],
     out: &mut [u8],
 ) -> usize
-    requires { ⌜ Usable (now chars) (now lengths) (now index) × Can-read (now chars) (now lengths) (now index) × (keys ≡ keys-of (now index)) × (keys ≤ length (now lists)) ⌝ }
+    requires { ⌜ Usable (now chars) (now lengths) (now index) × Can-read (now chars) (now lengths) (now index) × (keys ≡ keys-of (now index)) × (keys ≤ length (now «list_starts»)) ⌝ }
     requires { ⌜ Strings-good (now strings) (now counts) × (2000 ≤ length (now found)) × (700000 ≤ length (now out)) ⌝ }
     ensures { λ r. ⌜ Wrote (shown (now (chars .entry)) (now (lengths .entry)) (now (index .entry)) (now (strings .entry)) (now (counts .entry))) 0 (now (out .entry)) r (now (out .exit)) ⌝ }
 {
-    let mut words = [0u16; 4096];
-    fill_words(lengths, &mut words);
-    fill_lists(index, keys, lists);
+    let mut word_starts = [0u16; 4096];
+    fill_word_starts(lengths, &mut word_starts);
+    fill_list_starts(index, keys, list_starts);
     let end = put_index_lines(out, 0, index);
     put_finds(
         chars,
         lengths,
         index,
-        &words,
-        lists,
+        &word_starts,
+        list_starts,
         strings,
         counts,
         found,
@@ -63,7 +63,7 @@ fn put_opened<'a>(
     requires { ⌜ Usable (now chars) (now lengths) (now index) × (keys ≡ keys-of (now index)) × Strings-good (now strings) (now counts) × (2000 ≤ length (now found)) × (700000 ≤ length (now out)) ⌝ }
     ensures { λ r. ⌜ Wrote (shown (now (chars .entry)) (now (lengths .entry)) (now (index .entry)) (now (strings .entry)) (now (counts .entry))) 0 (now (out .entry)) r (now (out .exit)) ⌝ }
 {
-    let mut lists = [0u32; 2667];
+    let mut list_starts = [0u32; 2667];
     put_filled(
         chars,
         lengths,
@@ -71,7 +71,7 @@ fn put_opened<'a>(
         keys,
         strings,
         counts,
-        &mut lists,
+        &mut list_starts,
         found,
         out,
     )

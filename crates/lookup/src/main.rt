@@ -5,7 +5,7 @@
 ghost use Prim.Native.Nat.{_≤_};
 ghost use lib.ListN.{length};
 ghost use Rattle.spec.specs.JobAnswer.{job-answer};
-ghost use Rattle.laws.specs.AcceptedCalls.{In-hand};
+ghost use Rattle.laws.specs.JobSheet.AcceptedCalls.{In-hand};
 use jobsheet::answer::answer;
 use libc::STDIN_FILENO;
 use libc::STDOUT_FILENO;

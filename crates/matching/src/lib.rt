@@ -1,4 +1,4 @@
 // The longest word of an admitted dictionary at a place of a text.
 pub mod longest;
-pub mod narrowing;
+pub mod ranges;
 pub mod table;

@@ -7,17 +7,17 @@
 ghost use Prim.Native.Nat.{_+_, _≤_, _<_};
 ghost use lib.ListN.{length};
 ghost use Rattle.spec.specs.Dictionary.{lexicon};
-ghost use Rattle.laws.specs.WordTable.{Started, Tables, word};
-ghost use Rattle.laws.specs.WordChains.{Same-run, Stands-after, Pair-found, Single-found};
-ghost use Rattle.laws.specs.Found.{Found as Found-at, Pair-longest};
-use crate::narrowing::narrow;
+ghost use Rattle.laws.specs.Match.MatchTable.{Started, Tables, word};
+ghost use Rattle.laws.specs.Match.WordChains.{Same-run, Stands-after, Pair-found, Single-found};
+ghost use Rattle.laws.specs.Match.LongestWord.{Found as Found-at, Pair-longest};
+use crate::ranges::find_last_standing;
 use crate::table::bucket_of_char;
 use crate::table::bucket_of_pair;
 
 // A word by its number plus 1, and its length; or number 0: none.
 pub struct Found {
     pub number: usize,
-    pub long: usize,
+    pub len: usize,
 }
 
 // How many words of a chain are compared before the rest is narrowed down.
@@ -42,13 +42,13 @@ fn same_run(chars: &[u16], at: usize, text: &[u16], from: usize, count: usize) -
 fn stands_after(
     chars: &[u16],
     lengths: &[u16],
-    starts: &[u16],
+    word_starts: &[u16],
     text: &[u16],
     at: usize,
     end: usize,
     number: usize,
 ) -> bool
-    requires { ⌜ Started (now chars) (now lengths) (now starts) × (at < length (now text)) × (number < length (now lengths)) ⌝ }
+    requires { ⌜ Started (now chars) (now lengths) (now «word_starts») × (at < length (now text)) × (number < length (now lengths)) ⌝ }
     ensures { λ r. ⌜ Stands-after (word (now (chars .entry)) (now (lengths .entry)) number) (now (text .entry)) (at + 1) (end + 1) r ⌝ }
 {
     let count = lengths[number] as usize;
@@ -58,7 +58,7 @@ fn stands_after(
     if text.len() < at + count {
         return false;
     }
-    same_run(chars, starts[number] as usize, text, at, count)
+    same_run(chars, word_starts[number] as usize, text, at, count)
 }
 
 // One more than the number of a standing word, after which comes no standing word of two characters or more that ends after `end`;
@@ -68,12 +68,12 @@ fn walk_pair(
     lengths: &[u16],
     heads: &[u16],
     links: &[u16],
-    starts: &[u16],
+    word_starts: &[u16],
     text: &[u16],
     at: usize,
     end: usize,
 ) -> usize
-    requires { ⌜ Tables (now chars) (now lengths) (now heads) (now links) (now starts) × (at + 1 < length (now text)) ⌝ }
+    requires { ⌜ Tables (now chars) (now lengths) (now heads) (now links) (now «word_starts») × (at + 1 < length (now text)) ⌝ }
     ensures { λ r. ⌜ Pair-found (lexicon (now (chars .entry)) (now (lengths .entry)) .words) (now (text .entry)) (at + 1) (end + 1) r ⌝ }
 {
     let x = text[at];
@@ -83,11 +83,11 @@ fn walk_pair(
     let mut left = BUDGET;
     while next != 0 {
         if left == 0 {
-            return narrow(chars, lengths, starts, text, at, next);
+            return find_last_standing(chars, lengths, word_starts, text, at, next);
         }
         left -= 1;
         let number = next - 1;
-        if stands_after(chars, lengths, starts, text, at, end, number) {
+        if stands_after(chars, lengths, word_starts, text, at, end, number) {
             return next;
         }
         next = links[number] as usize;
@@ -101,26 +101,26 @@ fn find_pair(
     lengths: &[u16],
     heads: &[u16],
     links: &[u16],
-    starts: &[u16],
+    word_starts: &[u16],
     text: &[u16],
     at: usize,
     end: usize,
 ) -> Found
-    requires { ⌜ Tables (now chars) (now lengths) (now heads) (now links) (now starts) × (at < length (now text)) ⌝ }
-    ensures { λ r. ⌜ Pair-longest (lexicon (now (chars .entry)) (now (lengths .entry))) (now (text .entry)) (at + 1) (end + 1) (r .number) (r .long) ⌝ }
+    requires { ⌜ Tables (now chars) (now lengths) (now heads) (now links) (now «word_starts») × (at < length (now text)) ⌝ }
+    ensures { λ r. ⌜ Pair-longest (lexicon (now (chars .entry)) (now (lengths .entry))) (now (text .entry)) (at + 1) (end + 1) (r .number) (r .len) ⌝ }
 {
     if text.len() <= at + 1 {
-        return Found { number: 0, long: 0 };
+        return Found { number: 0, len: 0 };
     }
-    let number = walk_pair(chars, lengths, heads, links, starts, text, at, end);
+    let number = walk_pair(chars, lengths, heads, links, word_starts, text, at, end);
     if number == 0 {
-        return Found { number: 0, long: 0 };
+        return Found { number: 0, len: 0 };
     }
-    let long = lengths[number - 1] as usize;
-    if at + long <= end {
-        return Found { number: 0, long: 0 };
+    let len = lengths[number - 1] as usize;
+    if at + len <= end {
+        return Found { number: 0, len: 0 };
     }
-    Found { number, long }
+    Found { number, len }
 }
 
 // One more than the number of the word that is the character at index `at`, or 0.
@@ -129,11 +129,11 @@ fn find_single(
     lengths: &[u16],
     heads: &[u16],
     links: &[u16],
-    starts: &[u16],
+    word_starts: &[u16],
     text: &[u16],
     at: usize,
 ) -> usize
-    requires { ⌜ Tables (now chars) (now lengths) (now heads) (now links) (now starts) × (at < length (now text)) ⌝ }
+    requires { ⌜ Tables (now chars) (now lengths) (now heads) (now links) (now «word_starts») × (at < length (now text)) ⌝ }
     ensures { λ r. ⌜ Single-found (lexicon (now (chars .entry)) (now (lengths .entry)) .words) (now (text .entry)) (at + 1) r ⌝ }
 {
     let c = text[at];
@@ -141,7 +141,7 @@ fn find_single(
     let mut next = heads[bucket] as usize;
     while next != 0 {
         let number = next - 1;
-        let start = starts[number] as usize;
+        let start = word_starts[number] as usize;
         if chars[start] == c {
             return next;
         }
@@ -156,21 +156,21 @@ pub fn find_longest(
     lengths: &[u16],
     heads: &[u16],
     links: &[u16],
-    starts: &[u16],
+    word_starts: &[u16],
     text: &[u16],
     at: usize,
     end: usize,
 ) -> Found
-    requires { ⌜ Tables (now chars) (now lengths) (now heads) (now links) (now starts) × (at < length (now text)) ⌝ }
-    ensures { λ r. ⌜ Found-at (lexicon (now (chars .entry)) (now (lengths .entry))) (now (text .entry)) (at + 1) (end + 1) (r .number) (r .long) ⌝ }
+    requires { ⌜ Tables (now chars) (now lengths) (now heads) (now links) (now «word_starts») × (at < length (now text)) ⌝ }
+    ensures { λ r. ⌜ Found-at (lexicon (now (chars .entry)) (now (lengths .entry))) (now (text .entry)) (at + 1) (end + 1) (r .number) (r .len) ⌝ }
 {
-    let pair = find_pair(chars, lengths, heads, links, starts, text, at, end);
+    let pair = find_pair(chars, lengths, heads, links, word_starts, text, at, end);
     if pair.number != 0 {
         return pair;
     }
     if at < end {
-        return Found { number: 0, long: 0 };
+        return Found { number: 0, len: 0 };
     }
-    let number = find_single(chars, lengths, heads, links, starts, text, at);
-    Found { number, long: 1 }
+    let number = find_single(chars, lengths, heads, links, word_starts, text, at);
+    Found { number, len: 1 }
 }

@@ -7,7 +7,7 @@
 ghost use mathlib.Core.Path.{_≡_};
 ghost use Prim.Native.Nat.{_+_, _≤_, _<_};
 ghost use lib.ListN.{length};
-ghost use Rattle.laws.specs.WordTable.{pair-bucket, char-bucket, Bucket-read, Room, Tables};
+ghost use Rattle.laws.specs.Match.MatchTable.{pair-bucket, char-bucket, Bucket-read, Room, Tables};
 
 // The bucket of words that begin with these two characters.
 pub(crate) fn bucket_of_pair(x: u16, y: u16) -> usize
@@ -26,37 +26,37 @@ pub(crate) fn bucket_of_char(x: u16) -> usize
 }
 
 // The bucket of the word of `long` characters at `at`.
-fn bucket_of_word(chars: &[u16], at: usize, long: usize) -> usize
-    requires { ⌜ (1 ≤ long) × (at + long ≤ length (now chars)) ⌝ }
-    ensures { λ r. ⌜ Bucket-read (now (chars .entry)) at long r ⌝ }
+fn bucket_of_word(chars: &[u16], at: usize, len: usize) -> usize
+    requires { ⌜ (1 ≤ len) × (at + len ≤ length (now chars)) ⌝ }
+    ensures { λ r. ⌜ Bucket-read (now (chars .entry)) at len r ⌝ }
 {
-    if long == 1 {
+    if len == 1 {
         return bucket_of_char(chars[at]);
     }
     bucket_of_pair(chars[at], chars[at + 1])
 }
 
 // Makes the match table of an admitted dictionary.
-pub fn hang_words(
+pub fn fill_match_table(
     chars: &[u16],
     lengths: &[u16],
     heads: &mut [u16],
     links: &mut [u16],
-    starts: &mut [u16],
+    word_starts: &mut [u16],
 )
-    requires { ⌜ Room (now chars) (now lengths) (now heads) (now links) (now starts) ⌝ }
-    ensures { λ r. ⌜ Tables (now (chars .entry)) (now (lengths .entry)) (now (heads .exit)) (now (links .exit)) (now (starts .exit)) ⌝ }
+    requires { ⌜ Room (now chars) (now lengths) (now heads) (now links) (now «word_starts») ⌝ }
+    ensures { λ r. ⌜ Tables (now (chars .entry)) (now (lengths .entry)) (now (heads .exit)) (now (links .exit)) (now («word_starts» .exit)) ⌝ }
 {
     let mut at: usize = 0;
     let mut i = 0;
     while i < lengths.len() {
-        let long = lengths[i] as usize;
-        let b = bucket_of_word(chars, at, long);
-        starts[i] = at as u16;
+        let len = lengths[i] as usize;
+        let b = bucket_of_word(chars, at, len);
+        word_starts[i] = at as u16;
         links[i] = heads[b];
         heads[b] = (i + 1) as u16;
-        at += long;
+        at += len;
         i += 1;
     }
-    starts[i] = at as u16;
+    word_starts[i] = at as u16;
 }

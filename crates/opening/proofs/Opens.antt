@@ -33,7 +33,7 @@ use denote.Triple.Statement.{Contract, Triple}
 use denote.Triple.Call.{calls-at}
 use denote.Triple.Spec.{tripleOf}
 use denote.Triple.Clauses.{ensured, lasts}
-use Rattle.laws.specs.Opening.{Bounded}
+use Rattle.laws.specs.Readable.Opening.{Bounded}
 use Rattle.opening.specs.declared.opened.Opened.{Opened}
 use Rattle.opening.proofs.opened.Opened as T
 use Rattle.opening.proofs.opened.Opened.Laws as T′

@@ -3,7 +3,7 @@
 // It is made once, by the function that tests. Each operation on an index takes it apart once, and calls a function on plain slices
 // and numbers.
 ghost use mathlib.Core.Path.{_≡_};
-ghost use Rattle.laws.specs.Opening.{Bounded};
+ghost use Rattle.laws.specs.Readable.Opening.{Bounded};
 
 // The numbers of an index, its refusal, how many lines its directory has, and where the positions start. Beside a refusal the two
 // bounds are 0, so that no line is handed out.
@@ -25,7 +25,7 @@ pub struct Bounds {
 fn bounds_of<'a>(chars: &'a [u16], lengths: &'a [u16], index: &'a [u16]) -> Bounds
     ensures { λ r. ⌜ Bounded (now (chars .entry)) (now (lengths .entry)) (now (index .entry)) (r .refusal) (r .keys) (r .first) ⌝ }
 {
-    let refusal = reading::readability::refusal_of(chars, lengths, index);
+    let refusal = readability::readability::refusal_of(chars, lengths, index);
     if refusal != 0 {
         return Bounds {
             refusal,

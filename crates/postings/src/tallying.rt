@@ -9,10 +9,10 @@ ghost use Rattle.spec.specs.Words.{key, spells};
 ghost use Rattle.spec.specs.Index.{header, keys-of, readable};
 ghost use Rattle.spec.specs.Tally.{tally};
 ghost use Rattle.spec.specs.Calls.{Tally-says};
-ghost use Rattle.laws.specs.Facts.{Is-key};
-ghost use Rattle.laws.specs.Lexicon.{Is-admitted};
-ghost use Rattle.laws.specs.Opening.{Bounded};
-ghost use Rattle.laws.specs.TallyWalk.{added};
+ghost use Rattle.laws.specs.Text.Facts.{Is-key};
+ghost use Rattle.laws.specs.Dictionary.Lexicon.{Is-admitted};
+ghost use Rattle.laws.specs.Readable.Opening.{Bounded};
+ghost use Rattle.laws.specs.Tally.Walk.{added};
 use opening::opened::open_index;
 use spec::TallyAnswer;
 
@@ -46,8 +46,8 @@ fn raised(
         let kind = index[2 + 3 * i];
         let value = index[2 + 3 * i + 1];
         let count = index[2 + 3 * i + 2] as u64;
-        let place = key_length(chars, lengths, kind, value) - 1;
-        counts[place] = counts[place] + count;
+        let position = key_length(chars, lengths, kind, value) - 1;
+        counts[position] = counts[position] + count;
         i += 1;
     }
     counts

@@ -9,8 +9,8 @@ ghost use Rattle.spec.specs.Words.{key};
 ghost use Rattle.spec.specs.Numbers.{line};
 ghost use Rattle.spec.specs.Index.{lines-in};
 ghost use Rattle.spec.specs.JobAnswer.{decimal, digit-byte, hexadecimal, gap, spaced, index-line, found-line, refused-line, key-name, key-line, key-lines, index-lines};
-ghost use Rattle.laws.specs.IndexPrinting.{Whole};
-ghost use Rattle.laws.specs.Printing.{each-spaced, listed};
+ghost use Rattle.laws.specs.JobSheet.IndexPrinting.{Whole};
+ghost use Rattle.laws.specs.JobSheet.Printing.{each-spaced, listed};
 
 // One byte.
 fn put_byte(out: &mut [u8], at: usize, byte: u8) -> usize
@@ -180,15 +180,15 @@ fn put_key_lines(out: &mut [u8], at: usize, numbers: &[u16]) -> usize
     ensures { λ r. ⌜ Wrote (key-lines (lines-in (now (numbers .entry)))) at (now (out .entry)) r (now (out .exit)) ⌝ }
 {
     let keys = numbers[1] as usize;
-    let mut place = 2 + 3 * keys;
+    let mut position = 2 + 3 * keys;
     let mut end = at;
     let mut i = 0;
     while i < keys {
         let kind = numbers[2 + 3 * i];
         let value = numbers[2 + 3 * i + 1];
-        let next = place + numbers[2 + 3 * i + 2] as usize;
-        end = put_key_line(out, end, kind, value, &numbers[place..next]);
-        place = next;
+        let next = position + numbers[2 + 3 * i + 2] as usize;
+        end = put_key_line(out, end, kind, value, &numbers[position..next]);
+        position = next;
         i += 1;
     }
     end

@@ -5,7 +5,7 @@ ghost use mathlib.Core.Path.{_≡_};
 ghost use Prim.Native.Nat.{_≤_};
 ghost use lib.ListN.{length};
 ghost use Rattle.spec.specs.Calls.{index-refusal, in-front, Recover-says};
-ghost use Rattle.laws.specs.Receiving.{Gives};
+ghost use Rattle.laws.specs.Receive.Receiving.{Gives};
 use crate::receive::delivery_refusal;
 use crate::receive::no_text;
 use crate::text::text_of;

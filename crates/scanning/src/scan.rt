@@ -7,14 +7,14 @@ ghost use mathlib.Core.Path.{_≡_};
 ghost use Prim.Native.Nat.{_+_, _*_, _≤_, _<_};
 ghost use lib.ListN.{length, take, drop};
 ghost use Rattle.spec.specs.Dictionary.{lexicon};
-ghost use Rattle.laws.specs.WordTable.{Tables};
-ghost use Rattle.laws.specs.Marks.{Marks};
-ghost use Rattle.laws.specs.ScanMarks.{Stepped as Stepped-at};
+ghost use Rattle.laws.specs.Match.MatchTable.{Tables};
+ghost use Rattle.laws.specs.Build.Tokens.{Tokens};
+ghost use Rattle.laws.specs.Build.ScanTokens.{Stepped as Stepped-at};
 use matching::longest::find_longest;
 
 // A place's mark, and where the last registered entry ends after it.
 pub struct Stepped {
-    pub mark: u16,
+    pub token: u16,
     pub end: usize,
 }
 
@@ -24,28 +24,28 @@ pub fn step(
     lengths: &[u16],
     heads: &[u16],
     links: &[u16],
-    starts: &[u16],
+    word_starts: &[u16],
     text: &[u16],
     at: usize,
     end: usize,
 ) -> Stepped
-    requires { ⌜ Tables (now chars) (now lengths) (now heads) (now links) (now starts) × (at < length (now text)) × (end ≤ length (now text)) ⌝ }
-    ensures { λ r. ⌜ Stepped-at (lexicon (now (chars .entry)) (now (lengths .entry))) (now (text .entry)) (at + 1) (end + 1) (r .mark) (r .end + 1) ⌝ }
+    requires { ⌜ Tables (now chars) (now lengths) (now heads) (now links) (now «word_starts») × (at < length (now text)) × (end ≤ length (now text)) ⌝ }
+    ensures { λ r. ⌜ Stepped-at (lexicon (now (chars .entry)) (now (lengths .entry))) (now (text .entry)) (at + 1) (end + 1) (r .token) (r .end + 1) ⌝ }
 {
-    let found = find_longest(chars, lengths, heads, links, starts, text, at, end);
+    let found = find_longest(chars, lengths, heads, links, word_starts, text, at, end);
     let number = found.number;
     if number == 0 {
         if at < end {
-            return Stepped { mark: 0, end };
+            return Stepped { token: 0, end };
         }
         return Stepped {
-            mark: 4097,
+            token: 4097,
             end: at + 1,
         };
     }
     Stepped {
-        mark: number as u16,
-        end: at + found.long,
+        token: number as u16,
+        end: at + found.len,
     }
 }
 
@@ -55,13 +55,13 @@ pub fn scan(
     lengths: &[u16],
     heads: &[u16],
     links: &[u16],
-    starts: &[u16],
+    word_starts: &[u16],
     n: usize,
     work: &mut [u16],
 )
-    requires { ⌜ Tables (now chars) (now lengths) (now heads) (now links) (now starts) × (2 * n ≤ length (now work)) ⌝ }
-    ensures marks { λ r. ⌜
-        Marks (lexicon (now (chars .entry)) (now (lengths .entry))) (take n (drop n (now (work .entry)))) (take n (now (work .exit))) ⌝ }
+    requires { ⌜ Tables (now chars) (now lengths) (now heads) (now links) (now «word_starts») × (2 * n ≤ length (now work)) ⌝ }
+    ensures tokens { λ r. ⌜
+        Tokens (lexicon (now (chars .entry)) (now (lengths .entry))) (take n (drop n (now (work .entry)))) (take n (now (work .exit))) ⌝ }
     ensures rest { λ r. ⌜ drop n (now (work .exit)) ≡ drop n (now (work .entry)) ⌝ }
 {
     let behind = 2 * n;
@@ -73,12 +73,12 @@ pub fn scan(
             lengths,
             heads,
             links,
-            starts,
+            word_starts,
             &work[n..behind],
             at,
             end,
         );
-        work[at] = next.mark;
+        work[at] = next.token;
         end = next.end;
         at += 1;
     }

@@ -1,7 +1,7 @@
 // The work slice, which is all zeros after every call, refused or not.
 ghost use mathlib.Core.Path.{_≡_};
 ghost use Rattle.spec.specs.Calls.{zeros};
-ghost use Rattle.laws.specs.Answering.{Refuses};
+ghost use Rattle.laws.specs.Dictionary.Answering.{Refuses};
 use spec::Answer;
 
 // Zeros over the whole slice.

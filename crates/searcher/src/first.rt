@@ -7,12 +7,12 @@ ghost use Rattle.spec.specs.Dictionary.{lexicon};
 ghost use Rattle.spec.specs.Index.{keys-of};
 ghost use Rattle.spec.specs.First.{first-position};
 ghost use Rattle.spec.specs.Calls.{index-refusal, accepted, First-says};
-ghost use Rattle.laws.specs.Tables.{Can-read, Opened};
-ghost use Rattle.laws.specs.Sizing.{Is-string};
+ghost use Rattle.laws.specs.Directory.Tables.{Can-read, Opened};
+ghost use Rattle.laws.specs.Search.Sizing.{Is-string};
 use crate::first_starts::first_of_starts;
 use crate::search::starts_of;
-use directory::tables::fill_lists;
-use directory::tables::fill_words;
+use directory::tables::fill_list_starts;
+use directory::tables::fill_word_starts;
 use folding::forms::replaced_string;
 use opening::opened::open_index;
 use spec::FirstAnswer;
@@ -23,15 +23,15 @@ fn first_plain<'a>(
     chars: &'a [u16],
     lengths: &[u16],
     index: &'a [u16],
-    words: &[u16],
-    lists: &[u32],
+    word_starts: &[u16],
+    list_starts: &[u32],
     string: &[u16],
 ) -> usize
-    requires { ⌜ Opened (now chars) (now lengths) (now index) (now words) (now lists) × Is-string (now string) ⌝ }
+    requires { ⌜ Opened (now chars) (now lengths) (now index) (now «word_starts») (now «list_starts») × Is-string (now string) ⌝ }
     ensures { λ r. ⌜ r ≡ first-position (lexicon (now (chars .entry)) (now (lengths .entry))) (now (index .entry)) (now (string .entry)) ⌝ }
 {
     let starts = starts_of(index[0] as usize, string.len());
-    first_of_starts(chars, lengths, index, words, lists, string, starts)
+    first_of_starts(chars, lengths, index, word_starts, list_starts, string, starts)
 }
 
 // The same for a string as it is lent, which is replaced first.
@@ -39,17 +39,17 @@ fn first_tabled<'a>(
     chars: &'a [u16],
     lengths: &[u16],
     index: &'a [u16],
-    words: &[u16],
-    lists: &[u32],
+    word_starts: &[u16],
+    list_starts: &[u32],
     string: &[u16],
 ) -> usize
-    requires { ⌜ Opened (now chars) (now lengths) (now index) (now words) (now lists) × Is-string (now string) ⌝ }
+    requires { ⌜ Opened (now chars) (now lengths) (now index) (now «word_starts») (now «list_starts») × Is-string (now string) ⌝ }
     ensures { λ r. ⌜
         r ≡ first-position (lexicon (now (chars .entry)) (now (lengths .entry))) (now (index .entry)) (replaced (now (string .entry))) ⌝ }
 {
-    let long = string.len();
+    let len = string.len();
     let own = replaced_string(string);
-    first_plain(chars, lengths, index, words, lists, &own[..long])
+    first_plain(chars, lengths, index, word_starts, list_starts, &own[..len])
 }
 
 // The same with the tables filled first, one of them lent.
@@ -59,16 +59,16 @@ fn first_filled<'a>(
     index: &'a [u16],
     keys: usize,
     string: &[u16],
-    lists: &mut [u32],
+    list_starts: &mut [u32],
 ) -> usize
-    requires { ⌜ Can-read (now chars) (now lengths) (now index) × (keys ≡ keys-of (now index)) × Is-string (now string) × (keys ≤ length (now lists)) ⌝ }
+    requires { ⌜ Can-read (now chars) (now lengths) (now index) × (keys ≡ keys-of (now index)) × Is-string (now string) × (keys ≤ length (now «list_starts»)) ⌝ }
     ensures { λ r. ⌜
         r ≡ first-position (lexicon (now (chars .entry)) (now (lengths .entry))) (now (index .entry)) (replaced (now (string .entry))) ⌝ }
 {
-    let mut words = [0u16; 4096];
-    fill_words(lengths, &mut words);
-    fill_lists(index, keys, lists);
-    first_tabled(chars, lengths, index, &words, lists, string)
+    let mut word_starts = [0u16; 4096];
+    fill_word_starts(lengths, &mut word_starts);
+    fill_list_starts(index, keys, list_starts);
+    first_tabled(chars, lengths, index, &word_starts, list_starts, string)
 }
 
 // With a table of 1,024 lines.
@@ -83,8 +83,8 @@ fn first_few_lines<'a>(
     ensures { λ r. ⌜
         r ≡ first-position (lexicon (now (chars .entry)) (now (lengths .entry))) (now (index .entry)) (replaced (now (string .entry))) ⌝ }
 {
-    let mut lists = [0u32; 1024];
-    first_filled(chars, lengths, index, keys, string, &mut lists)
+    let mut list_starts = [0u32; 1024];
+    first_filled(chars, lengths, index, keys, string, &mut list_starts)
 }
 
 // With a table of 8,192 lines.
@@ -99,8 +99,8 @@ fn first_some_lines<'a>(
     ensures { λ r. ⌜
         r ≡ first-position (lexicon (now (chars .entry)) (now (lengths .entry))) (now (index .entry)) (replaced (now (string .entry))) ⌝ }
 {
-    let mut lists = [0u32; 8192];
-    first_filled(chars, lengths, index, keys, string, &mut lists)
+    let mut list_starts = [0u32; 8192];
+    first_filled(chars, lengths, index, keys, string, &mut list_starts)
 }
 
 // With a table of 65,536 lines.
@@ -115,8 +115,8 @@ fn first_many_lines<'a>(
     ensures { λ r. ⌜
         r ≡ first-position (lexicon (now (chars .entry)) (now (lengths .entry))) (now (index .entry)) (replaced (now (string .entry))) ⌝ }
 {
-    let mut lists = [0u32; 65536];
-    first_filled(chars, lengths, index, keys, string, &mut lists)
+    let mut list_starts = [0u32; 65536];
+    first_filled(chars, lengths, index, keys, string, &mut list_starts)
 }
 
 // With a table that is long enough.
@@ -158,14 +158,14 @@ fn first_opened<'a>(
             position: 0,
         };
     }
-    let long = string.len();
-    if long == 0 {
+    let len = string.len();
+    if len == 0 {
         return FirstAnswer {
             refusal: 6,
             position: 0,
         };
     }
-    if 256 < long {
+    if 256 < len {
         return FirstAnswer {
             refusal: 6,
             position: 0,

@@ -6,10 +6,10 @@ ghost use Prim.Native.Nat.{suc, _+_, _≤_};
 ghost use lib.ListN.{length};
 ghost use Rattle.spec.specs.Dictionary.{lexicon};
 ghost use Rattle.spec.specs.Index.{n-of};
-ghost use Rattle.laws.specs.Tables.{Opened};
-ghost use Rattle.laws.specs.Sizing.{Is-string};
-ghost use Rattle.laws.specs.FirstFound.{First-in};
-use crate::dense::is_dense;
+ghost use Rattle.laws.specs.Directory.Tables.{Opened};
+ghost use Rattle.laws.specs.Search.Sizing.{Is-string};
+ghost use Rattle.laws.specs.First.Found.{First-in};
+use crate::estimate::prefers_text_scan;
 use crate::first_windows::first_by_entries;
 use crate::window::reach_by_text;
 use finding::finding::first_found;
@@ -19,18 +19,18 @@ fn first_by_text<'a>(
     chars: &'a [u16],
     lengths: &[u16],
     index: &'a [u16],
-    words: &[u16],
-    lists: &[u32],
+    word_starts: &[u16],
+    list_starts: &[u32],
     string: &[u16],
     reach: &mut [u16],
 ) -> usize
-    requires { ⌜ Opened (now chars) (now lengths) (now index) (now words) (now lists) × Is-string (now string) × (length (now reach) + length (now string) ≤ suc (n-of (now index))) ⌝ }
+    requires { ⌜ Opened (now chars) (now lengths) (now index) (now «word_starts») (now «list_starts») × Is-string (now string) × (length (now reach) + length (now string) ≤ suc (n-of (now index))) ⌝ }
     ensures { λ r. ⌜ First-in (lexicon (now (chars .entry)) (now (lengths .entry))) (now (index .entry)) (now (string .entry)) (length (now (reach .entry))) 1 r ⌝ }
 {
-    if reach_by_text(chars, lengths, index, words, string, reach) {
+    if reach_by_text(chars, lengths, index, word_starts, string, reach) {
         return first_found(reach, string.len(), 1);
     }
-    first_by_entries(chars, lengths, index, words, lists, string, reach.len())
+    first_by_entries(chars, lengths, index, word_starts, list_starts, string, reach.len())
 }
 
 // The same in the front of the room lent for the window.
@@ -38,37 +38,37 @@ fn first_by_text_in<'a>(
     chars: &'a [u16],
     lengths: &[u16],
     index: &'a [u16],
-    words: &[u16],
-    lists: &[u32],
+    word_starts: &[u16],
+    list_starts: &[u32],
     string: &[u16],
     starts: usize,
     room: &mut [u16],
 ) -> usize
-    requires { ⌜ Opened (now chars) (now lengths) (now index) (now words) (now lists) × Is-string (now string) × (starts ≤ length (now room)) × (starts + length (now string) ≤ suc (n-of (now index))) ⌝ }
+    requires { ⌜ Opened (now chars) (now lengths) (now index) (now «word_starts») (now «list_starts») × Is-string (now string) × (starts ≤ length (now room)) × (starts + length (now string) ≤ suc (n-of (now index))) ⌝ }
     ensures { λ r. ⌜ First-in (lexicon (now (chars .entry)) (now (lengths .entry))) (now (index .entry)) (now (string .entry)) starts 1 r ⌝ }
 {
     first_by_text(
         chars,
         lengths,
         index,
-        words,
-        lists,
+        word_starts,
+        list_starts,
         string,
         &mut room[..starts],
     )
 }
 
 // The same with room of its own.
-fn first_in_dense<'a>(
+fn first_by_estimate<'a>(
     chars: &'a [u16],
     lengths: &[u16],
     index: &'a [u16],
-    words: &[u16],
-    lists: &[u32],
+    word_starts: &[u16],
+    list_starts: &[u32],
     string: &[u16],
     starts: usize,
 ) -> usize
-    requires { ⌜ Opened (now chars) (now lengths) (now index) (now words) (now lists) × Is-string (now string) × (starts ≤ 65535) × (starts + length (now string) ≤ suc (n-of (now index))) ⌝ }
+    requires { ⌜ Opened (now chars) (now lengths) (now index) (now «word_starts») (now «list_starts») × Is-string (now string) × (starts ≤ 65535) × (starts + length (now string) ≤ suc (n-of (now index))) ⌝ }
     ensures { λ r. ⌜ First-in (lexicon (now (chars .entry)) (now (lengths .entry))) (now (index .entry)) (now (string .entry)) starts 1 r ⌝ }
 {
     let mut room = [0u16; 65536];
@@ -76,8 +76,8 @@ fn first_in_dense<'a>(
         chars,
         lengths,
         index,
-        words,
-        lists,
+        word_starts,
+        list_starts,
         string,
         starts,
         &mut room,
@@ -89,16 +89,16 @@ pub(crate) fn first_of_starts<'a>(
     chars: &'a [u16],
     lengths: &[u16],
     index: &'a [u16],
-    words: &[u16],
-    lists: &[u32],
+    word_starts: &[u16],
+    list_starts: &[u32],
     string: &[u16],
     starts: usize,
 ) -> usize
-    requires { ⌜ Opened (now chars) (now lengths) (now index) (now words) (now lists) × Is-string (now string) × (starts ≤ 65535) ⌝ }
+    requires { ⌜ Opened (now chars) (now lengths) (now index) (now «word_starts») (now «list_starts») × Is-string (now string) × (starts ≤ 65535) ⌝ }
     ensures { λ r. ⌜ First-in (lexicon (now (chars .entry)) (now (lengths .entry))) (now (index .entry)) (now (string .entry)) starts 1 r ⌝ }
 {
-    if is_dense(chars, lengths, index, words, string, starts) {
-        return first_in_dense(chars, lengths, index, words, lists, string, starts);
+    if prefers_text_scan(chars, lengths, index, word_starts, string, starts) {
+        return first_by_estimate(chars, lengths, index, word_starts, list_starts, string, starts);
     }
-    first_by_entries(chars, lengths, index, words, lists, string, starts)
+    first_by_entries(chars, lengths, index, word_starts, list_starts, string, starts)
 }

@@ -6,39 +6,39 @@ ghost use mathlib.Core.Path.{_≡_};
 ghost use Prim.Native.Nat.{_+_, _≤_};
 ghost use lib.ListN.{length, replicate};
 ghost use Rattle.spec.specs.Dictionary.{lexicon};
-ghost use Rattle.laws.specs.Tables.{Opened};
-ghost use Rattle.laws.specs.Narrowing.{Split};
-ghost use Rattle.laws.specs.FrontLines.{front-lines};
-ghost use Rattle.laws.specs.Sizing.{Is-string};
-ghost use Rattle.laws.specs.FirstFound.{First-in};
+ghost use Rattle.laws.specs.Directory.Tables.{Opened};
+ghost use Rattle.laws.specs.Window.LineRanges.{Split};
+ghost use Rattle.laws.specs.Window.LeadingLines.{leading-lines};
+ghost use Rattle.laws.specs.Search.Sizing.{Is-string};
+ghost use Rattle.laws.specs.First.Found.{First-in};
 use finding::window::first_in_window;
-use reaching::fronts::list_fronts;
+use cover::leading_lines::list_leading;
 
 // The first found of `starts` starts from `first` on, in a cleared window that is lent.
 fn first_in_lent<'a>(
     chars: &'a [u16],
     lengths: &[u16],
     index: &'a [u16],
-    words: &[u16],
-    lists: &[u32],
+    word_starts: &[u16],
+    list_starts: &[u32],
     string: &[u16],
-    ends: usize,
+    word_lines: usize,
     lines: &[u16],
     first: usize,
     starts: usize,
     reach: &mut [u16],
 ) -> usize
-    requires { ⌜ Opened (now chars) (now lengths) (now index) (now words) (now lists) × Is-string (now string) × Split (now index) ends × (now lines ≡ front-lines (lexicon (now chars) (now lengths)) (now index) (now string) ends) × (first + starts ≤ 65536) × (starts ≤ length (now reach)) × (now reach ≡ replicate (length (now reach)) 0) ⌝ }
+    requires { ⌜ Opened (now chars) (now lengths) (now index) (now «word_starts») (now «list_starts») × Is-string (now string) × Split (now index) «word_lines» × (now lines ≡ leading-lines (lexicon (now chars) (now lengths)) (now index) (now string) «word_lines») × (first + starts ≤ 65536) × (starts ≤ length (now reach)) × (now reach ≡ replicate (length (now reach)) 0) ⌝ }
     ensures { λ r. ⌜ First-in (lexicon (now (chars .entry)) (now (lengths .entry))) (now (index .entry)) (now (string .entry)) starts first r ⌝ }
 {
     first_in_window(
         chars,
         lengths,
         index,
-        words,
-        lists,
+        word_starts,
+        list_starts,
         string,
-        ends,
+        word_lines,
         lines,
         first,
         &mut reach[..starts],
@@ -50,15 +50,15 @@ fn first_in_short<'a>(
     chars: &'a [u16],
     lengths: &[u16],
     index: &'a [u16],
-    words: &[u16],
-    lists: &[u32],
+    word_starts: &[u16],
+    list_starts: &[u32],
     string: &[u16],
-    ends: usize,
+    word_lines: usize,
     lines: &[u16],
     first: usize,
     starts: usize,
 ) -> usize
-    requires { ⌜ Opened (now chars) (now lengths) (now index) (now words) (now lists) × Is-string (now string) × Split (now index) ends × (now lines ≡ front-lines (lexicon (now chars) (now lengths)) (now index) (now string) ends) × (first + starts ≤ 65536) × (starts ≤ 1024) ⌝ }
+    requires { ⌜ Opened (now chars) (now lengths) (now index) (now «word_starts») (now «list_starts») × Is-string (now string) × Split (now index) «word_lines» × (now lines ≡ leading-lines (lexicon (now chars) (now lengths)) (now index) (now string) «word_lines») × (first + starts ≤ 65536) × (starts ≤ 1024) ⌝ }
     ensures { λ r. ⌜ First-in (lexicon (now (chars .entry)) (now (lengths .entry))) (now (index .entry)) (now (string .entry)) starts first r ⌝ }
 {
     let mut reach = [0u16; 1024];
@@ -66,10 +66,10 @@ fn first_in_short<'a>(
         chars,
         lengths,
         index,
-        words,
-        lists,
+        word_starts,
+        list_starts,
         string,
-        ends,
+        word_lines,
         lines,
         first,
         starts,
@@ -82,15 +82,15 @@ fn first_in_middle<'a>(
     chars: &'a [u16],
     lengths: &[u16],
     index: &'a [u16],
-    words: &[u16],
-    lists: &[u32],
+    word_starts: &[u16],
+    list_starts: &[u32],
     string: &[u16],
-    ends: usize,
+    word_lines: usize,
     lines: &[u16],
     first: usize,
     starts: usize,
 ) -> usize
-    requires { ⌜ Opened (now chars) (now lengths) (now index) (now words) (now lists) × Is-string (now string) × Split (now index) ends × (now lines ≡ front-lines (lexicon (now chars) (now lengths)) (now index) (now string) ends) × (first + starts ≤ 65536) × (starts ≤ 8192) ⌝ }
+    requires { ⌜ Opened (now chars) (now lengths) (now index) (now «word_starts») (now «list_starts») × Is-string (now string) × Split (now index) «word_lines» × (now lines ≡ leading-lines (lexicon (now chars) (now lengths)) (now index) (now string) «word_lines») × (first + starts ≤ 65536) × (starts ≤ 8192) ⌝ }
     ensures { λ r. ⌜ First-in (lexicon (now (chars .entry)) (now (lengths .entry))) (now (index .entry)) (now (string .entry)) starts first r ⌝ }
 {
     let mut reach = [0u16; 8192];
@@ -98,10 +98,10 @@ fn first_in_middle<'a>(
         chars,
         lengths,
         index,
-        words,
-        lists,
+        word_starts,
+        list_starts,
         string,
-        ends,
+        word_lines,
         lines,
         first,
         starts,
@@ -114,15 +114,15 @@ fn first_in_long<'a>(
     chars: &'a [u16],
     lengths: &[u16],
     index: &'a [u16],
-    words: &[u16],
-    lists: &[u32],
+    word_starts: &[u16],
+    list_starts: &[u32],
     string: &[u16],
-    ends: usize,
+    word_lines: usize,
     lines: &[u16],
     first: usize,
     starts: usize,
 ) -> usize
-    requires { ⌜ Opened (now chars) (now lengths) (now index) (now words) (now lists) × Is-string (now string) × Split (now index) ends × (now lines ≡ front-lines (lexicon (now chars) (now lengths)) (now index) (now string) ends) × (first + starts ≤ 65536) ⌝ }
+    requires { ⌜ Opened (now chars) (now lengths) (now index) (now «word_starts») (now «list_starts») × Is-string (now string) × Split (now index) «word_lines» × (now lines ≡ leading-lines (lexicon (now chars) (now lengths)) (now index) (now string) «word_lines») × (first + starts ≤ 65536) ⌝ }
     ensures { λ r. ⌜ First-in (lexicon (now (chars .entry)) (now (lengths .entry))) (now (index .entry)) (now (string .entry)) starts first r ⌝ }
 {
     let mut reach = [0u16; 65536];
@@ -130,10 +130,10 @@ fn first_in_long<'a>(
         chars,
         lengths,
         index,
-        words,
-        lists,
+        word_starts,
+        list_starts,
         string,
-        ends,
+        word_lines,
         lines,
         first,
         starts,
@@ -146,14 +146,14 @@ fn first_by_windows<'a>(
     chars: &'a [u16],
     lengths: &[u16],
     index: &'a [u16],
-    words: &[u16],
-    lists: &[u32],
+    word_starts: &[u16],
+    list_starts: &[u32],
     string: &[u16],
-    ends: usize,
+    word_lines: usize,
     lines: &[u16],
     starts: usize,
 ) -> usize
-    requires { ⌜ Opened (now chars) (now lengths) (now index) (now words) (now lists) × Is-string (now string) × Split (now index) ends × (now lines ≡ front-lines (lexicon (now chars) (now lengths)) (now index) (now string) ends) × (starts ≤ 65535) ⌝ }
+    requires { ⌜ Opened (now chars) (now lengths) (now index) (now «word_starts») (now «list_starts») × Is-string (now string) × Split (now index) «word_lines» × (now lines ≡ leading-lines (lexicon (now chars) (now lengths)) (now index) (now string) «word_lines») × (starts ≤ 65535) ⌝ }
     ensures { λ r. ⌜ First-in (lexicon (now (chars .entry)) (now (lengths .entry))) (now (index .entry)) (now (string .entry)) starts 1 r ⌝ }
 {
     if starts <= 1024 {
@@ -161,10 +161,10 @@ fn first_by_windows<'a>(
             chars,
             lengths,
             index,
-            words,
-            lists,
+            word_starts,
+            list_starts,
             string,
-            ends,
+            word_lines,
             lines,
             1,
             starts,
@@ -175,10 +175,10 @@ fn first_by_windows<'a>(
             chars,
             lengths,
             index,
-            words,
-            lists,
+            word_starts,
+            list_starts,
             string,
-            ends,
+            word_lines,
             lines,
             1,
             starts,
@@ -188,10 +188,10 @@ fn first_by_windows<'a>(
         chars,
         lengths,
         index,
-        words,
-        lists,
+        word_starts,
+        list_starts,
         string,
-        ends,
+        word_lines,
         lines,
         1,
         8192,
@@ -203,10 +203,10 @@ fn first_by_windows<'a>(
         chars,
         lengths,
         index,
-        words,
-        lists,
+        word_starts,
+        list_starts,
         string,
-        ends,
+        word_lines,
         lines,
         8193,
         starts - 8192,
@@ -218,25 +218,25 @@ fn first_listing<'a>(
     chars: &'a [u16],
     lengths: &[u16],
     index: &'a [u16],
-    words: &[u16],
-    lists: &[u32],
+    word_starts: &[u16],
+    list_starts: &[u32],
     string: &[u16],
     starts: usize,
     lines: &mut [u16],
 ) -> usize
-    requires { ⌜ Opened (now chars) (now lengths) (now index) (now words) (now lists) × Is-string (now string) × (starts ≤ 65535) × (4096 ≤ length (now lines)) ⌝ }
+    requires { ⌜ Opened (now chars) (now lengths) (now index) (now «word_starts») (now «list_starts») × Is-string (now string) × (starts ≤ 65535) × (4096 ≤ length (now lines)) ⌝ }
     ensures { λ r. ⌜ First-in (lexicon (now (chars .entry)) (now (lengths .entry))) (now (index .entry)) (now (string .entry)) starts 1 r ⌝ }
 {
-    let fronts = list_fronts(chars, lengths, index, words, string, lines);
-    let count = fronts.count;
+    let leading = list_leading(chars, lengths, index, word_starts, string, lines);
+    let count = leading.count;
     first_by_windows(
         chars,
         lengths,
         index,
-        words,
-        lists,
+        word_starts,
+        list_starts,
         string,
-        fronts.ends,
+        leading.words,
         &lines[..count],
         starts,
     )
@@ -247,12 +247,12 @@ pub(crate) fn first_by_entries<'a>(
     chars: &'a [u16],
     lengths: &[u16],
     index: &'a [u16],
-    words: &[u16],
-    lists: &[u32],
+    word_starts: &[u16],
+    list_starts: &[u32],
     string: &[u16],
     starts: usize,
 ) -> usize
-    requires { ⌜ Opened (now chars) (now lengths) (now index) (now words) (now lists) × Is-string (now string) × (starts ≤ 65535) ⌝ }
+    requires { ⌜ Opened (now chars) (now lengths) (now index) (now «word_starts») (now «list_starts») × Is-string (now string) × (starts ≤ 65535) ⌝ }
     ensures { λ r. ⌜ First-in (lexicon (now (chars .entry)) (now (lengths .entry))) (now (index .entry)) (now (string .entry)) starts 1 r ⌝ }
 {
     let mut lines = [0u16; 4096];
@@ -260,8 +260,8 @@ pub(crate) fn first_by_entries<'a>(
         chars,
         lengths,
         index,
-        words,
-        lists,
+        word_starts,
+        list_starts,
         string,
         starts,
         &mut lines,

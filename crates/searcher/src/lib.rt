@@ -1,5 +1,5 @@
 // Search of an index without its text: every position, or the first.
-mod dense;
+mod estimate;
 pub mod first;
 mod first_starts;
 mod first_windows;

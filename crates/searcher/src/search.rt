@@ -10,24 +10,24 @@ ghost use Rattle.spec.specs.Dictionary.{lexicon};
 ghost use Rattle.spec.specs.Index.{keys-of};
 ghost use Rattle.spec.specs.Search.{find};
 ghost use Rattle.spec.specs.Calls.{index-refusal, accepted, Search-says};
-ghost use Rattle.laws.specs.Tables.{Can-read, Opened};
-ghost use Rattle.laws.specs.Sizing.{Is-string, Sized};
+ghost use Rattle.laws.specs.Directory.Tables.{Can-read, Opened};
+ghost use Rattle.laws.specs.Search.Sizing.{Is-string, Sized};
 use crate::starts::search_starts;
-use directory::tables::fill_lists;
-use directory::tables::fill_words;
+use directory::tables::fill_list_starts;
+use directory::tables::fill_word_starts;
 use folding::forms::replaced_string;
 use opening::opened::open_index;
 use spec::Answer;
 
 // How many starts there are at which a string of this length fits into n characters.
-pub(crate) fn starts_of(n: usize, long: usize) -> usize
+pub(crate) fn starts_of(n: usize, len: usize) -> usize
     requires { ⌜ n ≤ 65535 ⌝ }
-    ensures { λ r. ⌜ r ≡ suc n - long ⌝ }
+    ensures { λ r. ⌜ r ≡ suc n - len ⌝ }
 {
-    if n < long {
+    if n < len {
         return 0;
     }
-    n - long + 1
+    n - len + 1
 }
 
 // Searches a readable index, with its tables of starts lent, for a string that is searched for as it stands.
@@ -35,16 +35,16 @@ fn search_plain<'a>(
     chars: &'a [u16],
     lengths: &[u16],
     index: &'a [u16],
-    words: &[u16],
-    lists: &[u32],
+    word_starts: &[u16],
+    list_starts: &[u32],
     string: &[u16],
     output: &mut [u16],
 ) -> Answer
-    requires { ⌜ Opened (now chars) (now lengths) (now index) (now words) (now lists) × Is-string (now string) ⌝ }
+    requires { ⌜ Opened (now chars) (now lengths) (now index) (now «word_starts») (now «list_starts») × Is-string (now string) ⌝ }
     ensures { λ r. ⌜ Sized (find (lexicon (now (chars .entry)) (now (lengths .entry))) (now (index .entry)) (now (string .entry))) r (now (output .entry)) (now (output .exit)) ⌝ }
 {
     let starts = starts_of(index[0] as usize, string.len());
-    search_starts(chars, lengths, index, words, lists, string, starts, output)
+    search_starts(chars, lengths, index, word_starts, list_starts, string, starts, output)
 }
 
 // The same for a string as it is lent, which is replaced first.
@@ -52,19 +52,19 @@ pub fn search_tabled<'a>(
     chars: &'a [u16],
     lengths: &[u16],
     index: &'a [u16],
-    words: &[u16],
-    lists: &[u32],
+    word_starts: &[u16],
+    list_starts: &[u32],
     string: &[u16],
     output: &mut [u16],
 ) -> Answer
-    requires { ⌜ Opened (now chars) (now lengths) (now index) (now words) (now lists) × Is-string (now string) ⌝ }
+    requires { ⌜ Opened (now chars) (now lengths) (now index) (now «word_starts») (now «list_starts») × Is-string (now string) ⌝ }
     ensures { λ r. ⌜
         Sized (find (lexicon (now (chars .entry)) (now (lengths .entry))) (now (index .entry)) (replaced (now (string .entry)))) r
         (now (output .entry)) (now (output .exit)) ⌝ }
 {
-    let long = string.len();
+    let len = string.len();
     let own = replaced_string(string);
-    search_plain(chars, lengths, index, words, lists, &own[..long], output)
+    search_plain(chars, lengths, index, word_starts, list_starts, &own[..len], output)
 }
 
 // The same with the tables filled first, one of them lent.
@@ -74,18 +74,18 @@ fn search_filled<'a>(
     index: &'a [u16],
     keys: usize,
     string: &[u16],
-    lists: &mut [u32],
+    list_starts: &mut [u32],
     output: &mut [u16],
 ) -> Answer
-    requires { ⌜ Can-read (now chars) (now lengths) (now index) × (keys ≡ keys-of (now index)) × Is-string (now string) × (keys ≤ length (now lists)) ⌝ }
+    requires { ⌜ Can-read (now chars) (now lengths) (now index) × (keys ≡ keys-of (now index)) × Is-string (now string) × (keys ≤ length (now «list_starts»)) ⌝ }
     ensures { λ r. ⌜
         Sized (find (lexicon (now (chars .entry)) (now (lengths .entry))) (now (index .entry)) (replaced (now (string .entry)))) r
         (now (output .entry)) (now (output .exit)) ⌝ }
 {
-    let mut words = [0u16; 4096];
-    fill_words(lengths, &mut words);
-    fill_lists(index, keys, lists);
-    search_tabled(chars, lengths, index, &words, lists, string, output)
+    let mut word_starts = [0u16; 4096];
+    fill_word_starts(lengths, &mut word_starts);
+    fill_list_starts(index, keys, list_starts);
+    search_tabled(chars, lengths, index, &word_starts, list_starts, string, output)
 }
 
 // With a table of 1,024 lines.
@@ -102,8 +102,8 @@ fn search_few_lines<'a>(
         Sized (find (lexicon (now (chars .entry)) (now (lengths .entry))) (now (index .entry)) (replaced (now (string .entry)))) r
         (now (output .entry)) (now (output .exit)) ⌝ }
 {
-    let mut lists = [0u32; 1024];
-    search_filled(chars, lengths, index, keys, string, &mut lists, output)
+    let mut list_starts = [0u32; 1024];
+    search_filled(chars, lengths, index, keys, string, &mut list_starts, output)
 }
 
 // With a table of 8,192 lines.
@@ -120,8 +120,8 @@ fn search_some_lines<'a>(
         Sized (find (lexicon (now (chars .entry)) (now (lengths .entry))) (now (index .entry)) (replaced (now (string .entry)))) r
         (now (output .entry)) (now (output .exit)) ⌝ }
 {
-    let mut lists = [0u32; 8192];
-    search_filled(chars, lengths, index, keys, string, &mut lists, output)
+    let mut list_starts = [0u32; 8192];
+    search_filled(chars, lengths, index, keys, string, &mut list_starts, output)
 }
 
 // With a table of 65,536 lines.
@@ -138,8 +138,8 @@ fn search_many_lines<'a>(
         Sized (find (lexicon (now (chars .entry)) (now (lengths .entry))) (now (index .entry)) (replaced (now (string .entry)))) r
         (now (output .entry)) (now (output .exit)) ⌝ }
 {
-    let mut lists = [0u32; 65536];
-    search_filled(chars, lengths, index, keys, string, &mut lists, output)
+    let mut list_starts = [0u32; 65536];
+    search_filled(chars, lengths, index, keys, string, &mut list_starts, output)
 }
 
 // With a table that is long enough.
@@ -181,14 +181,14 @@ fn search_opened<'a>(
     if refusal != 0 {
         return Answer { refusal, count: 0 };
     }
-    let long = string.len();
-    if long == 0 {
+    let len = string.len();
+    if len == 0 {
         return Answer {
             refusal: 6,
             count: 0,
         };
     }
-    if 256 < long {
+    if 256 < len {
         return Answer {
             refusal: 6,
             count: 0,

@@ -4,9 +4,9 @@ ghost use mathlib.Core.Path.{_≡_};
 ghost use Prim.Native.Nat.{_≤_};
 ghost use lib.ListN.{length, replicate};
 ghost use Rattle.spec.specs.Dictionary.{lexicon};
-ghost use Rattle.laws.specs.Tables.{Opened};
-ghost use Rattle.laws.specs.Sizing.{Is-string};
-ghost use Rattle.laws.specs.Searching.{Window-says};
+ghost use Rattle.laws.specs.Directory.Tables.{Opened};
+ghost use Rattle.laws.specs.Search.Sizing.{Is-string};
+ghost use Rattle.laws.specs.Window.Searching.{Window-says};
 use crate::window::search_cleared;
 use spec::Answer;
 
@@ -15,22 +15,22 @@ fn search_lent<'a>(
     chars: &'a [u16],
     lengths: &[u16],
     index: &'a [u16],
-    words: &[u16],
-    lists: &[u32],
+    word_starts: &[u16],
+    list_starts: &[u32],
     string: &[u16],
     starts: usize,
     reach: &mut [u16],
     output: &mut [u16],
 ) -> Answer
-    requires { ⌜ Opened (now chars) (now lengths) (now index) (now words) (now lists) × Is-string (now string) × (starts ≤ 65535) × (starts ≤ length (now reach)) × (now reach ≡ replicate (length (now reach)) 0) ⌝ }
+    requires { ⌜ Opened (now chars) (now lengths) (now index) (now «word_starts») (now «list_starts») × Is-string (now string) × (starts ≤ 65535) × (starts ≤ length (now reach)) × (now reach ≡ replicate (length (now reach)) 0) ⌝ }
     ensures { λ r. ⌜ Window-says (lexicon (now (chars .entry)) (now (lengths .entry))) (now (index .entry)) (now (string .entry)) starts 1 r (now (output .entry)) (now (output .exit)) ⌝ }
 {
     search_cleared(
         chars,
         lengths,
         index,
-        words,
-        lists,
+        word_starts,
+        list_starts,
         string,
         &mut reach[..starts],
         output,
@@ -42,13 +42,13 @@ fn search_in_short<'a>(
     chars: &'a [u16],
     lengths: &[u16],
     index: &'a [u16],
-    words: &[u16],
-    lists: &[u32],
+    word_starts: &[u16],
+    list_starts: &[u32],
     string: &[u16],
     starts: usize,
     output: &mut [u16],
 ) -> Answer
-    requires { ⌜ Opened (now chars) (now lengths) (now index) (now words) (now lists) × Is-string (now string) × (starts ≤ 1024) ⌝ }
+    requires { ⌜ Opened (now chars) (now lengths) (now index) (now «word_starts») (now «list_starts») × Is-string (now string) × (starts ≤ 1024) ⌝ }
     ensures { λ r. ⌜ Window-says (lexicon (now (chars .entry)) (now (lengths .entry))) (now (index .entry)) (now (string .entry)) starts 1 r (now (output .entry)) (now (output .exit)) ⌝ }
 {
     let mut reach = [0u16; 1024];
@@ -56,8 +56,8 @@ fn search_in_short<'a>(
         chars,
         lengths,
         index,
-        words,
-        lists,
+        word_starts,
+        list_starts,
         string,
         starts,
         &mut reach,
@@ -70,13 +70,13 @@ fn search_in_middle<'a>(
     chars: &'a [u16],
     lengths: &[u16],
     index: &'a [u16],
-    words: &[u16],
-    lists: &[u32],
+    word_starts: &[u16],
+    list_starts: &[u32],
     string: &[u16],
     starts: usize,
     output: &mut [u16],
 ) -> Answer
-    requires { ⌜ Opened (now chars) (now lengths) (now index) (now words) (now lists) × Is-string (now string) × (starts ≤ 8192) ⌝ }
+    requires { ⌜ Opened (now chars) (now lengths) (now index) (now «word_starts») (now «list_starts») × Is-string (now string) × (starts ≤ 8192) ⌝ }
     ensures { λ r. ⌜ Window-says (lexicon (now (chars .entry)) (now (lengths .entry))) (now (index .entry)) (now (string .entry)) starts 1 r (now (output .entry)) (now (output .exit)) ⌝ }
 {
     let mut reach = [0u16; 8192];
@@ -84,8 +84,8 @@ fn search_in_middle<'a>(
         chars,
         lengths,
         index,
-        words,
-        lists,
+        word_starts,
+        list_starts,
         string,
         starts,
         &mut reach,
@@ -98,13 +98,13 @@ fn search_in_long<'a>(
     chars: &'a [u16],
     lengths: &[u16],
     index: &'a [u16],
-    words: &[u16],
-    lists: &[u32],
+    word_starts: &[u16],
+    list_starts: &[u32],
     string: &[u16],
     starts: usize,
     output: &mut [u16],
 ) -> Answer
-    requires { ⌜ Opened (now chars) (now lengths) (now index) (now words) (now lists) × Is-string (now string) × (starts ≤ 65535) ⌝ }
+    requires { ⌜ Opened (now chars) (now lengths) (now index) (now «word_starts») (now «list_starts») × Is-string (now string) × (starts ≤ 65535) ⌝ }
     ensures { λ r. ⌜ Window-says (lexicon (now (chars .entry)) (now (lengths .entry))) (now (index .entry)) (now (string .entry)) starts 1 r (now (output .entry)) (now (output .exit)) ⌝ }
 {
     let mut reach = [0u16; 65536];
@@ -112,8 +112,8 @@ fn search_in_long<'a>(
         chars,
         lengths,
         index,
-        words,
-        lists,
+        word_starts,
+        list_starts,
         string,
         starts,
         &mut reach,
@@ -126,20 +126,20 @@ pub(crate) fn search_starts<'a>(
     chars: &'a [u16],
     lengths: &[u16],
     index: &'a [u16],
-    words: &[u16],
-    lists: &[u32],
+    word_starts: &[u16],
+    list_starts: &[u32],
     string: &[u16],
     starts: usize,
     output: &mut [u16],
 ) -> Answer
-    requires { ⌜ Opened (now chars) (now lengths) (now index) (now words) (now lists) × Is-string (now string) × (starts ≤ 65535) ⌝ }
+    requires { ⌜ Opened (now chars) (now lengths) (now index) (now «word_starts») (now «list_starts») × Is-string (now string) × (starts ≤ 65535) ⌝ }
     ensures { λ r. ⌜ Window-says (lexicon (now (chars .entry)) (now (lengths .entry))) (now (index .entry)) (now (string .entry)) starts 1 r (now (output .entry)) (now (output .exit)) ⌝ }
 {
     if starts <= 1024 {
-        return search_in_short(chars, lengths, index, words, lists, string, starts, output);
+        return search_in_short(chars, lengths, index, word_starts, list_starts, string, starts, output);
     }
     if starts <= 8192 {
-        return search_in_middle(chars, lengths, index, words, lists, string, starts, output);
+        return search_in_middle(chars, lengths, index, word_starts, list_starts, string, starts, output);
     }
-    search_in_long(chars, lengths, index, words, lists, string, starts, output)
+    search_in_long(chars, lengths, index, word_starts, list_starts, string, starts, output)
 }

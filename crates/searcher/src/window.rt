@@ -5,12 +5,12 @@ ghost use Prim.Native.Nat.{suc, _+_, _≤_};
 ghost use lib.ListN.{length, replicate};
 ghost use Rattle.spec.specs.Dictionary.{lexicon};
 ghost use Rattle.spec.specs.Index.{n-of};
-ghost use Rattle.laws.specs.Tables.{Can-read, Word-starts, Opened};
-ghost use Rattle.laws.specs.Sizing.{Is-string};
-ghost use Rattle.laws.specs.PaintedSearch.{Finds};
-ghost use Rattle.laws.specs.Searching.{Window-says};
-use crate::dense::is_dense;
-use finding::painted::reach_painted;
+ghost use Rattle.laws.specs.Directory.Tables.{Can-read, Word-starts, Opened};
+ghost use Rattle.laws.specs.Search.Sizing.{Is-string};
+ghost use Rattle.laws.specs.TextScan.ReconstructedSearch.{Finds};
+ghost use Rattle.laws.specs.Window.Searching.{Window-says};
+use crate::estimate::prefers_text_scan;
+use finding::text_scan::reach_reconstructed;
 use finding::window::answer_window;
 use finding::window::search_window;
 use spec::Answer;
@@ -20,17 +20,17 @@ fn reach_in_front(
     chars: &[u16],
     lengths: &[u16],
     index: &[u16],
-    words: &[u16],
+    word_starts: &[u16],
     string: &[u16],
     room: &mut [u16],
     reach: &mut [u16],
 ) -> bool
-    requires { ⌜ Can-read (now chars) (now lengths) (now index) × Word-starts (now lengths) (length (now lengths)) (now words) × (length (now string) ≤ 256) × (n-of (now index) ≤ length (now room)) × (length (now reach) + length (now string) ≤ suc (n-of (now index))) ⌝ }
+    requires { ⌜ Can-read (now chars) (now lengths) (now index) × Word-starts (now lengths) (length (now lengths)) (now «word_starts») × (length (now string) ≤ 256) × (n-of (now index) ≤ length (now room)) × (length (now reach) + length (now string) ≤ suc (n-of (now index))) ⌝ }
     ensures told { λ r. ⌜ (r ≡ true → Finds (lexicon (now (chars .entry)) (now (lengths .entry))) (now (index .entry)) (now (string .entry)) (now (reach .exit))) ⌝ }
     ensures kept { λ r. ⌜ (r ≡ false → now (reach .exit) ≡ now (reach .entry)) ⌝ }
 {
     let n = index[0] as usize;
-    reach_painted(chars, lengths, index, words, string, &mut room[..n], reach)
+    reach_reconstructed(chars, lengths, index, word_starts, string, &mut room[..n], reach)
 }
 
 // The same with room for the text of its own, which only this way clears.
@@ -38,35 +38,35 @@ pub(crate) fn reach_by_text(
     chars: &[u16],
     lengths: &[u16],
     index: &[u16],
-    words: &[u16],
+    word_starts: &[u16],
     string: &[u16],
     reach: &mut [u16],
 ) -> bool
-    requires { ⌜ Can-read (now chars) (now lengths) (now index) × Word-starts (now lengths) (length (now lengths)) (now words) × (length (now string) ≤ 256) × (length (now reach) + length (now string) ≤ suc (n-of (now index))) ⌝ }
+    requires { ⌜ Can-read (now chars) (now lengths) (now index) × Word-starts (now lengths) (length (now lengths)) (now «word_starts») × (length (now string) ≤ 256) × (length (now reach) + length (now string) ≤ suc (n-of (now index))) ⌝ }
     ensures told { λ r. ⌜ (r ≡ true → Finds (lexicon (now (chars .entry)) (now (lengths .entry))) (now (index .entry)) (now (string .entry)) (now (reach .exit))) ⌝ }
     ensures kept { λ r. ⌜ (r ≡ false → now (reach .exit) ≡ now (reach .entry)) ⌝ }
 {
     let mut room = [0u16; 65536];
-    reach_in_front(chars, lengths, index, words, string, &mut room, reach)
+    reach_in_front(chars, lengths, index, word_starts, string, &mut room, reach)
 }
 
 // The same where it is cheaper than searching by the entries.
-fn reach_if_dense(
+fn reach_if_cheaper(
     chars: &[u16],
     lengths: &[u16],
     index: &[u16],
-    words: &[u16],
+    word_starts: &[u16],
     string: &[u16],
     reach: &mut [u16],
 ) -> bool
-    requires { ⌜ Can-read (now chars) (now lengths) (now index) × Word-starts (now lengths) (length (now lengths)) (now words) × Is-string (now string) × (length (now reach) ≤ 65535) ⌝ }
+    requires { ⌜ Can-read (now chars) (now lengths) (now index) × Word-starts (now lengths) (length (now lengths)) (now «word_starts») × Is-string (now string) × (length (now reach) ≤ 65535) ⌝ }
     ensures told { λ r. ⌜ (r ≡ true → Finds (lexicon (now (chars .entry)) (now (lengths .entry))) (now (index .entry)) (now (string .entry)) (now (reach .exit))) ⌝ }
     ensures kept { λ r. ⌜ (r ≡ false → now (reach .exit) ≡ now (reach .entry)) ⌝ }
 {
-    if !is_dense(chars, lengths, index, words, string, reach.len()) {
+    if !prefers_text_scan(chars, lengths, index, word_starts, string, reach.len()) {
         return false;
     }
-    reach_by_text(chars, lengths, index, words, string, reach)
+    reach_by_text(chars, lengths, index, word_starts, string, reach)
 }
 
 // Searches the starts of a cleared window, from the first position on.
@@ -74,24 +74,24 @@ pub(crate) fn search_cleared<'a>(
     chars: &'a [u16],
     lengths: &[u16],
     index: &'a [u16],
-    words: &[u16],
-    lists: &[u32],
+    word_starts: &[u16],
+    list_starts: &[u32],
     string: &[u16],
     reach: &mut [u16],
     output: &mut [u16],
 ) -> Answer
-    requires { ⌜ Opened (now chars) (now lengths) (now index) (now words) (now lists) × Is-string (now string) × (length (now reach) ≤ 65535) × (now reach ≡ replicate (length (now reach)) 0) ⌝ }
+    requires { ⌜ Opened (now chars) (now lengths) (now index) (now «word_starts») (now «list_starts») × Is-string (now string) × (length (now reach) ≤ 65535) × (now reach ≡ replicate (length (now reach)) 0) ⌝ }
     ensures { λ r. ⌜ Window-says (lexicon (now (chars .entry)) (now (lengths .entry))) (now (index .entry)) (now (string .entry)) (length (now (reach .entry))) 1 r (now (output .entry)) (now (output .exit)) ⌝ }
 {
-    if reach_if_dense(chars, lengths, index, words, string, reach) {
+    if reach_if_cheaper(chars, lengths, index, word_starts, string, reach) {
         return answer_window(reach, string.len(), 1, output);
     }
     search_window(
         chars,
         lengths,
         index,
-        words,
-        lists,
+        word_starts,
+        list_starts,
         string,
         1,
         reach,

@@ -18,8 +18,8 @@ use Rattle.spec.specs.First.{first-position}
 use Rattle.spec.specs.Cut.{cut-down}
 use Rattle.spec.specs.Tally.{tally}
 use Rattle.spec.specs.Gaps.{gap-form, restored}
-use Rattle.spec.specs.Promise.{places, Query}
-use Rattle.spec.specs.Beyond.{Under, Text-of, Exactly-places, First-stands}
+use Rattle.spec.specs.Theorems.{positions, Query}
+use Rattle.spec.specs.FurtherTheorems.{Under, Text-of, Exactly-positions, First-stands}
 use Rattle.spec.specs.Published.{Item, item, maximal-items}
 use Rattle.spec.specs.JobAnswer.{Job-says}
 use Rattle.spec.specs.Calls.{Admit-says, Build-says, Receive-says, Recover-says, Search-says, Cut-says, First-says, Tally-says}
@@ -120,9 +120,9 @@ Second-demand =
 -- Every search of the numbers for s with enough output accepts, and writes exactly the positions at which s, replaced, stands in ts.
 abbrev pub Found-for : (chars lengths index text string : List ℕ) → Type 0
 Found-for cs ls xs ts s =
-    let found = places (replaced s) ts in
+    let found = positions (replaced s) ts in
     (r : Answer) (o z : List ℕ) → length found ≤ length o → Search-says cs ls xs s r o z →
-    (r .refusal ≡ 0) × Written found r o z × Exactly-places (replaced s) ts (take (r .count) z)
+    (r .refusal ≡ 0) × Written found r o z × Exactly-positions (replaced s) ts (take (r .count) z)
 
 -- Every call of first for s accepts, and answers the first position at which s, replaced, stands in ts, 0 if it stands nowhere.
 abbrev pub First-for : (chars lengths index text string : List ℕ) → Type 0

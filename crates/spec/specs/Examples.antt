@@ -12,14 +12,14 @@ use Rattle.spec.specs.Dictionary.{longest-text, Lexicon, lexicon, dictio
 use Rattle.spec.specs.Dictionary.{length-good, lengths-good, lengths-wrong, word-before, ascend, disordered, some-full-width}
 use Rattle.spec.specs.Dictionary.{unreplaced}
 use Rattle.spec.specs.Words.{Entry, key, same, listed, is-word, spells, stands, entry, contains, same-key, same-entry, key-entries, word-entries, lone-entries, complete, in-another, maximal, entries}
-use Rattle.spec.specs.Numbers.{index-of, key-before, entry-before, into, sorted, line, with-entry, lines-of, directory, positions, numbers}
+use Rattle.spec.specs.Numbers.{index-of, key-before, entry-before, into, sorted, line, with-entry, lines-of, directory, all-positions, numbers}
 use Rattle.spec.specs.Index.{entries-of, readable, counts-from, lines-from, lines-in, kinds-good, key-good, keys-ascend, rise-from, last-of, line-good, lines-good, lengths-fit}
 use Rattle.spec.specs.Reception.{recovered, lies-on, shown-by, or-shown, shown, char-or, recovered-from, is-index, received}
 use Rattle.spec.specs.Search.{find, offset, in-offsets, agrees-at, overlaps, equal-from, agrees, string-start, key-start, covers, covered, all-covered, found-from}
 use Rattle.spec.specs.Cut.{bears, cut-down, lies-from, lies-in, joins-from, joins, bearing}
 use Rattle.spec.specs.Tally.{tally, shorter, of-length, tally-from}
-use Rattle.spec.specs.Promise.{places, places-from}
-use Rattle.spec.specs.Models.{scan, raise, reach-places, reach-key, reach-back, reach-first, reach-stage, reach-stages, reach}
+use Rattle.spec.specs.Theorems.{positions, positions-from}
+use Rattle.spec.specs.Models.{scan, extend, reach-positions, reach-key, reach-back, reach-leading, reach-offset, reach-offsets, reach}
 use Rattle.spec.specs.Calls.{index-refusal, reception-refusal, recovery-refusal, unreadable, work-short, output-short, no-text, or-else}
 use Rattle.spec.specs.JobAnswer.{decimal-within, decimal, digit-byte, hexadecimal, spaced, index-line, key-name, key-line, key-lines, index-lines}
 use Rattle.spec.specs.Bytes.{bytes}
@@ -117,7 +117,7 @@ pub record Tried : Type 0 where
   pub word-of-one : index-of B (a ∷ []) ≡ 1 ∷ 1 ∷ 0 ∷ 0 ∷ 1 ∷ 1 ∷ []
   pub overlapping-join : find A (index-of A abcdab) (a ∷ b ∷ c ∷ d ∷ []) ≡ 1 ∷ []
   pub touching-join : find A (index-of A abcdab) (c ∷ d ∷ a ∷ []) ≡ 3 ∷ []
-  pub places-of-ab : places (a ∷ b ∷ []) abcdab ≡ 1 ∷ 5 ∷ []
+  pub positions-of-ab : positions (a ∷ b ∷ []) abcdab ≡ 1 ∷ 5 ∷ []
   pub received-abcdab : received longest-text A (index-of A abcdab) ≡ true
   pub not-received : received longest-text A two-lone ≡ false
   pub text-recovered : recovered A (index-of A abcdab) ≡ abcdab
@@ -152,12 +152,12 @@ pub no-place : (m : ℕ) → 1 - suc m ≡ 0
 no-place m = omega arith
 
 pub examples : Examples
-unfolding scan raise reach-places reach-key reach-back reach-first reach-stage reach-stages reach is-char words-from lexicon total
+unfolding scan extend reach-positions reach-key reach-back reach-leading reach-offset reach-offsets reach is-char words-from lexicon total
     too-large length-good lengths-good lengths-wrong word-before ascend disordered is-full-width replaced-char replaced holds-full-width
     some-full-width unreplaced dictionary-refusal key same listed is-word spells stands entry contains same-key same-entry key-entries
     word-entries lone-entries complete in-another maximal entries key-before entry-before into sorted line with-entry lines-of directory
-    positions numbers index-of counts-from entries-of lines-from lines-in kinds-good key-good keys-ascend rise-from last-of line-good
-    lines-good lengths-fit readable lies-on shown-by or-shown shown char-or recovered-from recovered is-index received places-from places
+    all-positions numbers index-of counts-from entries-of lines-from lines-in kinds-good key-good keys-ascend rise-from last-of line-good
+    lines-good lengths-fit readable lies-on shown-by or-shown shown char-or recovered-from recovered is-index received positions-from positions
     overlaps equal-from agrees offset in-offsets string-start key-start agrees-at covers covered all-covered found-from find lies-from
     lies-in joins-from joins bears bearing cut-down of-length tally-from tally shorter unreadable work-short output-short no-text or-else
     index-refusal reception-refusal recovery-refusal bytes decimal-within decimal digit-byte hexadecimal spaced index-line key-name
@@ -190,7 +190,7 @@ examples =
             word-of-one = refl;
             overlapping-join = refl;
             touching-join = refl;
-            places-of-ab = refl;
+            positions-of-ab = refl;
             received-abcdab = refl;
             not-received = refl;
             text-recovered = refl;

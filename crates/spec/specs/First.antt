@@ -30,12 +30,12 @@ positions-to q (p ∷ ps) = cond (leb p q) (p ∷ positions-to q ps) (positions-
 
 -- a line before others; dropped where its key has no positions
 unfoldable pub with-line : Line → List Line → List Line
-with-line l ls = cond (eqb (length (l .places)) 0) ls (l ∷ ls)
+with-line l ls = cond (eqb (length (l .positions)) 0) ls (l ∷ ls)
 
 -- lines without their positions after q
 unfoldable pub lines-to : (q : ℕ) → List Line → List Line
 lines-to q [] = []
-lines-to q (l ∷ ls) = with-line (line (l .key-of) (positions-to q (l .places))) (lines-to q ls)
+lines-to q (l ∷ ls) = with-line (line (l .key-of) (positions-to q (l .positions))) (lines-to q ls)
 
 -- the index without its entries that start after q
 unfoldable pub index-to : (q : ℕ) → (numbers : List ℕ) → List ℕ

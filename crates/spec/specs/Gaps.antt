@@ -27,7 +27,7 @@ prefix-sums ds = sums-after 0 ds
 -- THE LISTS OF AN INDEX
 
 -- the positions of line i and of those after it, each line's list through f; numbers after the last list stay
-unfoldable pub lists-from : (f : List ℕ → List ℕ) → (left i : ℕ) → (numbers places : List ℕ) → List ℕ
+unfoldable pub lists-from : (f : List ℕ → List ℕ) → (left i : ℕ) → (numbers positions : List ℕ) → List ℕ
 lists-from f zero i xs ps = ps
 lists-from f (suc k) i xs ps = f (take (count-at xs i) ps) ++ lists-from f k (suc i) xs (drop (count-at xs i) ps)
 

@@ -45,7 +45,7 @@ unfoldable pub entries-of : List ℕ → ℕ
 entries-of xs = counts-from (keys-of xs) 0 xs
 
 -- line i and those after it, with their positions off the front of those left
-unfoldable pub lines-from : (left i : ℕ) → (numbers places : List ℕ) → List Line
+unfoldable pub lines-from : (left i : ℕ) → (numbers positions : List ℕ) → List Line
 lines-from zero i xs ps = []
 lines-from (suc k) i xs ps = line (key-at xs i) (take (count-at xs i) ps) ∷ lines-from k (suc i) xs (drop (count-at xs i) ps)
 
@@ -86,8 +86,8 @@ last-of (p ∷ q ∷ ps) = last-of (q ∷ ps)
 -- falls at or before n"
 unfoldable pub line-good : Lexicon → (n : ℕ) → Line → Bool
 line-good lex n l =
-    (key-good lex (l .key-of) && leb 1 (length (l .places)))
-    && (rise-from 1 (l .places) && leb (last-of (l .places) + length (spells lex (l .key-of))) (suc n))
+    (key-good lex (l .key-of) && leb 1 (length (l .positions)))
+    && (rise-from 1 (l .positions) && leb (last-of (l .positions) + length (spells lex (l .key-of))) (suc n))
 
 -- so with every line
 unfoldable pub lines-good : Lexicon → (n : ℕ) → List Line → Bool

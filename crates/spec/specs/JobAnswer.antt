@@ -84,7 +84,7 @@ unfoldable pub key-name : Key → List ℕ
 key-name k = cond (eqb (k .kind) 0) (key-word-head ++ decimal (k .value)) (key-lone-head ++ hexadecimal (k .value))
 
 unfoldable pub key-line : Line → List ℕ
-key-line l = key-name (l .key-of) ++ opening-list ++ spaced (l .places) ++ ending-list
+key-line l = key-name (l .key-of) ++ opening-list ++ spaced (l .positions) ++ ending-list
 
 -- "a line for each key in order"
 unfoldable pub key-lines : List Line → List ℕ

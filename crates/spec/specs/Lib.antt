@@ -11,11 +11,11 @@ pub mod Cut
 pub mod Tally
 pub mod Gaps
 pub mod Calls
-pub mod Promise
-pub mod Beyond
-pub mod FirstPromise
-pub mod ReplacedPromise
-pub mod GapsPromise
+pub mod Theorems
+pub mod FurtherTheorems
+pub mod FirstTheorems
+pub mod ReplacedTheorems
+pub mod GapsTheorems
 pub mod Published
 pub mod JobSheet
 pub mod JobAnswer

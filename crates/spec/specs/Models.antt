@@ -18,13 +18,13 @@ use Rattle.spec.specs.Search.{agrees, all-covered}
 unfoldable pub scan : (longest : ℕ → Entry) (left p last : ℕ) → List Entry
 scan longest zero p last = []
 scan longest (suc n) p last =
-    cond (ltb last (p + longest p .long)) (longest p ∷ scan longest n (suc p) (p + longest p .long)) (scan longest n (suc p) last)
+    cond (ltb last (p + longest p .len)) (longest p ∷ scan longest n (suc p) (p + longest p .len)) (scan longest n (suc p) last)
 
 -- the longest entry at p of the complete index
 pub record Longest-entry (lex : Lexicon) (ts : List ℕ) (p : ℕ) (e : Entry) : Type 0 where
   pub member : In e (complete lex ts)
   pub here : e .at ≡ p
-  pub longest : (f : Entry) → In f (complete lex ts) → f .at ≡ p → f .long ≤ e .long
+  pub longest : (f : Entry) → In f (complete lex ts) → f .at ≡ p → f .len ≤ e .len
 
 -- The scan registers exactly the entries of the complete maximal word index, and the index is their numbers, put together under
 -- their keys.
@@ -41,39 +41,39 @@ Scan-builds g =
 
 -- an entry at b of a key of this length: if that is its offset and the reach comes to the key's start, the reach is raised to
 -- the key's end
-unfoldable pub raise : (i o long p b reach : ℕ) → ℕ
-raise i o l p b r = cond (eqb (b + i) (p + o)) (cond (leb o r) (max r ((o + l) - i)) r) r
+unfoldable pub extend : (i o len p b reach : ℕ) → ℕ
+extend i o l p b r = cond (eqb (b + i) (p + o)) (cond (leb o r) (max r ((o + l) - i)) r) r
 
-unfoldable pub reach-places : (i o long p : ℕ) → (places : List ℕ) → (reach : ℕ) → ℕ
-reach-places i o l p [] r = r
-reach-places i o l p (b ∷ bs) r = reach-places i o l p bs (raise i o l p b r)
+unfoldable pub reach-positions : (i o len p : ℕ) → (positions : List ℕ) → (reach : ℕ) → ℕ
+reach-positions i o l p [] r = r
+reach-positions i o l p (b ∷ bs) r = reach-positions i o l p bs (extend i o l p b r)
 
 -- one key at one offset
-unfoldable pub reach-key : (i o : ℕ) → (string key : List ℕ) → (p : ℕ) → (places : List ℕ) → (reach : ℕ) → ℕ
-reach-key i o s k p bs r = cond (agrees s i k o) (reach-places i o (length k) p bs r) r
+unfoldable pub reach-key : (i o : ℕ) → (string key : List ℕ) → (p : ℕ) → (positions : List ℕ) → (reach : ℕ) → ℕ
+reach-key i o s k p bs r = cond (agrees s i k o) (reach-positions i o (length k) p bs r) r
 
 -- one key at the offsets −i, −i − 1, ..
-unfoldable pub reach-back : (left i : ℕ) → (string key : List ℕ) → (p : ℕ) → (places : List ℕ) → (reach : ℕ) → ℕ
+unfoldable pub reach-back : (left i : ℕ) → (string key : List ℕ) → (p : ℕ) → (positions : List ℕ) → (reach : ℕ) → ℕ
 reach-back zero i s k p bs r = r
 reach-back (suc n) i s k p bs r = reach-back n (suc i) s k p bs (reach-key i 0 s k p bs r)
 
 -- the first stage: every key at every offset from 0 down
-unfoldable pub reach-first : Lexicon → List Line → (string : List ℕ) → (p reach : ℕ) → ℕ
-reach-first lex [] s p r = r
-reach-first lex (l ∷ ls) s p r =
-    reach-first lex ls s p (reach-back (length (spells lex (l .key-of))) 0 s (spells lex (l .key-of)) p (l .places) r)
+unfoldable pub reach-leading : Lexicon → List Line → (string : List ℕ) → (p reach : ℕ) → ℕ
+reach-leading lex [] s p r = r
+reach-leading lex (l ∷ ls) s p r =
+    reach-leading lex ls s p (reach-back (length (spells lex (l .key-of))) 0 s (spells lex (l .key-of)) p (l .positions) r)
 
 -- a later stage: every key at the offset o
-unfoldable pub reach-stage : (o : ℕ) → Lexicon → List Line → (string : List ℕ) → (p reach : ℕ) → ℕ
-reach-stage o lex [] s p r = r
-reach-stage o lex (l ∷ ls) s p r = reach-stage o lex ls s p (reach-key 0 o s (spells lex (l .key-of)) p (l .places) r)
+unfoldable pub reach-offset : (o : ℕ) → Lexicon → List Line → (string : List ℕ) → (p reach : ℕ) → ℕ
+reach-offset o lex [] s p r = r
+reach-offset o lex (l ∷ ls) s p r = reach-offset o lex ls s p (reach-key 0 o s (spells lex (l .key-of)) p (l .positions) r)
 
-unfoldable pub reach-stages : (left o : ℕ) → Lexicon → List Line → (string : List ℕ) → (p reach : ℕ) → ℕ
-reach-stages zero o lex ls s p r = r
-reach-stages (suc n) o lex ls s p r = reach-stages n (suc o) lex ls s p (reach-stage o lex ls s p r)
+unfoldable pub reach-offsets : (left o : ℕ) → Lexicon → List Line → (string : List ℕ) → (p reach : ℕ) → ℕ
+reach-offsets zero o lex ls s p r = r
+reach-offsets (suc n) o lex ls s p r = reach-offsets n (suc o) lex ls s p (reach-offset o lex ls s p r)
 
 unfoldable pub reach : Lexicon → List Line → (string : List ℕ) → (p : ℕ) → ℕ
-reach lex ls s p = reach-stages (length s - 1) 1 lex ls s p (reach-first lex ls s p 0)
+reach lex ls s p = reach-offsets (length s - 1) 1 lex ls s p (reach-leading lex ls s p 0)
 
 -- For any lines, the reach comes to the string's end exactly if every place under it is covered by an entry that agrees.
 unfoldable pub Greedy-cover : Type 0

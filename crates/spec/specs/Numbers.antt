@@ -30,16 +30,16 @@ sorted (e ∷ es) = into e (sorted es)
 -- A directory line with its positions (the field's term: posting list).
 pub record Line : Type 0 where
   pub key-of : Key
-  pub places : List ℕ
+  pub positions : List ℕ
 
 unfoldable pub line : Key → List ℕ → Line
-line k ps = record { key-of = k; places = ps }
+line k ps = record { key-of = k; positions = ps }
 
 -- an entry put before lines whose entries all come after it
 unfoldable pub with-entry : Entry → List Line → List Line
 with-entry e [] = line (e .key-of) (e .at ∷ []) ∷ []
 with-entry e (l ∷ ls) =
-    cond (key-before (e .key-of) (l .key-of)) (line (e .key-of) (e .at ∷ []) ∷ l ∷ ls) (line (l .key-of) (e .at ∷ l .places) ∷ ls)
+    cond (key-before (e .key-of) (l .key-of)) (line (e .key-of) (e .at ∷ []) ∷ l ∷ ls) (line (l .key-of) (e .at ∷ l .positions) ∷ ls)
 
 -- entries in order, put together under their keys
 unfoldable pub lines-of : List Entry → List Line
@@ -49,16 +49,16 @@ lines-of (e ∷ es) = with-entry e (lines-of es)
 -- "K directory lines of kind, value, count"
 unfoldable pub directory : List Line → List ℕ
 directory [] = []
-directory (l ∷ ls) = l .key-of .kind ∷ l .key-of .value ∷ length (l .places) ∷ directory ls
+directory (l ∷ ls) = l .key-of .kind ∷ l .key-of .value ∷ length (l .positions) ∷ directory ls
 
 -- "then all positions, key after key in directory order"
-unfoldable pub positions : List Line → List ℕ
-positions [] = []
-positions (l ∷ ls) = l .places ++ positions ls
+unfoldable pub all-positions : List Line → List ℕ
+all-positions [] = []
+all-positions (l ∷ ls) = l .positions ++ all-positions ls
 
 -- "An index is a slice of 16-bit numbers: n; K, the number of keys; K directory lines of kind, value, count; then all positions"
 unfoldable pub numbers : (n : ℕ) → List Line → List ℕ
-numbers n ls = (n ∷ length ls ∷ []) ++ directory ls ++ positions ls
+numbers n ls = (n ∷ length ls ∷ []) ++ directory ls ++ all-positions ls
 
 -- "As numbers, a text's index is the one readable slice [..] with the text's n and exactly the entries of its complete maximal
 -- word index"

@@ -22,16 +22,16 @@ Extends-word a b = (k : ℕ) × (stands b a k ≡ true)
 -- Definition 2: "2-tuples of the form (w, n)"
 pub record Item : Type 0 where
   pub word : List ℕ
-  pub place : ℕ
+  pub position : ℕ
 
-unfoldable pub item : (word : List ℕ) (place : ℕ) → Item
-item w n = record { word = w; place = n }
+unfoldable pub item : (word : List ℕ) (position : ℕ) → Item
+item w n = record { word = w; position = n }
 
 -- Definition 2: "w is a word in DICT, n is a character position of DOC, and w is a prefix word of DOC [n:|DOC|-n+1]". The end
 -- printed there is a slip: meant is the rest of DOC, to |DOC|.
 pub record Is-item (lex : Lexicon) (doc : List ℕ) (i : Item) : Type 0 where
   pub is-word : Is-word lex (i .word)
-  pub stand : stands (i .word) doc (i .place) ≡ true
+  pub stand : stands (i .word) doc (i .position) ≡ true
 
 -- Definition 3: "An index [..] is a finite set of index items": a set is what holds of its members. That it is finite is not
 -- asked, so what is said of every such set says more.
@@ -41,8 +41,8 @@ Items = Item → Type 0
 -- Definition 4: "I1 is an extension index item of I2 ⇔ (w1 is an extension word of w2) ∧ (n1 ≤ n2) ∧ (n1 + |w1| ≥ n2 + |w2|)"
 pub record Extends (i j : Item) : Type 0 where
   pub extends-word : Extends-word (i .word) (j .word)
-  pub starts : i .place ≤ j .place
-  pub ends : j .place + length (j .word) ≤ i .place + length (i .word)
+  pub starts : i .position ≤ j .position
+  pub ends : j .position + length (j .word) ≤ i .position + length (i .word)
 
 -- Definition 5: "An index item in IND is a maximal index item ⇔ it has no extension index items in IND except for itself."
 pub record Maximal-item (ind : Items) (i : Item) : Type 0 where
@@ -89,8 +89,8 @@ pub record Possible (ind : Items) (W : List ℕ → Type 0) (p : ℕ) : Type 0 w
   pub of : Item
   pub member : ind of
   pub word-in : W (of .word)
-  pub starts : of .place ≤ p
-  pub ends : p < of .place + length (of .word)
+  pub starts : of .position ≤ p
+  pub ends : p < of .position + length (of .word)
 
 -- "E(str) = {w' | w' is an extension word of str in DICT}"
 pub record Extension-words (lex : Lexicon) (str w : List ℕ) : Type 0 where

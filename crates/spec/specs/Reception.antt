@@ -12,13 +12,13 @@ use Rattle.spec.specs.Numbers.{Line, index-of}
 use Rattle.spec.specs.Index.{n-of, lines-in, readable}
 
 -- p is one of the positions that a string of this length takes up at a place.
-unfoldable pub lies-on : (place long p : ℕ) → Bool
+unfoldable pub lies-on : (position len p : ℕ) → Bool
 lies-on a l p = leb a p && ltb p (a + l)
 
 -- RECOVERY, document 01's term: the text, from the characters that the entries show
 
 -- the character that a string at one of these places shows at p
-unfoldable pub shown-by : (string places : List ℕ) → (p : ℕ) → Option ℕ
+unfoldable pub shown-by : (string positions : List ℕ) → (p : ℕ) → Option ℕ
 shown-by s [] p = none
 shown-by s (a ∷ more) p = cond (lies-on a (length s) p) (some (getD s (p - a) 0)) (shown-by s more p)
 
@@ -30,7 +30,7 @@ or-shown none o = o
 -- the character that the first entry over p shows there
 unfoldable pub shown : Lexicon → List Line → (p : ℕ) → Option ℕ
 shown lex [] p = none
-shown lex (l ∷ ls) p = or-shown (shown-by (spells lex (l .key-of)) (l .places) p) (shown lex ls p)
+shown lex (l ∷ ls) p = or-shown (shown-by (spells lex (l .key-of)) (l .positions) p) (shown lex ls p)
 
 -- 0 where nothing is shown
 unfoldable pub char-or : Option ℕ → ℕ

@@ -11,7 +11,7 @@ use Rattle.spec.specs.Replaced.{first-form, last-form, replaced}
 use Rattle.spec.specs.Dictionary.{longest-text, Lexicon, lexicon, total, words-from, ascend}
 use Rattle.spec.specs.Numbers.{index-of}
 use Rattle.spec.specs.Index.{n-of, readable}
-use Rattle.spec.specs.Beyond.{Text-of}
+use Rattle.spec.specs.FurtherTheorems.{Text-of}
 use Rattle.spec.specs.declared.Answer.{Answer}
 
 -- WHAT COMES BACK
@@ -21,7 +21,7 @@ pub record Written (result : List ℕ) (r : Answer) (out out-now : List ℕ) : T
   pub count : r .count ≡ length result
   pub front : take (r .count) out-now ≡ result
   pub rest : drop (r .count) out-now ≡ drop (r .count) out
-  pub long : length out-now ≡ length out
+  pub len : length out-now ≡ length out
 
 -- "After a refusal every output slice is unchanged."
 pub record Untouched (r : Answer) (out out-now : List ℕ) : Type 0 where

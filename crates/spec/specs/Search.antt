@@ -55,14 +55,14 @@ agrees-at k s o = agrees s (string-start o) k (key-start o)
 -- SEARCH
 
 -- an entry of this string, at one of the places, agrees and covers p
-unfoldable pub covers : (string : List ℕ) → (a p : ℕ) → (entry places : List ℕ) → Bool
+unfoldable pub covers : (string : List ℕ) → (a p : ℕ) → (entry positions : List ℕ) → Bool
 covers s a p e [] = false
 covers s a p e (b ∷ bs) = (lies-on b (length e) p && agrees s a e b) || covers s a p e bs
 
 -- p "is covered by an entry that agrees"
 unfoldable pub covered : Lexicon → List Line → (string : List ℕ) → (a p : ℕ) → Bool
 covered lex [] s a p = false
-covered lex (l ∷ ls) s a p = covers s a p (spells lex (l .key-of)) (l .places) || covered lex ls s a p
+covered lex (l ∷ ls) s a p = covers s a p (spells lex (l .key-of)) (l .positions) || covered lex ls s a p
 
 -- p and the positions after it are covered
 unfoldable pub all-covered : (left p : ℕ) → Lexicon → List Line → (string : List ℕ) → (a : ℕ) → Bool

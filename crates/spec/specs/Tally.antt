@@ -12,7 +12,7 @@ use Rattle.spec.specs.Index.{lines-in}
 -- the entries whose key spells l characters; "A lone character has length 1."
 unfoldable pub of-length : Lexicon → (l : ℕ) → List Line → ℕ
 of-length lex l [] = 0
-of-length lex l (k ∷ ks) = cond (eqb (length (spells lex (k .key-of))) l) (length (k .places)) 0 + of-length lex l ks
+of-length lex l (k ∷ ks) = cond (eqb (length (spells lex (k .key-of))) l) (length (k .positions)) 0 + of-length lex l ks
 
 -- the counts for length l and those after it
 unfoldable pub tally-from : (left l : ℕ) → Lexicon → List Line → List ℕ

@@ -49,14 +49,14 @@ stands s ts p = (leb 1 p && leb (p + length s) (suc (length ts))) && same (take 
 pub record Entry : Type 0 where
   pub key-of : Key
   pub at : ℕ
-  pub long : ℕ
+  pub len : ℕ
 
-unfoldable pub entry : Key → (at long : ℕ) → Entry
-entry k p l = record { key-of = k; at = p; long = l }
+unfoldable pub entry : Key → (at len : ℕ) → Entry
+entry k p l = record { key-of = k; at = p; len = l }
 
 -- "One entry contains another if it starts no later and ends no earlier."
 unfoldable pub contains : Entry → Entry → Bool
-contains e f = leb (e .at) (f .at) && leb (f .at + f .long) (e .at + e .long)
+contains e f = leb (e .at) (f .at) && leb (f .at + f .len) (e .at + e .len)
 
 -- equal kind and value
 unfoldable pub same-key : Key → Key → Bool

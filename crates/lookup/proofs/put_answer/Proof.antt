@@ -1,6 +1,6 @@
 -- `put_answer` meets its contract: the output holds any answer, so the call is accepted. Assumes nothing.
 use borrow.Author.Needs.{needs}
-use Rattle.laws.specs.AnswerLength.{answered}
+use Rattle.laws.specs.JobSheet.AnswerLength.{answered}
 use Rattle.lookup.proofs.put_answer.Statement.{statement}
 use Rattle.lookup.proofs.put_answer.Tie as tie
 

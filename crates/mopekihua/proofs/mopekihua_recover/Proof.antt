@@ -1,6 +1,6 @@
 -- The contract of `recover` is passed on, and what is lent as characters holds characters. Assumes nothing.
 use borrow.Author.Needs.{needs}
-use Rattle.laws.specs.Chars.{lent-chars}
+use Rattle.laws.specs.Text.Chars.{lent-chars}
 use Rattle.mopekihua.proofs.mopekihua_recover.Statement.{statement}
 use Rattle.mopekihua.proofs.mopekihua_recover.Tie as tie
 

@@ -1,14 +1,14 @@
 -- `flag_bearing` meets its contract: the offsets below 0, then those from 0 up. Assumes nothing.
 use borrow.Author.Needs.{needs}
 use Rattle.spec.specs.Dictionary.{lexicon}
-use Rattle.laws.specs.Narrowing.{kinds-rise, split-found}
-use Rattle.laws.specs.Flagging.{flags-none}
-use Rattle.laws.specs.FlagWalks.{flags-judged}
+use Rattle.laws.specs.Window.LineRanges.{kinds-rise, split-found}
+use Rattle.laws.specs.Cut.Flagging.{flags-none}
+use Rattle.laws.specs.Cut.FlagWalks.{flags-exact-flags}
 use Rattle.bearing.proofs.bearing.flag_bearing.Statement.{statement}
 use Rattle.bearing.proofs.bearing.flag_bearing.Tie as tie
 
-words-end-requires : tie.Need-words-end-requires
-words-end-requires c κs =
+count-word-lines-requires : tie.Need-count-word-lines-requires
+count-word-lines-requires c κs =
     let s = c .before .before .before .before .before .before in
     let a = s .args in
     (s .pre .0 .fits, kinds-rise (a .chars .now) (a .lengths .now) (a .index .now) (s .pre .0))
@@ -17,13 +17,13 @@ flag-before-requires : tie.Need-flag-before-requires
 flag-before-requires c κs =
     let s = c .before .before .before .before .before .before .before .before in
     let a = s .args in
-    (s .pre .0, s .pre .1, s .pre .2 .some, c .before .words-end .ensures .to, flags-none (lexicon (a .chars .now) (a .lengths .now)) (a .index .now) (a .string .now) (a .flags .now) (s .pre .4) (s .pre .3))
+    (s .pre .0, s .pre .1, s .pre .2 .some, c .before .count-word-lines .ensures .to, flags-none (lexicon (a .chars .now) (a .lengths .now)) (a .index .now) (a .string .now) (a .flags .now) (s .pre .4) (s .pre .3))
 
 flag-within-requires : tie.Need-flag-within-requires
 flag-within-requires c κs =
     let s = c .before .before .before .before .before .before .before .before .before .before .before .before in
     let a = s .args in
-    (s .pre .0, s .pre .1, split-found (a .chars .now) (a .lengths .now) (a .index .now) (s .pre .0) (c .before .before .before .before .before .words-end .result) (c .before .before .before .before .before .words-end .ensures), s .pre .2, c .before .before .before .flag-before .ensures .way .flags)
+    (s .pre .0, s .pre .1, split-found (a .chars .now) (a .lengths .now) (a .index .now) (s .pre .0) (c .before .before .before .before .before .count-word-lines .result) (c .before .before .before .before .before .count-word-lines .ensures), s .pre .2, c .before .before .before .flag-before .ensures .way .flags)
 
 same-length : tie.Need-same-length
 same-length c = search needs
@@ -34,10 +34,10 @@ returns c =
     let a = s .args in
     let back = c .before .before .before .before .before .before .flag-before in
     let within = c .before .before .flag-within in
-    flags-judged (a .chars .now) (a .lengths .now) (a .index .now) (s .pre .0) (c .before .before .before .before .before .before .before .before .words-end .result)
-    (split-found (a .chars .now) (a .lengths .now) (a .index .now) (s .pre .0) (c .before .before .before .before .before .before .before .before .words-end .result) (c .before .before .before .before .before .before .before .before .words-end .ensures)) (a .string .now) (s .pre .2) (a .flags .now) (back .last .1 .1 .1 .1 .1 .1 .0) (within .last .1 .1 .1 .1 .1 .1 .0) (back .ensures) (within .ensures)
+    flags-exact-flags (a .chars .now) (a .lengths .now) (a .index .now) (s .pre .0) (c .before .before .before .before .before .before .before .before .count-word-lines .result)
+    (split-found (a .chars .now) (a .lengths .now) (a .index .now) (s .pre .0) (c .before .before .before .before .before .before .before .before .count-word-lines .result) (c .before .before .before .before .before .before .before .before .count-word-lines .ensures)) (a .string .now) (s .pre .2) (a .flags .now) (back .last .1 .1 .1 .1 .1 .1 .0) (within .last .1 .1 .1 .1 .1 .1 .0) (back .ensures) (within .ensures)
 
 pub flag-bearing-spec : {M : Type 1} → statement M
 flag-bearing-spec =
     tie.close
-    (tie.spec words-end-requires flag-before-requires flag-within-requires same-length returns)
+    (tie.spec count-word-lines-requires flag-before-requires flag-within-requires same-length returns)

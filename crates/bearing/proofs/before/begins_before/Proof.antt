@@ -7,12 +7,12 @@ use borrow.Author.Needs.{needs}
 use lib.ListN.{length}
 use Rattle.basics.specs.Bools.{clash}
 use Rattle.spec.specs.Search.{agrees, agrees-at}
-use Rattle.laws.specs.Offset.{agrees-offset}
-use Rattle.laws.specs.Offset32.{start-fits, offset-fits32, offset-held}
-use Rattle.laws.specs.Agree.{agrees-get}
-use Rattle.laws.specs.AgreeWalk.{key-starts-apart}
-use Rattle.laws.specs.Bears.{bears-put}
-use Rattle.laws.specs.FlagWalks.{Apart-before, before-start, before-next, before-end}
+use Rattle.laws.specs.Search.Offset.{agrees-offset}
+use Rattle.laws.specs.Search.Offset32.{start-fits, offset-fits32, offset-held}
+use Rattle.laws.specs.Search.Agree.{agrees-get}
+use Rattle.laws.specs.Search.AgreeWalk.{key-starts-apart}
+use Rattle.laws.specs.Cut.Bears.{bears-put}
+use Rattle.laws.specs.Cut.FlagWalks.{Apart-before, before-start, before-next, before-end}
 use Rattle.bearing.proofs.before.begins_before.Statement.{statement}
 use Rattle.bearing.proofs.before.begins_before.Tie as tie
 

@@ -6,17 +6,17 @@ use native.Mathlib.Omega.{arith}
 use Rattle.spec.specs.Dictionary.{lexicon}
 use Rattle.spec.specs.Search.{agrees}
 use Rattle.spec.specs.Cut.{bears}
-use Rattle.laws.specs.Tables.{spelt-short}
-use Rattle.laws.specs.FlagWalks.{Backs, backs-start, backs-pass, backs-next}
+use Rattle.laws.specs.Directory.Tables.{spelt-short}
+use Rattle.laws.specs.Cut.FlagWalks.{Backs, backs-start, backs-pass, backs-next}
 use Rattle.bearing.proofs.before.flag_before.Statement.{statement}
 use Rattle.bearing.proofs.before.flag_before.Tie as tie
 
 abbrev Inv-loop : tie.InvT-loop
-Inv-loop chars lengths index words string ends flags₀ line₀ flags line =
-    (line ≤ ends) × Backs (lexicon chars lengths) index string flags₀ flags line
+Inv-loop chars lengths index word-starts string word-lines flags₀ line₀ flags line =
+    (line ≤ word-lines) × Backs (lexicon chars lengths) index string flags₀ flags line
 
 abbrev μ-loop : tie.MeasureT-loop
-μ-loop chars lengths index words string ends flags₀ line₀ flags line = ends - line
+μ-loop chars lengths index word-starts string word-lines flags₀ line₀ flags line = word-lines - line
 
 loop-holds : tie.Need-loop-holds Inv-loop μ-loop
 loop-holds c =
@@ -72,14 +72,14 @@ loop-again-2 c =
     )
 
 same-length : tie.Need-same-length Inv-loop μ-loop
-same-length c = c .before .loop .inv .1 .way .long
+same-length c = c .before .loop .inv .1 .way .len
 
 returns : tie.Need-returns Inv-loop μ-loop
 returns c =
     let s = c .before .before .before .before .before .before .before .before in
     let a = s .args in
     let l = c .before .loop in
-    let e : l .line ≡ a .ends = omega (arith, l .inv .0, c .loop-test .left) in
+    let e : l .line ≡ a .word-lines = omega (arith, l .inv .0, c .loop-test .left) in
     subst (Backs (lexicon (a .chars .now) (a .lengths .now)) (a .index .now) (a .string .now) (a .flags .now) (l .flags)) e (l .inv .1)
 
 pub flag-before-spec : {M : Type 1} → statement M

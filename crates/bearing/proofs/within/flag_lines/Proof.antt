@@ -4,7 +4,7 @@ use mathlib.Core.Path.{_≡_, subst}
 use Prim.Native.Nat.{ℕ, _-_, _≤_}
 use native.Mathlib.Omega.{arith}
 use borrow.Author.Needs.{needs}
-use Rattle.laws.specs.Flagging.{Ones, ones-none, ones-next}
+use Rattle.laws.specs.Cut.Flagging.{Ones, ones-none, ones-next}
 use Rattle.bearing.proofs.within.flag_lines.Statement.{statement}
 use Rattle.bearing.proofs.within.flag_lines.Tie as tie
 
@@ -18,7 +18,7 @@ loop-holds : tie.Need-loop-holds Inv-loop μ-loop
 loop-holds c = (c .pre .0, ones-none (c .args .from) (c .args .flags .now))
 
 slice-write-flags : tie.Need-slice-write-flags Inv-loop μ-loop
-slice-write-flags c = omega (arith, c .before .loop .inv .1 .long, c .before .before .pre .1)
+slice-write-flags c = omega (arith, c .before .loop .inv .1 .len, c .before .before .pre .1)
 
 add-line : tie.Need-add-line Inv-loop μ-loop
 add-line c = search needs
@@ -30,10 +30,10 @@ loop-again : tie.Need-loop-again Inv-loop μ-loop
 loop-again c =
     let a = c .before .before .args in
     let l = c .before .loop in
-    (omega arith, ones-next (a .from) (l .line) (a .flags .now) (l .flags) (l .inv .1) (omega (arith, l .inv .1 .long, c .before .before .pre .1)))
+    (omega arith, ones-next (a .from) (l .line) (a .flags .now) (l .flags) (l .inv .1) (omega (arith, l .inv .1 .len, c .before .before .pre .1)))
 
 same-length : tie.Need-same-length Inv-loop μ-loop
-same-length c = c .before .loop .inv .1 .long
+same-length c = c .before .loop .inv .1 .len
 
 returns : tie.Need-returns Inv-loop μ-loop
 returns c =

@@ -5,8 +5,8 @@ use lib.ListN.{getD}
 use borrow.Author.Needs.{needs}
 use Rattle.spec.specs.Dictionary.{lexicon}
 use Rattle.spec.specs.Index.{keys-of}
-use Rattle.laws.specs.Narrowing.{lone-rise, lone-agrees, lone-others, lone-all}
-use Rattle.laws.specs.Flagging.{flagged-one, flagged-none}
+use Rattle.laws.specs.Window.LineRanges.{lone-rise, lone-agrees, lone-others, lone-all}
+use Rattle.laws.specs.Cut.Flagging.{flagged-one, flagged-none}
 use Rattle.bearing.proofs.within.flag_lone.Statement.{statement}
 use Rattle.bearing.proofs.within.flag_lone.Tie as tie
 
@@ -22,14 +22,14 @@ mul-character c = search needs
 shared-slice-read-character : tie.Need-shared-slice-read-character
 shared-slice-read-character c = search needs
 
-cast-first-line : tie.Need-cast-first-line
-cast-first-line c = omega (arith, c .shared-slice-known6 .given (c .before .before .before .before .before .before .before .args .key-start))
+cast-line-lower-bound : tie.Need-cast-line-lower-bound
+cast-line-lower-bound c = omega (arith, c .shared-slice-known6 .given (c .before .before .before .before .before .before .before .args .key-start))
 
-first-line-requires : tie.Need-first-line-requires
-first-line-requires c κs =
+line-lower-bound-requires : tie.Need-line-lower-bound-requires
+line-lower-bound-requires c κs =
     let s = c .before .before .before .before .before .before .before in
     let a = s .args in
-    (s .pre .0 .fits .has-directory, omega arith, lone-rise (a .chars .now) (a .lengths .now) (a .index .now) (s .pre .0) (a .ends) (s .pre .1))
+    (s .pre .0 .fits .has-directory, omega arith, lone-rise (a .chars .now) (a .lengths .now) (a .index .now) (s .pre .0) (a .word-lines) (s .pre .1))
 
 mul-if2 : tie.Need-mul-if2
 mul-if2 c = search needs
@@ -56,28 +56,28 @@ returns : tie.Need-returns
 returns c =
     let s = c .before .before .before .before .before .before .before .before .before .before .before in
     let a = s .args in
-    let found = c .before .before .before .first-line in
-    flagged-one (lexicon (a .chars .now) (a .lengths .now)) (a .index .now) (a .string .now) (a .key-start) (a .ends) (keys-of (a .index .now)) (a .flags .now) (s .pre .4)
+    let found = c .before .before .before .line-lower-bound in
+    flagged-one (lexicon (a .chars .now) (a .lengths .now)) (a .index .now) (a .string .now) (a .key-start) (a .word-lines) (keys-of (a .index .now)) (a .flags .now) (s .pre .4)
     (found .result) (c .before .before .if1 .taken)
-    (lone-agrees (a .chars .now) (a .lengths .now) (a .index .now) (s .pre .0) (a .ends) (s .pre .1) (a .string .now) (a .key-start) (getD (a .string .now) (a .key-start) 0) refl
+    (lone-agrees (a .chars .now) (a .lengths .now) (a .index .now) (s .pre .0) (a .word-lines) (s .pre .1) (a .string .now) (a .key-start) (getD (a .string .now) (a .key-start) 0) refl
     (found .result) (found .ensures .from) (c .before .before .if1 .taken) (c .if2 .taken) (s .pre .3))
-    (lone-others (a .chars .now) (a .lengths .now) (a .index .now) (s .pre .0) (a .ends) (s .pre .1) (a .string .now) (a .key-start) (getD (a .string .now) (a .key-start) 0) refl (found .result) (found .ensures))
+    (lone-others (a .chars .now) (a .lengths .now) (a .index .now) (s .pre .0) (a .word-lines) (s .pre .1) (a .string .now) (a .key-start) (getD (a .string .now) (a .key-start) 0) refl (found .result) (found .ensures))
 
 returns-2 : tie.Need-returns-2
 returns-2 c =
     let s = c .before .before .before .before .before .before .before .before .before .before .before in
     let a = s .args in
-    let found = c .before .before .before .first-line in
-    flagged-none (lexicon (a .chars .now) (a .lengths .now)) (a .index .now) (a .string .now) (a .key-start) (a .ends) (keys-of (a .index .now)) (a .flags .now) (s .pre .4)
-    (lone-all (a .chars .now) (a .lengths .now) (a .index .now) (s .pre .0) (a .ends) (s .pre .1) (a .string .now) (a .key-start) (getD (a .string .now) (a .key-start) 0) refl (found .result) (found .ensures) (λ some. c .if2 .left))
+    let found = c .before .before .before .line-lower-bound in
+    flagged-none (lexicon (a .chars .now) (a .lengths .now)) (a .index .now) (a .string .now) (a .key-start) (a .word-lines) (keys-of (a .index .now)) (a .flags .now) (s .pre .4)
+    (lone-all (a .chars .now) (a .lengths .now) (a .index .now) (s .pre .0) (a .word-lines) (s .pre .1) (a .string .now) (a .key-start) (getD (a .string .now) (a .key-start) 0) refl (found .result) (found .ensures) (λ some. c .if2 .left))
 
 returns-3 : tie.Need-returns-3
 returns-3 c =
     let s = c .before .before .before .before .before .before .before .before .before in
     let a = s .args in
-    let found = c .before .first-line in
-    flagged-none (lexicon (a .chars .now) (a .lengths .now)) (a .index .now) (a .string .now) (a .key-start) (a .ends) (keys-of (a .index .now)) (a .flags .now) (s .pre .4)
-    (lone-all (a .chars .now) (a .lengths .now) (a .index .now) (s .pre .0) (a .ends) (s .pre .1) (a .string .now) (a .key-start) (getD (a .string .now) (a .key-start) 0) refl (found .result) (found .ensures) (λ some e. omega (arith, c .if1 .left)))
+    let found = c .before .line-lower-bound in
+    flagged-none (lexicon (a .chars .now) (a .lengths .now)) (a .index .now) (a .string .now) (a .key-start) (a .word-lines) (keys-of (a .index .now)) (a .flags .now) (s .pre .4)
+    (lone-all (a .chars .now) (a .lengths .now) (a .index .now) (s .pre .0) (a .word-lines) (s .pre .1) (a .string .now) (a .key-start) (getD (a .string .now) (a .key-start) 0) refl (found .result) (found .ensures) (λ some e. omega (arith, c .if1 .left)))
 
 pub flag-lone-spec : {M : Type 1} → statement M
 flag-lone-spec =
@@ -87,8 +87,8 @@ flag-lone-spec =
     cast-keys
     mul-character
     shared-slice-read-character
-    cast-first-line
-    first-line-requires
+    cast-line-lower-bound
+    line-lower-bound-requires
     mul-if2
     add-if2
     add-if2-2

@@ -1,7 +1,7 @@
 -- `flag_offset` meets its contract: the lines of words, then those of lone characters. Assumes nothing.
 use borrow.Author.Needs.{needs}
 use Rattle.spec.specs.Dictionary.{lexicon}
-use Rattle.laws.specs.Flagging.{flagged-both}
+use Rattle.laws.specs.Cut.Flagging.{flagged-both}
 use Rattle.bearing.proofs.within.flag_offset.Statement.{statement}
 use Rattle.bearing.proofs.within.flag_offset.Tie as tie
 
@@ -18,9 +18,9 @@ returns : tie.Need-returns
 returns c =
     let s = c .before .before .before .before .before .before .before .before .before .before .before .before .before .before in
     let a = s .args in
-    let words = c .before .before .before .before .before .before .flag-words in
+    let word-starts = c .before .before .before .before .before .before .flag-words in
     let lone = c .before .before .flag-lone in
-    flagged-both (lexicon (a .chars .now) (a .lengths .now)) (a .index .now) (a .string .now) (a .key-start) (a .ends) (s .pre .2 .within) (a .flags .now) (words .last .1 .1 .1 .1 .1 .1 .1 .0) (lone .last .1 .1 .1 .1 .1 .1 .0) (words .ensures) (lone .ensures)
+    flagged-both (lexicon (a .chars .now) (a .lengths .now)) (a .index .now) (a .string .now) (a .key-start) (a .word-lines) (s .pre .2 .within) (a .flags .now) (word-starts .last .1 .1 .1 .1 .1 .1 .1 .0) (lone .last .1 .1 .1 .1 .1 .1 .0) (word-starts .ensures) (lone .ensures)
 
 pub flag-offset-spec : {M : Type 1} → statement M
 flag-offset-spec = tie.close (tie.spec flag-words-requires flag-lone-requires same-length returns)

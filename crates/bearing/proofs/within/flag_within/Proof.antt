@@ -6,16 +6,16 @@ use native.Mathlib.Omega.{arith}
 use borrow.Author.Needs.{needs}
 use lib.ListN.{length}
 use Rattle.spec.specs.Dictionary.{lexicon}
-use Rattle.laws.specs.FlagWalks.{Offsets, offsets-start, offsets-next}
+use Rattle.laws.specs.Cut.FlagWalks.{Offsets, offsets-start, offsets-next}
 use Rattle.bearing.proofs.within.flag_within.Statement.{statement}
 use Rattle.bearing.proofs.within.flag_within.Tie as tie
 
 abbrev Inv-loop : tie.InvT-loop
-Inv-loop chars lengths index words string ends flags₀ last key-start₀ flags key-start =
+Inv-loop chars lengths index word-starts string word-lines flags₀ last key-start₀ flags key-start =
     (key-start ≤ length string) × Offsets (lexicon chars lengths) index string flags₀ flags key-start
 
 abbrev μ-loop : tie.MeasureT-loop
-μ-loop chars lengths index words string ends flags₀ last key-start₀ flags key-start = length string - key-start
+μ-loop chars lengths index word-starts string word-lines flags₀ last key-start₀ flags key-start = length string - key-start
 
 sub-last : tie.Need-sub-last Inv-loop μ-loop
 sub-last c = search needs
@@ -46,7 +46,7 @@ loop-again c =
     (omega (arith, c .before .before .before .before .loop-test .taken, s .pre .3 .some), offsets-next (lexicon (a .chars .now) (a .lengths .now)) (a .index .now) (a .string .now) (a .flags .now) (l .flags) (now .last .1 .1 .1 .1 .1 .1 .1 .0) (l .key-start) (l .inv .1) (now .ensures))
 
 same-length : tie.Need-same-length Inv-loop μ-loop
-same-length c = c .before .loop .inv .1 .way .long
+same-length c = c .before .loop .inv .1 .way .len
 
 returns : tie.Need-returns Inv-loop μ-loop
 returns c =

@@ -7,18 +7,18 @@ use native.Mathlib.Omega.{arith}
 use lib.ListN.{length, getD, set}
 use Rattle.spec.specs.Dictionary.{lexicon}
 use Rattle.spec.specs.Index.{value-at}
-use Rattle.laws.specs.WordLines.{Sharing, sharing-start, sharing-next, shared-word, shared-deep, sharing-column, sharing-deeper, sharing-agrees, apart-front, apart-back}
-use Rattle.laws.specs.Flagging.{Left, ones-one, left-start, left-narrow, left-ones, left-end}
+use Rattle.laws.specs.Window.WordLines.{Shared-prefix, shared-prefix-start, shared-prefix-next, shared-word, shared-deep, shared-prefix-column, shared-prefix-deeper, shared-prefix-agrees, apart-front, apart-back}
+use Rattle.laws.specs.Cut.Flagging.{Left, ones-one, left-start, left-narrow, left-ones, left-end}
 use Rattle.bearing.proofs.within.flag_words.Statement.{statement}
 use Rattle.bearing.proofs.within.flag_words.Tie as tie
 
 abbrev Inv-loop : tie.InvT-loop
-Inv-loop chars lengths index words string key-start ends flags₀ left low₀ high₀ depth₀ flags low high depth =
-    Left (lexicon chars lengths) index string key-start ends flags₀ flags low high
-    × Sharing chars lengths index string key-start ends low high depth
+Inv-loop chars lengths index word-starts string key-start word-lines flags₀ left low₀ high₀ depth₀ flags low high depth =
+    Left (lexicon chars lengths) index string key-start word-lines flags₀ flags low high
+    × Shared-prefix chars lengths index string key-start word-lines low high depth
 
 abbrev μ-loop : tie.MeasureT-loop
-μ-loop chars lengths index words string key-start ends flags₀ left low₀ high₀ depth₀ flags low high depth =
+μ-loop chars lengths index word-starts string key-start word-lines flags₀ left low₀ high₀ depth₀ flags low high depth =
     (high - low) + (32 - depth)
 
 -- the string goes on
@@ -32,8 +32,8 @@ loop-holds : tie.Need-loop-holds Inv-loop μ-loop
 loop-holds c =
     let s = c .before .before .before .before .before .before in
     let a = s .args in (
-      left-start (lexicon (a .chars .now) (a .lengths .now)) (a .index .now) (a .string .now) (a .key-start) (a .ends) (a .flags .now) (s .pre .5) (s .pre .2 .within),
-      sharing-start (a .chars .now) (a .lengths .now) (a .index .now) (a .string .now) (a .key-start) (a .ends),
+      left-start (lexicon (a .chars .now) (a .lengths .now)) (a .index .now) (a .string .now) (a .key-start) (a .word-lines) (a .flags .now) (s .pre .5) (s .pre .2 .within),
+      shared-prefix-start (a .chars .now) (a .lengths .now) (a .index .now) (a .string .now) (a .key-start) (a .word-lines),
     )
 
 flag-lines-requires : tie.Need-flag-lines-requires Inv-loop μ-loop
@@ -44,7 +44,7 @@ flag-lines-requires c κs =
     (l .inv .1 .order, omega (arith, l .inv .1 .within, s .pre .2 .within, l .inv .0 .way .flags .room))
 
 same-length : tie.Need-same-length Inv-loop μ-loop
-same-length c = c .before .before .flag-lines .kept .1 .1 .0 ∙ c .before .before .before .before .before .before .loop .inv .0 .way .long
+same-length c = c .before .before .flag-lines .kept .1 .1 .0 ∙ c .before .before .before .before .before .before .loop .inv .0 .way .len
 
 returns : tie.Need-returns Inv-loop μ-loop
 returns c =
@@ -52,16 +52,16 @@ returns c =
     let a = s .args in
     let l = c .before .before .before .before .before .before .loop in
     let now = c .before .before .flag-lines in
-    left-end (lexicon (a .chars .now) (a .lengths .now)) (a .index .now) (a .string .now) (a .key-start) (a .ends) (a .flags .now) (now .last .1 .1 .0) (l .high) (l .high)
-    (left-ones (lexicon (a .chars .now) (a .lengths .now)) (a .index .now) (a .string .now) (a .key-start) (a .ends) (a .flags .now) (l .flags) (l .low) (l .high) (l .inv .0) (l .high) (now .last .1 .1 .0) (omega arith) (l .inv .1 .within) (now .ensures)
-    (λ i x y. sharing-agrees (a .chars .now) (a .lengths .now) (a .index .now) (s .pre .0) (a .ends) (s .pre .2) (a .words .now) (s .pre .1) (a .string .now) (a .key-start) (l .low) (l .high) (l .depth) (l .inv .1) (s .pre .4) i x y (inl (omega (arith, c .before .before .before .before .if1 .taken))))) refl
+    left-end (lexicon (a .chars .now) (a .lengths .now)) (a .index .now) (a .string .now) (a .key-start) (a .word-lines) (a .flags .now) (now .last .1 .1 .0) (l .high) (l .high)
+    (left-ones (lexicon (a .chars .now) (a .lengths .now)) (a .index .now) (a .string .now) (a .key-start) (a .word-lines) (a .flags .now) (l .flags) (l .low) (l .high) (l .inv .0) (l .high) (now .last .1 .1 .0) (omega arith) (l .inv .1 .within) (now .ensures)
+    (λ i x y. shared-prefix-agrees (a .chars .now) (a .lengths .now) (a .index .now) (s .pre .0) (a .word-lines) (s .pre .2) (a .word-starts .now) (s .pre .1) (a .string .now) (a .key-start) (l .low) (l .high) (l .depth) (l .inv .1) (s .pre .4) i x y (inl (omega (arith, c .before .before .before .before .if1 .taken))))) refl
 
 word-length-requires : tie.Need-word-length-requires Inv-loop μ-loop
 word-length-requires c κs =
     let s = c .before .before .before .before .before .before .before .before .before in
     let a = s .args in
     let l = c .before .before .loop in
-    (omega (arith, c .before .loop-test .taken, l .inv .1 .within, s .pre .2 .within, s .pre .0 .fits .has-directory), shared-word (a .chars .now) (a .lengths .now) (a .index .now) (s .pre .0) (a .ends) (s .pre .2) (a .words .now) (s .pre .1) (a .string .now) (a .key-start) (l .low) (l .high) (l .depth) (l .inv .1) (l .low) (omega arith) (c .before .loop-test .taken))
+    (omega (arith, c .before .loop-test .taken, l .inv .1 .within, s .pre .2 .within, s .pre .0 .fits .has-directory), shared-word (a .chars .now) (a .lengths .now) (a .index .now) (s .pre .0) (a .word-lines) (s .pre .2) (a .word-starts .now) (s .pre .1) (a .string .now) (a .key-start) (l .low) (l .high) (l .depth) (l .inv .1) (l .low) (omega arith) (c .before .loop-test .taken))
 
 slice-write-flags : tie.Need-slice-write-flags Inv-loop μ-loop
 slice-write-flags c =
@@ -85,10 +85,10 @@ loop-again c =
     let s = c .before .before .before .before .before .before .before .before .before .before .before in
     let a = s .args in
     let l = c .before .before .before .before .loop in (
-      left-ones (lexicon (a .chars .now) (a .lengths .now)) (a .index .now) (a .string .now) (a .key-start) (a .ends) (a .flags .now) (l .flags) (l .low) (l .high) (l .inv .0) (l .low + 1) (set (l .flags) (l .low) 1) (omega (arith, c .before .before .before .loop-test .taken)) (l .inv .1 .within)
+      left-ones (lexicon (a .chars .now) (a .lengths .now)) (a .index .now) (a .string .now) (a .key-start) (a .word-lines) (a .flags .now) (l .flags) (l .low) (l .high) (l .inv .0) (l .low + 1) (set (l .flags) (l .low) 1) (omega (arith, c .before .before .before .loop-test .taken)) (l .inv .1 .within)
           (ones-one (l .low) (l .flags) (omega (arith, c .before .before .before .loop-test .taken, l .inv .1 .within, s .pre .2 .within, l .inv .0 .way .flags .room)))
-          (λ i x y. let e : i ≡ l .low = omega arith in sharing-agrees (a .chars .now) (a .lengths .now) (a .index .now) (s .pre .0) (a .ends) (s .pre .2) (a .words .now) (s .pre .1) (a .string .now) (a .key-start) (l .low) (l .high) (l .depth) (l .inv .1) (s .pre .4) i x (omega (arith, c .before .before .before .loop-test .taken)) (inr (ap (λ (j : ℕ). getD (a .lengths .now) (value-at (a .index .now) j) 0) e ∙ sym (c .before .word-length .ensures) ∙ c .if2 .taken))),
-      sharing-next (a .chars .now) (a .lengths .now) (a .index .now) (s .pre .0) (a .ends) (s .pre .2) (a .words .now) (s .pre .1) (a .string .now) (a .key-start) (l .low) (l .high) (l .depth) (l .inv .1) (c .before .before .before .loop-test .taken),
+          (λ i x y. let e : i ≡ l .low = omega arith in shared-prefix-agrees (a .chars .now) (a .lengths .now) (a .index .now) (s .pre .0) (a .word-lines) (s .pre .2) (a .word-starts .now) (s .pre .1) (a .string .now) (a .key-start) (l .low) (l .high) (l .depth) (l .inv .1) (s .pre .4) i x (omega (arith, c .before .before .before .loop-test .taken)) (inr (ap (λ (j : ℕ). getD (a .lengths .now) (value-at (a .index .now) j) 0) e ∙ sym (c .before .word-length .ensures) ∙ c .if2 .taken))),
+      shared-prefix-next (a .chars .now) (a .lengths .now) (a .index .now) (s .pre .0) (a .word-lines) (s .pre .2) (a .word-starts .now) (s .pre .1) (a .string .now) (a .key-start) (l .low) (l .high) (l .depth) (l .inv .1) (c .before .before .before .loop-test .taken),
     )
 
 add-character : tie.Need-add-character Inv-loop μ-loop
@@ -100,12 +100,12 @@ mul-character c = omega (arith, below (c .before .before), c .before .before .be
 shared-slice-read-character : tie.Need-shared-slice-read-character Inv-loop μ-loop
 shared-slice-read-character c = below (c .before .before .before)
 
-narrow-requires : tie.Need-narrow-requires Inv-loop μ-loop
-narrow-requires c κs =
+equal-range-requires : tie.Need-equal-range-requires Inv-loop μ-loop
+equal-range-requires c κs =
     let s = c .before .before .before .before .before .before .before .before .before .before .before .before in
     let a = s .args in
     let l = c .before .before .before .before .before .loop in
-    sharing-column (a .chars .now) (a .lengths .now) (a .index .now) (s .pre .0) (a .ends) (s .pre .2) (a .words .now) (s .pre .1) (a .string .now) (a .key-start) (l .low) (l .high) (l .depth) (l .inv .1) (c .before .before .before .before .loop-test .taken) (λ e. c .before .if2 .left (c .before .before .word-length .ensures ∙ e))
+    shared-prefix-column (a .chars .now) (a .lengths .now) (a .index .now) (s .pre .0) (a .word-lines) (s .pre .2) (a .word-starts .now) (s .pre .1) (a .string .now) (a .key-start) (l .low) (l .high) (l .depth) (l .inv .1) (c .before .before .before .before .loop-test .taken) (λ e. c .before .if2 .left (c .before .before .word-length .ensures ∙ e))
 
 add-depth : tie.Need-add-depth Inv-loop μ-loop
 add-depth c = omega (arith, below (c .before .before .before .before), c .before .before .before .before .before .before .before .before .before .before .before .before .before .pre .3 .short)
@@ -115,31 +115,31 @@ loop-less-2 c =
     let s = c .before .before .before .before .before .before .before .before .before .before .before .before .before in
     let a = s .args in
     let l = c .before .before .before .before .before .before .loop in
-    omega (arith, shared-deep (a .chars .now) (a .lengths .now) (a .index .now) (s .pre .0) (a .ends) (s .pre .2) (a .words .now) (s .pre .1) (a .string .now) (a .key-start) (l .low) (l .high) (l .depth) (l .inv .1) (c .before .before .before .before .before .loop-test .taken) (λ e. c .before .before .if2 .left (c .before .before .before .word-length .ensures ∙ e)), c .before .before .before .before .before .loop-test .taken, c .narrow .ensures .0 .from, c .narrow .ensures .1 .to)
+    omega (arith, shared-deep (a .chars .now) (a .lengths .now) (a .index .now) (s .pre .0) (a .word-lines) (s .pre .2) (a .word-starts .now) (s .pre .1) (a .string .now) (a .key-start) (l .low) (l .high) (l .depth) (l .inv .1) (c .before .before .before .before .before .loop-test .taken) (λ e. c .before .before .if2 .left (c .before .before .before .word-length .ensures ∙ e)), c .before .before .before .before .before .loop-test .taken, c .equal-range .ensures .0 .from, c .equal-range .ensures .1 .to)
 
 loop-again-2 : tie.Need-loop-again-2 Inv-loop μ-loop
 loop-again-2 c =
     let s = c .before .before .before .before .before .before .before .before .before .before .before .before .before in
     let a = s .args in
     let l = c .before .before .before .before .before .before .loop in (
-      left-narrow (lexicon (a .chars .now) (a .lengths .now)) (a .index .now) (a .string .now) (a .key-start) (a .ends) (a .flags .now) (l .flags) (l .low) (l .high) (l .inv .0) (c .narrow .result .from) (c .narrow .result .to)
-          (apart-front (a .chars .now) (a .lengths .now) (a .index .now) (s .pre .0) (a .ends) (s .pre .2) (a .words .now) (s .pre .1) (a .string .now) (a .key-start) (l .low) (l .high) (l .depth) (l .inv .1) (c .before .before .before .before .before .loop-test .taken) (λ e. c .before .before .if2 .left (c .before .before .before .word-length .ensures ∙ e))
-          (getD (a .string .now) (a .key-start + l .depth) 0) (c .narrow .result .from) (c .narrow .result .to) refl (below (c .before .before .before .before)) (c .narrow .ensures .0) (c .narrow .ensures .1))
-          (apart-back (a .chars .now) (a .lengths .now) (a .index .now) (s .pre .0) (a .ends) (s .pre .2) (a .words .now) (s .pre .1) (a .string .now) (a .key-start) (l .low) (l .high) (l .depth) (l .inv .1) (c .before .before .before .before .before .loop-test .taken) (λ e. c .before .before .if2 .left (c .before .before .before .word-length .ensures ∙ e))
-          (getD (a .string .now) (a .key-start + l .depth) 0) (c .narrow .result .from) (c .narrow .result .to) refl (below (c .before .before .before .before)) (c .narrow .ensures .0) (c .narrow .ensures .1)),
-      sharing-deeper (a .chars .now) (a .lengths .now) (a .index .now) (s .pre .0) (a .ends) (s .pre .2) (a .words .now) (s .pre .1) (a .string .now) (a .key-start) (l .low) (l .high) (l .depth) (l .inv .1) (c .before .before .before .before .before .loop-test .taken) (λ e. c .before .before .if2 .left (c .before .before .before .word-length .ensures ∙ e))
-          (getD (a .string .now) (a .key-start + l .depth) 0) (c .narrow .result .from) (c .narrow .result .to) refl (below (c .before .before .before .before)) (c .narrow .ensures .0) (c .narrow .ensures .1),
+      left-narrow (lexicon (a .chars .now) (a .lengths .now)) (a .index .now) (a .string .now) (a .key-start) (a .word-lines) (a .flags .now) (l .flags) (l .low) (l .high) (l .inv .0) (c .equal-range .result .from) (c .equal-range .result .to)
+          (apart-front (a .chars .now) (a .lengths .now) (a .index .now) (s .pre .0) (a .word-lines) (s .pre .2) (a .word-starts .now) (s .pre .1) (a .string .now) (a .key-start) (l .low) (l .high) (l .depth) (l .inv .1) (c .before .before .before .before .before .loop-test .taken) (λ e. c .before .before .if2 .left (c .before .before .before .word-length .ensures ∙ e))
+          (getD (a .string .now) (a .key-start + l .depth) 0) (c .equal-range .result .from) (c .equal-range .result .to) refl (below (c .before .before .before .before)) (c .equal-range .ensures .0) (c .equal-range .ensures .1))
+          (apart-back (a .chars .now) (a .lengths .now) (a .index .now) (s .pre .0) (a .word-lines) (s .pre .2) (a .word-starts .now) (s .pre .1) (a .string .now) (a .key-start) (l .low) (l .high) (l .depth) (l .inv .1) (c .before .before .before .before .before .loop-test .taken) (λ e. c .before .before .if2 .left (c .before .before .before .word-length .ensures ∙ e))
+          (getD (a .string .now) (a .key-start + l .depth) 0) (c .equal-range .result .from) (c .equal-range .result .to) refl (below (c .before .before .before .before)) (c .equal-range .ensures .0) (c .equal-range .ensures .1)),
+      shared-prefix-deeper (a .chars .now) (a .lengths .now) (a .index .now) (s .pre .0) (a .word-lines) (s .pre .2) (a .word-starts .now) (s .pre .1) (a .string .now) (a .key-start) (l .low) (l .high) (l .depth) (l .inv .1) (c .before .before .before .before .before .loop-test .taken) (λ e. c .before .before .if2 .left (c .before .before .before .word-length .ensures ∙ e))
+          (getD (a .string .now) (a .key-start + l .depth) 0) (c .equal-range .result .from) (c .equal-range .result .to) refl (below (c .before .before .before .before)) (c .equal-range .ensures .0) (c .equal-range .ensures .1),
     )
 
 same-length-2 : tie.Need-same-length-2 Inv-loop μ-loop
-same-length-2 c = c .before .loop .inv .0 .way .long
+same-length-2 c = c .before .loop .inv .0 .way .len
 
 returns-2 : tie.Need-returns-2 Inv-loop μ-loop
 returns-2 c =
     let s = c .before .before .before .before .before .before .before .before in
     let a = s .args in
     let l = c .before .loop in
-    left-end (lexicon (a .chars .now) (a .lengths .now)) (a .index .now) (a .string .now) (a .key-start) (a .ends) (a .flags .now) (l .flags) (l .low) (l .high) (l .inv .0) (omega (arith, l .inv .1 .order, c .loop-test .left))
+    left-end (lexicon (a .chars .now) (a .lengths .now)) (a .index .now) (a .string .now) (a .key-start) (a .word-lines) (a .flags .now) (l .flags) (l .low) (l .high) (l .inv .0) (omega (arith, l .inv .1 .order, c .loop-test .left))
 
 pub flag-words-spec : {M : Type 1} → statement M
 flag-words-spec =
@@ -160,7 +160,7 @@ flag-words-spec =
     add-character
     mul-character
     shared-slice-read-character
-    narrow-requires
+    equal-range-requires
     add-depth
     loop-less-2
     loop-again-2

@@ -4,7 +4,7 @@ use Prim.Native.Nat.{ℕ}
 use lib.ListN.{length, replicate}
 use borrow.Author.Needs.{needs}
 use Rattle.spec.specs.Calls.{Build-says, zeros}
-use Rattle.laws.specs.Building.{early-refusal, build-refused}
+use Rattle.laws.specs.Build.Building.{early-refusal, build-refused}
 use Rattle.builder.proofs.build.build.Statement.{statement}
 use Rattle.builder.proofs.build.build.Tie as tie
 

@@ -1,7 +1,7 @@
 -- `early_refusal` meets its contract: one law a return. Assumes nothing.
 use mathlib.Core.Path.{_≡_, sym, _∙_}
 use Rattle.spec.specs.Dictionary.{dictionary-refusal}
-use Rattle.laws.specs.Building.{early-dictionary, early-text, early-work, early-none}
+use Rattle.laws.specs.Build.Building.{early-dictionary, early-text, early-work, early-none}
 use borrow.Author.Needs.{needs}
 use Rattle.builder.proofs.build.early_refusal.Statement.{statement}
 use Rattle.builder.proofs.build.early_refusal.Tie as tie

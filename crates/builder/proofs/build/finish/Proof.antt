@@ -6,16 +6,16 @@ use borrow.Author.Needs.{needs}
 use Rattle.builder.proofs.build.finish.Statement.{statement}
 use Rattle.builder.proofs.build.finish.Tie as tie
 
-slice-relend-prefix-index-marks : tie.Need-slice-relend-prefix-index-marks
-slice-relend-prefix-index-marks c = search needs
+slice-relend-prefix-index-tokens : tie.Need-slice-relend-prefix-index-tokens
+slice-relend-prefix-index-tokens c = search needs
 
-slice-aggregate-index-marks : tie.Need-slice-aggregate-index-marks
-slice-aggregate-index-marks c =
+slice-aggregate-index-tokens : tie.Need-slice-aggregate-index-tokens
+slice-aggregate-index-tokens c =
     let start = c .before .before .before .before .before in
     sym (length-take-le (length (start .args .text .now)) (start .args .work .now) (start .pre .0))
 
-index-marks-requires : tie.Need-index-marks-requires
-index-marks-requires c κs = search needs
+index-tokens-requires : tie.Need-index-tokens-requires
+index-tokens-requires c κs = search needs
 
 same-length : tie.Need-same-length
 same-length c = search needs
@@ -30,9 +30,9 @@ pub finish-spec : {M : Type 1} → statement M
 finish-spec =
     tie.close
     (tie.spec
-    slice-relend-prefix-index-marks
-    slice-aggregate-index-marks
-    index-marks-requires
+    slice-relend-prefix-index-tokens
+    slice-aggregate-index-tokens
+    index-tokens-requires
     same-length
     same-length-2
     returns)

@@ -1,12 +1,12 @@
 -- `index_by` meets its contract: the size is known from the counts, and the numbers are those of the marks. Assumes nothing.
 use Rattle.spec.specs.Replaced.{replaced}
-use Rattle.laws.specs.Building.{linked-listable, linked-keys, few-keys, linked-room, marked-refused, marked-put}
+use Rattle.laws.specs.Build.Building.{linked-listable, linked-keys, few-keys, linked-room, token-entry-refused, token-entry-put}
 use borrow.Author.Needs.{needs}
 use Rattle.builder.proofs.build.index_by.Statement.{statement}
 use Rattle.builder.proofs.build.index_by.Tie as tie
 
-link-requires : tie.Need-link-requires
-link-requires c κs = search needs
+chain-positions-requires : tie.Need-chain-positions-requires
+chain-positions-requires c κs = search needs
 
 mul-size : tie.Need-mul-size
 mul-size c = search needs
@@ -29,28 +29,28 @@ same-length-3 c = search needs
 returns : tie.Need-returns
 returns c =
     let start = c .before .before .before .before .before .before .before .before .before .before .before .before .before .before .before .before .before in
-    let k = c .before .before .before .before .before .before .before .before .link in
-    marked-refused (replaced (start .args .text .now)) (start .args .marks .now) (k .last .1 .0) (k .last .1 .1 .0)
+    let k = c .before .before .before .before .before .before .before .before .chain-positions in
+    token-entry-refused (replaced (start .args .text .now)) (start .args .tokens .now) (k .last .1 .0) (k .last .1 .1 .0)
     (k .last .1 .1 .1 .0) (k .result .keys)
     (k .result .entries) (start .pre .0) (k .ensures) (start .args .output .now) (c .if1 .taken)
 
 write-index-requires : tie.Need-write-index-requires
 write-index-requires c κs =
     let start = c .before .before .before .before .before .before .before .before .before .before .before .before .before .before .before .before .before .before .before .before .before in
-    let k = c .before .before .before .before .before .before .before .before .before .before .before .before .link in (
-      linked-listable (replaced (start .args .text .now)) (start .args .marks .now) (k .last .1 .0) (k .last .1 .1 .0)
+    let k = c .before .before .before .before .before .before .before .before .before .before .before .before .chain-positions in (
+      linked-listable (replaced (start .args .text .now)) (start .args .tokens .now) (k .last .1 .0) (k .last .1 .1 .0)
           (k .last .1 .1 .1 .0) (k .result .keys)
           (k .result .entries) (start .pre .0) (k .ensures),
       (
         (
-          linked-keys (replaced (start .args .text .now)) (start .args .marks .now) (k .last .1 .0) (k .last .1 .1 .0)
+          linked-keys (replaced (start .args .text .now)) (start .args .tokens .now) (k .last .1 .0) (k .last .1 .1 .0)
               (k .last .1 .1 .1 .0) (k .result .keys)
               (k .result .entries) (start .pre .0) (k .ensures),
-          few-keys (replaced (start .args .text .now)) (start .args .marks .now) (k .last .1 .0) (k .last .1 .1 .0)
+          few-keys (replaced (start .args .text .now)) (start .args .tokens .now) (k .last .1 .0) (k .last .1 .1 .0)
               (k .last .1 .1 .1 .0) (k .result .keys)
               (k .result .entries) (start .pre .0) (k .ensures),
         ),
-        linked-room (replaced (start .args .text .now)) (start .args .marks .now) (k .last .1 .0) (k .last .1 .1 .0)
+        linked-room (replaced (start .args .text .now)) (start .args .tokens .now) (k .last .1 .0) (k .last .1 .1 .0)
             (k .last .1 .1 .1 .0) (k .result .keys)
             (k .result .entries) (start .pre .0) (k .ensures) (start .args .output .now) (c .before .before .before .before .if1 .left),
       ),
@@ -71,8 +71,8 @@ same-length-7 c = search needs
 returns-2 : tie.Need-returns-2
 returns-2 c =
     let start = c .before .before .before .before .before .before .before .before .before .before .before .before .before .before .before .before .before .before .before .before .before .before .before .before in
-    let k = c .before .before .before .before .before .before .before .before .before .before .before .before .before .before .before .link in
-    marked-put (replaced (start .args .text .now)) (start .args .marks .now) (k .last .1 .0) (k .last .1 .1 .0) (k .last .1 .1 .1 .0)
+    let k = c .before .before .before .before .before .before .before .before .before .before .before .before .before .before .before .chain-positions in
+    token-entry-put (replaced (start .args .text .now)) (start .args .tokens .now) (k .last .1 .0) (k .last .1 .1 .0) (k .last .1 .1 .1 .0)
     (k .result .keys)
     (k .result .entries) (start .pre .0) (k .ensures) (start .args .output .now) (c .before .before .write-index .last .1 .1 .1 .1 .0) (c .before .before .before .before .before .before .before .if1 .left) (c .before .before .write-index .ensures)
 
@@ -80,7 +80,7 @@ pub index-by-spec : {M : Type 1} → statement M
 index-by-spec =
     tie.close
     (tie.spec
-    link-requires
+    chain-positions-requires
     mul-size
     add-size
     add-size-2

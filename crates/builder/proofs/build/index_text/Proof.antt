@@ -1,7 +1,7 @@
 -- `index_text` meets its contract: its match table is blank. Assumes nothing.
 use mathlib.Core.Path.{refl}
 use borrow.Author.Needs.{needs}
-use Rattle.laws.specs.Building.{blank}
+use Rattle.laws.specs.Build.Building.{blank}
 use Rattle.builder.proofs.build.index_text.Statement.{statement}
 use Rattle.builder.proofs.build.index_text.Tie as tie
 

@@ -3,18 +3,18 @@
 use native.Mathlib.Omega.{arith}
 use lib.ListN.{length, take}
 use borrow.Author.Needs.{needs}
-use Rattle.laws.specs.Building.{reached, blank-room, front-linkable, build-marked}
+use Rattle.laws.specs.Build.Building.{reached, blank-room, front-linkable, build-tokens}
 use Rattle.builder.proofs.build.index_with.Statement.{statement}
 use Rattle.builder.proofs.build.index_with.Tie as tie
 
-hang-words-requires : tie.Need-hang-words-requires
-hang-words-requires c κs =
+fill-match-table-requires : tie.Need-fill-match-table-requires
+fill-match-table-requires c κs =
     let start = c .before .before .before .before .before .before .before .before .before .before .before in
     let cs = start .args .chars .now in
     let ls = start .args .lengths .now in
     let ts = start .args .text .now in
     let w = length (start .args .work .now) in
-    blank-room cs ls ts w (start .args .heads .now) (start .args .links .now) (start .args .starts .now)
+    blank-room cs ls ts w (start .args .heads .now) (start .args .links .now) (start .args .word-starts .now)
     (λ i h. omega (arith, c .before .before .before .before .before .before .before .before .before .before .shared-slice-known .given i)) (start .pre .0) (start .pre .1)
 
 scan-replaced-requires : tie.Need-scan-replaced-requires
@@ -24,7 +24,7 @@ scan-replaced-requires c κs =
     let ls = start .args .lengths .now in
     let ts = start .args .text .now in
     let w = length (start .args .work .now) in
-    (c .before .before .before .before .before .before .before .before .before .before .hang-words .ensures, omega (arith, reached cs ls ts w (start .pre .0) .room))
+    (c .before .before .before .before .before .before .before .before .before .before .fill-match-table .ensures, omega (arith, reached cs ls ts w (start .pre .0) .room))
 
 finish-requires : tie.Need-finish-requires
 finish-requires c κs =
@@ -64,7 +64,7 @@ returns c =
     let ts = start .args .text .now in
     let w = length (start .args .work .now) in
     let work = c .before .before .before .before .before .before .before .before .before .scan-replaced .last .1 .1 .1 .1 .1 .1 .0 in
-    build-marked cs ls ts w (start .args .output .now)
+    build-tokens cs ls ts w (start .args .output .now)
     (λ i h. omega (arith, c .before .before .before .before .before .before .before .before .before .before .before .before .before .before .before .before .before .before .before .before .before .before .before .before .before .before .before .before .before .before .before .shared-slice-known .given i)) (λ i h. omega (arith, c .before .before .before .before .before .before .before .before .before .before .before .before .before .before .before .before .before .before .before .before .before .before .before .before .before .before .before .before .before .shared-slice-known3 .given i))
     (start .pre .0) (take (length ts) work)
     (c .before .before .before .before .before .before .before .before .before .scan-replaced .ensures)
@@ -75,7 +75,7 @@ pub index-with-spec : {M : Type 1} → statement M
 index-with-spec =
     tie.close
     (tie.spec
-    hang-words-requires
+    fill-match-table-requires
     scan-replaced-requires
     finish-requires
     same-length

@@ -4,8 +4,8 @@ use Prim.Native.Nat.{_*_, _-_}
 use lib.ListN.{length, take, drop}
 use borrow.Author.Needs.{needs}
 use Rattle.spec.specs.Replaced.{replaced}
-use Rattle.laws.specs.Replacing.{length-replaced}
-use Rattle.laws.specs.WorkParts.{behind-long, behind-put, front-whole}
+use Rattle.laws.specs.Text.WidthFolding.{length-replaced}
+use Rattle.laws.specs.Receive.WorkParts.{behind-long, behind-put, front-whole}
 use Rattle.builder.proofs.text.replace_behind.Statement.{statement}
 use Rattle.builder.proofs.text.replace_behind.Tie as tie
 
@@ -38,10 +38,10 @@ returns c =
     let n = length text in
     let call = c .before .before .replace-into in
     let part = call .last .1 .0 in
-    let long : length (take (2 * n - n) (drop n work)) ≡ n = behind-long n work (start .pre) in
-    behind-put n work (start .pre) part (call .kept .1 .0 ∙ long)
+    let len : length (take (2 * n - n) (drop n work)) ≡ n = behind-long n work (start .pre) in
+    behind-put n work (start .pre) part (call .kept .1 .0 ∙ len)
     ∙ call .ensures
-    ∙ front-whole (replaced text) (take (2 * n - n) (drop n work)) (long ∙ sym (length-replaced text))
+    ∙ front-whole (replaced text) (take (2 * n - n) (drop n work)) (len ∙ sym (length-replaced text))
 
 pub replace-behind-spec : {M : Type 1} → statement M
 replace-behind-spec =

@@ -3,7 +3,7 @@ use Prim.Native.Nat.{_-_}
 use native.Mathlib.Omega.{arith}
 use borrow.Author.Needs.{needs}
 use lib.ListN.{length}
-use Rattle.laws.specs.Cutting.{Copying, copying-start, copying-room, copying-step, copying-end}
+use Rattle.laws.specs.Cut.Cutting.{Copying, copying-start, copying-room, copying-step, copying-end}
 use Rattle.copying.proofs.slices.write_list.Statement.{statement}
 use Rattle.copying.proofs.slices.write_list.Tie as tie
 
@@ -50,7 +50,7 @@ loop-again c =
     copying-step (a .list .now) (a .from) (a .output .now) (l .output) (l .i) (l .inv) (c .before .loop-test .taken)
 
 same-length : tie.Need-same-length Inv-loop μ-loop
-same-length c = c .before .loop .inv .way .long
+same-length c = c .before .loop .inv .way .len
 
 returns : tie.Need-returns Inv-loop μ-loop
 returns c =

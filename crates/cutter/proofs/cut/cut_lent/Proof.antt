@@ -5,16 +5,16 @@ use native.Mathlib.Omega.{arith}
 use borrow.Author.Needs.{needs}
 use Rattle.spec.specs.Dictionary.{lexicon}
 use Rattle.spec.specs.Cut.{cut-down}
-use Rattle.laws.specs.Sizing.{sized-short, sized-written}
-use Rattle.laws.specs.Cutting.{cut-long}
+use Rattle.laws.specs.Search.Sizing.{sized-short, sized-written}
+use Rattle.laws.specs.Cut.Cutting.{cut-long}
 use Rattle.cutter.proofs.cut.cut_lent.Statement.{statement}
 use Rattle.cutter.proofs.cut.cut_lent.Tie as tie
 
-slice-aggregate-fill-words : tie.Need-slice-aggregate-fill-words
-slice-aggregate-fill-words c = search needs
+slice-aggregate-fill-word-starts : tie.Need-slice-aggregate-fill-word-starts
+slice-aggregate-fill-word-starts c = search needs
 
-fill-words-requires : tie.Need-fill-words-requires
-fill-words-requires c κs = search needs
+fill-word-starts-requires : tie.Need-fill-word-starts-requires
+fill-word-starts-requires c κs = search needs
 
 slice-aggregate-flag-bearing : tie.Need-slice-aggregate-flag-bearing
 slice-aggregate-flag-bearing c = search needs
@@ -72,8 +72,8 @@ pub cut-lent-spec : {M : Type 1} → statement M
 cut-lent-spec =
     tie.close
     (tie.spec
-    slice-aggregate-fill-words
-    fill-words-requires
+    slice-aggregate-fill-word-starts
+    fill-word-starts-requires
     slice-aggregate-flag-bearing
     flag-bearing-requires
     size-flagged-requires

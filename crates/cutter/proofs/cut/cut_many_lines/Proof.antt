@@ -2,7 +2,7 @@
 use native.Mathlib.Omega.{arith}
 use borrow.Author.Needs.{needs}
 use Rattle.spec.specs.Index.{keys-of}
-use Rattle.laws.specs.Searching.{cleared-room, cleared-whole}
+use Rattle.laws.specs.Window.Searching.{cleared-room, cleared-whole}
 use Rattle.cutter.proofs.cut.cut_many_lines.Statement.{statement}
 use Rattle.cutter.proofs.cut.cut_many_lines.Tie as tie
 

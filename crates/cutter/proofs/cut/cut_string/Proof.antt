@@ -1,6 +1,6 @@
 -- `cut_string` meets its contract: the string that the index is cut down for is the replaced one. Assumes nothing.
 use borrow.Author.Needs.{needs}
-use Rattle.laws.specs.Sizing.{own-long, own-string}
+use Rattle.laws.specs.Search.Sizing.{own-long, own-string}
 use Rattle.cutter.proofs.cut.cut_string.Statement.{statement}
 use Rattle.cutter.proofs.cut.cut_string.Tie as tie
 

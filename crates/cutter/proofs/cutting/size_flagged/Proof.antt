@@ -5,7 +5,7 @@ use native.Mathlib.Omega.{arith}
 use borrow.Author.Needs.{needs}
 use Rattle.spec.specs.Dictionary.{lexicon}
 use Rattle.spec.specs.Index.{keys-of}
-use Rattle.laws.specs.Judging.{judged-get, judged-none, Counting, counting-start, counting-bears, counting-passes, counting-end}
+use Rattle.laws.specs.Cut.ExactFlags.{exact-flags-get, exact-flags-none, Counting, counting-start, counting-bears, counting-passes, counting-end}
 use Rattle.cutter.proofs.cutting.size_flagged.Statement.{statement}
 use Rattle.cutter.proofs.cutting.size_flagged.Tie as tie
 
@@ -68,7 +68,7 @@ loop-again c =
     let a = s .args in
     let l = c .before .before .before .before .loop in
     counting-bears (lexicon (a .chars .now) (a .lengths .now)) (a .index .now) (a .string .now) (l .keys) (l .entries) (l .line) (l .inv) (c .before .before .before .loop-test .taken)
-    (judged-get (lexicon (a .chars .now) (a .lengths .now)) (a .index .now) (a .string .now) (keys-of (a .index .now)) (a .flags .now) (s .pre .1) (l .line) (c .before .before .before .loop-test .taken) (c .before .if1 .taken))
+    (exact-flags-get (lexicon (a .chars .now) (a .lengths .now)) (a .index .now) (a .string .now) (keys-of (a .index .now)) (a .flags .now) (s .pre .1) (l .line) (c .before .before .before .loop-test .taken) (c .before .if1 .taken))
     (omega (arith, c .shared-slice-known3 .given (2 + 3 * l .line + 2))) (s .pre .0)
 
 loop-less-2 : tie.Need-loop-less-2 Inv-loop μ-loop
@@ -80,7 +80,7 @@ loop-again-2 c =
     let a = s .args in
     let l = c .before .before .before .loop in
     counting-passes (lexicon (a .chars .now) (a .lengths .now)) (a .index .now) (a .string .now) (l .keys) (l .entries) (l .line) (l .inv) (c .before .before .loop-test .taken)
-    (judged-none (lexicon (a .chars .now) (a .lengths .now)) (a .index .now) (a .string .now) (keys-of (a .index .now)) (a .flags .now) (s .pre .1) (l .line) (c .before .before .loop-test .taken) (c .if1 .left))
+    (exact-flags-none (lexicon (a .chars .now) (a .lengths .now)) (a .index .now) (a .string .now) (keys-of (a .index .now)) (a .flags .now) (s .pre .1) (l .line) (c .before .before .loop-test .taken) (c .if1 .left))
 
 returns : tie.Need-returns Inv-loop μ-loop
 returns c =

@@ -8,8 +8,8 @@ use Rattle.spec.specs.Dictionary.{lexicon}
 use Rattle.spec.specs.Numbers.{numbers}
 use Rattle.spec.specs.Index.{n-of, lines-in}
 use Rattle.spec.specs.Cut.{bearing}
-use Rattle.laws.specs.IndexWriting.{room-is, directory-room, positions-start, positions-room, index-written, written-long}
-use Rattle.laws.specs.Cutting.{cut-room, cut-written}
+use Rattle.laws.specs.Build.IndexWriting.{room-is, directory-room, positions-start, positions-room, index-written, written-long}
+use Rattle.laws.specs.Cut.Cutting.{cut-room, cut-written}
 use borrow.Author.Needs.{needs}
 use Rattle.cutter.proofs.cutting.write_cut.Statement.{statement}
 use Rattle.cutter.proofs.cutting.write_cut.Tie as tie

@@ -5,8 +5,8 @@ use native.Mathlib.Omega.{arith}
 use borrow.Author.Needs.{needs}
 use Rattle.spec.specs.Dictionary.{lexicon}
 use Rattle.spec.specs.Index.{keys-of}
-use Rattle.laws.specs.Judging.{judged-get, judged-none}
-use Rattle.laws.specs.Cutting.{Placing, placing-start, placing-there, placing-counted, placing-room, placing-step, placing-pass, placing-end}
+use Rattle.laws.specs.Cut.ExactFlags.{exact-flags-get, exact-flags-none}
+use Rattle.laws.specs.Cut.Cutting.{Placing, placing-start, placing-there, placing-counted, placing-room, placing-step, placing-pass, placing-end}
 use Rattle.cutter.proofs.cutting.write_positions.Statement.{statement}
 use Rattle.cutter.proofs.cutting.write_positions.Tie as tie
 
@@ -99,7 +99,7 @@ write-list-requires c κs =
     let s = c .before .before .before .before .before .before .before .before .before .before .before .before .before .before in
     let a = s .args in
     let l = c .before .before .before .before .before .before .loop in
-    placing-room (lexicon (a .chars .now) (a .lengths .now)) (a .index .now) (a .string .now) (a .part .now) (l .part) (l .start) (l .at) (l .line) (l .inv) (c .before .before .before .before .before .loop-test .taken) (s .pre .0) (judged-get (lexicon (a .chars .now) (a .lengths .now)) (a .index .now) (a .string .now) (keys-of (a .index .now)) (a .flags .now) (s .pre .1) (l .line) (c .before .before .before .before .before .loop-test .taken) (c .before .before .if1 .taken))
+    placing-room (lexicon (a .chars .now) (a .lengths .now)) (a .index .now) (a .string .now) (a .part .now) (l .part) (l .start) (l .at) (l .line) (l .inv) (c .before .before .before .before .before .loop-test .taken) (s .pre .0) (exact-flags-get (lexicon (a .chars .now) (a .lengths .now)) (a .index .now) (a .string .now) (keys-of (a .index .now)) (a .flags .now) (s .pre .1) (l .line) (c .before .before .before .before .before .loop-test .taken) (c .before .before .if1 .taken))
 
 sub-at : tie.Need-sub-at Inv-loop μ-loop
 sub-at c = omega arith
@@ -109,7 +109,7 @@ add-at c =
     let s = c .before .before .before .before .before .before .before .before .before .before .before .before .before .before .before .before .before in
     let a = s .args in
     let l = c .before .before .before .before .before .before .before .before .before .loop in
-    omega (arith, s .good, l .inv .way .long, placing-room (lexicon (a .chars .now) (a .lengths .now)) (a .index .now) (a .string .now) (a .part .now) (l .part) (l .start) (l .at) (l .line) (l .inv) (c .before .before .before .before .before .before .before .before .loop-test .taken) (s .pre .0) (judged-get (lexicon (a .chars .now) (a .lengths .now)) (a .index .now) (a .string .now) (keys-of (a .index .now)) (a .flags .now) (s .pre .1) (l .line) (c .before .before .before .before .before .before .before .before .loop-test .taken) (c .before .before .before .before .before .if1 .taken)), placing-counted (lexicon (a .chars .now) (a .lengths .now)) (a .index .now) (a .string .now) (a .part .now) (l .part) (l .start) (l .at) (l .line) (l .inv) (c .before .before .before .before .before .before .before .before .loop-test .taken) (s .pre .0))
+    omega (arith, s .good, l .inv .way .len, placing-room (lexicon (a .chars .now) (a .lengths .now)) (a .index .now) (a .string .now) (a .part .now) (l .part) (l .start) (l .at) (l .line) (l .inv) (c .before .before .before .before .before .before .before .before .loop-test .taken) (s .pre .0) (exact-flags-get (lexicon (a .chars .now) (a .lengths .now)) (a .index .now) (a .string .now) (keys-of (a .index .now)) (a .flags .now) (s .pre .1) (l .line) (c .before .before .before .before .before .before .before .before .loop-test .taken) (c .before .before .before .before .before .if1 .taken)), placing-counted (lexicon (a .chars .now) (a .lengths .now)) (a .index .now) (a .string .now) (a .part .now) (l .part) (l .start) (l .at) (l .line) (l .inv) (c .before .before .before .before .before .before .before .before .loop-test .taken) (s .pre .0))
 
 loop-less : tie.Need-loop-less Inv-loop μ-loop
 loop-less c = search needs
@@ -120,7 +120,7 @@ loop-again c =
     let a = s .args in
     let l = c .before .before .before .before .before .before .before .before .before .loop in
     placing-step (lexicon (a .chars .now) (a .lengths .now)) (a .index .now) (a .string .now) (a .part .now) (l .part) (l .start) (l .at) (l .line) (l .inv) (c .before .before .before .before .before .before .before .before .loop-test .taken) (s .pre .0)
-    (judged-get (lexicon (a .chars .now) (a .lengths .now)) (a .index .now) (a .string .now) (keys-of (a .index .now)) (a .flags .now) (s .pre .1) (l .line) (c .before .before .before .before .before .before .before .before .loop-test .taken) (c .before .before .before .before .before .if1 .taken))
+    (exact-flags-get (lexicon (a .chars .now) (a .lengths .now)) (a .index .now) (a .string .now) (keys-of (a .index .now)) (a .flags .now) (s .pre .1) (l .line) (c .before .before .before .before .before .before .before .before .loop-test .taken) (c .before .before .before .before .before .if1 .taken))
     (c .before .before .write-list .last .1 .1 .0) (c .before .before .write-list .ensures)
 
 loop-less-2 : tie.Need-loop-less-2 Inv-loop μ-loop
@@ -132,10 +132,10 @@ loop-again-2 c =
     let a = s .args in
     let l = c .before .before .before .before .loop in
     placing-pass (lexicon (a .chars .now) (a .lengths .now)) (a .index .now) (a .string .now) (a .part .now) (l .part) (l .start) (l .at) (l .line) (l .inv) (c .before .before .before .loop-test .taken) (s .pre .0)
-    (judged-none (lexicon (a .chars .now) (a .lengths .now)) (a .index .now) (a .string .now) (keys-of (a .index .now)) (a .flags .now) (s .pre .1) (l .line) (c .before .before .before .loop-test .taken) (c .if1 .left))
+    (exact-flags-none (lexicon (a .chars .now) (a .lengths .now)) (a .index .now) (a .string .now) (keys-of (a .index .now)) (a .flags .now) (s .pre .1) (l .line) (c .before .before .before .loop-test .taken) (c .if1 .left))
 
 same-length : tie.Need-same-length Inv-loop μ-loop
-same-length c = c .before .loop .inv .way .long
+same-length c = c .before .loop .inv .way .len
 
 returns : tie.Need-returns Inv-loop μ-loop
 returns c =

@@ -4,7 +4,7 @@ use lib.ListN.{length}
 use borrow.Author.Needs.{needs}
 use Rattle.spec.specs.Dictionary.{dictionary-refusal}
 use Rattle.spec.specs.Calls.{Admit-says}
-use Rattle.laws.specs.Answering.{answers-accepted, answers-refused}
+use Rattle.laws.specs.Dictionary.Answering.{answers-accepted, answers-refused}
 use Rattle.dictionary.proofs.admission.admit.Statement.{statement}
 use Rattle.dictionary.proofs.admission.admit.Tie as tie
 

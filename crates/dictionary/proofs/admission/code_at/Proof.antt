@@ -1,11 +1,11 @@
 -- `code_at` meets its contract: the three reads give the word's first three digits, each at most 65,536. Assumes nothing.
 use borrow.Author.Needs.{needs}
-use Rattle.laws.specs.WordCode.{code-read}
+use Rattle.laws.specs.Dictionary.WordCode.{code-read}
 use Rattle.dictionary.proofs.admission.code_at.Statement.{statement}
 use Rattle.dictionary.proofs.admission.code_at.Tie as tie
 
-sub-long : tie.Need-sub-long
-sub-long c = search needs
+sub-len : tie.Need-sub-len
+sub-len c = search needs
 
 mul-digit : tie.Need-mul-digit
 mul-digit c = search needs
@@ -71,7 +71,7 @@ pub code-at-spec : {M : Type 1} → statement M
 code-at-spec =
     tie.close
     (tie.spec
-    sub-long
+    sub-len
     mul-digit
     shared-slice-read-digit
     digit-requires

@@ -4,7 +4,7 @@ use mathlib.Core.Path.{sym, _∙_}
 use Prim.Native.Nat.{_-_}
 use native.Mathlib.Omega.{arith}
 use borrow.Author.Needs.{needs}
-use Rattle.laws.specs.WordCode.{Equal-front, before-differ, before-same, before-read}
+use Rattle.laws.specs.Dictionary.WordCode.{Equal-front, before-differ, before-same, before-read}
 use Rattle.dictionary.proofs.admission.comes_before.Statement.{statement}
 use Rattle.dictionary.proofs.admission.comes_before.Tie as tie
 

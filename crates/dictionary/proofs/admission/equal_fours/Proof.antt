@@ -4,7 +4,7 @@ use mathlib.Core.Path.{refl}
 use Prim.Native.Nat.{_-_, _≤_}
 use native.Mathlib.Omega.{arith}
 use borrow.Author.Needs.{needs}
-use Rattle.laws.specs.WordCode.{Equal-front, equal-four}
+use Rattle.laws.specs.Dictionary.WordCode.{Equal-front, equal-four}
 use Rattle.dictionary.proofs.admission.equal_fours.Statement.{statement}
 use Rattle.dictionary.proofs.admission.equal_fours.Tie as tie
 

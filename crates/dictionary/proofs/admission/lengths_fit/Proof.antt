@@ -4,7 +4,7 @@ use Prim.Native.Nat.{_-_}
 use native.Mathlib.Omega.{arith}
 use borrow.Author.Needs.{needs}
 use lib.ListN.{length}
-use Rattle.laws.specs.Admission.{Lengths-read, lengths-start, lengths-step, lengths-sum, lengths-tested}
+use Rattle.laws.specs.Dictionary.Admission.{Lengths-read, lengths-start, lengths-step, lengths-sum, lengths-tested}
 use Rattle.dictionary.proofs.admission.lengths_fit.Statement.{statement}
 use Rattle.dictionary.proofs.admission.lengths_fit.Tie as tie
 
@@ -17,11 +17,11 @@ abbrev μ-loop : tie.MeasureT-loop
 loop-holds : tie.Need-loop-holds Inv-loop μ-loop
 loop-holds c = lengths-start (c .args .lengths .now)
 
-mul-long : tie.Need-mul-long Inv-loop μ-loop
-mul-long c = search needs
+mul-len : tie.Need-mul-len Inv-loop μ-loop
+mul-len c = search needs
 
-shared-slice-read-long : tie.Need-shared-slice-read-long Inv-loop μ-loop
-shared-slice-read-long c = search needs
+shared-slice-read-len : tie.Need-shared-slice-read-len Inv-loop μ-loop
+shared-slice-read-len c = search needs
 
 cast-sum : tie.Need-cast-sum Inv-loop μ-loop
 cast-sum c = omega (arith, c .shared-slice-known .given (c .before .before .loop .i))
@@ -63,8 +63,8 @@ lengths-fit-spec =
     Inv-loop
     μ-loop
     loop-holds
-    mul-long
-    shared-slice-read-long
+    mul-len
+    shared-slice-read-len
     cast-sum
     add-sum
     add-i

@@ -4,7 +4,7 @@ use mathlib.Core.Path.{sym}
 use Prim.Native.Nat.{ℕ}
 use native.Mathlib.Omega.{arith}
 use borrow.Author.Needs.{needs}
-use Rattle.laws.specs.WordCode.{neighbours-less, neighbours-more}
+use Rattle.laws.specs.Dictionary.WordCode.{neighbours-less, neighbours-more}
 use Rattle.dictionary.proofs.admission.neighbours_ascend.Statement.{statement}
 use Rattle.dictionary.proofs.admission.neighbours_ascend.Tie as tie
 

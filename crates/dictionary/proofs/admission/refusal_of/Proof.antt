@@ -2,7 +2,7 @@
 use mathlib.Core.Path.{sym, _∙_}
 use borrow.Author.Needs.{needs}
 use borrow.Author.Tests.{not-true, not-false}
-use Rattle.laws.specs.Admission.{refuses-words, refuses-chars, refuses-lengths, fitting, refuses-order, refuses-forms, admits}
+use Rattle.laws.specs.Dictionary.Admission.{refuses-words, refuses-chars, refuses-lengths, fitting, refuses-order, refuses-forms, admits}
 use Rattle.dictionary.proofs.admission.refusal_of.Statement.{statement}
 use Rattle.dictionary.proofs.admission.refusal_of.Tie as tie
 

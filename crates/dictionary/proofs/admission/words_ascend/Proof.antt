@@ -6,8 +6,8 @@ use native.Mathlib.Omega.{arith}
 use borrow.Author.Needs.{needs}
 use borrow.Author.Tests.{not-true, not-false}
 use lib.ListN.{length}
-use Rattle.laws.specs.WordCode.{part, code}
-use Rattle.laws.specs.Admission.{Words-read, words-start, words-end, words-step, words-stop, next-some, next-room, no-words}
+use Rattle.laws.specs.Dictionary.WordCode.{part, code}
+use Rattle.laws.specs.Dictionary.Admission.{Words-read, words-start, words-end, words-step, words-stop, next-some, next-room, no-words}
 use Rattle.dictionary.proofs.admission.words_ascend.Statement.{statement}
 use Rattle.dictionary.proofs.admission.words_ascend.Tie as tie
 

@@ -2,7 +2,7 @@
 use Prim.Native.Nat.{_+_, _*_}
 use lib.ListN.{getD}
 use native.Mathlib.Omega.{arith}
-use Rattle.laws.specs.Tables.{word-below, word-room, word-spelt, lone-spelt}
+use Rattle.laws.specs.Directory.Tables.{word-below, word-room, word-spelt, lone-spelt}
 use borrow.Author.Needs.{needs}
 use Rattle.directory.proofs.lines.key_of.Statement.{statement}
 use Rattle.directory.proofs.lines.key_of.Tie as tie
@@ -66,12 +66,12 @@ cast-end c =
 add-end : tie.Need-add-end
 add-end c =
     let s = c .before .before .before .before .before in
-    omega (arith, s .pre .1 .room, word-room (s .args .chars .now) (s .args .lengths .now) (s .args .index .now) (s .pre .0) (s .args .line) (s .pre .2) (c .before .before .before .if1 .taken) (s .args .words .now) (s .pre .1), s .pre .0 .few-chars)
+    omega (arith, s .pre .1 .room, word-room (s .args .chars .now) (s .args .lengths .now) (s .args .index .now) (s .pre .0) (s .args .line) (s .pre .2) (c .before .before .before .if1 .taken) (s .args .word-starts .now) (s .pre .1), s .pre .0 .few-chars)
 
 mul-result : tie.Need-mul-result
 mul-result c =
     let s = c .before .before .before .before .before in
-    omega (arith, s .pre .1 .room, word-room (s .args .chars .now) (s .args .lengths .now) (s .args .index .now) (s .pre .0) (s .args .line) (s .pre .2) (c .before .before .before .if1 .taken) (s .args .words .now) (s .pre .1), s .pre .0 .few-chars)
+    omega (arith, s .pre .1 .room, word-room (s .args .chars .now) (s .args .lengths .now) (s .args .index .now) (s .pre .0) (s .args .line) (s .pre .2) (c .before .before .before .if1 .taken) (s .args .word-starts .now) (s .pre .1), s .pre .0 .few-chars)
 
 sub-result : tie.Need-sub-result
 sub-result c = search needs
@@ -82,7 +82,7 @@ part-result-start c = search needs
 part-result-end : tie.Need-part-result-end
 part-result-end c =
     let s = c .before .before .before .before .before in
-    word-room (s .args .chars .now) (s .args .lengths .now) (s .args .index .now) (s .pre .0) (s .args .line) (s .pre .2) (c .before .before .before .if1 .taken) (s .args .words .now) (s .pre .1)
+    word-room (s .args .chars .now) (s .args .lengths .now) (s .args .index .now) (s .pre .0) (s .args .line) (s .pre .2) (c .before .before .before .if1 .taken) (s .args .word-starts .now) (s .pre .1)
 
 mul-start-2 : tie.Need-mul-start-2
 mul-start-2 c = search needs
@@ -117,7 +117,7 @@ part-result-end-2 c = search needs
 returns : tie.Need-returns
 returns c =
     let s = c .before .before .before .before .before .before in
-    word-spelt (s .args .chars .now) (s .args .lengths .now) (s .args .index .now) (s .pre .0) (s .args .line) (s .pre .2) (c .before .before .before .before .if1 .taken) (s .args .words .now) (s .pre .1)
+    word-spelt (s .args .chars .now) (s .args .lengths .now) (s .args .index .now) (s .pre .0) (s .args .line) (s .pre .2) (c .before .before .before .before .if1 .taken) (s .args .word-starts .now) (s .pre .1)
 
 returns-2 : tie.Need-returns-2
 returns-2 c =

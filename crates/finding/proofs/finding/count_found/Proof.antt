@@ -8,16 +8,16 @@ use mir.Val.{boolByte}
 use native.Mathlib.Omega.{arith}
 use borrow.Author.Needs.{needs}
 use lib.ListN.{length, getD}
-use Rattle.laws.specs.Finding.{Counting, counting-start, counting-step, counting-end}
+use Rattle.laws.specs.Window.Finding.{Counting, counting-start, counting-step, counting-end}
 use Rattle.finding.proofs.finding.count_found.Statement.{statement}
 use Rattle.finding.proofs.finding.count_found.Tie as tie
 
 abbrev Inv-loop : tie.InvT-loop
-Inv-loop reach long count₀ i₀ count i =
-    Counting long reach count i
+Inv-loop reach len count₀ i₀ count i =
+    Counting len reach count i
 
 abbrev μ-loop : tie.MeasureT-loop
-μ-loop reach long count₀ i₀ count i = length reach - i
+μ-loop reach len count₀ i₀ count i = length reach - i
 
 bit-of : (b : Bool) → boolByte b ≡ cond b 1 0
 bit-of true = refl
@@ -28,7 +28,7 @@ bit-small true = omega arith
 bit-small false = omega arith
 
 loop-holds : tie.Need-loop-holds Inv-loop μ-loop
-loop-holds c = counting-start (c .args .long) (c .args .reach .now)
+loop-holds c = counting-start (c .args .len) (c .args .reach .now)
 
 mul-count : tie.Need-mul-count Inv-loop μ-loop
 mul-count c = search needs
@@ -46,7 +46,7 @@ add-count : tie.Need-add-count Inv-loop μ-loop
 add-count c =
     let a = c .before .before .before .args in
     let l = c .before .before .loop in
-    omega (arith, l .inv .few, bit-small (leb (a .long) (getD (a .reach .now) (l .i) 0)))
+    omega (arith, l .inv .few, bit-small (leb (a .len) (getD (a .reach .now) (l .i) 0)))
 
 add-i : tie.Need-add-i Inv-loop μ-loop
 add-i c = search needs
@@ -58,14 +58,14 @@ loop-again : tie.Need-loop-again Inv-loop μ-loop
 loop-again c =
     let a = c .before .before .before .args in
     let l = c .before .before .loop in
-    rw (bit-of (leb (a .long) (getD (a .reach .now) (l .i) 0)))
-    (counting-step (a .long) (a .reach .now) (l .count) (l .i) (l .inv) (c .before .loop-test .taken))
+    rw (bit-of (leb (a .len) (getD (a .reach .now) (l .i) 0)))
+    (counting-step (a .len) (a .reach .now) (l .count) (l .i) (l .inv) (c .before .loop-test .taken))
 
 returns : tie.Need-returns Inv-loop μ-loop
 returns c =
     let a = c .before .before .args in
     let l = c .before .loop in
-    counting-end (a .long) (a .reach .now) (l .count) (l .i) (l .inv) (c .loop-test .left)
+    counting-end (a .len) (a .reach .now) (l .count) (l .i) (l .inv) (c .loop-test .left)
 
 pub count-found-spec : {M : Type 1} → statement M
 count-found-spec =

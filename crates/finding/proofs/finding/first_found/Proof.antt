@@ -3,18 +3,18 @@ use Prim.Native.Nat.{_-_}
 use native.Mathlib.Omega.{arith}
 use borrow.Author.Needs.{needs}
 use lib.ListN.{length}
-use Rattle.laws.specs.FirstFound.{None-before, none-before-start, none-before-step, first-here, first-none}
+use Rattle.laws.specs.First.Found.{None-before, none-before-start, none-before-step, first-here, first-none}
 use Rattle.finding.proofs.finding.first_found.Statement.{statement}
 use Rattle.finding.proofs.finding.first_found.Tie as tie
 
 abbrev Inv-loop : tie.InvT-loop
-Inv-loop reach long first i₀ i = None-before long first reach i
+Inv-loop reach len first i₀ i = None-before len first reach i
 
 abbrev μ-loop : tie.MeasureT-loop
-μ-loop reach long first i₀ i = length reach - i
+μ-loop reach len first i₀ i = length reach - i
 
 loop-holds : tie.Need-loop-holds Inv-loop μ-loop
-loop-holds c = none-before-start (c .args .long) (c .args .first) (c .args .reach .now)
+loop-holds c = none-before-start (c .args .len) (c .args .first) (c .args .reach .now)
 
 mul-if1 : tie.Need-mul-if1 Inv-loop μ-loop
 mul-if1 c = search needs
@@ -32,7 +32,7 @@ returns : tie.Need-returns Inv-loop μ-loop
 returns c =
     let a = c .before .before .before .before .args in
     let l = c .before .before .before .loop in
-    first-here (a .long) (a .first) (a .reach .now) (l .i) (l .inv) (c .before .before .loop-test .taken) (c .if1 .taken)
+    first-here (a .len) (a .first) (a .reach .now) (l .i) (l .inv) (c .before .before .loop-test .taken) (c .if1 .taken)
 
 add-i : tie.Need-add-i Inv-loop μ-loop
 add-i c = search needs
@@ -44,13 +44,13 @@ loop-again : tie.Need-loop-again Inv-loop μ-loop
 loop-again c =
     let a = c .before .before .before .before .args in
     let l = c .before .before .before .loop in
-    none-before-step (a .long) (a .first) (a .reach .now) (l .i) (l .inv) (c .before .before .loop-test .taken) (c .if1 .left)
+    none-before-step (a .len) (a .first) (a .reach .now) (l .i) (l .inv) (c .before .before .loop-test .taken) (c .if1 .left)
 
 returns-2 : tie.Need-returns-2 Inv-loop μ-loop
 returns-2 c =
     let a = c .before .before .args in
     let l = c .before .loop in
-    first-none (a .long) (a .first) (a .reach .now) (l .i) (l .inv) (c .loop-test .left)
+    first-none (a .len) (a .first) (a .reach .now) (l .i) (l .inv) (c .loop-test .left)
 
 pub first-found-spec : {M : Type 1} → statement M
 first-found-spec =

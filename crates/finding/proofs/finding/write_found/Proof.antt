@@ -4,28 +4,28 @@ use Prim.Native.Nat.{_-_}
 use native.Mathlib.Omega.{arith}
 use borrow.Author.Needs.{needs}
 use lib.ListN.{length}
-use Rattle.laws.specs.Finding.{Finding, finding-start, finding-more, finding-next, finding-end, finding-write}
+use Rattle.laws.specs.Window.Finding.{Finding, finding-start, finding-more, finding-next, finding-end, finding-write}
 use Rattle.finding.proofs.finding.write_found.Statement.{statement}
 use Rattle.finding.proofs.finding.write_found.Tie as tie
 
 abbrev Inv-loop : tie.InvT-loop
-Inv-loop reach long first count output₀ written₀ i₀ output written i =
-    Finding long first reach output₀ output written i
+Inv-loop reach len first count output₀ written₀ i₀ output written i =
+    Finding len first reach output₀ output written i
 
 abbrev μ-loop : tie.MeasureT-loop
-μ-loop reach long first count output₀ written₀ i₀ output written i = count - written
+μ-loop reach len first count output₀ written₀ i₀ output written i = count - written
 
 loop-holds : tie.Need-loop-holds Inv-loop μ-loop
 loop-holds c =
     let a = c .before .before .args in
-    finding-start (a .long) (a .first) (a .reach .now) (a .output .now)
+    finding-start (a .len) (a .first) (a .reach .now) (a .output .now)
 
 next-found-requires : tie.Need-next-found-requires Inv-loop μ-loop
 next-found-requires c κs =
     let s = c .before .before .before .before in
     let a = s .args in
     let l = c .before .loop in
-    finding-more (a .long) (a .first) (a .reach .now) (a .output .now) (l .output) (l .written) (l .i) (l .inv) (omega (arith, s .pre .0, c .loop-test .taken))
+    finding-more (a .len) (a .first) (a .reach .now) (a .output .now) (l .output) (l .written) (l .i) (l .inv) (omega (arith, s .pre .0, c .loop-test .taken))
 
 add-output : tie.Need-add-output Inv-loop μ-loop
 add-output c =
@@ -45,7 +45,7 @@ mul-output c =
 slice-write-output : tie.Need-slice-write-output Inv-loop μ-loop
 slice-write-output c =
     let s = c .before .before .before .before .before in
-    omega (arith, s .pre .1, c .before .before .loop .inv .long, c .before .loop-test .taken)
+    omega (arith, s .pre .1, c .before .before .loop .inv .len, c .before .loop-test .taken)
 
 add-written : tie.Need-add-written Inv-loop μ-loop
 add-written c = search needs
@@ -64,19 +64,19 @@ loop-again c =
     let a = s .args in
     let l = c .before .before .loop in
     let n = c .next-found in
-    let next = finding-next (a .long) (a .first) (a .reach .now) (a .output .now) (l .output) (l .written) (l .i) (l .inv) (n .result) (n .ensures) in
-    finding-write (a .long) (a .first) (a .reach .now) (a .output .now) (l .output) (l .written) (n .result) next (n .ensures .within) (n .ensures .near)
+    let next = finding-next (a .len) (a .first) (a .reach .now) (a .output .now) (l .output) (l .written) (l .i) (l .inv) (n .result) (n .ensures) in
+    finding-write (a .len) (a .first) (a .reach .now) (a .output .now) (l .output) (l .written) (n .result) next (n .ensures .within) (n .ensures .near)
     (omega (arith, s .pre .0, s .pre .1))
 
 same-length : tie.Need-same-length Inv-loop μ-loop
-same-length c = c .before .loop .inv .long
+same-length c = c .before .loop .inv .len
 
 returns : tie.Need-returns Inv-loop μ-loop
 returns c =
     let s = c .before .before .before .before in
     let a = s .args in
     let l = c .before .loop in
-    finding-end (a .long) (a .first) (a .reach .now) (a .output .now) (l .output) (l .written) (l .i) (l .inv) (omega (arith, s .pre .0, c .loop-test .left))
+    finding-end (a .len) (a .first) (a .reach .now) (a .output .now) (l .output) (l .written) (l .i) (l .inv) (omega (arith, s .pre .0, c .loop-test .left))
 
 pub write-found-spec : {M : Type 1} → statement M
 write-found-spec =

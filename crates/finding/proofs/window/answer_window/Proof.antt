@@ -1,6 +1,6 @@
 -- `answer_window` meets its contract: the starts are written once their number is known to fit. Assumes nothing.
 use mathlib.Core.Path.{refl}
-use Rattle.laws.specs.Searching.{count-is, answer-short, answer-found}
+use Rattle.laws.specs.Window.Searching.{count-is, answer-short, answer-found}
 use borrow.Author.Needs.{needs}
 use Rattle.finding.proofs.window.answer_window.Statement.{statement}
 use Rattle.finding.proofs.window.answer_window.Tie as tie
@@ -11,13 +11,13 @@ count-found-requires c κs = search needs
 returns : tie.Need-returns
 returns c =
     let a = c .before .before .before .before .args in
-    answer-short (a .long) (a .first) (a .reach .now) (a .output .now) (c .before .count-found .result) (c .before .count-found .ensures) (c .if1 .taken) (record { refusal = 8; count = 0 }) refl refl
+    answer-short (a .len) (a .first) (a .reach .now) (a .output .now) (c .before .count-found .result) (c .before .count-found .ensures) (c .if1 .taken) (record { refusal = 8; count = 0 }) refl refl
 
 write-found-requires : tie.Need-write-found-requires
 write-found-requires c κs =
     let s = c .before .before .before .before .before in
     let a = s .args in (
-      count-is (a .long) (a .first) (a .reach .now) (a .output .now) (c .before .before .count-found .result) (c .before .before .count-found .ensures),
+      count-is (a .len) (a .first) (a .reach .now) (a .output .now) (c .before .before .count-found .result) (c .before .before .count-found .ensures),
       c .before .if1 .left,
       s .pre,
     )
@@ -30,7 +30,7 @@ returns-2 c =
     let a = c .before .before .before .before .before .before .before .before .args in
     let counted = c .before .before .before .before .before .count-found in
     let written = c .before .before .write-found in
-    answer-found (a .long) (a .first) (a .reach .now) (a .output .now) (counted .result) (counted .ensures) (c .before .before .before .before .if1 .left)
+    answer-found (a .len) (a .first) (a .reach .now) (a .output .now) (counted .result) (counted .ensures) (c .before .before .before .before .if1 .left)
     (written .last .1 .1 .1 .1 .0) (written .ensures) (record { refusal = 0; count = counted .result }) refl refl
 
 pub answer-window-spec : {M : Type 1} → statement M

@@ -3,14 +3,14 @@
 use native.Mathlib.Omega.{arith}
 use lib.ListN.{length}
 use Rattle.spec.specs.Dictionary.{lexicon}
-use Rattle.laws.specs.Searching.{cleared-within}
-use Rattle.laws.specs.FirstFound as laws
+use Rattle.laws.specs.Window.Searching.{cleared-within}
+use Rattle.laws.specs.First.Found as laws
 use borrow.Author.Needs.{needs}
 use Rattle.finding.proofs.window.first_in_window.Statement.{statement}
 use Rattle.finding.proofs.window.first_in_window.Tie as tie
 
-raise-window-requires : tie.Need-raise-window-requires
-raise-window-requires c κs =
+extend-window-requires : tie.Need-extend-window-requires
+extend-window-requires c κs =
     let s = c .before .before .before .before .before .before .before .before .before in
     (s .pre .0, s .pre .2, s .pre .3, s .pre .1 .some, s .pre .1 .short, omega (arith, s .pre .4), cleared-within (length (s .args .reach .now)) (s .args .reach .now) (s .pre .5))
 
@@ -21,7 +21,7 @@ returns : tie.Need-returns
 returns c =
     let s = c .before .before .before .before .before .before .before .before .before .before .before .before .before in
     let a = s .args in
-    let window = c .before .before .before .raise-window in
+    let window = c .before .before .before .extend-window in
     laws.first-in-none (lexicon (a .chars .now) (a .lengths .now)) (a .index .now) (a .string .now) (length (a .reach .now)) (a .first)
     (window .last .1 .1 .1 .1 .1 .1 .1 .1 .1 .0) (window .result) (a .reach .now) (s .pre .5) (window .ensures) (c .if1 .taken)
 
@@ -35,10 +35,10 @@ returns-2 : tie.Need-returns-2
 returns-2 c =
     let s = c .before .before .before .before .before .before .before .before .before .before .before .before .before .before .before in
     let a = s .args in
-    let window = c .before .before .before .before .before .raise-window in
+    let window = c .before .before .before .before .before .extend-window in
     laws.first-in-window (lexicon (a .chars .now) (a .lengths .now)) (a .index .now) (a .string .now) (length (a .reach .now)) (a .first)
     (window .last .1 .1 .1 .1 .1 .1 .1 .1 .1 .0) (window .result) (a .reach .now) (s .pre .5) (window .ensures) (c .first-found .result) (c .first-found .ensures)
 
 pub first-in-window-spec : {M : Type 1} → statement M
 first-in-window-spec =
-    tie.close (tie.spec raise-window-requires same-length returns first-found-requires same-length-2 returns-2)
+    tie.close (tie.spec extend-window-requires same-length returns first-found-requires same-length-2 returns-2)

@@ -4,16 +4,16 @@ use mathlib.Core.Path.{refl}
 use native.Mathlib.Omega.{arith}
 use lib.ListN.{length}
 use Rattle.spec.specs.Dictionary.{lexicon}
-use Rattle.laws.specs.Searching.{cleared-within, says-none, says-answered}
+use Rattle.laws.specs.Window.Searching.{cleared-within, says-none, says-answered}
 use borrow.Author.Needs.{needs}
 use Rattle.finding.proofs.window.search_window.Statement.{statement}
 use Rattle.finding.proofs.window.search_window.Tie as tie
 
-slice-aggregate-raise-listing : tie.Need-slice-aggregate-raise-listing
-slice-aggregate-raise-listing c = search needs
+slice-aggregate-extend-listing : tie.Need-slice-aggregate-extend-listing
+slice-aggregate-extend-listing c = search needs
 
-raise-listing-requires : tie.Need-raise-listing-requires
-raise-listing-requires c κs =
+extend-listing-requires : tie.Need-extend-listing-requires
+extend-listing-requires c κs =
     let s = c .before .before .before .before .before .before .before .before .before .before in
     (s .pre .0, s .pre .1, omega arith, omega (arith, s .pre .2), cleared-within (length (s .args .reach .now)) (s .args .reach .now) (s .pre .3))
 
@@ -24,7 +24,7 @@ returns : tie.Need-returns
 returns c =
     let s = c .before .before .before .before .before .before .before .before .before .before .before .before .before .before .before in
     let a = s .args in
-    let window = c .before .before .before .before .raise-listing in
+    let window = c .before .before .before .before .extend-listing in
     says-none (lexicon (a .chars .now) (a .lengths .now)) (a .index .now) (a .string .now) (length (a .reach .now)) (a .first) (a .output .now)
     (window .last .1 .1 .1 .1 .1 .1 .1 .1 .0) (window .result) (a .reach .now) (s .pre .3) (window .ensures) (c .if1 .taken) (record { refusal = 0; count = 0 }) refl refl
 
@@ -41,7 +41,7 @@ returns-2 : tie.Need-returns-2
 returns-2 c =
     let s = c .before .before .before .before .before .before .before .before .before .before .before .before .before .before .before .before .before .before .before .before in
     let a = s .args in
-    let window = c .before .before .before .before .before .before .before .before .before .raise-listing in
+    let window = c .before .before .before .before .before .before .before .before .before .extend-listing in
     let answered = c .before .before .answer-window in
     says-answered (lexicon (a .chars .now) (a .lengths .now)) (a .index .now) (a .string .now) (length (a .reach .now)) (a .first) (a .output .now)
     (window .last .1 .1 .1 .1 .1 .1 .1 .1 .0) (window .result) (a .reach .now) (s .pre .3) (window .ensures) (answered .result) (answered .last .1 .1 .1 .0) (answered .ensures)
@@ -50,8 +50,8 @@ pub search-window-spec : {M : Type 1} → statement M
 search-window-spec =
     tie.close
     (tie.spec
-    slice-aggregate-raise-listing
-    raise-listing-requires
+    slice-aggregate-extend-listing
+    extend-listing-requires
     same-length
     returns
     answer-window-requires

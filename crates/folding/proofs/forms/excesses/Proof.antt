@@ -5,7 +5,7 @@ use Prim.Native.Nat.{_-_}
 use native.Mathlib.Omega.{arith}
 use lib.ListN.{length}
 use borrow.Author.Needs.{needs}
-use Rattle.laws.specs.Replacing.{Exceeds, exceeds-step, exceeds-end}
+use Rattle.laws.specs.Text.WidthFolding.{Exceeds, exceeds-step, exceeds-end}
 use Rattle.folding.proofs.forms.excesses.Statement.{statement}
 use Rattle.folding.proofs.forms.excesses.Tie as tie
 

@@ -5,7 +5,7 @@ use Prim.Native.Nat.{_-_}
 use native.Mathlib.Omega.{arith}
 use lib.ListN.{length}
 use borrow.Author.Needs.{needs}
-use Rattle.laws.specs.Replacing.{Held, held-step, held-end}
+use Rattle.laws.specs.Text.WidthFolding.{Held, held-step, held-end}
 use Rattle.folding.proofs.forms.find_full_width.Statement.{statement}
 use Rattle.folding.proofs.forms.find_full_width.Tie as tie
 

@@ -2,7 +2,7 @@
 use mathlib.Core.Path.{sym, _∙_}
 use native.Mathlib.Omega.{arith}
 use borrow.Author.Needs.{needs}
-use Rattle.laws.specs.Replacing.{form-get, char-lowered, char-stays}
+use Rattle.laws.specs.Text.WidthFolding.{form-get, char-lowered, char-stays}
 use Rattle.folding.proofs.forms.replace.Statement.{statement}
 use Rattle.folding.proofs.forms.replace.Tie as tie
 

@@ -7,8 +7,8 @@ use borrow.Author.Needs.{needs}
 use Rattle.basics.specs.Placed.{Writing, writing-start}
 use Rattle.basics.specs.PlacedCopies.{copy-room, copy-step, copy-end}
 use Rattle.spec.specs.Replaced.{replaced}
-use Rattle.laws.specs.Replacing.{length-replaced, getD-replaced}
-use Rattle.laws.specs.Receiving.{text-put}
+use Rattle.laws.specs.Text.WidthFolding.{length-replaced, getD-replaced}
+use Rattle.laws.specs.Receive.Receiving.{text-put}
 use Rattle.folding.proofs.forms.replace_into.Statement.{statement}
 use Rattle.folding.proofs.forms.replace_into.Tie as tie
 
@@ -60,7 +60,7 @@ loop-again c =
     )
 
 same-length : tie.Need-same-length Inv-loop μ-loop
-same-length c = c .before .loop .inv .1 .long
+same-length c = c .before .loop .inv .1 .len
 
 returns : tie.Need-returns Inv-loop μ-loop
 returns c =

@@ -5,8 +5,8 @@ use Prim.Native.Nat.{ℕ}
 use lib.ListN.{length, take, replicate}
 use borrow.Author.Needs.{needs}
 use Rattle.spec.specs.Replaced.{replaced}
-use Rattle.laws.specs.Replacing.{length-replaced}
-use Rattle.laws.specs.WorkParts.{front-taken}
+use Rattle.laws.specs.Text.WidthFolding.{length-replaced}
+use Rattle.laws.specs.Receive.WorkParts.{front-taken}
 use Rattle.folding.proofs.forms.replaced_string.Statement.{statement}
 use Rattle.folding.proofs.forms.replaced_string.Tie as tie
 

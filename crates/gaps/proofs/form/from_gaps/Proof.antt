@@ -1,5 +1,5 @@
 -- `from_gaps` meets its contract: it is what both directions say, in one of them. Assumes nothing.
-use Rattle.laws.specs.GapCalls.{from-gaps-said}
+use Rattle.laws.specs.Demands.GapCalls.{from-gaps-said}
 use borrow.Author.Needs.{needs}
 use Rattle.gaps.proofs.form.from_gaps.Statement.{statement}
 use Rattle.gaps.proofs.form.from_gaps.Tie as tie

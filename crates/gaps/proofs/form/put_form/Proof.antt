@@ -6,10 +6,10 @@ use lib.ListN.{length}
 use lib.Seq.{length-take-le}
 use Rattle.spec.specs.Gaps.{with-lists}
 use Rattle.spec.specs.Calls.{index-refusal}
-use Rattle.laws.specs.Sizing.{sized-short, sized-written}
-use Rattle.laws.specs.ReadLists.{read-as}
-use Rattle.laws.specs.GapParts.{write-as}
-use Rattle.laws.specs.GapCalls.{gaps-refused, gaps-sized, writable, form-length, form-front}
+use Rattle.laws.specs.Search.Sizing.{sized-short, sized-written}
+use Rattle.laws.specs.Gaps.ReadLists.{read-as}
+use Rattle.laws.specs.Gaps.GapParts.{write-as}
+use Rattle.laws.specs.Demands.GapCalls.{gaps-refused, gaps-sized, writable, form-length, form-front}
 use borrow.Author.Needs.{needs}
 use Rattle.gaps.proofs.form.put_form.Statement.{statement}
 use Rattle.gaps.proofs.form.put_form.Tie as tie
@@ -71,9 +71,9 @@ returns-3 c =
     let o = start .args .output .now in
     let room = c .before .before .before .before in
     let none = sym (room .before .before .refusal-as .ensures) ∙ room .before .if1 .left in
-    let long = form-length (start .args .restore) (start .args .index .now) in
+    let len = form-length (start .args .restore) (start .args .index .now) in
     gaps-sized cs ls read form _ o none _
-    (sized-written form _ o _ (omega (arith, room .if2 .left, long)) refl (sym long)
+    (sized-written form _ o _ (omega (arith, room .if2 .left, len)) refl (sym len)
     (form-front (start .args .restore) (start .args .index .now) o _ (c .before .before .write-form .ensures)))
 
 pub put-form-spec : {M : Type 1} → statement M

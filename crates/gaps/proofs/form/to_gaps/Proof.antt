@@ -1,5 +1,5 @@
 -- `to_gaps` meets its contract: it is what both directions say, in one of them. Assumes nothing.
-use Rattle.laws.specs.GapCalls.{to-gaps-said}
+use Rattle.laws.specs.Demands.GapCalls.{to-gaps-said}
 use borrow.Author.Needs.{needs}
 use Rattle.gaps.proofs.form.to_gaps.Statement.{statement}
 use Rattle.gaps.proofs.form.to_gaps.Tie as tie

@@ -6,8 +6,8 @@ use Prim.Native.Nat.{_+_, _*_}
 use native.Mathlib.Omega.{arith}
 use Rattle.spec.specs.Index.{keys-of}
 use Rattle.spec.specs.Gaps.{gaps, prefix-sums, with-lists}
-use Rattle.laws.specs.GapLists.{length-gaps, length-sums}
-use Rattle.laws.specs.GapParts.{write-as, Writable, front-long, part-long, form-written}
+use Rattle.laws.specs.Gaps.GapLists.{length-gaps, length-sums}
+use Rattle.laws.specs.Gaps.GapParts.{write-as, Writable, front-long, part-long, form-written}
 use borrow.Author.Needs.{needs}
 use Rattle.gaps.proofs.form.write_form.Statement.{statement}
 use Rattle.gaps.proofs.form.write_form.Tie as tie

@@ -3,7 +3,7 @@
 use Prim.Native.Nat.{_-_}
 use native.Mathlib.Omega.{arith}
 use lib.ListN.{length}
-use Rattle.laws.specs.GapSums.{Adding, adding-start, adding-step, adding-end, next-is}
+use Rattle.laws.specs.Gaps.GapSums.{Adding, adding-start, adding-step, adding-end, next-is}
 use borrow.Author.Needs.{needs}
 use Rattle.gaps.proofs.writing.add_up.Statement.{statement}
 use Rattle.gaps.proofs.writing.add_up.Tie as tie
@@ -60,7 +60,7 @@ loop-again c =
     (c .before .before .loop-test .taken)
 
 same-length : tie.Need-same-length Inv-loop μ-loop
-same-length c = c .before .loop .inv .long
+same-length c = c .before .loop .inv .len
 
 returns : tie.Need-returns Inv-loop μ-loop
 returns c =

@@ -6,8 +6,8 @@ use native.Mathlib.Omega.{arith}
 use lib.ListN.{getD, drop, length-drop}
 use lib.Seq.{getD-drop}
 use Rattle.spec.specs.Index.{header, keys-of}
-use Rattle.laws.specs.GapWriting.{Firsts, firsts-start, firsts-step, firsts-end}
-use Rattle.laws.specs.GapParts.{first-as, pair-as, counts-all, line-there}
+use Rattle.laws.specs.Gaps.GapWriting.{Firsts, firsts-start, firsts-step, firsts-end}
+use Rattle.laws.specs.Gaps.GapParts.{first-as, pair-as, counts-all, line-there}
 use borrow.Author.Needs.{needs}
 use Rattle.gaps.proofs.writing.put_firsts.Statement.{statement}
 use Rattle.gaps.proofs.writing.put_firsts.Tie as tie
@@ -70,7 +70,7 @@ mul-part c =
     let a = start .args in
     let below : walk .i < keys-of (a .index .now) = omega (arith, c .before .before .loop-test .taken, start .pre .1) in
     let there = line-there (a .restore) (a .index .now) (walk .part) (walk .i) (walk .at) (start .pre .0) (walk .inv) below in
-    omega (arith, there .write, walk .inv .long, length-drop (header + 3 * keys-of (a .index .now)) (a .index .now), start .good)
+    omega (arith, there .write, walk .inv .len, length-drop (header + 3 * keys-of (a .index .now)) (a .index .now), start .good)
 
 slice-write-part : tie.Need-slice-write-part Inv-loop μ-loop
 slice-write-part c =
@@ -139,7 +139,7 @@ same-length c =
     let begun =
     firsts-start (first-as (a .restore)) (pair-as (a .restore)) xs (drop (header + 3 * keys-of xs) xs)
     (start .pre .2 .0) (a .part .now) (start .pre .2 .1) (counts-all xs (start .pre .0 .fits)) in
-    c .before .loop .inv .long ∙ sym (begun .long)
+    c .before .loop .inv .len ∙ sym (begun .len)
 
 returns : tie.Need-returns Inv-loop μ-loop
 returns c =

@@ -1,7 +1,7 @@
 -- `write_distances` meets its contract. The invariant: the distances before i stand. The measure is how many are left. Assumes nothing.
 use Prim.Native.Nat.{_-_}
 use lib.ListN.{length}
-use Rattle.laws.specs.GapWriting.{Distances, distances-start, distances-step, distances-end}
+use Rattle.laws.specs.Gaps.GapWriting.{Distances, distances-start, distances-step, distances-end}
 use borrow.Author.Needs.{needs}
 use Rattle.gaps.proofs.writing.write_distances.Statement.{statement}
 use Rattle.gaps.proofs.writing.write_distances.Tie as tie
@@ -54,7 +54,7 @@ loop-again c =
     (c .before .before .before .loop-test .taken))
 
 same-length : tie.Need-same-length Inv-loop μ-loop
-same-length c = c .before .loop .inv .way .long
+same-length c = c .before .loop .inv .way .len
 
 returns : tie.Need-returns Inv-loop μ-loop
 returns c =

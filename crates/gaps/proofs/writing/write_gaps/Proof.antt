@@ -1,7 +1,7 @@
 -- `write_gaps` meets its contract: the distances of all positions as one list, and then the first of each. Assumes nothing.
 use mathlib.Core.Path.{_∙_}
 use native.Mathlib.Omega.{arith}
-use Rattle.laws.specs.GapParts.{run-long, distances-ready, gaps-written}
+use Rattle.laws.specs.Gaps.GapParts.{run-long, distances-ready, gaps-written}
 use borrow.Author.Needs.{needs}
 use Rattle.gaps.proofs.writing.write_gaps.Statement.{statement}
 use Rattle.gaps.proofs.writing.write_gaps.Tie as tie

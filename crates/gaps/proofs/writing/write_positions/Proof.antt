@@ -4,8 +4,8 @@ use mathlib.Core.Path.{refl, sym, _∙_, subst}
 use mathlib.Core.List.{List}
 use Prim.Native.Nat.{ℕ, _≤_}
 use lib.ListN.{getD}
-use Rattle.laws.specs.GapSums.{carry}
-use Rattle.laws.specs.GapParts.{masks-ready, masks-long, sums-written}
+use Rattle.laws.specs.Gaps.GapSums.{carry}
+use Rattle.laws.specs.Gaps.GapParts.{masks-ready, masks-long, sums-written}
 use borrow.Author.Needs.{needs}
 use Rattle.gaps.proofs.writing.write_positions.Statement.{statement}
 use Rattle.gaps.proofs.writing.write_positions.Tie as tie

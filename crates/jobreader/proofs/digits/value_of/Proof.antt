@@ -2,7 +2,7 @@
 use mathlib.Core.Path.{sym, _∙_}
 use native.Mathlib.Omega.{arith}
 use borrow.Author.Needs.{needs}
-use Rattle.laws.specs.Hexadecimal.{between-get, digit-figure, digit-letter, digit-none}
+use Rattle.laws.specs.JobSheet.Hexadecimal.{between-get, digit-figure, digit-letter, digit-none}
 use Rattle.jobreader.proofs.digits.value_of.Statement.{statement}
 use Rattle.jobreader.proofs.digits.value_of.Tie as tie
 

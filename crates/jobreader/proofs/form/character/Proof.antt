@@ -2,7 +2,7 @@
 use mathlib.Core.Path.{_∙_}
 use native.Mathlib.Omega.{arith}
 use borrow.Author.Needs.{needs}
-use Rattle.laws.specs.Digits.{character-there, character-fits}
+use Rattle.laws.specs.JobSheet.Digits.{character-there, character-fits}
 use Rattle.jobreader.proofs.form.character.Statement.{statement}
 use Rattle.jobreader.proofs.form.character.Tie as tie
 

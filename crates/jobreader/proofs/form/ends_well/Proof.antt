@@ -6,7 +6,7 @@ use native.Mathlib.Omega.{arith}
 use borrow.Author.Tests.{not-true, not-false}
 use lib.ListN.{length, drop}
 use Rattle.spec.specs.JobSheet.{ends-well}
-use Rattle.laws.specs.FormReading.{ends-next, ends-other, ends-last}
+use Rattle.laws.specs.JobSheet.FormReading.{ends-next, ends-other, ends-last}
 use Rattle.jobreader.proofs.form.ends_well.Statement.{statement}
 use Rattle.jobreader.proofs.form.ends_well.Tie as tie
 

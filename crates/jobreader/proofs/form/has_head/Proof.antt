@@ -4,7 +4,7 @@ use mathlib.Core.Path.{sym}
 use Prim.Native.Nat.{_-_}
 use native.Mathlib.Omega.{arith}
 use lib.ListN.{length}
-use Rattle.laws.specs.FormReading.{Head-read, head-short, head-start, head-step, head-stop, head-end}
+use Rattle.laws.specs.JobSheet.FormReading.{Head-read, head-short, head-start, head-step, head-stop, head-end}
 use Rattle.jobreader.proofs.form.has_head.Statement.{statement}
 use Rattle.jobreader.proofs.form.has_head.Tie as tie
 

@@ -2,7 +2,7 @@
 use mathlib.Core.Path.{sym, _∙_}
 use borrow.Author.Needs.{needs}
 use borrow.Author.Tests.{not-true, not-false}
-use Rattle.laws.specs.FormReading.{form-short, form-other, form-headed}
+use Rattle.laws.specs.JobSheet.FormReading.{form-short, form-other, form-headed}
 use Rattle.jobreader.proofs.form.is_form.Statement.{statement}
 use Rattle.jobreader.proofs.form.is_form.Tie as tie
 

@@ -1,6 +1,6 @@
 -- `is_spaced` meets its contract. Assumes nothing.
 use borrow.Author.Needs.{needs}
-use Rattle.laws.specs.Digits.{spaced-told}
+use Rattle.laws.specs.JobSheet.Digits.{spaced-told}
 use Rattle.jobreader.proofs.form.is_spaced.Statement.{statement}
 use Rattle.jobreader.proofs.form.is_spaced.Tie as tie
 

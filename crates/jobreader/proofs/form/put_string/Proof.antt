@@ -3,7 +3,7 @@
 use Prim.Native.Nat.{_-_}
 use native.Mathlib.Omega.{arith}
 use lib.ListN.{length}
-use Rattle.laws.specs.FormReading.{String-read, string-start, string-end, string-step, string-room, spaced-here}
+use Rattle.laws.specs.JobSheet.FormReading.{String-read, string-start, string-end, string-step, string-room, spaced-here}
 use Rattle.jobreader.proofs.form.put_string.Statement.{statement}
 use Rattle.jobreader.proofs.form.put_string.Tie as tie
 
@@ -23,13 +23,13 @@ character-requires : tie.Need-character-requires Inv-loop μ-loop
 character-requires c κs = (c .loop-test .taken, spaced-here (c .before .before .before .before .args .line .now) (c .before .before .before .before .args .at) (c .before .before .before .before .args .out .now) (c .before .loop .from) (c .before .loop .end) (c .before .loop .out) (c .before .loop .inv) (c .loop-test .taken))
 
 mul-out : tie.Need-mul-out Inv-loop μ-loop
-mul-out c = omega (arith, string-room (c .before .before .before .before .before .args .line .now) (c .before .before .before .before .before .args .at) (c .before .before .before .before .before .args .out .now) (c .before .before .loop .from) (c .before .before .loop .end) (c .before .before .loop .out) (c .before .before .loop .inv) (c .before .loop-test .taken), c .before .before .loop .inv .writing .long)
+mul-out c = omega (arith, string-room (c .before .before .before .before .before .args .line .now) (c .before .before .before .before .before .args .at) (c .before .before .before .before .before .args .out .now) (c .before .before .loop .from) (c .before .before .loop .end) (c .before .before .loop .out) (c .before .before .loop .inv) (c .before .loop-test .taken), c .before .before .loop .inv .writing .len)
 
 slice-write-out : tie.Need-slice-write-out Inv-loop μ-loop
 slice-write-out c = string-room (c .before .before .before .before .before .args .line .now) (c .before .before .before .before .before .args .at) (c .before .before .before .before .before .args .out .now) (c .before .before .loop .from) (c .before .before .loop .end) (c .before .before .loop .out) (c .before .before .loop .inv) (c .before .loop-test .taken)
 
 add-end : tie.Need-add-end Inv-loop μ-loop
-add-end c = omega (arith, string-room (c .before .before .before .before .before .args .line .now) (c .before .before .before .before .before .args .at) (c .before .before .before .before .before .args .out .now) (c .before .before .loop .from) (c .before .before .loop .end) (c .before .before .loop .out) (c .before .before .loop .inv) (c .before .loop-test .taken), c .before .before .loop .inv .writing .long)
+add-end c = omega (arith, string-room (c .before .before .before .before .before .args .line .now) (c .before .before .before .before .before .args .at) (c .before .before .before .before .before .args .out .now) (c .before .before .loop .from) (c .before .before .loop .end) (c .before .before .loop .out) (c .before .before .loop .inv) (c .before .loop-test .taken), c .before .before .loop .inv .writing .len)
 
 add-from : tie.Need-add-from Inv-loop μ-loop
 add-from c = omega arith
@@ -41,7 +41,7 @@ loop-again : tie.Need-loop-again Inv-loop μ-loop
 loop-again c = string-step (c .before .before .before .before .before .args .line .now) (c .before .before .before .before .before .args .at) (c .before .before .before .before .before .args .out .now) (c .before .before .loop .from) (c .before .before .loop .end) (c .before .before .loop .out) (c .before .before .loop .inv) (c .before .loop-test .taken) (c .character .result) (c .character .ensures)
 
 same-length : tie.Need-same-length Inv-loop μ-loop
-same-length c = c .before .loop .inv .writing .long
+same-length c = c .before .loop .inv .writing .len
 
 returns : tie.Need-returns Inv-loop μ-loop
 returns c = string-end (c .before .before .before .before .args .line .now) (c .before .before .before .before .args .at) (c .before .before .before .before .args .out .now) (c .before .loop .from) (c .before .loop .end) (c .before .loop .out) (c .before .loop .inv) (c .loop-test .left)

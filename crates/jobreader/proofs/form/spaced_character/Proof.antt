@@ -1,6 +1,6 @@
 -- `spaced_character` meets its contract: the first byte that is not as it should be ends the reading. Assumes nothing.
 use borrow.Author.Needs.{needs}
-use Rattle.laws.specs.Digits.{no-space, no-first, no-second, no-third, no-fourth, character-read}
+use Rattle.laws.specs.JobSheet.Digits.{no-space, no-first, no-second, no-third, no-fourth, character-read}
 use Rattle.jobreader.proofs.form.spaced_character.Statement.{statement}
 use Rattle.jobreader.proofs.form.spaced_character.Tie as tie
 

@@ -37,8 +37,8 @@ parts-refusal-requires c κs = search needs
 returns : tie.Need-returns
 returns c =
     let s = c .before .before .before .before .before .before in
-    let long : s .args .words + 1 + s .args .finds - (s .args .words + 1) ≡ s .args .finds = omega arith in
-    rw long at (c .parts-refusal .ensures)
+    let len : s .args .words + 1 + s .args .finds - (s .args .words + 1) ≡ s .args .finds = omega arith in
+    rw len at (c .parts-refusal .ensures)
 
 pub contents-refusal-spec : {M : Type 1} → statement M
 contents-refusal-spec =

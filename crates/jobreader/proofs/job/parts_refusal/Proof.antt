@@ -3,7 +3,7 @@ use mathlib.Core.Path.{_≡_, sym, _∙_}
 use mathlib.Core.Bool.{true, false}
 use borrow.Author.Needs.{needs}
 use Rattle.spec.specs.Dictionary.{dictionary-refusal}
-use Rattle.laws.specs.JobReading.{dictionary-first, then-finds}
+use Rattle.laws.specs.JobSheet.JobReading.{dictionary-first, then-finds}
 use Rattle.jobreader.proofs.job.parts_refusal.Statement.{statement}
 use Rattle.jobreader.proofs.job.parts_refusal.Tie as tie
 

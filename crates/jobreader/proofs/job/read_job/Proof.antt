@@ -4,7 +4,7 @@ use native.Mathlib.Omega.{arith}
 use borrow.Author.Needs.{needs}
 use borrow.Author.Tests.{not-true, not-false}
 use Rattle.spec.specs.JobSheet.{sheet-refusal}
-use Rattle.laws.specs.JobReading.{job-parts, parts-tested, sheet-long, sheet-broken, sheet-whole}
+use Rattle.laws.specs.JobSheet.JobReading.{job-parts, parts-tested, sheet-long, sheet-broken, sheet-whole}
 use Rattle.jobreader.proofs.job.read_job.Statement.{statement}
 use Rattle.jobreader.proofs.job.read_job.Tie as tie
 
@@ -14,8 +14,8 @@ refused-requires c κs = search needs
 returns : tie.Need-returns
 returns c =
     let s = c .before .before .before .before .before .args .sheet .now in
-    let long : sheet-refusal s ≡ 10 = sheet-long s (c .before .if1 .taken) in
-    (c .refused .ensures ∙ sym long, λ (none : sheet-refusal s ≡ 0). absurd (omega arith))
+    let len : sheet-refusal s ≡ 10 = sheet-long s (c .before .if1 .taken) in
+    (c .refused .ensures ∙ sym len, λ (none : sheet-refusal s ≡ 0). absurd (omega arith))
 
 read-sheet-requires : tie.Need-read-sheet-requires
 read-sheet-requires c κs = search needs

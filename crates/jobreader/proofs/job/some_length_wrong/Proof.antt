@@ -5,7 +5,7 @@ use Prim.Native.Nat.{_-_, _≤_}
 use native.Mathlib.Omega.{arith}
 use borrow.Author.Needs.{needs}
 use lib.ListN.{length, drop}
-use Rattle.laws.specs.JobReading.{some-length-wrong, length-none, length-many, length-right, lengths-end}
+use Rattle.laws.specs.JobSheet.JobReading.{some-length-wrong, length-none, length-many, length-right, lengths-end}
 use Rattle.jobreader.proofs.job.some_length_wrong.Statement.{statement}
 use Rattle.jobreader.proofs.job.some_length_wrong.Tie as tie
 
@@ -18,11 +18,11 @@ abbrev μ-loop : tie.MeasureT-loop
 loop-holds : tie.Need-loop-holds Inv-loop μ-loop
 loop-holds c = (omega arith, refl)
 
-mul-long : tie.Need-mul-long Inv-loop μ-loop
-mul-long c = search needs
+mul-len : tie.Need-mul-len Inv-loop μ-loop
+mul-len c = search needs
 
-shared-slice-read-long : tie.Need-shared-slice-read-long Inv-loop μ-loop
-shared-slice-read-long c = omega arith
+shared-slice-read-len : tie.Need-shared-slice-read-len Inv-loop μ-loop
+shared-slice-read-len c = omega arith
 
 returns : tie.Need-returns Inv-loop μ-loop
 returns c = sym (sym (c .before .before .before .loop .inv .1) ∙ length-none (c .before .before .before .before .args .lengths .now) (c .before .before .before .loop .i) (c .before .before .loop-test .taken) (c .if1 .taken))
@@ -49,8 +49,8 @@ some-length-wrong-spec =
     Inv-loop
     μ-loop
     loop-holds
-    mul-long
-    shared-slice-read-long
+    mul-len
+    shared-slice-read-len
     returns
     returns-2
     add-i

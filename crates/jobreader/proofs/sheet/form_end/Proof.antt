@@ -1,7 +1,7 @@
 -- `form_end` meets its contract: the sheet ends without LF, the form is there, or another line. Assumes nothing.
 use mathlib.Core.Path.{sym, _∙_}
 use borrow.Author.Needs.{needs}
-use Rattle.laws.specs.LineReading.{form-missing, form-there, form-other-line}
+use Rattle.laws.specs.JobSheet.LineReading.{form-missing, form-there, form-other-line}
 use Rattle.jobreader.proofs.sheet.form_end.Statement.{statement}
 use Rattle.jobreader.proofs.sheet.form_end.Tie as tie
 

@@ -2,7 +2,7 @@
 use Prim.Native.Nat.{_-_}
 use native.Mathlib.Omega.{arith}
 use lib.ListN.{length}
-use Rattle.laws.specs.LineReading.{Line-read, line-start, line-step, line-ended, line-unended}
+use Rattle.laws.specs.JobSheet.LineReading.{Line-read, line-start, line-step, line-ended, line-unended}
 use Rattle.jobreader.proofs.sheet.line_end.Statement.{statement}
 use Rattle.jobreader.proofs.sheet.line_end.Tie as tie
 

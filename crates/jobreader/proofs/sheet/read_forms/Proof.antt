@@ -4,7 +4,7 @@ use mathlib.Core.Path.{_≡_}
 use Prim.Native.Nat.{_-_, _≤_}
 use native.Mathlib.Omega.{arith}
 use lib.ListN.{length}
-use Rattle.laws.specs.SheetReading.{Forms-read, forms-start, forms-end, forms-step, line-long, line-good, string-short, string-fits, length-fits}
+use Rattle.laws.specs.JobSheet.SheetReading.{Forms-read, forms-start, forms-end, forms-step, line-long, line-good, string-short, string-fits, length-fits}
 use Rattle.jobreader.proofs.sheet.read_forms.Statement.{statement}
 use Rattle.jobreader.proofs.sheet.read_forms.Tie as tie
 
@@ -49,13 +49,13 @@ cast-lengths : tie.Need-cast-lengths Inv-loop μ-loop
 cast-lengths c = omega (arith, c .before .before .put-string .ensures .ends, string-short (c .before .before .before .before .before .before .before .before .before .before .before .before .args .head .now) (c .before .before .before .before .before .before .before .before .before .before .before .before .args .sheet .now) (c .before .before .before .before .before .before .before .before .before .before .before .before .args .at) (c .before .before .before .before .before .before .before .before .before .before .before .before .args .used) (c .before .before .before .before .before .before .before .before .before .before .before .before .args .count) (c .before .before .before .before .before .before .before .before .before .before .before .before .args .chars .now) (c .before .before .before .before .before .before .before .before .before .before .before .before .args .lengths .now) (c .before .before .before .before .before .before .loop .from) (c .before .before .before .before .before .before .loop .filled) (c .before .before .before .before .before .before .loop .i) (c .before .before .before .before .before .before .loop .end) (c .before .before .before .before .before .before .loop .chars) (c .before .before .before .before .before .before .loop .lengths) (c .before .before .before .before .before .before .loop .inv .2) (c .before .before .before .before .before .loop-test .taken) (c .before .before .before .before .before .before .loop .inv .0))
 
 mul-lengths : tie.Need-mul-lengths Inv-loop μ-loop
-mul-lengths c = omega (arith, length-fits (c .before .before .before .before .before .before .before .before .before .before .before .before .args .head .now) (c .before .before .before .before .before .before .before .before .before .before .before .before .args .sheet .now) (c .before .before .before .before .before .before .before .before .before .before .before .before .args .at) (c .before .before .before .before .before .before .before .before .before .before .before .before .args .used) (c .before .before .before .before .before .before .before .before .before .before .before .before .args .count) (c .before .before .before .before .before .before .before .before .before .before .before .before .args .chars .now) (c .before .before .before .before .before .before .before .before .before .before .before .before .args .lengths .now) (c .before .before .before .before .before .before .loop .from) (c .before .before .before .before .before .before .loop .filled) (c .before .before .before .before .before .before .loop .i) (c .before .before .before .before .before .before .loop .end) (c .before .before .before .before .before .before .loop .chars) (c .before .before .before .before .before .before .loop .lengths) (c .before .before .before .before .before .before .loop .inv .2) (c .before .before .before .before .before .loop-test .taken), c .before .before .before .before .before .before .loop .inv .2 .lengths-left .long)
+mul-lengths c = omega (arith, length-fits (c .before .before .before .before .before .before .before .before .before .before .before .before .args .head .now) (c .before .before .before .before .before .before .before .before .before .before .before .before .args .sheet .now) (c .before .before .before .before .before .before .before .before .before .before .before .before .args .at) (c .before .before .before .before .before .before .before .before .before .before .before .before .args .used) (c .before .before .before .before .before .before .before .before .before .before .before .before .args .count) (c .before .before .before .before .before .before .before .before .before .before .before .before .args .chars .now) (c .before .before .before .before .before .before .before .before .before .before .before .before .args .lengths .now) (c .before .before .before .before .before .before .loop .from) (c .before .before .before .before .before .before .loop .filled) (c .before .before .before .before .before .before .loop .i) (c .before .before .before .before .before .before .loop .end) (c .before .before .before .before .before .before .loop .chars) (c .before .before .before .before .before .before .loop .lengths) (c .before .before .before .before .before .before .loop .inv .2) (c .before .before .before .before .before .loop-test .taken), c .before .before .before .before .before .before .loop .inv .2 .lengths-left .len)
 
 slice-write-lengths : tie.Need-slice-write-lengths Inv-loop μ-loop
 slice-write-lengths c = length-fits (c .before .before .before .before .before .before .before .before .before .before .before .before .args .head .now) (c .before .before .before .before .before .before .before .before .before .before .before .before .args .sheet .now) (c .before .before .before .before .before .before .before .before .before .before .before .before .args .at) (c .before .before .before .before .before .before .before .before .before .before .before .before .args .used) (c .before .before .before .before .before .before .before .before .before .before .before .before .args .count) (c .before .before .before .before .before .before .before .before .before .before .before .before .args .chars .now) (c .before .before .before .before .before .before .before .before .before .before .before .before .args .lengths .now) (c .before .before .before .before .before .before .loop .from) (c .before .before .before .before .before .before .loop .filled) (c .before .before .before .before .before .before .loop .i) (c .before .before .before .before .before .before .loop .end) (c .before .before .before .before .before .before .loop .chars) (c .before .before .before .before .before .before .loop .lengths) (c .before .before .before .before .before .before .loop .inv .2) (c .before .before .before .before .before .loop-test .taken)
 
 add-i : tie.Need-add-i Inv-loop μ-loop
-add-i c = omega (arith, length-fits (c .before .before .before .before .before .before .before .before .before .before .before .before .args .head .now) (c .before .before .before .before .before .before .before .before .before .before .before .before .args .sheet .now) (c .before .before .before .before .before .before .before .before .before .before .before .before .args .at) (c .before .before .before .before .before .before .before .before .before .before .before .before .args .used) (c .before .before .before .before .before .before .before .before .before .before .before .before .args .count) (c .before .before .before .before .before .before .before .before .before .before .before .before .args .chars .now) (c .before .before .before .before .before .before .before .before .before .before .before .before .args .lengths .now) (c .before .before .before .before .before .before .loop .from) (c .before .before .before .before .before .before .loop .filled) (c .before .before .before .before .before .before .loop .i) (c .before .before .before .before .before .before .loop .end) (c .before .before .before .before .before .before .loop .chars) (c .before .before .before .before .before .before .loop .lengths) (c .before .before .before .before .before .before .loop .inv .2) (c .before .before .before .before .before .loop-test .taken), c .before .before .before .before .before .before .loop .inv .2 .lengths-left .long)
+add-i c = omega (arith, length-fits (c .before .before .before .before .before .before .before .before .before .before .before .before .args .head .now) (c .before .before .before .before .before .before .before .before .before .before .before .before .args .sheet .now) (c .before .before .before .before .before .before .before .before .before .before .before .before .args .at) (c .before .before .before .before .before .before .before .before .before .before .before .before .args .used) (c .before .before .before .before .before .before .before .before .before .before .before .before .args .count) (c .before .before .before .before .before .before .before .before .before .before .before .before .args .chars .now) (c .before .before .before .before .before .before .before .before .before .before .before .before .args .lengths .now) (c .before .before .before .before .before .before .loop .from) (c .before .before .before .before .before .before .loop .filled) (c .before .before .before .before .before .before .loop .i) (c .before .before .before .before .before .before .loop .end) (c .before .before .before .before .before .before .loop .chars) (c .before .before .before .before .before .before .loop .lengths) (c .before .before .before .before .before .before .loop .inv .2) (c .before .before .before .before .before .loop-test .taken), c .before .before .before .before .before .before .loop .inv .2 .lengths-left .len)
 
 add-from : tie.Need-add-from Inv-loop μ-loop
 add-from c = omega (arith, c .before .before .before .before .before .before .loop .inv .0, c .before .before .before .before .before .loop-test .taken)
@@ -74,10 +74,10 @@ loop-again c = (
 )
 
 same-length : tie.Need-same-length Inv-loop μ-loop
-same-length c = c .before .loop .inv .2 .chars-left .long
+same-length c = c .before .loop .inv .2 .chars-left .len
 
 same-length-2 : tie.Need-same-length-2 Inv-loop μ-loop
-same-length-2 c = c .before .loop .inv .2 .lengths-left .long
+same-length-2 c = c .before .loop .inv .2 .lengths-left .len
 
 returns : tie.Need-returns Inv-loop μ-loop
 returns c = forms-end (c .before .before .before .before .before .before .before .args .head .now) (c .before .before .before .before .before .before .before .args .sheet .now) (c .before .before .before .before .before .before .before .args .at) (c .before .before .before .before .before .before .before .args .used) (c .before .before .before .before .before .before .before .args .count) (c .before .before .before .before .before .before .before .args .chars .now) (c .before .before .before .before .before .before .before .args .lengths .now) (c .before .loop .from) (c .before .loop .filled) (c .before .loop .i) (c .before .loop .end) (c .before .loop .chars) (c .before .loop .lengths) (c .before .loop .inv .2) (c .loop-test .left)

@@ -6,7 +6,7 @@ use native.Mathlib.Omega.{arith}
 use borrow.Author.Needs.{needs}
 use lib.ListN.{length}
 use Rattle.spec.specs.JobSheet.{word-head, text-head, find-head, lines, after, words-on, texts-on, finds-on, run-together, lengths-of}
-use Rattle.laws.specs.WholeSheet.{Words-read, Texts-read, Finds-read, stage-start, stage-room, words-read, texts-read, finds-read, words-used, words-count, texts-used, texts-count, finds-count, finds-chars-long, finds-lengths-long, sheet-tested, sheet-read}
+use Rattle.laws.specs.JobSheet.WholeSheet.{Words-read, Texts-read, Finds-read, stage-start, stage-room, words-read, texts-read, finds-read, words-used, words-count, texts-used, texts-count, finds-count, finds-chars-long, finds-lengths-long, sheet-tested, sheet-read}
 use Rattle.jobreader.proofs.sheet.read_sheet.Statement.{statement}
 use Rattle.jobreader.proofs.sheet.read_sheet.Tie as tie
 

@@ -4,8 +4,8 @@ use borrow.Author.Needs.{needs}
 use lib.ListN.{take}
 use lib.Seq.{length-take-le}
 use Rattle.spec.specs.JobAnswer.{job-answer}
-use Rattle.laws.specs.AcceptedCalls.{In-hand}
-use Rattle.laws.specs.JobAnswering.{written-in-hand, job-says}
+use Rattle.laws.specs.JobSheet.AcceptedCalls.{In-hand}
+use Rattle.laws.specs.JobSheet.JobAnswering.{written-in-hand, job-says}
 use Rattle.jobsheet.proofs.answer.answer_through.Statement.{statement}
 use Rattle.jobsheet.proofs.answer.answer_through.Tie as tie
 

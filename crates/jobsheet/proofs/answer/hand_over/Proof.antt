@@ -2,8 +2,8 @@
 use mathlib.Core.Path.{refl}
 use borrow.Author.Needs.{needs}
 use lib.ListN.{length}
-use Rattle.laws.specs.Sizing.{sized-short}
-use Rattle.laws.specs.JobAnswering.{handed-over}
+use Rattle.laws.specs.Search.Sizing.{sized-short}
+use Rattle.laws.specs.JobSheet.JobAnswering.{handed-over}
 use Rattle.jobsheet.proofs.answer.hand_over.Statement.{statement}
 use Rattle.jobsheet.proofs.answer.hand_over.Tie as tie
 

@@ -6,8 +6,8 @@ use native.Mathlib.Omega.{arith}
 use borrow.Author.Needs.{needs}
 use Rattle.basics.specs.Placed.{Wrote}
 use Rattle.spec.specs.JobSheet.{sheet-refusal}
-use Rattle.laws.specs.JobAnswering.{refused-answer, refused-fits}
-use Rattle.laws.specs.JobParts.{parts-there, parts-answer}
+use Rattle.laws.specs.JobSheet.JobAnswering.{refused-answer, refused-fits}
+use Rattle.laws.specs.JobSheet.JobParts.{parts-there, parts-answer}
 use Rattle.jobsheet.proofs.answer.put_job.Statement.{statement}
 use Rattle.jobsheet.proofs.answer.put_job.Tie as tie
 

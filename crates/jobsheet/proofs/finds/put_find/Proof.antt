@@ -6,8 +6,8 @@ use lib.Seq.{length-take-le}
 use Rattle.spec.specs.Replaced.{replaced}
 use Rattle.spec.specs.Dictionary.{lexicon}
 use Rattle.spec.specs.Search.{find}
-use Rattle.laws.specs.Replacing.{length-replaced}
-use Rattle.laws.specs.AcceptedCalls.{In-hand, found-in-hand}
+use Rattle.laws.specs.Text.WidthFolding.{length-replaced}
+use Rattle.laws.specs.JobSheet.AcceptedCalls.{In-hand, found-in-hand}
 use Rattle.jobsheet.proofs.finds.put_find.Statement.{statement}
 use Rattle.jobsheet.proofs.finds.put_find.Tie as tie
 

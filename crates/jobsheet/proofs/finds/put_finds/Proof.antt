@@ -5,16 +5,16 @@ use Prim.Native.Nat.{_+_, _-_, _≤_}
 use native.Mathlib.Omega.{arith}
 use lib.ListN.{length, getD}
 use Rattle.spec.specs.Dictionary.{lexicon}
-use Rattle.laws.specs.FindWalk.{Finds-printed, finds-start, finds-end, string-fits, string-is, find-fits, finds-step}
+use Rattle.laws.specs.JobSheet.FindWalk.{Finds-printed, finds-start, finds-end, string-fits, string-is, find-fits, finds-step}
 use Rattle.jobsheet.proofs.finds.put_finds.Statement.{statement}
 use Rattle.jobsheet.proofs.finds.put_finds.Tie as tie
 
 abbrev Inv-loop : tie.InvT-loop
-Inv-loop chars lengths index words lists strings counts found₀ out₀ at end₀ from₀ i₀ found out end from i =
+Inv-loop chars lengths index word-starts list-starts strings counts found₀ out₀ at end₀ from₀ i₀ found out end from i =
     (length found ≡ length found₀) × Finds-printed (lexicon chars lengths) index strings counts at out₀ from end i out
 
 abbrev μ-loop : tie.MeasureT-loop
-μ-loop chars lengths index words lists strings counts found₀ out₀ at end₀ from₀ i₀ found out end from i = length counts - i
+μ-loop chars lengths index word-starts list-starts strings counts found₀ out₀ at end₀ from₀ i₀ found out end from i = length counts - i
 
 -- the next string is there
 next-fits :
@@ -95,7 +95,7 @@ same-length : tie.Need-same-length Inv-loop μ-loop
 same-length c = c .before .loop .inv .0
 
 same-length-2 : tie.Need-same-length-2 Inv-loop μ-loop
-same-length-2 c = c .before .loop .inv .1 .writing .long
+same-length-2 c = c .before .loop .inv .1 .writing .len
 
 returns : tie.Need-returns Inv-loop μ-loop
 returns c =

@@ -10,8 +10,8 @@ use Rattle.basics.specs.Placed.{Wrote}
 use Rattle.spec.specs.Replaced.{replaced}
 use Rattle.spec.specs.Dictionary.{lexicon}
 use Rattle.spec.specs.Numbers.{index-of}
-use Rattle.laws.specs.AcceptedCalls.{In-hand, Usable, index-usable, build-accepted}
-use Rattle.laws.specs.JobAnswering.{index-shown}
+use Rattle.laws.specs.JobSheet.AcceptedCalls.{In-hand, Usable, index-usable, build-accepted}
+use Rattle.laws.specs.JobSheet.JobAnswering.{index-shown}
 use Rattle.jobsheet.proofs.lines.put_built.Statement.{statement}
 use Rattle.jobsheet.proofs.lines.put_built.Tie as tie
 

@@ -5,19 +5,19 @@ use borrow.Author.Needs.{needs}
 use Rattle.basics.specs.Placed.{Writing, writing-last}
 use Rattle.spec.specs.Dictionary.{lexicon, words-from}
 use Rattle.spec.specs.JobAnswer.{found-lines}
-use Rattle.laws.specs.AcceptedCalls.{usable-whole}
-use Rattle.laws.specs.JobAnswering.{shown, index-lines-fit, then-finds}
+use Rattle.laws.specs.JobSheet.AcceptedCalls.{usable-whole}
+use Rattle.laws.specs.JobSheet.JobAnswering.{shown, index-lines-fit, then-finds}
 use Rattle.jobsheet.proofs.lines.put_filled.Statement.{statement}
 use Rattle.jobsheet.proofs.lines.put_filled.Tie as tie
 
-slice-aggregate-fill-words : tie.Need-slice-aggregate-fill-words
-slice-aggregate-fill-words c = search needs
+slice-aggregate-fill-word-starts : tie.Need-slice-aggregate-fill-word-starts
+slice-aggregate-fill-word-starts c = search needs
 
-fill-words-requires : tie.Need-fill-words-requires
-fill-words-requires c κs = search needs
+fill-word-starts-requires : tie.Need-fill-word-starts-requires
+fill-word-starts-requires c κs = search needs
 
-fill-lists-requires : tie.Need-fill-lists-requires
-fill-lists-requires c κs = search needs
+fill-list-starts-requires : tie.Need-fill-list-starts-requires
+fill-list-starts-requires c κs = search needs
 
 put-index-lines-requires : tie.Need-put-index-lines-requires
 put-index-lines-requires c κs =
@@ -48,7 +48,7 @@ put-finds-requires : tie.Need-put-finds-requires
 put-finds-requires c κs =
     let s = c .before .before .before .before .before .before .before .before .before .before .before .before .before .before .before .before .before .before .before .before .before .before .before in (
       (
-        record { can = s .pre .0 .1; words = c .before .before .before .before .before .before .before .before .before .before .before .before .before .fill-words .ensures; lists = c .before .before .before .before .before .before .before .before .before .before .fill-lists .ensures },
+        record { can = s .pre .0 .1; word-starts = c .before .before .before .before .before .before .before .before .before .before .before .before .before .fill-word-starts .ensures; list-starts = c .before .before .before .before .before .before .before .before .before .before .fill-list-starts .ensures },
         s .pre .1 .0,
         omega (arith, s .pre .0 .0 .short, s .pre .1 .1),
       ),
@@ -74,9 +74,9 @@ pub put-filled-spec : {M : Type 1} → statement M
 put-filled-spec =
     tie.close
     (tie.spec
-    slice-aggregate-fill-words
-    fill-words-requires
-    fill-lists-requires
+    slice-aggregate-fill-word-starts
+    fill-word-starts-requires
+    fill-list-starts-requires
     put-index-lines-requires
     slice-aggregate-put-finds
     put-finds-requires

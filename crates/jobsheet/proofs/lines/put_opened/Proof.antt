@@ -2,8 +2,8 @@
 use Prim.Native.Nat.{ℕ}
 use native.Mathlib.Omega.{arith}
 use borrow.Author.Needs.{needs}
-use Rattle.laws.specs.Tables.{Can-read, can-read}
-use Rattle.laws.specs.Searching.{cleared-room}
+use Rattle.laws.specs.Directory.Tables.{Can-read, can-read}
+use Rattle.laws.specs.Window.Searching.{cleared-room}
 use Rattle.jobsheet.proofs.lines.put_opened.Statement.{statement}
 use Rattle.jobsheet.proofs.lines.put_opened.Tie as tie
 

@@ -3,7 +3,7 @@ use Prim.Native.Nat.{_-_, _<_}
 use native.Mathlib.Omega.{arith}
 use lib.ListN.{length}
 use borrow.Author.Needs.{needs}
-use Rattle.laws.specs.Found.{pair-past, pair-missing, pair-in, pair-early, pair-longest}
+use Rattle.laws.specs.Match.LongestWord.{pair-past, pair-missing, pair-in, pair-early, pair-longest}
 use Rattle.matching.proofs.longest.find_pair.Statement.{statement}
 use Rattle.matching.proofs.longest.find_pair.Tie as tie
 
@@ -29,17 +29,17 @@ returns-2 c =
     let start = c .before .before .before .before .before .before .before .before .before in
     pair-missing (start .args .chars .now) (start .args .lengths .now) (start .pre .0 .words .dictionary) (start .args .text .now) (start .args .at) (start .args .end) (c .before .walk-pair .result) (c .before .walk-pair .ensures) 0 (c .if2 .taken)
 
-sub-long : tie.Need-sub-long
-sub-long c = search needs
+sub-len : tie.Need-sub-len
+sub-len c = search needs
 
-mul-long : tie.Need-mul-long
-mul-long c = omega (arith, known c)
+mul-len : tie.Need-mul-len
+mul-len c = omega (arith, known c)
 
-shared-slice-read-long : tie.Need-shared-slice-read-long
-shared-slice-read-long c = known (c .before)
+shared-slice-read-len : tie.Need-shared-slice-read-len
+shared-slice-read-len c = known (c .before)
 
-cast-long : tie.Need-cast-long
-cast-long c = omega (arith, c .shared-slice-known7 .given (c .before .before .walk-pair .result - 1))
+cast-len : tie.Need-cast-len
+cast-len c = omega (arith, c .shared-slice-known7 .given (c .before .before .walk-pair .result - 1))
 
 add-if3 : tie.Need-add-if3
 add-if3 c = omega (arith, c .before .before .before .before .before .before .before .before .before .before .pre .1, c .shared-slice-known7 .given (c .before .before .walk-pair .result - 1))
@@ -62,10 +62,10 @@ find-pair-spec =
     returns
     walk-pair-requires
     returns-2
-    sub-long
-    mul-long
-    shared-slice-read-long
-    cast-long
+    sub-len
+    mul-len
+    shared-slice-read-len
+    cast-len
     add-if3
     returns-3
     returns-4)

@@ -1,7 +1,7 @@
 -- `bucket_of_char` meets its contract, which is its code, and a remainder is small. Assumes nothing.
 use mathlib.Core.Path.{refl}
 use borrow.Author.Needs.{needs}
-use Rattle.laws.specs.WordTable.{char-bucket, char-small}
+use Rattle.laws.specs.Match.MatchTable.{char-bucket, char-small}
 use Rattle.matching.proofs.table.bucket_of_char.Statement.{statement}
 use Rattle.matching.proofs.table.bucket_of_char.Tie as tie
 

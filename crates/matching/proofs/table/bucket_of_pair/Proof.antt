@@ -1,7 +1,7 @@
 -- `bucket_of_pair` meets its contract, which is its code, and a remainder is small. Assumes nothing.
 use mathlib.Core.Path.{refl}
 use borrow.Author.Needs.{needs}
-use Rattle.laws.specs.WordTable.{pair-bucket, pair-small}
+use Rattle.laws.specs.Match.MatchTable.{pair-bucket, pair-small}
 use Rattle.matching.proofs.table.bucket_of_pair.Statement.{statement}
 use Rattle.matching.proofs.table.bucket_of_pair.Tie as tie
 

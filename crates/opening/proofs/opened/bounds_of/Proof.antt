@@ -2,9 +2,9 @@
 use mathlib.Core.Path.{refl, sym, _∙_}
 use native.Mathlib.Omega.{arith}
 use Rattle.spec.specs.Dictionary.{longest-text, lexicon}
-use Rattle.laws.specs.IndexRefusal.{index-accepted}
-use Rattle.laws.specs.LineWalk.{readable-fits}
-use Rattle.laws.specs.Opening.{bounds-refused, bounds-accepted}
+use Rattle.laws.specs.Readable.IndexRefusal.{index-accepted}
+use Rattle.laws.specs.Readable.LineWalk.{readable-fits}
+use Rattle.laws.specs.Readable.Opening.{bounds-refused, bounds-accepted}
 use borrow.Author.Needs.{needs}
 use Rattle.opening.proofs.opened.bounds_of.Statement.{statement}
 use Rattle.opening.proofs.opened.bounds_of.Tie as tie

@@ -37,7 +37,7 @@ use denote.Triple.Table.{entered, cited}
 use denote.Triple.Walked.{says, Stays, stay-none-slice, walkOf, goes-none-slice, Walks, ends-at, walked, walk-meets}
 use denote.Exit.{yes}
 use denote.Triple.Clauses.{ensured, lasts}
-use Rattle.laws.specs.Opening.{Bounded}
+use Rattle.laws.specs.Readable.Opening.{Bounded}
 use Rattle.opening.specs.declared.opened.Opened.{Opened}
 use Rattle.opening.specs.declared.opened.Bounds.{Bounds}
 use Rattle.opening.proofs.opened.Opened as T

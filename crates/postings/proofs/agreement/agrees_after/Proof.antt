@@ -6,7 +6,7 @@ use native.Mathlib.Omega.{arith}
 use borrow.Author.Needs.{needs}
 use lib.ListN.{getD}
 use Rattle.basics.specs.Steps.{from-less}
-use Rattle.laws.specs.AgreeWalk.{apart-short, apart-empty, apart-at, together}
+use Rattle.laws.specs.Search.AgreeWalk.{apart-short, apart-empty, apart-at, together}
 use Rattle.postings.proofs.agreement.agrees_after.Statement.{statement}
 use Rattle.postings.proofs.agreement.agrees_after.Tie as tie
 

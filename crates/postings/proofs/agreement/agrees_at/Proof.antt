@@ -5,8 +5,8 @@ use borrow.Author.Needs.{needs}
 use mir.Syntax.{w32}
 use mir.ValLaws.{toZ-ofZ}
 use Rattle.spec.specs.Search.{agrees, string-start, key-start}
-use Rattle.laws.specs.Offset32.{above, not-above}
-use Rattle.laws.specs.AgreeWalk.{agrees-string-first, agrees-key-first}
+use Rattle.laws.specs.Search.Offset32.{above, not-above}
+use Rattle.laws.specs.Search.AgreeWalk.{agrees-string-first, agrees-key-first}
 use Rattle.postings.proofs.agreement.agrees_at.Statement.{statement}
 use Rattle.postings.proofs.agreement.agrees_at.Tie as tie
 

@@ -1,6 +1,6 @@
 -- `key_start` meets its contract. Assumes nothing.
 use mathlib.Core.Path.{sym}
-use Rattle.laws.specs.Offset32.{above, not-above}
+use Rattle.laws.specs.Search.Offset32.{above, not-above}
 use Rattle.postings.proofs.agreement.key_start.Statement.{statement}
 use Rattle.postings.proofs.agreement.key_start.Tie as tie
 

@@ -1,6 +1,6 @@
 -- `string_start` meets its contract: the successor of an offset below zero is negated, which does not overflow. Assumes nothing.
 use mathlib.Core.Path.{sym}
-use Rattle.laws.specs.Offset32.{below, not-below}
+use Rattle.laws.specs.Search.Offset32.{below, not-below}
 use Rattle.postings.proofs.agreement.string_start.Statement.{statement}
 use Rattle.postings.proofs.agreement.string_start.Tie as tie
 

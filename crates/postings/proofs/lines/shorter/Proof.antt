@@ -1,5 +1,5 @@
 -- `shorter` meets its contract, for the reference and for what stands behind it. Assumes nothing.
-use Rattle.laws.specs.Shorter.{shorter-second, shorter-first}
+use Rattle.laws.specs.Tally.Shorter.{shorter-second, shorter-first}
 use lib.ListN.{length}
 use Rattle.postings.proofs.lines.shorter.Statement.{statement}
 use Rattle.postings.proofs.lines.shorter.Tie as tie

@@ -1,6 +1,6 @@
 -- `key_length` meets its contract: a lone character has length 1, a word the length lent for it. Assumes nothing.
 use native.Mathlib.Omega.{arith}
-use Rattle.laws.specs.KeyLengths.{lone-length, word-below, word-length}
+use Rattle.laws.specs.Readable.KeyLengths.{lone-length, word-below, word-length}
 use borrow.Author.Needs.{needs}
 use Rattle.postings.proofs.tallying.key_length.Statement.{statement}
 use Rattle.postings.proofs.tallying.key_length.Tie as tie

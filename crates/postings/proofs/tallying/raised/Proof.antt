@@ -7,9 +7,9 @@ use mir.Syntax.{w64}
 use borrow.Kind.Array.{eInt, good-length}
 use Rattle.spec.specs.Dictionary.{longest-text}
 use Rattle.spec.specs.Words.{key}
-use Rattle.laws.specs.KeyLengths.{key-sizes}
+use Rattle.laws.specs.Readable.KeyLengths.{key-sizes}
 use Rattle.spec.specs.Dictionary.{lexicon}
-use Rattle.laws.specs.TallyWalk.{Tallied, tally-start, tally-step, tally-end, line-key}
+use Rattle.laws.specs.Tally.Walk.{Tallied, tally-start, tally-step, tally-end, line-key}
 use Rattle.postings.proofs.tallying.raised.Statement.{statement}
 use Rattle.postings.proofs.tallying.raised.Tie as tie
 
@@ -75,8 +75,8 @@ key-length-requires c κs =
     let walk = c .before .before .before .before .loop in
     (start .pre .0, (line-key longest-text (lexicon (start .args .chars .now) (start .args .lengths .now)) (start .args .index .now) (start .pre .1) (walk .i) (omega (arith, c .before .before .before .loop-test .taken, start .pre .2))))
 
-sub-place : tie.Need-sub-place Inv-loop μ-loop
-sub-place c =
+sub-position : tie.Need-sub-position Inv-loop μ-loop
+sub-position c =
     let start = c .before .before .before .before .before .before .before .before .before in
     let walk = c .before .before .before .before .before .loop in
     let is = key-sizes (start .args .chars .now) (start .args .lengths .now) (start .pre .0) (key (getD (start .args .index .now) (2 + 3 * walk .i) 0) (getD (start .args .index .now) (2 + 3 * walk .i + 1) 0)) (line-key longest-text (lexicon (start .args .chars .now) (start .args .lengths .now)) (start .args .index .now) (start .pre .1) (walk .i) (omega (arith, c .before .before .before .before .loop-test .taken, start .pre .2))) in
@@ -158,7 +158,7 @@ raised-spec =
     shared-slice-read-count
     cast-count
     key-length-requires
-    sub-place
+    sub-position
     mul-counts
     array-read-counts
     add-counts

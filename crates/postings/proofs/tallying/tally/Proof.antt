@@ -39,7 +39,7 @@ use Rattle.spec.specs.Calls.{Tally-says}
 use Rattle.spec.specs.declared.TallyAnswer.{TallyAnswer}
 use Rattle.spec.proofs.TallyAnswer as S
 use Rattle.spec.proofs.TallyAnswer.Laws as S′
-use Rattle.laws.specs.Opening.{Bounded}
+use Rattle.laws.specs.Readable.Opening.{Bounded}
 use Rattle.opening.proofs.Opens.{val, Shr, Lent, Open, twice, to-open, asks-open, opens}
 use Rattle.opening.proofs.opened.open_index.Symbol as opener-def
 use Rattle.opening.proofs.opened.open_index.Symbol.{name as #open-index}

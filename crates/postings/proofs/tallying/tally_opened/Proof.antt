@@ -5,10 +5,10 @@ use native.Mathlib.Omega.{arith}
 use lib.ListN.{length, replicate}
 use Rattle.spec.specs.Dictionary.{longest-text, lexicon}
 use Rattle.spec.specs.Calls.{index-refusal}
-use Rattle.laws.specs.IndexRefusal.{index-read}
-use Rattle.laws.specs.Opening.{opened-accepted, opened-keys, opened-first}
-use Rattle.laws.specs.TallyWalk.{entries-left, small-zeros, tally-afresh}
-use Rattle.laws.specs.TallyAnswers.{tally-accepted, tally-refused}
+use Rattle.laws.specs.Readable.IndexRefusal.{index-read}
+use Rattle.laws.specs.Readable.Opening.{opened-accepted, opened-keys, opened-first}
+use Rattle.laws.specs.Tally.Walk.{entries-left, small-zeros, tally-afresh}
+use Rattle.laws.specs.Tally.Answers.{tally-accepted, tally-refused}
 use Rattle.postings.proofs.tallying.tally_opened.Statement.{statement}
 use Rattle.postings.proofs.tallying.tally_opened.Tie as tie
 

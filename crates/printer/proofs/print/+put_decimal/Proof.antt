@@ -7,7 +7,7 @@ use borrow.Author.Needs.{needs}
 use lib.ListN.{length}
 use Rattle.basics.specs.Placed.{Wrote, Writing, writing-start, writing-as, writing-room, writing-step, writing-last}
 use Rattle.spec.specs.JobAnswer.{decimal}
-use Rattle.laws.specs.Printing.{decimal-small, decimal-large}
+use Rattle.laws.specs.JobSheet.Printing.{decimal-small, decimal-large}
 use borrow.Fn.Kinds.{In}
 use borrow.Fn.PlainCycle.{Measures, is, falls, and}
 use Rattle.printer.proofs.print.put_decimal.Reads as put-decimal

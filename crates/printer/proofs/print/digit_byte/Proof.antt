@@ -1,7 +1,7 @@
 -- `digit_byte` meets its contract, by cases on the test. Assumes nothing.
 use mathlib.Core.Path.{sym}
 use borrow.Author.Needs.{needs}
-use Rattle.laws.specs.Printing.{digit-byte-decimal, digit-byte-letter}
+use Rattle.laws.specs.JobSheet.Printing.{digit-byte-decimal, digit-byte-letter}
 use Rattle.printer.proofs.print.digit_byte.Statement.{statement}
 use Rattle.printer.proofs.print.digit_byte.Tie as tie
 

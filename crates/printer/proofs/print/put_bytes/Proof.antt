@@ -24,7 +24,7 @@ slice-write-out : tie.Need-slice-write-out Inv-loop μ-loop
 slice-write-out c = copy-room (c .before .before .before .args .bytes .now) (c .before .before .loop .i) (c .before .before .loop .inv .1) (c .before .loop-test .taken)
 
 add-end : tie.Need-add-end Inv-loop μ-loop
-add-end c = omega (arith, copy-room (c .before .before .before .args .bytes .now) (c .before .before .loop .i) (c .before .before .loop .inv .1) (c .before .loop-test .taken), c .before .before .loop .inv .1 .long)
+add-end c = omega (arith, copy-room (c .before .before .before .args .bytes .now) (c .before .before .loop .i) (c .before .before .loop .inv .1) (c .before .loop-test .taken), c .before .before .loop .inv .1 .len)
 
 add-i : tie.Need-add-i Inv-loop μ-loop
 add-i c = omega arith
@@ -36,7 +36,7 @@ loop-again : tie.Need-loop-again Inv-loop μ-loop
 loop-again c = (omega arith, copy-step (c .before .before .before .args .bytes .now) (c .before .before .loop .i) (c .before .before .loop .inv .1) (c .before .loop-test .taken))
 
 same-length : tie.Need-same-length Inv-loop μ-loop
-same-length c = c .before .loop .inv .1 .long
+same-length c = c .before .loop .inv .1 .len
 
 returns : tie.Need-returns Inv-loop μ-loop
 returns c = copy-end (c .before .before .args .bytes .now) (c .before .loop .i) (c .before .loop .inv .1) (c .loop-test .left)

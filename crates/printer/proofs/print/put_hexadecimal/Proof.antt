@@ -1,6 +1,6 @@
 -- `put_hexadecimal` meets its contract: its four digits are written together. Assumes nothing.
 use borrow.Author.Needs.{needs}
-use Rattle.laws.specs.Printing.{four-digits}
+use Rattle.laws.specs.JobSheet.Printing.{four-digits}
 use Rattle.printer.proofs.print.put_hexadecimal.Statement.{statement}
 use Rattle.printer.proofs.print.put_hexadecimal.Tie as tie
 

@@ -3,7 +3,7 @@ use mathlib.Core.List.{_++_}
 use borrow.Author.Needs.{needs}
 use Rattle.basics.specs.Placed.{Writing, writing-start, writing-as, writing-room, writing-step, writing-last}
 use Rattle.spec.specs.JobAnswer.{decimal, index-head, gap, ending, index-line}
-use Rattle.laws.specs.Printing.{index-line-parts}
+use Rattle.laws.specs.JobSheet.Printing.{index-line-parts}
 use Rattle.printer.proofs.print.put_index_line.Statement.{statement}
 use Rattle.printer.proofs.print.put_index_line.Tie as tie
 

@@ -7,7 +7,7 @@ use lib.ListN.{length}
 use Rattle.basics.specs.Placed.{Writing, writing-start, writing-as, writing-room, writing-step, writing-last}
 use Rattle.spec.specs.Index.{n-of, keys-of, lines-in}
 use Rattle.spec.specs.JobAnswer.{index-line, key-lines, index-lines}
-use Rattle.laws.specs.IndexPrinting.{index-lines-parts}
+use Rattle.laws.specs.JobSheet.IndexPrinting.{index-lines-parts}
 use Rattle.printer.proofs.print.put_index_lines.Statement.{statement}
 use Rattle.printer.proofs.print.put_index_lines.Tie as tie
 

@@ -4,15 +4,15 @@ use mathlib.Core.Path.{_≡_, refl}
 use Prim.Native.Nat.{_+_, _*_, _-_}
 use native.Mathlib.Omega.{arith}
 use Rattle.spec.specs.Index.{keys-of}
-use Rattle.laws.specs.IndexPrinting.{Whole, Keys-printed, keys-start, keys-end, keys-step, places-fit, line-fits}
+use Rattle.laws.specs.JobSheet.IndexPrinting.{Whole, Keys-printed, keys-start, keys-end, keys-step, positions-fit, line-fits}
 use Rattle.printer.proofs.print.put_key_lines.Statement.{statement}
 use Rattle.printer.proofs.print.put_key_lines.Tie as tie
 
 abbrev Inv-loop : tie.InvT-loop
-Inv-loop out₀ at numbers keys place₀ end₀ i₀ out place end i = (keys ≡ keys-of numbers) × Whole numbers × Keys-printed numbers end₀ out₀ place end i out
+Inv-loop out₀ at numbers keys position₀ end₀ i₀ out position end i = (keys ≡ keys-of numbers) × Whole numbers × Keys-printed numbers end₀ out₀ position end i out
 
 abbrev μ-loop : tie.MeasureT-loop
-μ-loop out₀ at numbers keys place₀ end₀ i₀ out place end i = keys-of numbers - i
+μ-loop out₀ at numbers keys position₀ end₀ i₀ out position end i = keys-of numbers - i
 
 shared-slice-read-keys : tie.Need-shared-slice-read-keys Inv-loop μ-loop
 shared-slice-read-keys c = omega (arith, c .before .before .before .pre .0 .headed)
@@ -20,11 +20,11 @@ shared-slice-read-keys c = omega (arith, c .before .before .before .pre .0 .head
 cast-keys : tie.Need-cast-keys Inv-loop μ-loop
 cast-keys c = omega (arith, c .shared-slice-known2 .given 1)
 
-mul-place : tie.Need-mul-place Inv-loop μ-loop
-mul-place c = omega (arith, c .shared-slice-known2 .given 1)
+mul-position : tie.Need-mul-position Inv-loop μ-loop
+mul-position c = omega (arith, c .shared-slice-known2 .given 1)
 
-add-place : tie.Need-add-place Inv-loop μ-loop
-add-place c = omega (arith, c .shared-slice-known2 .given 1)
+add-position : tie.Need-add-position Inv-loop μ-loop
+add-position c = omega (arith, c .shared-slice-known2 .given 1)
 
 loop-holds : tie.Need-loop-holds Inv-loop μ-loop
 loop-holds c = (
@@ -79,23 +79,23 @@ cast-next : tie.Need-cast-next Inv-loop μ-loop
 cast-next c = omega (arith, c .shared-slice-known5 .given (2 + 3 * c .before .before .before .before .loop .i + 2))
 
 add-next-3 : tie.Need-add-next-3 Inv-loop μ-loop
-add-next-3 c = omega (arith, places-fit (c .before .before .before .before .before .before .before .before .args .numbers .now) (c .before .before .before .before .before .before .before .before .args .at) (c .before .before .before .before .before .before .before .before .args .out .now) (c .before .before .before .before .loop .place) (c .before .before .before .before .loop .end) (c .before .before .before .before .loop .i) (c .before .before .before .before .loop .out) (c .before .before .before .before .loop .inv .2) (c .before .before .before .loop-test .taken))
+add-next-3 c = omega (arith, positions-fit (c .before .before .before .before .before .before .before .before .args .numbers .now) (c .before .before .before .before .before .before .before .before .args .at) (c .before .before .before .before .before .before .before .before .args .out .now) (c .before .before .before .before .loop .position) (c .before .before .before .before .loop .end) (c .before .before .before .before .loop .i) (c .before .before .before .before .loop .out) (c .before .before .before .before .loop .inv .2) (c .before .before .before .loop-test .taken))
 
 mul-put-key-line : tie.Need-mul-put-key-line Inv-loop μ-loop
-mul-put-key-line c = omega (arith, places-fit (c .before .before .before .before .before .before .before .before .before .args .numbers .now) (c .before .before .before .before .before .before .before .before .before .args .at) (c .before .before .before .before .before .before .before .before .before .args .out .now) (c .before .before .before .before .before .loop .place) (c .before .before .before .before .before .loop .end) (c .before .before .before .before .before .loop .i) (c .before .before .before .before .before .loop .out) (c .before .before .before .before .before .loop .inv .2) (c .before .before .before .before .loop-test .taken))
+mul-put-key-line c = omega (arith, positions-fit (c .before .before .before .before .before .before .before .before .before .args .numbers .now) (c .before .before .before .before .before .before .before .before .before .args .at) (c .before .before .before .before .before .before .before .before .before .args .out .now) (c .before .before .before .before .before .loop .position) (c .before .before .before .before .before .loop .end) (c .before .before .before .before .before .loop .i) (c .before .before .before .before .before .loop .out) (c .before .before .before .before .before .loop .inv .2) (c .before .before .before .before .loop-test .taken))
 
 sub-put-key-line : tie.Need-sub-put-key-line Inv-loop μ-loop
 sub-put-key-line c = omega arith
 
 part-put-key-line-start : tie.Need-part-put-key-line-start Inv-loop μ-loop
-part-put-key-line-start c = omega (arith, places-fit (c .before .before .before .before .before .before .before .before .before .args .numbers .now) (c .before .before .before .before .before .before .before .before .before .args .at) (c .before .before .before .before .before .before .before .before .before .args .out .now) (c .before .before .before .before .before .loop .place) (c .before .before .before .before .before .loop .end) (c .before .before .before .before .before .loop .i) (c .before .before .before .before .before .loop .out) (c .before .before .before .before .before .loop .inv .2) (c .before .before .before .before .loop-test .taken))
+part-put-key-line-start c = omega (arith, positions-fit (c .before .before .before .before .before .before .before .before .before .args .numbers .now) (c .before .before .before .before .before .before .before .before .before .args .at) (c .before .before .before .before .before .before .before .before .before .args .out .now) (c .before .before .before .before .before .loop .position) (c .before .before .before .before .before .loop .end) (c .before .before .before .before .before .loop .i) (c .before .before .before .before .before .loop .out) (c .before .before .before .before .before .loop .inv .2) (c .before .before .before .before .loop-test .taken))
 
 part-put-key-line-end : tie.Need-part-put-key-line-end Inv-loop μ-loop
-part-put-key-line-end c = omega (arith, places-fit (c .before .before .before .before .before .before .before .before .before .args .numbers .now) (c .before .before .before .before .before .before .before .before .before .args .at) (c .before .before .before .before .before .before .before .before .before .args .out .now) (c .before .before .before .before .before .loop .place) (c .before .before .before .before .before .loop .end) (c .before .before .before .before .before .loop .i) (c .before .before .before .before .before .loop .out) (c .before .before .before .before .before .loop .inv .2) (c .before .before .before .before .loop-test .taken))
+part-put-key-line-end c = omega (arith, positions-fit (c .before .before .before .before .before .before .before .before .before .args .numbers .now) (c .before .before .before .before .before .before .before .before .before .args .at) (c .before .before .before .before .before .before .before .before .before .args .out .now) (c .before .before .before .before .before .loop .position) (c .before .before .before .before .before .loop .end) (c .before .before .before .before .before .loop .i) (c .before .before .before .before .before .loop .out) (c .before .before .before .before .before .loop .inv .2) (c .before .before .before .before .loop-test .taken))
 
 put-key-line-requires : tie.Need-put-key-line-requires Inv-loop μ-loop
 put-key-line-requires c κs =
-    line-fits (c .before .before .before .before .before .before .before .before .before .before .args .numbers .now) (c .before .before .before .before .before .before .before .before .before .before .args .at) (c .before .before .before .before .before .before .before .before .before .before .args .out .now) (c .before .before .before .before .before .before .loop .place) (c .before .before .before .before .before .before .loop .end) (c .before .before .before .before .before .before .loop .i) (c .before .before .before .before .before .before .loop .out) (c .before .before .before .before .before .before .loop .inv .2) (c .before .before .before .before .before .loop-test .taken)
+    line-fits (c .before .before .before .before .before .before .before .before .before .before .args .numbers .now) (c .before .before .before .before .before .before .before .before .before .before .args .at) (c .before .before .before .before .before .before .before .before .before .before .args .out .now) (c .before .before .before .before .before .before .loop .position) (c .before .before .before .before .before .before .loop .end) (c .before .before .before .before .before .before .loop .i) (c .before .before .before .before .before .before .loop .out) (c .before .before .before .before .before .before .loop .inv .2) (c .before .before .before .before .before .loop-test .taken)
 
 add-i : tie.Need-add-i Inv-loop μ-loop
 add-i c = omega (arith, c .before .before .before .before .before .before .before .before .before .loop .inv .1 .exact, c .before .before .before .before .before .before .before .before .loop-test .taken)
@@ -107,15 +107,15 @@ loop-again : tie.Need-loop-again Inv-loop μ-loop
 loop-again c = (
   refl,
   c .before .before .before .before .before .before .before .before .before .loop .inv .1,
-  keys-step (c .before .before .before .before .before .before .before .before .before .before .before .before .before .args .numbers .now) (c .before .before .before .before .before .before .before .before .before .before .before .before .before .args .at) (c .before .before .before .before .before .before .before .before .before .before .before .before .before .args .out .now) (c .before .before .before .before .before .before .before .before .before .loop .place) (c .before .before .before .before .before .before .before .before .before .loop .end) (c .before .before .before .before .before .before .before .before .before .loop .i) (c .before .before .before .before .before .before .before .before .before .loop .out) (c .before .before .before .before .before .before .before .before .before .loop .inv .2) (c .before .before .before .before .before .before .before .before .loop-test .taken) (c .before .before .put-key-line .result) (c .before .before .put-key-line .last .0) (c .before .before .put-key-line .ensures),
+  keys-step (c .before .before .before .before .before .before .before .before .before .before .before .before .before .args .numbers .now) (c .before .before .before .before .before .before .before .before .before .before .before .before .before .args .at) (c .before .before .before .before .before .before .before .before .before .before .before .before .before .args .out .now) (c .before .before .before .before .before .before .before .before .before .loop .position) (c .before .before .before .before .before .before .before .before .before .loop .end) (c .before .before .before .before .before .before .before .before .before .loop .i) (c .before .before .before .before .before .before .before .before .before .loop .out) (c .before .before .before .before .before .before .before .before .before .loop .inv .2) (c .before .before .before .before .before .before .before .before .loop-test .taken) (c .before .before .put-key-line .result) (c .before .before .put-key-line .last .0) (c .before .before .put-key-line .ensures),
 )
 
 same-length : tie.Need-same-length Inv-loop μ-loop
-same-length c = c .before .loop .inv .2 .writing .long
+same-length c = c .before .loop .inv .2 .writing .len
 
 returns : tie.Need-returns Inv-loop μ-loop
 returns c =
-    keys-end (c .before .before .before .before .before .args .numbers .now) (c .before .before .before .before .before .args .at) (c .before .before .before .before .before .args .out .now) (c .before .loop .place) (c .before .loop .end) (c .before .loop .i) (c .before .loop .out) (c .before .loop .inv .2) (c .loop-test .left)
+    keys-end (c .before .before .before .before .before .args .numbers .now) (c .before .before .before .before .before .args .at) (c .before .before .before .before .before .args .out .now) (c .before .loop .position) (c .before .loop .end) (c .before .loop .i) (c .before .loop .out) (c .before .loop .inv .2) (c .loop-test .left)
 
 pub put-key-lines-spec : {M : Type 1} → statement M
 put-key-lines-spec =
@@ -125,8 +125,8 @@ put-key-lines-spec =
     μ-loop
     shared-slice-read-keys
     cast-keys
-    mul-place
-    add-place
+    mul-position
+    add-position
     loop-holds
     mul-kind
     add-kind

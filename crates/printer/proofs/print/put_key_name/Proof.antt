@@ -6,7 +6,7 @@ use borrow.Author.Needs.{needs}
 use Rattle.basics.specs.Placed.{Writing, writing-start, writing-as, writing-room, writing-step, writing-last}
 use Rattle.spec.specs.Words.{key}
 use Rattle.spec.specs.JobAnswer.{decimal, hexadecimal, key-word-head, key-lone-head, key-name}
-use Rattle.laws.specs.Printing.{word-name, lone-name, length-hexadecimal}
+use Rattle.laws.specs.JobSheet.Printing.{word-name, lone-name, length-hexadecimal}
 use Rattle.printer.proofs.print.put_key_name.Statement.{statement}
 use Rattle.printer.proofs.print.put_key_name.Tie as tie
 

@@ -7,7 +7,7 @@ use borrow.Author.Needs.{needs}
 use lib.ListN.{length, getD, drop}
 use Rattle.basics.specs.Placed.{Writing, writing-start, writing-as, writing-room, writing-step, writing-end}
 use Rattle.spec.specs.JobAnswer.{decimal, gap}
-use Rattle.laws.specs.Printing.{each-spaced, each-next, each-end}
+use Rattle.laws.specs.JobSheet.Printing.{each-spaced, each-next, each-end}
 use Rattle.printer.proofs.print.put_next_positions.Statement.{statement}
 use Rattle.printer.proofs.print.put_next_positions.Tie as tie
 
@@ -60,7 +60,7 @@ loop-again c =
 
 same-length : tie.Need-same-length Inv-loop μ-loop
 same-length c =
-    c .before .loop .inv .1 .long
+    c .before .loop .inv .1 .len
 
 returns : tie.Need-returns Inv-loop μ-loop
 returns c =

@@ -3,7 +3,7 @@ use mathlib.Core.List.{_++_}
 use borrow.Author.Needs.{needs}
 use Rattle.basics.specs.Placed.{Writing, writing-start, writing-as, writing-room, writing-step, writing-last}
 use Rattle.spec.specs.JobAnswer.{decimal, refused-head, ending, refused-line}
-use Rattle.laws.specs.Printing.{refused-line-parts}
+use Rattle.laws.specs.JobSheet.Printing.{refused-line-parts}
 use Rattle.printer.proofs.print.put_refused_line.Statement.{statement}
 use Rattle.printer.proofs.print.put_refused_line.Tie as tie
 

@@ -1,7 +1,7 @@
 -- `delivery_refusal` meets its contract: one law a return. Assumes nothing.
 use borrow.Author.Needs.{needs}
 use native.Mathlib.Omega.{arith}
-use Rattle.laws.specs.Receiving.{short-refused, short-work, short-none}
+use Rattle.laws.specs.Receive.Receiving.{short-refused, short-work, short-none}
 use Rattle.receiver.proofs.receive.delivery_refusal.Statement.{statement}
 use Rattle.receiver.proofs.receive.delivery_refusal.Tie as tie
 

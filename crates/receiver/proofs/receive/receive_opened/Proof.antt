@@ -5,7 +5,7 @@ use native.Mathlib.Omega.{arith}
 use lib.ListN.{length}
 use borrow.Author.Tests.{not-true, not-false}
 use Rattle.spec.specs.Index.{n-of}
-use Rattle.laws.specs.Receiving.{delivery-header, opened-delivery, delivered, receive-refused, receive-unreceived, receive-received}
+use Rattle.laws.specs.Receive.Receiving.{delivery-header, opened-delivery, delivered, receive-refused, receive-unreceived, receive-received}
 use Rattle.receiver.proofs.receive.receive_opened.Statement.{statement}
 use Rattle.receiver.proofs.receive.receive_opened.Tie as tie
 

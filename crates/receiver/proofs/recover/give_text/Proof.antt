@@ -3,7 +3,7 @@ use borrow.Author.Needs.{needs}
 use mathlib.Core.Path.{refl, sym}
 use native.Mathlib.Omega.{arith}
 use lib.Seq.{length-take-le}
-use Rattle.laws.specs.Receiving.{gives-short, gives-text}
+use Rattle.laws.specs.Receive.Receiving.{gives-short, gives-text}
 use Rattle.receiver.proofs.recover.give_text.Statement.{statement}
 use Rattle.receiver.proofs.recover.give_text.Tie as tie
 

@@ -6,7 +6,7 @@ use lib.ListN.{length, drop}
 use borrow.Author.Needs.{needs}
 use Rattle.basics.specs.Placed.{Writing, writing-start}
 use Rattle.basics.specs.PlacedCopies.{copy-room, copy-step, copy-end}
-use Rattle.laws.specs.Receiving.{text-put}
+use Rattle.laws.specs.Receive.Receiving.{text-put}
 use Rattle.receiver.proofs.recover.put_text.Statement.{statement}
 use Rattle.receiver.proofs.recover.put_text.Tie as tie
 
@@ -41,7 +41,7 @@ loop-again : tie.Need-loop-again Inv-loop μ-loop
 loop-again c = (omega arith, copy-step (c .before .before .before .args .text .now) (c .before .before .loop .i) (c .before .before .loop .inv .1) (c .before .loop-test .taken))
 
 same-length : tie.Need-same-length Inv-loop μ-loop
-same-length c = c .before .loop .inv .1 .long
+same-length c = c .before .loop .inv .1 .len
 
 returns : tie.Need-returns Inv-loop μ-loop
 returns c =

@@ -4,7 +4,7 @@ use mathlib.Core.Path.{_≡_, refl, sym, _∙_}
 use native.Mathlib.Omega.{arith}
 use lib.ListN.{length}
 use borrow.Author.Tests.{not-true, not-false}
-use Rattle.laws.specs.Receiving.{delivery-header, opened-delivery, delivered, recover-refused, recover-unreceived, recover-received}
+use Rattle.laws.specs.Receive.Receiving.{delivery-header, opened-delivery, delivered, recover-refused, recover-unreceived, recover-received}
 use Rattle.receiver.proofs.recover.recover_opened.Statement.{statement}
 use Rattle.receiver.proofs.recover.recover_opened.Tie as tie
 

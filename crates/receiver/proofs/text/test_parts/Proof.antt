@@ -3,7 +3,7 @@ use mathlib.Core.Path.{_≡_, sym}
 use Prim.Native.Nat.{_*_, _-_}
 use native.Mathlib.Omega.{arith}
 use lib.Seq.{length-take-le}
-use Rattle.laws.specs.WorkParts.{behind-long}
+use Rattle.laws.specs.Receive.WorkParts.{behind-long}
 use borrow.Author.Needs.{needs}
 use Rattle.receiver.proofs.text.test_parts.Statement.{statement}
 use Rattle.receiver.proofs.text.test_parts.Tie as tie
@@ -11,25 +11,25 @@ use Rattle.receiver.proofs.text.test_parts.Tie as tie
 mul-end : tie.Need-mul-end
 mul-end c = search needs
 
-slice-aggregate-accepts : tie.Need-slice-aggregate-accepts
-slice-aggregate-accepts c =
+slice-aggregate-verify : tie.Need-slice-aggregate-verify
+slice-aggregate-verify c =
     let start = c .before .before .before .before .before .before .before .before in
     sym (length-take-le (start .args .n) (start .args .work .now) (omega (arith, start .pre .3)))
 
-mul-accepts : tie.Need-mul-accepts
-mul-accepts c = search needs
+mul-verify : tie.Need-mul-verify
+mul-verify c = search needs
 
-sub-accepts : tie.Need-sub-accepts
-sub-accepts c = search needs
+sub-verify : tie.Need-sub-verify
+sub-verify c = search needs
 
-part-accepts-start : tie.Need-part-accepts-start
-part-accepts-start c = search needs
+part-verify-start : tie.Need-part-verify-start
+part-verify-start c = search needs
 
-part-accepts-end : tie.Need-part-accepts-end
-part-accepts-end c = search needs
+part-verify-end : tie.Need-part-verify-end
+part-verify-end c = search needs
 
-accepts-requires : tie.Need-accepts-requires
-accepts-requires c κs =
+verify-requires : tie.Need-verify-requires
+verify-requires c κs =
     let start = c .before .before .before .before .before .before .before .before .before in
     let same : 2 * start .args .n - start .args .n ≡ start .args .n = omega arith in (
       start .pre .0,
@@ -42,17 +42,17 @@ returns : tie.Need-returns
 returns c =
     let start = c .before .before .before .before .before .before .before .before .before .before in
     let same : 2 * start .args .n - start .args .n ≡ start .args .n = omega arith in
-    rw same at (c .accepts .ensures)
+    rw same at (c .verify .ensures)
 
 pub test-parts-spec : {M : Type 1} → statement M
 test-parts-spec =
     tie.close
     (tie.spec
     mul-end
-    slice-aggregate-accepts
-    mul-accepts
-    sub-accepts
-    part-accepts-start
-    part-accepts-end
-    accepts-requires
+    slice-aggregate-verify
+    mul-verify
+    sub-verify
+    part-verify-start
+    part-verify-end
+    verify-requires
     returns)

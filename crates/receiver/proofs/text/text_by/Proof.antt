@@ -9,13 +9,13 @@ use borrow.Author.Tests.{not-true, not-false}
 use borrow.Author.Needs.{needs}
 use Rattle.spec.specs.Dictionary.{lexicon}
 use Rattle.spec.specs.Index.{n-of}
-use Rattle.laws.specs.Receiving.{delivered}
-use Rattle.laws.specs.ReceivedText.{not-tried, tried}
+use Rattle.laws.specs.Receive.Receiving.{delivered}
+use Rattle.laws.specs.Receive.ReceivedText.{not-tried, tried}
 use Rattle.receiver.proofs.text.text_by.Statement.{statement}
 use Rattle.receiver.proofs.text.text_by.Tie as tie
 
-shown-by-requires : tie.Need-shown-by-requires
-shown-by-requires c κs = search needs
+is-index-of-text-requires : tie.Need-is-index-of-text-requires
+is-index-of-text-requires c κs = search needs
 
 same-length : tie.Need-same-length
 same-length c = search needs
@@ -23,7 +23,7 @@ same-length c = search needs
 returns : tie.Need-returns
 returns c =
     let start = c .before .before .before .before .before .before .before .before .before .before .before .before in
-    let call = c .before .before .before .shown-by in
+    let call = c .before .before .before .is-index-of-text in
     not-tried (lexicon (start .args .chars .now) (start .args .lengths .now)) (start .args .index .now)
     (call .last .1 .1 .1 .1 .1 .1 .0) (call .result) (call .ensures)
     (not-true (call .result) (c .if1 .taken))
@@ -31,14 +31,14 @@ returns c =
 room :
     (c : tie.After-shared-slice-known7) →
     n-of (c .before .before .before .before .before .before .before .before .before .before .before .before .before .args .index .now)
-    ≤ length (c .before .before .before .before .shown-by .last .1 .1 .1 .1 .1 .1 .0)
+    ≤ length (c .before .before .before .before .is-index-of-text .last .1 .1 .1 .1 .1 .1 .0)
 room c =
     let start = c .before .before .before .before .before .before .before .before .before .before .before .before .before in
     omega (
       arith,
       delivered (start .args .chars .now) (start .args .lengths .now) (start .args .index .now) (length (start .args .work .now))
           (start .pre .0) .room,
-      c .before .before .before .before .shown-by .kept .1 .1 .1 .1 .1 .1 .0,
+      c .before .before .before .before .is-index-of-text .kept .1 .1 .1 .1 .1 .1 .0,
     )
 
 shared-slice-read-n : tie.Need-shared-slice-read-n
@@ -60,7 +60,7 @@ slice-aggregate-holds-full-width : tie.Need-slice-aggregate-holds-full-width
 slice-aggregate-holds-full-width c =
     let start = c .before .before .before .before .before .before .before .before .before .before .before .before .before .before in
     sym
-    (length-take-le (n-of (start .args .index .now)) (c .before .before .before .before .before .shown-by .last .1 .1 .1 .1 .1 .1 .0)
+    (length-take-le (n-of (start .args .index .now)) (c .before .before .before .before .before .is-index-of-text .last .1 .1 .1 .1 .1 .1 .0)
     (room (c .before)))
 
 holds-full-width-requires : tie.Need-holds-full-width-requires
@@ -72,7 +72,7 @@ same-length-2 c = search needs
 returns-2 : tie.Need-returns-2
 returns-2 c =
     let start = c .before .before .before .before .before .before .before .before .before .before .before .before .before .before .before in
-    let call = c .before .before .before .before .before .before .shown-by in
+    let call = c .before .before .before .before .before .before .is-index-of-text in
     tried (lexicon (start .args .chars .now) (start .args .lengths .now)) (start .args .index .now) (call .last .1 .1 .1 .1 .1 .1 .0)
     (call .result) (call .ensures)
     (not-false (call .result) (c .before .before .before .if1 .left)) (c .holds-full-width .result) (c .holds-full-width .ensures)
@@ -81,7 +81,7 @@ pub text-by-spec : {M : Type 1} → statement M
 text-by-spec =
     tie.close
     (tie.spec
-    shown-by-requires
+    is-index-of-text-requires
     same-length
     returns
     shared-slice-read-n

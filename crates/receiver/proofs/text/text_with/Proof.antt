@@ -1,19 +1,19 @@
 -- `text_with` meets its contract: the words are hung up, and the table serves the test. Assumes nothing.
 use native.Mathlib.Omega.{arith}
 use lib.ListN.{length}
-use Rattle.laws.specs.ReceivedText.{delivered-room}
+use Rattle.laws.specs.Receive.ReceivedText.{delivered-room}
 use borrow.Author.Needs.{needs}
 use Rattle.receiver.proofs.text.text_with.Statement.{statement}
 use Rattle.receiver.proofs.text.text_with.Tie as tie
 
-hang-words-requires : tie.Need-hang-words-requires
-hang-words-requires c κs =
+fill-match-table-requires : tie.Need-fill-match-table-requires
+fill-match-table-requires c κs =
     let start = c .before .before .before .before .before .before .before .before .before .before in
     let cs = start .args .chars .now in
     let ls = start .args .lengths .now in
     let xs = start .args .index .now in
     let w = start .args .work .now in
-    delivered-room cs ls xs (length w) (λ i h. omega (arith, c .before .before .before .before .before .before .before .before .before .shared-slice-known .given i)) (start .pre .0) (start .args .heads .now) (start .args .links .now) (start .args .starts .now) (start .pre .1)
+    delivered-room cs ls xs (length w) (λ i h. omega (arith, c .before .before .before .before .before .before .before .before .before .shared-slice-known .given i)) (start .pre .0) (start .args .heads .now) (start .args .links .now) (start .args .word-starts .now) (start .pre .1)
 
 text-by-requires : tie.Need-text-by-requires
 text-by-requires c κs = search needs
@@ -37,7 +37,7 @@ pub text-with-spec : {M : Type 1} → statement M
 text-with-spec =
     tie.close
     (tie.spec
-    hang-words-requires
+    fill-match-table-requires
     text-by-requires
     same-length
     same-length-2

@@ -5,17 +5,17 @@ use native.Mathlib.Omega.{arith}
 use lib.ListN.{length, take, drop}
 use borrow.Author.Needs.{needs}
 use Rattle.spec.specs.Dictionary.{lexicon}
-use Rattle.laws.specs.ScanMarks.{Marking}
-use Rattle.laws.specs.TextBehind.{behind-start, behind-below, behind-end-within, behind-room, behind-step, behind-marks, behind-rest}
+use Rattle.laws.specs.Build.ScanTokens.{Scanning}
+use Rattle.laws.specs.Build.TextBehind.{behind-start, behind-below, behind-end-within, behind-room, behind-step, behind-tokens, behind-rest}
 use Rattle.scanning.proofs.scan.scan.Statement.{statement}
 use Rattle.scanning.proofs.scan.scan.Tie as tie
 
 abbrev Inv-loop : tie.InvT-loop
-Inv-loop chars lengths heads links starts n work₀ behind end₀ at₀ work end at =
-    Marking (lexicon chars lengths) (take n (drop n work₀)) work₀ work at end
+Inv-loop chars lengths heads links word-starts n work₀ behind end₀ at₀ work end at =
+    Scanning (lexicon chars lengths) (take n (drop n work₀)) work₀ work at end
 
 abbrev μ-loop : tie.MeasureT-loop
-μ-loop chars lengths heads links starts n work₀ behind end₀ at₀ work end at = n - at
+μ-loop chars lengths heads links word-starts n work₀ behind end₀ at₀ work end at = n - at
 
 mul-behind : tie.Need-mul-behind Inv-loop μ-loop
 mul-behind c = search needs
@@ -70,7 +70,7 @@ loop-again c =
     let turn = c .before .before .before .before .loop in
     let start = c .before .before .before .before .before .before .before .before .before .before .before in
     behind-step (lexicon (start .args .chars .now) (start .args .lengths .now)) (start .args .work .now) (start .args .n) (start .pre .1)
-    (turn .work) (turn .at) (turn .end) (turn .inv) (c .step .result .mark) (c .step .result .end)
+    (turn .work) (turn .at) (turn .end) (turn .inv) (c .step .result .token) (c .step .result .end)
     (c .before .before .before .loop-test .taken)
     (c .step .ensures)
 
@@ -82,7 +82,7 @@ returns c =
     let turn = c .before .loop in
     let start = c .before .before .before .before .before .before .before .before in
     let lex = lexicon (start .args .chars .now) (start .args .lengths .now) in (
-      behind-marks lex (start .args .work .now) (start .args .n) (start .pre .1) (turn .work) (turn .at) (turn .end) (turn .inv)
+      behind-tokens lex (start .args .work .now) (start .args .n) (start .pre .1) (turn .work) (turn .at) (turn .end) (turn .inv)
           (c .loop-test .left),
       behind-rest lex (start .args .work .now) (start .args .n) (start .pre .1) (turn .work) (turn .at) (turn .end) (turn .inv)
           (c .loop-test .left),

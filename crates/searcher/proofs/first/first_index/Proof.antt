@@ -40,7 +40,7 @@ use Rattle.spec.specs.Calls.{First-says}
 use Rattle.spec.specs.declared.FirstAnswer.{FirstAnswer}
 use Rattle.spec.proofs.FirstAnswer as R
 use Rattle.spec.proofs.FirstAnswer.Laws as R′
-use Rattle.laws.specs.Opening.{Bounded}
+use Rattle.laws.specs.Readable.Opening.{Bounded}
 use Rattle.opening.proofs.Opens.{val, Shr, Lent, Open, twice, to-open, asks-open, opens}
 use Rattle.opening.proofs.opened.open_index.Symbol as opener-def
 use Rattle.opening.proofs.opened.open_index.Symbol.{name as #open-index}

@@ -1,6 +1,6 @@
 -- `first_many_lines` meets its contract: a table of 65,536 lines is long enough. Assumes nothing.
 use native.Mathlib.Omega.{arith}
-use Rattle.laws.specs.Searching.{cleared-room}
+use Rattle.laws.specs.Window.Searching.{cleared-room}
 use borrow.Author.Needs.{needs}
 use Rattle.searcher.proofs.first.first_many_lines.Statement.{statement}
 use Rattle.searcher.proofs.first.first_many_lines.Tie as tie

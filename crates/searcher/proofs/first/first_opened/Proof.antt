@@ -6,10 +6,10 @@ use Rattle.spec.specs.Replaced.{replaced}
 use Rattle.spec.specs.Dictionary.{lexicon}
 use Rattle.spec.specs.Index.{keys-of}
 use Rattle.spec.specs.Calls.{index-refusal}
-use Rattle.laws.specs.Answering.{accepted-yes}
-use Rattle.laws.specs.Tables.{Can-read, can-read}
-use Rattle.laws.specs.FirstFound.{first-position-small}
-use Rattle.laws.specs.FirstAnswers.{first-refused, first-empty, first-long, first-says}
+use Rattle.laws.specs.Dictionary.Answering.{accepted-yes}
+use Rattle.laws.specs.Directory.Tables.{Can-read, can-read}
+use Rattle.laws.specs.First.Found.{first-position-small}
+use Rattle.laws.specs.First.Answers.{first-refused, first-empty, first-long, first-says}
 use Rattle.searcher.proofs.first.first_opened.Statement.{statement}
 use Rattle.searcher.proofs.first.first_opened.Tie as tie
 

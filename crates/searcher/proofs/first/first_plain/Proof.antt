@@ -1,6 +1,6 @@
 -- `first_plain` meets its contract: the starts are all at which the string fits. Assumes nothing.
 use Rattle.spec.specs.Dictionary.{lexicon}
-use Rattle.laws.specs.FirstFound.{first-in-all}
+use Rattle.laws.specs.First.Found.{first-in-all}
 use borrow.Author.Needs.{needs}
 use Rattle.searcher.proofs.first.first_plain.Statement.{statement}
 use Rattle.searcher.proofs.first.first_plain.Tie as tie

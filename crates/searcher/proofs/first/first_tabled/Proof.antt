@@ -1,6 +1,6 @@
 -- `first_tabled` meets its contract: the string that is searched for is the replaced one. Assumes nothing.
 use borrow.Author.Needs.{needs}
-use Rattle.laws.specs.Sizing.{own-long, own-string}
+use Rattle.laws.specs.Search.Sizing.{own-long, own-string}
 use Rattle.searcher.proofs.first.first_tabled.Statement.{statement}
 use Rattle.searcher.proofs.first.first_tabled.Tie as tie
 

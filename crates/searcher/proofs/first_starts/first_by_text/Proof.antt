@@ -1,7 +1,7 @@
 -- `first_by_text` meets its contract: the text tells the window, or the search goes by the entries. Assumes nothing.
 use lib.ListN.{length}
 use Rattle.spec.specs.Dictionary.{lexicon}
-use Rattle.laws.specs.FirstFound.{first-in-told, first-in-count}
+use Rattle.laws.specs.First.Found.{first-in-told, first-in-count}
 use borrow.Author.Needs.{needs}
 use Rattle.searcher.proofs.first_starts.first_by_text.Statement.{statement}
 use Rattle.searcher.proofs.first_starts.first_by_text.Tie as tie

@@ -4,7 +4,7 @@ use native.Mathlib.Omega.{arith}
 use lib.ListN.{length, take}
 use lib.Seq.{length-take-le}
 use Rattle.spec.specs.Dictionary.{lexicon}
-use Rattle.laws.specs.FirstFound.{first-in-count}
+use Rattle.laws.specs.First.Found.{first-in-count}
 use borrow.Author.Needs.{needs}
 use Rattle.searcher.proofs.first_starts.first_by_text_in.Statement.{statement}
 use Rattle.searcher.proofs.first_starts.first_by_text_in.Tie as tie

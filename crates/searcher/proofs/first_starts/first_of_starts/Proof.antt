@@ -3,13 +3,13 @@ use borrow.Author.Needs.{needs}
 use Rattle.searcher.proofs.first_starts.first_of_starts.Statement.{statement}
 use Rattle.searcher.proofs.first_starts.first_of_starts.Tie as tie
 
-is-dense-requires : tie.Need-is-dense-requires
-is-dense-requires c κs = search needs
+prefers-text-scan-requires : tie.Need-prefers-text-scan-requires
+prefers-text-scan-requires c κs = search needs
 
-first-in-dense-requires : tie.Need-first-in-dense-requires
-first-in-dense-requires c κs =
+first-by-estimate-requires : tie.Need-first-by-estimate-requires
+first-by-estimate-requires c κs =
     let s = c .before .before .before .before .before .before .before .before in
-    (s .pre .0, s .pre .1, s .pre .2, c .before .is-dense .ensures (c .if1 .taken))
+    (s .pre .0, s .pre .1, s .pre .2, c .before .prefers-text-scan .ensures (c .if1 .taken))
 
 returns : tie.Need-returns
 returns c = search needs
@@ -24,8 +24,8 @@ pub first-of-starts-spec : {M : Type 1} → statement M
 first-of-starts-spec =
     tie.close
     (tie.spec
-    is-dense-requires
-    first-in-dense-requires
+    prefers-text-scan-requires
+    first-by-estimate-requires
     returns
     first-by-entries-requires
     returns-2)

@@ -2,7 +2,7 @@
 use Prim.Native.Nat.{_-_}
 use native.Mathlib.Omega.{arith}
 use Rattle.spec.specs.Dictionary.{lexicon}
-use Rattle.laws.specs.FirstFound.{first-in-first, first-in-second}
+use Rattle.laws.specs.First.Found.{first-in-first, first-in-second}
 use borrow.Author.Needs.{needs}
 use Rattle.searcher.proofs.first_windows.first_by_windows.Statement.{statement}
 use Rattle.searcher.proofs.first_windows.first_by_windows.Tie as tie

@@ -4,8 +4,8 @@ use native.Mathlib.Omega.{arith}
 use lib.ListN.{length, take}
 use lib.Seq.{length-take-le}
 use Rattle.spec.specs.Dictionary.{lexicon}
-use Rattle.laws.specs.Searching.{cleared-part}
-use Rattle.laws.specs.FirstFound.{first-in-count}
+use Rattle.laws.specs.Window.Searching.{cleared-part}
+use Rattle.laws.specs.First.Found.{first-in-count}
 use borrow.Author.Needs.{needs}
 use Rattle.searcher.proofs.first_windows.first_in_lent.Statement.{statement}
 use Rattle.searcher.proofs.first_windows.first_in_lent.Tie as tie

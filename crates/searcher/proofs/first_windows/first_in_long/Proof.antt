@@ -1,6 +1,6 @@
 -- `first_in_long` meets its contract: a window of 65,536 is long enough. Assumes nothing.
 use native.Mathlib.Omega.{arith}
-use Rattle.laws.specs.Searching.{cleared-room, cleared-whole}
+use Rattle.laws.specs.Window.Searching.{cleared-room, cleared-whole}
 use borrow.Author.Needs.{needs}
 use Rattle.searcher.proofs.first_windows.first_in_long.Statement.{statement}
 use Rattle.searcher.proofs.first_windows.first_in_long.Tie as tie

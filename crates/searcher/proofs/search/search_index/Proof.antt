@@ -44,7 +44,7 @@ use Rattle.spec.specs.Calls.{Search-says}
 use Rattle.spec.specs.declared.Answer.{Answer}
 use Rattle.spec.proofs.Answer as R
 use Rattle.spec.proofs.Answer.Laws as R′
-use Rattle.laws.specs.Opening.{Bounded}
+use Rattle.laws.specs.Readable.Opening.{Bounded}
 use Rattle.opening.proofs.Opens.{val, Shr, Lent, Open, twice, to-open, asks-open, opens}
 use Rattle.opening.proofs.opened.open_index.Symbol as opener-def
 use Rattle.opening.proofs.opened.open_index.Symbol.{name as #open-index}

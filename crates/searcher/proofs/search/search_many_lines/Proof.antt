@@ -1,5 +1,5 @@
 -- `search_many_lines` meets its contract: a table of 65,536 lines is long enough. Assumes nothing.
-use Rattle.laws.specs.Searching.{cleared-room}
+use Rattle.laws.specs.Window.Searching.{cleared-room}
 use native.Mathlib.Omega.{arith}
 use borrow.Author.Needs.{needs}
 use Rattle.searcher.proofs.search.search_many_lines.Statement.{statement}

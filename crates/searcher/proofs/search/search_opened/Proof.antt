@@ -4,9 +4,9 @@ use Prim.Native.Nat.{ℕ}
 use native.Mathlib.Omega.{arith}
 use Rattle.spec.specs.Index.{keys-of}
 use Rattle.spec.specs.Calls.{index-refusal}
-use Rattle.laws.specs.Answering.{accepted-yes}
-use Rattle.laws.specs.Tables.{Can-read, can-read}
-use Rattle.laws.specs.Searching.{search-refused, search-empty, search-long, search-says}
+use Rattle.laws.specs.Dictionary.Answering.{accepted-yes}
+use Rattle.laws.specs.Directory.Tables.{Can-read, can-read}
+use Rattle.laws.specs.Window.Searching.{search-refused, search-empty, search-long, search-says}
 use borrow.Author.Needs.{needs}
 use Rattle.searcher.proofs.search.search_opened.Statement.{statement}
 use Rattle.searcher.proofs.search.search_opened.Tie as tie

@@ -1,6 +1,6 @@
 -- `search_plain` meets its contract: the starts are all at which the string fits. Assumes nothing.
 use Rattle.spec.specs.Dictionary.{lexicon}
-use Rattle.laws.specs.Searching.{all-starts}
+use Rattle.laws.specs.Window.Searching.{all-starts}
 use borrow.Author.Needs.{needs}
 use Rattle.searcher.proofs.search.search_plain.Statement.{statement}
 use Rattle.searcher.proofs.search.search_plain.Tie as tie

@@ -1,5 +1,5 @@
 -- `search_in_long` meets its contract: a window of 65,536 is long enough. Assumes nothing.
-use Rattle.laws.specs.Searching.{cleared-room, cleared-whole}
+use Rattle.laws.specs.Window.Searching.{cleared-room, cleared-whole}
 use native.Mathlib.Omega.{arith}
 use borrow.Author.Needs.{needs}
 use Rattle.searcher.proofs.starts.search_in_long.Statement.{statement}

@@ -4,7 +4,7 @@ use native.Mathlib.Omega.{arith}
 use lib.ListN.{length, take}
 use lib.Seq.{length-take-le}
 use Rattle.spec.specs.Dictionary.{lexicon}
-use Rattle.laws.specs.Searching.{cleared-part, says-count}
+use Rattle.laws.specs.Window.Searching.{cleared-part, says-count}
 use borrow.Author.Needs.{needs}
 use Rattle.searcher.proofs.starts.search_lent.Statement.{statement}
 use Rattle.searcher.proofs.starts.search_lent.Tie as tie

@@ -1,7 +1,7 @@
 -- `reach_by_text` meets its contract: its room is long enough for every text. Assumes nothing.
 use native.Mathlib.Omega.{arith}
 use Rattle.spec.specs.Index.{n-of}
-use Rattle.laws.specs.Searching.{cleared-room}
+use Rattle.laws.specs.Window.Searching.{cleared-room}
 use borrow.Author.Needs.{needs}
 use Rattle.searcher.proofs.window.reach_by_text.Statement.{statement}
 use Rattle.searcher.proofs.window.reach_by_text.Tie as tie

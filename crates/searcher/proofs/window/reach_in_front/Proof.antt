@@ -12,16 +12,16 @@ shared-slice-read-n c = search needs
 cast-n : tie.Need-cast-n
 cast-n c = search needs
 
-slice-relend-prefix-reach-painted : tie.Need-slice-relend-prefix-reach-painted
-slice-relend-prefix-reach-painted c = search needs
+slice-relend-prefix-reach-reconstructed : tie.Need-slice-relend-prefix-reach-reconstructed
+slice-relend-prefix-reach-reconstructed c = search needs
 
-slice-aggregate-reach-painted : tie.Need-slice-aggregate-reach-painted
-slice-aggregate-reach-painted c =
+slice-aggregate-reach-reconstructed : tie.Need-slice-aggregate-reach-reconstructed
+slice-aggregate-reach-reconstructed c =
     let s = c .before .before .before .before .before .before .before .before .before in
     sym (length-take-le (n-of (s .args .index .now)) (s .args .room .now) (s .pre .3))
 
-reach-painted-requires : tie.Need-reach-painted-requires
-reach-painted-requires c κs =
+reach-reconstructed-requires : tie.Need-reach-reconstructed-requires
+reach-reconstructed-requires c κs =
     let s = c .before .before .before .before .before .before .before .before .before .before in
     (s .pre .0, s .pre .1, s .pre .2, length-take-le (n-of (s .args .index .now)) (s .args .room .now) (s .pre .3), s .pre .4)
 
@@ -40,9 +40,9 @@ reach-in-front-spec =
     (tie.spec
     shared-slice-read-n
     cast-n
-    slice-relend-prefix-reach-painted
-    slice-aggregate-reach-painted
-    reach-painted-requires
+    slice-relend-prefix-reach-reconstructed
+    slice-aggregate-reach-reconstructed
+    reach-reconstructed-requires
     same-length
     same-length-2
     returns)

@@ -2,14 +2,14 @@
 use native.Mathlib.Omega.{arith}
 use lib.ListN.{length}
 use Rattle.spec.specs.Dictionary.{lexicon}
-use Rattle.laws.specs.Searching.{says-count}
-use Rattle.laws.specs.PaintedSearch.{says-told, still-clear}
+use Rattle.laws.specs.Window.Searching.{says-count}
+use Rattle.laws.specs.TextScan.ReconstructedSearch.{says-told, still-clear}
 use borrow.Author.Needs.{needs}
 use Rattle.searcher.proofs.window.search_cleared.Statement.{statement}
 use Rattle.searcher.proofs.window.search_cleared.Tie as tie
 
-reach-if-dense-requires : tie.Need-reach-if-dense-requires
-reach-if-dense-requires c κs = search needs
+reach-if-cheaper-requires : tie.Need-reach-if-cheaper-requires
+reach-if-cheaper-requires c κs = search needs
 
 answer-window-requires : tie.Need-answer-window-requires
 answer-window-requires c κs = search needs
@@ -23,7 +23,7 @@ same-length-2 c = search needs
 returns : tie.Need-returns
 returns c =
     let a = c .before .before .before .before .before .before .before .before .before .before .before .before .before .before .before .before .before .before .args in
-    let told = c .before .before .before .before .before .before .before .before .reach-if-dense in
+    let told = c .before .before .before .before .before .before .before .before .reach-if-cheaper in
     let answered = c .before .before .answer-window in
     says-told (lexicon (a .chars .now) (a .lengths .now)) (a .index .now) (a .string .now) (length (a .reach .now)) (told .last .1 .1 .1 .1 .1 .0) (answered .result) (a .output .now)
     (answered .last .1 .1 .1 .0) (told .ensures .0 (c .before .before .before .before .before .if1 .taken)) (told .kept .1 .1 .1 .1 .1 .0) (answered .ensures)
@@ -32,7 +32,7 @@ search-window-requires : tie.Need-search-window-requires
 search-window-requires c κs =
     let s = c .before .before .before .before .before .before .before .before .before .before .before .before .before .before .before in
     let a = s .args in
-    let told = c .before .before .before .before .before .reach-if-dense in (
+    let told = c .before .before .before .before .before .reach-if-cheaper in (
       s .pre .0,
       s .pre .1,
       omega (arith, s .pre .2, told .kept .1 .1 .1 .1 .1 .0),
@@ -48,7 +48,7 @@ same-length-4 c = search needs
 returns-2 : tie.Need-returns-2
 returns-2 c =
     let a = c .before .before .before .before .before .before .before .before .before .before .before .before .before .before .before .before .before .before .before .before .args in
-    let told = c .before .before .before .before .before .before .before .before .before .before .reach-if-dense in
+    let told = c .before .before .before .before .before .before .before .before .before .before .reach-if-cheaper in
     let searched = c .before .before .before .before .search-window in
     says-count (lexicon (a .chars .now) (a .lengths .now)) (a .index .now) (a .string .now) (length (told .last .1 .1 .1 .1 .1 .0)) (length (a .reach .now)) 1 (searched .result) (a .output .now)
     (searched .last .1 .1 .1 .1 .1 .1 .1 .1 .0) (told .kept .1 .1 .1 .1 .1 .0) (searched .ensures)
@@ -57,7 +57,7 @@ pub search-cleared-spec : {M : Type 1} → statement M
 search-cleared-spec =
     tie.close
     (tie.spec
-    reach-if-dense-requires
+    reach-if-cheaper-requires
     answer-window-requires
     same-length
     same-length-2

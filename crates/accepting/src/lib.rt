@@ -1,2 +1,0 @@
-// Whether what the scan of a text registers is what an index has.
-pub mod noted;

@@ -1,0 +1,155 @@
+-- `mark_all` meets its contract. The invariant: after i positions the rest of them leads to the window that all lead to. The measure is
+-- how many positions are left. The test of the wrapped difference is read by the laws of wrapping. Assumes nothing.
+use mathlib.Core.Path.{_≡_}
+use Prim.Native.Nat.{_+_, _-_}
+use native.Mathlib.Omega.{arith}
+use lib.ListN.{length, getD}
+use Rattle.basics.specs.Wrapping.{wrap-below, wrap-above}
+use Rattle.laws.specs.Window.ExtendAtPositions.{Extending, extending-start, extending-end, extending-outside, extending-passed, extending-extended}
+use borrow.Author.Needs.{needs}
+use Rattle.cover.proofs.extend.extend_at_all.Statement.{statement}
+use Rattle.cover.proofs.extend.extend_at_all.Tie as tie
+
+abbrev Inv-loop : tie.InvT-loop
+Inv-loop positions len string-start key-start first reach₀ max-reach end peak from highest₀ i₀ reach highest i =
+    Extending positions len string-start key-start first reach₀ max-reach reach highest i
+
+abbrev μ-loop : tie.MeasureT-loop
+μ-loop positions len string-start key-start first reach₀ max-reach end peak from highest₀ i₀ reach highest i = length positions - i
+
+-- a start within the window is the position's own
+own :
+    (c : tie.Then1 Inv-loop μ-loop) →
+    let a = c .before .before .before .before .before .before .before .before .before .args in
+    c .before .wrapping-sub-usize .result + (a .first + a .key-start)
+    ≡ getD (a .positions .now) (c .before .before .before .before .loop .i) 0 + a .string-start
+own c =
+    let s = c .before .before .before .before .before .before .before .before .before in
+    let a = s .args in
+    let l = c .before .before .before .before .loop in
+    let w = c .before .wrapping-sub-usize in
+    wrap-below (w .result) (getD (a .positions .now) (l .i) 0 + a .string-start) (a .first + a .key-start) (length (l .reach)) (w .ensures)
+    (omega (arith, s .pre .0)) (c .if1 .taken)
+
+add-greater : tie.Need-add-greater Inv-loop μ-loop
+add-greater c = search needs
+
+sub-greater : tie.Need-sub-greater Inv-loop μ-loop
+sub-greater c = search needs
+
+greater-requires : tie.Need-greater-requires Inv-loop μ-loop
+greater-requires c κs = search needs
+
+greater-requires-2 : tie.Need-greater-requires-2 Inv-loop μ-loop
+greater-requires-2 c κs = search needs
+
+add-from : tie.Need-add-from Inv-loop μ-loop
+add-from c = search needs
+
+loop-holds : tie.Need-loop-holds Inv-loop μ-loop
+loop-holds c =
+    let s = c .before .before .before .before in
+    let a = s .args in
+    extending-start (a .positions .now) (a .len) (a .string-start) (a .key-start) (a .first) (a .reach .now) (a .max-reach) (s .pre .1)
+
+mul-at : tie.Need-mul-at Inv-loop μ-loop
+mul-at c = search needs
+
+shared-slice-read-at : tie.Need-shared-slice-read-at Inv-loop μ-loop
+shared-slice-read-at c = search needs
+
+cast-at : tie.Need-cast-at Inv-loop μ-loop
+cast-at c = omega (arith, c .shared-slice-known2 .given (c .before .before .loop .i))
+
+add-at : tie.Need-add-at Inv-loop μ-loop
+add-at c = omega (arith, c .shared-slice-known2 .given (c .before .before .loop .i))
+
+add-i : tie.Need-add-i Inv-loop μ-loop
+add-i c = search needs
+
+wrapping-sub-usize-requires : tie.Need-wrapping-sub-usize-requires Inv-loop μ-loop
+wrapping-sub-usize-requires c κs = search needs
+
+extend-start-requires : tie.Need-extend-start-requires Inv-loop μ-loop
+extend-start-requires c κs =
+    let s = c .before .before .before .before .before .before .before .before .before .before in
+    let end = c .before .before .before .before .before .before .before .greater .ensures in
+    (c .before .if1 .taken, omega (arith, end), omega (arith, end, s .pre .0 .end-small))
+
+loop-less : tie.Need-loop-less Inv-loop μ-loop
+loop-less c = search needs
+
+loop-again : tie.Need-loop-again Inv-loop μ-loop
+loop-again c =
+    let s = c .before .before .before .before .before .before .before .before .before .before .before .before .before .before in
+    let a = s .args in
+    let l = c .before .before .before .before .before .before .before .before .before .loop in
+    let p = c .before .before .before .before .before .before .wrapping-sub-usize .result in
+    let end = c .before .before .before .before .before .before .before .before .before .before .before .greater in
+    let done = c .before .before .before .extend-start in
+    extending-extended (a .positions .now) (a .len) (a .string-start) (a .key-start) (a .first) (a .reach .now) (a .max-reach) (l .reach) (l .highest) (l .i) (l .inv) (c .before .before .before .before .before .before .before .before .loop-test .taken)
+    p (own (c .before .before .before .before .before)) (c .before .before .before .before .before .if1 .taken) (end .result) (end .ensures) (done .result) (done .last .0) (done .ensures) (c .if2 .taken) (c .before .before .before .before .before .before .before .before .before .before .greater2 .result) (c .before .before .before .before .before .before .before .before .before .before .greater2 .ensures)
+
+loop-less-2 : tie.Need-loop-less-2 Inv-loop μ-loop
+loop-less-2 c = search needs
+
+loop-again-2 : tie.Need-loop-again-2 Inv-loop μ-loop
+loop-again-2 c =
+    let s = c .before .before .before .before .before .before .before .before .before .before .before .before .before .before in
+    let a = s .args in
+    let l = c .before .before .before .before .before .before .before .before .before .loop in
+    let p = c .before .before .before .before .before .before .wrapping-sub-usize .result in
+    let end = c .before .before .before .before .before .before .before .before .before .before .before .greater in
+    let done = c .before .before .before .extend-start in
+    extending-passed (a .positions .now) (a .len) (a .string-start) (a .key-start) (a .first) (a .reach .now) (a .max-reach) (l .reach) (l .highest) (l .i) (l .inv) (c .before .before .before .before .before .before .before .before .loop-test .taken)
+    p (own (c .before .before .before .before .before)) (c .before .before .before .before .before .if1 .taken) (end .result) (end .ensures) (done .result) (done .last .0) (done .ensures) (c .if2 .left)
+
+loop-less-3 : tie.Need-loop-less-3 Inv-loop μ-loop
+loop-less-3 c = search needs
+
+loop-again-3 : tie.Need-loop-again-3 Inv-loop μ-loop
+loop-again-3 c =
+    let s = c .before .before .before .before .before .before .before .before .before in
+    let a = s .args in
+    let l = c .before .before .before .before .loop in
+    let w = c .before .wrapping-sub-usize in
+    extending-outside (a .positions .now) (a .len) (a .string-start) (a .key-start) (a .first) (a .reach .now) (a .max-reach) (l .reach) (l .highest) (l .i) (l .inv) (c .before .before .before .loop-test .taken)
+    (λ from. wrap-above (w .result) (getD (a .positions .now) (l .i) 0 + a .string-start) (a .first + a .key-start) (length (l .reach)) (w .ensures) (w .ok)
+    (omega (arith, s .pre .0)) from (c .if1 .left))
+
+same-length : tie.Need-same-length Inv-loop μ-loop
+same-length c = c .before .loop .inv .way .len
+
+returns : tie.Need-returns Inv-loop μ-loop
+returns c =
+    let a = c .before .before .before .before .before .before .args in
+    let l = c .before .loop in
+    extending-end (a .positions .now) (a .len) (a .string-start) (a .key-start) (a .first) (a .reach .now) (a .max-reach) (l .reach) (l .highest) (l .i) (l .inv) (c .loop-test .left)
+
+pub extend-at-all-spec : {M : Type 1} → statement M
+extend-at-all-spec =
+    tie.close
+    (tie.spec
+    Inv-loop
+    μ-loop
+    add-greater
+    sub-greater
+    greater-requires
+    greater-requires-2
+    add-from
+    loop-holds
+    mul-at
+    shared-slice-read-at
+    cast-at
+    add-at
+    add-i
+    wrapping-sub-usize-requires
+    extend-start-requires
+    loop-less
+    loop-again
+    loop-less-2
+    loop-again-2
+    loop-less-3
+    loop-again-3
+    same-length
+    returns)

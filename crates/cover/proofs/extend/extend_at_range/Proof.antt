@@ -1,0 +1,152 @@
+-- `mark_range` meets its contract. The invariant: i is in the range, and after i positions the rest of them leads to the window that
+-- all lead to. The measure is how many positions of the range are left. Assumes nothing.
+use mathlib.Core.Path.{_≡_}
+use Prim.Native.Nat.{ℕ, _+_, _-_, _≤_, _<_}
+use native.Mathlib.Omega.{arith}
+use lib.ListN.{length, getD}
+use Rattle.laws.specs.Window.ListRange.{range-own, range-inside}
+use Rattle.laws.specs.Window.ExtendAtPositions.{Extending, range-start, range-end, extending-passed, extending-extended}
+use borrow.Author.Needs.{needs}
+use Rattle.cover.proofs.extend.extend_at_range.Statement.{statement}
+use Rattle.cover.proofs.extend.extend_at_range.Tie as tie
+
+abbrev Inv-loop : tie.InvT-loop
+Inv-loop positions from to len string-start key-start first reach₀ max-reach end peak base highest₀ i₀ reach highest i =
+    (from ≤ i) × Extending positions len string-start key-start first reach₀ max-reach reach highest i
+
+abbrev μ-loop : tie.MeasureT-loop
+μ-loop positions from to len string-start key-start first reach₀ max-reach end peak base highest₀ i₀ reach highest i = to - i
+
+-- the start that the position falls on
+abbrev start : tie.At-loop Inv-loop μ-loop → ℕ
+start l =
+    let a = l .before .before .before .before .before .args in
+    getD (a .positions .now) (l .loop .i) 0 + a .string-start - (a .first + a .key-start)
+
+own :
+    (c : tie.In-loop Inv-loop μ-loop) →
+    let a = c .before .before .before .before .before .before .args in
+    start (c .before) + (a .first + a .key-start) ≡ getD (a .positions .now) (c .before .loop .i) 0 + a .string-start
+own c = range-own (c .before .before .before .before .before .before .pre .2) (c .before .loop .i) (c .before .loop .inv .0) (c .loop-test .taken)
+
+inside : (c : tie.In-loop Inv-loop μ-loop) → start (c .before) < length (c .before .loop .reach)
+inside c =
+    omega (
+      arith,
+      c .before .loop .inv .1 .way .len,
+      range-inside (c .before .before .before .before .before .before .pre .2) (c .before .loop .i) (c .before .loop .inv .0) (c .loop-test .taken),
+    )
+
+add-greater : tie.Need-add-greater Inv-loop μ-loop
+add-greater c = search needs
+
+sub-greater : tie.Need-sub-greater Inv-loop μ-loop
+sub-greater c = search needs
+
+greater-requires : tie.Need-greater-requires Inv-loop μ-loop
+greater-requires c κs = search needs
+
+greater-requires-2 : tie.Need-greater-requires-2 Inv-loop μ-loop
+greater-requires-2 c κs = search needs
+
+add-base : tie.Need-add-base Inv-loop μ-loop
+add-base c = search needs
+
+loop-holds : tie.Need-loop-holds Inv-loop μ-loop
+loop-holds c =
+    let s = c .before .before .before .before in
+    let a = s .args in
+    (omega arith, range-start (a .positions .now) (a .len) (a .string-start) (a .key-start) (a .first) (a .reach .now) (a .max-reach) (a .from) (a .to) (s .pre .2) (s .pre .1))
+
+mul-p : tie.Need-mul-p Inv-loop μ-loop
+mul-p c = search needs
+
+shared-slice-read-p : tie.Need-shared-slice-read-p Inv-loop μ-loop
+shared-slice-read-p c = omega (arith, c .before .before .before .before .before .before .before .pre .2 .to)
+
+cast-p : tie.Need-cast-p Inv-loop μ-loop
+cast-p c = omega (arith, c .shared-slice-known2 .given (c .before .before .loop .i))
+
+add-p : tie.Need-add-p Inv-loop μ-loop
+add-p c = omega (arith, c .shared-slice-known2 .given (c .before .before .loop .i), c .before .before .before .before .before .before .before .pre .0)
+
+sub-p : tie.Need-sub-p Inv-loop μ-loop
+sub-p c = omega (arith, own (c .before))
+
+add-i : tie.Need-add-i Inv-loop μ-loop
+add-i c = search needs
+
+extend-start-requires : tie.Need-extend-start-requires Inv-loop μ-loop
+extend-start-requires c κs =
+    let s = c .before .before .before .before .before .before .before .before in
+    let end = c .before .before .before .before .before .greater .ensures in
+    (inside (c .before .before), omega (arith, end), omega (arith, end, s .pre .0 .end-small))
+
+loop-less : tie.Need-loop-less Inv-loop μ-loop
+loop-less c = search needs
+
+loop-again : tie.Need-loop-again Inv-loop μ-loop
+loop-again c =
+    let s = c .before .before .before .before .before .before .before .before .before .before .before .before in
+    let a = s .args in
+    let l = c .before .before .before .before .before .before .before .loop in
+    let end = c .before .before .before .before .before .before .before .before .before .greater in
+    let done = c .before .before .before .extend-start in (
+      omega (arith, l .inv .0),
+      extending-extended (a .positions .now) (a .len) (a .string-start) (a .key-start) (a .first) (a .reach .now) (a .max-reach) (l .reach) (l .highest) (l .i) (l .inv .1)
+          (omega (arith, c .before .before .before .before .before .before .loop-test .taken, s .pre .2 .to)) (start (c .before .before .before .before .before .before .before)) (own (c .before .before .before .before .before .before))
+          (inside (c .before .before .before .before .before .before)) (end .result) (end .ensures) (done .result) (done .last .0) (done .ensures) (c .if1 .taken)
+          (c .before .before .before .before .before .before .before .before .greater2 .result) (c .before .before .before .before .before .before .before .before .greater2 .ensures),
+    )
+
+loop-less-2 : tie.Need-loop-less-2 Inv-loop μ-loop
+loop-less-2 c = search needs
+
+loop-again-2 : tie.Need-loop-again-2 Inv-loop μ-loop
+loop-again-2 c =
+    let s = c .before .before .before .before .before .before .before .before .before .before .before .before in
+    let a = s .args in
+    let l = c .before .before .before .before .before .before .before .loop in
+    let end = c .before .before .before .before .before .before .before .before .before .greater in
+    let done = c .before .before .before .extend-start in (
+      omega (arith, l .inv .0),
+      extending-passed (a .positions .now) (a .len) (a .string-start) (a .key-start) (a .first) (a .reach .now) (a .max-reach) (l .reach) (l .highest) (l .i) (l .inv .1)
+          (omega (arith, c .before .before .before .before .before .before .loop-test .taken, s .pre .2 .to)) (start (c .before .before .before .before .before .before .before)) (own (c .before .before .before .before .before .before))
+          (inside (c .before .before .before .before .before .before)) (end .result) (end .ensures) (done .result) (done .last .0) (done .ensures) (c .if1 .left),
+    )
+
+same-length : tie.Need-same-length Inv-loop μ-loop
+same-length c = c .before .loop .inv .1 .way .len
+
+returns : tie.Need-returns Inv-loop μ-loop
+returns c =
+    let s = c .before .before .before .before .before .before in
+    let a = s .args in
+    let l = c .before .loop in
+    range-end (a .positions .now) (a .len) (a .string-start) (a .key-start) (a .first) (a .reach .now) (a .max-reach) (a .from) (a .to) (s .pre .2) (l .reach) (l .highest) (l .i) (l .inv .1) (c .loop-test .left)
+
+pub extend-at-range-spec : {M : Type 1} → statement M
+extend-at-range-spec =
+    tie.close
+    (tie.spec
+    Inv-loop
+    μ-loop
+    add-greater
+    sub-greater
+    greater-requires
+    greater-requires-2
+    add-base
+    loop-holds
+    mul-p
+    shared-slice-read-p
+    cast-p
+    add-p
+    sub-p
+    add-i
+    extend-start-requires
+    loop-less
+    loop-again
+    loop-less-2
+    loop-again-2
+    same-length
+    returns)

@@ -1,0 +1,66 @@
+-- `raise_key` meets its contract: a key that does not agree changes nothing. Assumes nothing.
+use mathlib.Core.Path.{_≡_, sym, ap, _∙_}
+use native.Mathlib.Omega.{arith}
+use Rattle.spec.specs.Search.{agrees, agrees-at}
+use Rattle.laws.specs.Search.Offset.{agrees-offset}
+use Rattle.laws.specs.Search.Offset32.{start-fits, offset-fits32, offset-held}
+use Rattle.laws.specs.Window.Extending.{extends-none, extends-all}
+use borrow.Author.Needs.{needs}
+use Rattle.cover.proofs.extend.extend_key.Statement.{statement}
+use Rattle.cover.proofs.extend.extend_key.Tie as tie
+
+-- what the call answers, over the starts
+agreed :
+    (c : tie.After-agrees-at) →
+    agrees (c .before .before .before .before .before .args .string .now) (c .before .before .before .before .before .args .string-start) (c .before .before .before .before .before .args .key .now) (c .before .before .before .before .before .args .key-start)
+    ≡ c .agrees-at .result
+agreed c =
+    let s = c .before .before .before .before .before in
+    let a = s .args in
+    agrees-offset (a .string .now) (a .string-start) (a .key .now) (a .key-start)
+    ∙ ap (agrees-at (a .key .now) (a .string .now)) (offset-held (a .key-start) (a .string-start) (omega (arith, s .pre .0 .end-small)) (omega (arith, s .pre .0 .shared, s .pre .0 .end-small)))
+    ∙ sym (c .agrees-at .ensures)
+
+cast-agrees-at : tie.Need-cast-agrees-at
+cast-agrees-at c = start-fits (c .before .before .before .before .args .key-start) (omega (arith, c .before .before .before .before .pre .0 .end-small))
+
+cast-agrees-at-2 : tie.Need-cast-agrees-at-2
+cast-agrees-at-2 c = start-fits (c .before .before .before .before .args .string-start) (omega (arith, c .before .before .before .before .pre .0 .shared, c .before .before .before .before .pre .0 .end-small))
+
+sub-agrees-at : tie.Need-sub-agrees-at
+sub-agrees-at c = offset-fits32 (c .before .before .before .before .args .key-start) (c .before .before .before .before .args .string-start) (omega (arith, c .before .before .before .before .pre .0 .end-small)) (omega (arith, c .before .before .before .before .pre .0 .shared, c .before .before .before .before .pre .0 .end-small))
+
+agrees-at-requires : tie.Need-agrees-at-requires
+agrees-at-requires c κs = search needs
+
+extend-at-positions-requires : tie.Need-extend-at-positions-requires
+extend-at-positions-requires c κs = search needs
+
+same-length : tie.Need-same-length
+same-length c = search needs
+
+returns : tie.Need-returns
+returns c =
+    let a = c .before .before .before .before .before .before .before .before .before .before .args in
+    extends-all (a .string-start) (a .key-start) (a .string .now) (a .key .now) (a .first) (a .positions .now) (a .reach .now)
+    (agreed (c .before .before .before .before .before) ∙ c .before .before .before .before .if1 .taken) (c .before .before .extend-at-positions .last .1 .1 .1 .1 .1 .0) (c .before .before .extend-at-positions .result)
+    (c .before .before .extend-at-positions .ensures)
+
+returns-2 : tie.Need-returns-2
+returns-2 c =
+    let a = c .before .before .before .before .before .before .args in
+    extends-none (a .string-start) (a .key-start) (a .string .now) (a .key .now) (a .first) (a .positions .now) (a .reach .now)
+    (agreed (c .before) ∙ c .if1 .left) (a .max-reach) (c .before .before .before .before .before .before .pre .1)
+
+pub extend-key-spec : {M : Type 1} → statement M
+extend-key-spec =
+    tie.close
+    (tie.spec
+    cast-agrees-at
+    cast-agrees-at-2
+    sub-agrees-at
+    agrees-at-requires
+    extend-at-positions-requires
+    same-length
+    returns
+    returns-2)

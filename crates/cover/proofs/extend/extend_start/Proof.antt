@@ -1,0 +1,70 @@
+-- `raise_start` meets its contract: the test of the wrapped difference is read by the laws of wrapping. Assumes nothing.
+use Prim.Native.Nat.{_-_}
+use native.Mathlib.Omega.{arith}
+use lib.ListN.{getD}
+use Rattle.basics.specs.Wrapping.{wrap-below, wrap-above}
+use Rattle.laws.specs.Window.ExtendAtPositions.{extends-here, extends-none}
+use borrow.Author.Needs.{needs}
+use Rattle.cover.proofs.extend.extend_start.Statement.{statement}
+use Rattle.cover.proofs.extend.extend_start.Tie as tie
+
+sub-gain : tie.Need-sub-gain
+sub-gain c = search needs
+
+mul-wrapping-sub-usize : tie.Need-mul-wrapping-sub-usize
+mul-wrapping-sub-usize c = search needs
+
+slice-read-wrapping-sub-usize : tie.Need-slice-read-wrapping-sub-usize
+slice-read-wrapping-sub-usize c = search needs
+
+cast-wrapping-sub-usize : tie.Need-cast-wrapping-sub-usize
+cast-wrapping-sub-usize c = omega (arith, c .slice-known2 .given (c .before .before .args .p))
+
+wrapping-sub-usize-requires : tie.Need-wrapping-sub-usize-requires
+wrapping-sub-usize-requires c κs = search needs
+
+cast-reach : tie.Need-cast-reach
+cast-reach c = search needs
+
+mul-reach : tie.Need-mul-reach
+mul-reach c = search needs
+
+slice-write-reach : tie.Need-slice-write-reach
+slice-write-reach c = search needs
+
+same-length : tie.Need-same-length
+same-length c = search needs
+
+returns : tie.Need-returns
+returns c =
+    let s = c .before .before .before .before in
+    let a = s .args in
+    let w = c .before .wrapping-sub-usize in
+    let reached = getD (a .reach .now) (a .p) 0 in
+    let above = wrap-below (w .result) reached (a .key-start) (a .end - a .key-start) (w .ensures) (omega (arith, s .pre .2)) (c .if1 .taken) in
+    extends-here (a .key-start) (a .end) (a .reach .now) (a .p) (omega (arith, above)) (omega (arith, above, c .if1 .taken))
+
+returns-2 : tie.Need-returns-2
+returns-2 c =
+    let s = c .before .before .before .before in
+    let a = s .args in
+    let w = c .before .wrapping-sub-usize in
+    let reached = getD (a .reach .now) (a .p) 0 in
+    extends-none (a .key-start) (a .end) (a .reach .now) (a .p)
+    (λ near. omega (arith, wrap-above (w .result) reached (a .key-start) (a .end - a .key-start) (w .ensures) (w .ok) (omega (arith, s .pre .1, s .pre .2)) near (c .if1 .left), s .pre .1))
+
+pub extend-start-spec : {M : Type 1} → statement M
+extend-start-spec =
+    tie.close
+    (tie.spec
+    sub-gain
+    mul-wrapping-sub-usize
+    slice-read-wrapping-sub-usize
+    cast-wrapping-sub-usize
+    wrapping-sub-usize-requires
+    cast-reach
+    mul-reach
+    slice-write-reach
+    same-length
+    returns
+    returns-2)

@@ -1,0 +1,109 @@
+-- `agrees_in_front` meets its contract. The invariant: the key agrees at none of the first i offsets. The measure is how many are left.
+-- Assumes nothing.
+use mathlib.Core.Path.{_≡_, refl, sym, ap, _∙_}
+use Prim.Native.Nat.{_-_, _<_, _^_}
+use native.Mathlib.Omega.{arith}
+use borrow.Author.Needs.{needs}
+use lib.ListN.{length}
+use Rattle.spec.specs.Search.{agrees, agrees-at}
+use Rattle.laws.specs.Search.Offset.{agrees-offset}
+use Rattle.laws.specs.Search.Offset32.{start-fits, offset-fits32, offset-held}
+use Rattle.laws.specs.Window.LeadingLines.{Apart-to, apart-start, apart-next, apart-pass, apart-end, leading-found}
+use Rattle.cover.proofs.leading_lines.agrees_leading.Statement.{statement}
+use Rattle.cover.proofs.leading_lines.agrees_leading.Tie as tie
+
+abbrev Inv-loop : tie.InvT-loop
+Inv-loop key string character i₀ i = Apart-to string key i
+
+abbrev μ-loop : tie.MeasureT-loop
+μ-loop key string character i₀ i = length key - i
+
+small : (c : tie.In-loop Inv-loop μ-loop) → c .before .loop .i < 2 ^ 31
+small c = omega (arith, c .loop-test .taken, c .before .before .before .before .before .pre .0)
+
+-- what the call answers, over the starts
+agreed :
+    (c : tie.After-agrees-at Inv-loop μ-loop) →
+    agrees (c .before .before .before .before .before .before .before .before .args .string .now) (c .before .before .before .before .loop .i) (c .before .before .before .before .before .before .before .before .args .key .now) 0
+    ≡ c .agrees-at .result
+agreed c =
+    let a = c .before .before .before .before .before .before .before .before .args in
+    let i = c .before .before .before .before .loop .i in
+    agrees-offset (a .string .now) i (a .key .now) 0
+    ∙ ap (agrees-at (a .key .now) (a .string .now)) (offset-held 0 i (omega arith) (small (c .before .before .before)))
+    ∙ sym (c .agrees-at .ensures)
+
+shared-slice-read-character : tie.Need-shared-slice-read-character Inv-loop μ-loop
+shared-slice-read-character c = search needs
+
+loop-holds : tie.Need-loop-holds Inv-loop μ-loop
+loop-holds c = apart-start (c .before .before .before .args .string .now) (c .before .before .before .args .key .now)
+
+add-i : tie.Need-add-i Inv-loop μ-loop
+add-i c = search needs
+
+mul-if1 : tie.Need-mul-if1 Inv-loop μ-loop
+mul-if1 c = search needs
+
+shared-slice-read-if1 : tie.Need-shared-slice-read-if1 Inv-loop μ-loop
+shared-slice-read-if1 c = search needs
+
+cast-agrees-at : tie.Need-cast-agrees-at Inv-loop μ-loop
+cast-agrees-at c = start-fits (c .before .before .before .loop .i) (small (c .before .before))
+
+sub-agrees-at : tie.Need-sub-agrees-at Inv-loop μ-loop
+sub-agrees-at c = offset-fits32 0 (c .before .before .before .loop .i) (omega arith) (small (c .before .before))
+
+agrees-at-requires : tie.Need-agrees-at-requires Inv-loop μ-loop
+agrees-at-requires c κs = tt
+
+returns : tie.Need-returns Inv-loop μ-loop
+returns c =
+    let a = c .before .before .before .before .before .before .before .before .before .args in
+    leading-found (a .string .now) (a .key .now) (c .before .before .before .before .before .loop .i)
+    (c .before .before .before .before .loop-test .taken) (agreed (c .before) ∙ c .if2 .taken)
+
+loop-less : tie.Need-loop-less Inv-loop μ-loop
+loop-less c = search needs
+
+loop-again : tie.Need-loop-again Inv-loop μ-loop
+loop-again c =
+    let a = c .before .before .before .before .before .before .before .before .before .args in
+    let l = c .before .before .before .before .before .loop in
+    apart-next (a .string .now) (a .key .now) (l .i) (l .inv) (agreed (c .before) ∙ c .if2 .left)
+
+loop-less-2 : tie.Need-loop-less-2 Inv-loop μ-loop
+loop-less-2 c = search needs
+
+loop-again-2 : tie.Need-loop-again-2 Inv-loop μ-loop
+loop-again-2 c =
+    let a = c .before .before .before .before .before .before .before .args in
+    let l = c .before .before .before .loop in
+    apart-pass (a .string .now) (a .key .now) (l .i) (l .inv) (c .before .before .loop-test .taken) (c .if1 .left)
+
+returns-2 : tie.Need-returns-2 Inv-loop μ-loop
+returns-2 c =
+    let a = c .before .before .before .before .before .args in
+    let l = c .before .loop in
+    apart-end (a .string .now) (a .key .now) (l .i) (l .inv) (c .loop-test .left)
+
+pub agrees-leading-spec : {M : Type 1} → statement M
+agrees-leading-spec =
+    tie.close
+    (tie.spec
+    Inv-loop
+    μ-loop
+    shared-slice-read-character
+    loop-holds
+    add-i
+    mul-if1
+    shared-slice-read-if1
+    cast-agrees-at
+    sub-agrees-at
+    agrees-at-requires
+    returns
+    loop-less
+    loop-again
+    loop-less-2
+    loop-again-2
+    returns-2)

@@ -1,0 +1,54 @@
+-- `list_fronts` meets its contract: there is room for every line of a word, and what is written stands in front. Assumes nothing.
+use mathlib.Core.Path.{_≡_}
+use native.Mathlib.Omega.{arith}
+use Prim.Native.Nat.{_≤_}
+use lib.ListN.{length}
+use Rattle.spec.specs.Dictionary.{lexicon}
+use Rattle.laws.specs.Window.LineRanges.{Split, kinds-rise, split-found, word-lines-few}
+use Rattle.laws.specs.Window.LeadingLines.{leading-lines, leading-short, leading-taken}
+use borrow.Author.Needs.{needs}
+use Rattle.cover.proofs.leading_lines.list_leading.Statement.{statement}
+use Rattle.cover.proofs.leading_lines.list_leading.Tie as tie
+
+-- the lines of words end there
+split : (c : tie.After-count-word-lines) → Split (c .before .before .before .before .before .before .before .args .index .now) (c .count-word-lines .result)
+split c =
+    let s = c .before .before .before .before .before .before .before in
+    let a = s .args in
+    split-found (a .chars .now) (a .lengths .now) (a .index .now) (s .pre .0) (c .count-word-lines .result) (c .count-word-lines .ensures)
+
+-- and there is room for all of them
+few : (c : tie.After-count-word-lines) → c .count-word-lines .result ≤ length (c .before .before .before .before .before .before .before .args .lines .now)
+few c =
+    let s = c .before .before .before .before .before .before .before in
+    let a = s .args in
+    omega (arith, s .pre .3, word-lines-few (a .chars .now) (a .lengths .now) (a .index .now) (s .pre .0) (c .count-word-lines .result) (split c))
+
+count-word-lines-requires : tie.Need-count-word-lines-requires
+count-word-lines-requires c κs =
+    let s = c .before .before .before .before .before .before in
+    let a = s .args in
+    (s .pre .0 .fits, kinds-rise (a .chars .now) (a .lengths .now) (a .index .now) (s .pre .0))
+
+fill-leading-requires : tie.Need-fill-leading-requires
+fill-leading-requires c κs =
+    let s = c .before .before .before .before .before .before .before .before in
+    (s .pre .0, s .pre .1, s .pre .2, split (c .before) .within, few (c .before))
+
+same-length : tie.Need-same-length
+same-length c = search needs
+
+returns : tie.Need-returns
+returns c =
+    let a = c .before .before .before .before .before .before .before .before .before .before .before .args in
+    let filled = c .before .before .fill-leading in
+    let ended = c .before .before .before .before in
+    let word-lines = ended .count-word-lines .result in (
+      split ended,
+      omega (arith, filled .ensures .0, leading-short (lexicon (a .chars .now) (a .lengths .now)) (a .index .now) (a .string .now) word-lines, few ended, filled .kept .1 .1 .1 .1 .1 .1 .0),
+      leading-taken (filled .result) (leading-lines (lexicon (a .chars .now) (a .lengths .now)) (a .index .now) (a .string .now) word-lines) (a .lines .now) (filled .last .1 .1 .1 .1 .1 .1 .0) (filled .ensures .0) (filled .ensures .1),
+    )
+
+pub list-leading-spec : {M : Type 1} → statement M
+list-leading-spec =
+    tie.close (tie.spec count-word-lines-requires fill-leading-requires same-length returns)

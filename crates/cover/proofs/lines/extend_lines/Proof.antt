@@ -1,0 +1,64 @@
+-- `raise_lines` meets its contract. The invariant: the lines before `line` are done. The measure is how many are left. Assumes nothing.
+use Prim.Native.Nat.{_-_}
+use native.Mathlib.Omega.{arith}
+use borrow.Author.Needs.{needs}
+use Rattle.spec.specs.Dictionary.{lexicon}
+use Rattle.laws.specs.Window.LineSteps.{Left, left-start, left-step, left-end, offset-at}
+use Rattle.cover.proofs.lines.extend_lines.Statement.{statement}
+use Rattle.cover.proofs.lines.extend_lines.Tie as tie
+
+abbrev Inv-loop : tie.InvT-loop
+Inv-loop chars lengths index word-starts list-starts string key-start from to first reach₀ max-reach highest₀ line₀ reach highest line =
+    Left (offset-at key-start (lexicon chars lengths) index string first) from to reach₀ reach highest line to
+
+abbrev μ-loop : tie.MeasureT-loop
+μ-loop chars lengths index word-starts list-starts string key-start from to first reach₀ max-reach highest₀ line₀ reach highest line = to - line
+
+loop-holds : tie.Need-loop-holds Inv-loop μ-loop
+loop-holds c =
+    let s = c .before .before .before .before .before .before .before in
+    let a = s .args in
+    left-start (offset-at (a .key-start) (lexicon (a .chars .now) (a .lengths .now)) (a .index .now) (a .string .now) (a .first)) (a .from) (a .to) (a .reach .now) (a .max-reach) (s .pre .4)
+
+extend-line-requires : tie.Need-extend-line-requires Inv-loop μ-loop
+extend-line-requires c κs =
+    let s = c .before .before .before .before .before .before .before .before .before .before in
+    (s .pre .0, s .pre .1, omega (arith, c .before .loop-test .taken, s .pre .2), s .pre .3, c .before .before .loop .inv .bounded)
+
+add-line : tie.Need-add-line Inv-loop μ-loop
+add-line c =
+    let s = c .before .before .before .before .before .before .before .before .before .before .before .before .before in
+    omega (arith, c .before .before .before .before .loop-test .taken, s .pre .2, s .pre .0 .can .keys-small)
+
+loop-less : tie.Need-loop-less Inv-loop μ-loop
+loop-less c = search needs
+
+loop-again : tie.Need-loop-again Inv-loop μ-loop
+loop-again c =
+    let a = c .before .before .before .before .before .before .before .before .before .before .before .before .before .args in
+    let l = c .before .before .before .before .before .loop in
+    left-step (offset-at (a .key-start) (lexicon (a .chars .now) (a .lengths .now)) (a .index .now) (a .string .now) (a .first)) (a .from) (a .to) (a .reach .now) (l .reach) (l .highest) (l .line) (a .to) (l .inv) (c .before .before .before .before .loop-test .taken)
+    (c .before .before .extend-line .last .1 .1 .1 .1 .1 .1 .1 .1 .1 .0) (c .before .before .extend-line .result) (c .before .before .extend-line .kept .1 .1 .1 .1 .1 .1 .1 .1 .1 .0) (c .before .before .extend-line .ensures)
+
+same-length : tie.Need-same-length Inv-loop μ-loop
+same-length c = c .before .loop .inv .len
+
+returns : tie.Need-returns Inv-loop μ-loop
+returns c =
+    let a = c .before .before .before .before .before .before .before .before .before .args in
+    let l = c .before .loop in
+    left-end (offset-at (a .key-start) (lexicon (a .chars .now) (a .lengths .now)) (a .index .now) (a .string .now) (a .first)) (a .from) (a .to) (a .reach .now) (l .reach) (l .highest) (l .line) (a .to) (l .inv) (c .loop-test .left)
+
+pub extend-lines-spec : {M : Type 1} → statement M
+extend-lines-spec =
+    tie.close
+    (tie.spec
+    Inv-loop
+    μ-loop
+    loop-holds
+    extend-line-requires
+    add-line
+    loop-less
+    loop-again
+    same-length
+    returns)

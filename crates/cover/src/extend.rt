@@ -1,0 +1,166 @@
+// One key at one offset against the string: each start of a window at which an entry of the key then lies is raised.
+//
+// The offset is two natural starts, one of them 0. An entry that starts within what is reached raises the reach to its end. Of a long
+// list only the positions that fall into the window are walked, a range that two lower bounds give; a short list is walked sooner than
+// searched. Differences wrap, so that one test tells whether a number lies in a range: below its start the difference is very large.
+ghost use mathlib.Core.Path.{_≡_};
+ghost use Prim.Native.Nat.{_-_, _≤_, _<_, max};
+ghost use lib.ListN.{length};
+ghost use Rattle.laws.specs.Window.Window.{Within, Reaches};
+ghost use Rattle.laws.specs.Window.WindowSearch.{positions-all, key-all};
+ghost use Rattle.laws.specs.Window.ListRange.{Ascending, Window-range};
+ghost use Rattle.laws.specs.Window.ExtendAtPositions.{Offset-fits, Extends};
+use crate::lower_bound::lower_bound;
+use postings::agreement::agrees_at;
+use std::num::wrapping_sub_usize;
+
+// The greater of two numbers.
+fn greater(a: usize, b: usize) -> usize
+    ensures { λ r. ⌜ r ≡ max a b ⌝ }
+{
+    if a < b { b } else { a }
+}
+
+// By how much a is greater than b, 0 where it is not.
+fn saturating_sub(a: usize, b: usize) -> usize
+    ensures { λ r. ⌜ r ≡ a - b ⌝ }
+{
+    if a < b { 0 } else { a - b }
+}
+
+// Raises the reach of the start `p` to `end` if it is from `key_start` to `end` - 1. Answers whether it is.
+fn extend_start(reach: &mut [u16], p: usize, key_start: usize, end: usize) -> bool
+    requires { ⌜ (p < length (now reach)) × («key_start» ≤ end) × (end ≤ 65535) ⌝ }
+    ensures { λ r. ⌜ Extends «key_start» end (now (reach .entry)) p r (now (reach .exit)) ⌝ }
+{
+    let gain = end - key_start;
+    let above = wrapping_sub_usize(reach[p] as usize, key_start);
+    if above < gain {
+        reach[p] = end as u16;
+        return true;
+    }
+    false
+}
+
+// Raises the reach of each start of the window at which an entry of these positions lies at the offset. Answers how far any start
+// then reaches.
+fn extend_at_all(
+    positions: &[u16],
+    len: usize,
+    string_start: usize,
+    key_start: usize,
+    first: usize,
+    reach: &mut [u16],
+    max_reach: usize,
+) -> usize
+    requires { ⌜ Offset-fits len «string_start» «key_start» first × Within «max_reach» (now reach) ⌝ }
+    ensures { λ r. ⌜ Reaches (positions-all «string_start» «key_start» len first (now (positions .entry)) (now (reach .entry))) (now (reach .exit)) r ⌝ }
+{
+    let end = greater(key_start, key_start + len - string_start);
+    let peak = greater(max_reach, end);
+    let from = first + key_start;
+    let mut highest = max_reach;
+    let mut i = 0;
+    while i < positions.len() {
+        let at = positions[i] as usize + string_start;
+        i += 1;
+        let p = wrapping_sub_usize(at, from);
+        if p < reach.len() {
+            if extend_start(reach, p, key_start, end) {
+                highest = peak;
+            }
+        }
+    }
+    highest
+}
+
+// The same, where the positions from `from` to `to` - 1 are those that fall into the window.
+fn extend_at_range(
+    positions: &[u16],
+    from: usize,
+    to: usize,
+    len: usize,
+    string_start: usize,
+    key_start: usize,
+    first: usize,
+    reach: &mut [u16],
+    max_reach: usize,
+) -> usize
+    requires { ⌜ Offset-fits len «string_start» «key_start» first × Within «max_reach» (now reach) × Window-range (now positions) «string_start» «key_start» first (length (now reach)) from to ⌝ }
+    ensures { λ r. ⌜ Reaches (positions-all «string_start» «key_start» len first (now (positions .entry)) (now (reach .entry))) (now (reach .exit)) r ⌝ }
+{
+    let end = greater(key_start, key_start + len - string_start);
+    let peak = greater(max_reach, end);
+    let base = first + key_start;
+    let mut highest = max_reach;
+    let mut i = from;
+    while i < to {
+        let p = positions[i] as usize + string_start - base;
+        i += 1;
+        if extend_start(reach, p, key_start, end) {
+            highest = peak;
+        }
+    }
+    highest
+}
+
+// The same with the range found, if the list is not short.
+pub(crate) fn extend_at_positions(
+    positions: &[u16],
+    len: usize,
+    string_start: usize,
+    key_start: usize,
+    first: usize,
+    reach: &mut [u16],
+    max_reach: usize,
+) -> usize
+    requires { ⌜ Offset-fits len «string_start» «key_start» first × Within «max_reach» (now reach) × Ascending (now positions) ⌝ }
+    ensures { λ r. ⌜ Reaches (positions-all «string_start» «key_start» len first (now (positions .entry)) (now (reach .entry))) (now (reach .exit)) r ⌝ }
+{
+    if positions.len() <= 16 {
+        return extend_at_all(positions, len, string_start, key_start, first, reach, max_reach);
+    }
+    let base = first + key_start;
+    let from = lower_bound(positions, saturating_sub(base, string_start));
+    let to = lower_bound(positions, saturating_sub(base + reach.len(), string_start));
+    extend_at_range(
+        positions,
+        from,
+        to,
+        len,
+        string_start,
+        key_start,
+        first,
+        reach,
+        max_reach,
+    )
+}
+
+// The same for one key at one offset, if it agrees with the string there.
+pub(crate) fn extend_key(
+    key: &[u16],
+    string: &[u16],
+    positions: &[u16],
+    string_start: usize,
+    key_start: usize,
+    first: usize,
+    reach: &mut [u16],
+    max_reach: usize,
+) -> usize
+    requires { ⌜ Offset-fits (length (now key)) «string_start» «key_start» first × Within «max_reach» (now reach) × Ascending (now positions) ⌝ }
+    ensures { λ r. ⌜ Reaches (key-all «string_start» «key_start» (now (string .entry)) (now (key .entry)) first (now (positions .entry)) (now (reach .entry))) (now (reach .exit)) r ⌝ }
+{
+    if agrees_at(key, string, key_start as i32 - string_start as i32) {
+        extend_at_positions(
+            positions,
+            key.len(),
+            string_start,
+            key_start,
+            first,
+            reach,
+            max_reach,
+        )
+    } else {
+        max_reach
+    }
+}

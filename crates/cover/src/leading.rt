@@ -1,0 +1,114 @@
+// The first stage: every key at each offset at which it does not start after the string. Of the lines of words, those listed are
+// walked: the others do not agree there.
+ghost use mathlib.Core.Path.{_≡_};
+ghost use Prim.Native.Nat.{_≤_};
+ghost use lib.ListN.{length};
+ghost use Rattle.spec.specs.Dictionary.{lexicon};
+ghost use Rattle.spec.specs.Index.{lines-in};
+ghost use Rattle.laws.specs.Window.Window.{Within, Reaches};
+ghost use Rattle.laws.specs.Window.WindowSearch.{back-all, leading-all};
+ghost use Rattle.laws.specs.Directory.Tables.{Opened};
+ghost use Rattle.laws.specs.Window.LineSteps.{leading-at};
+ghost use Rattle.laws.specs.Window.ListRange.{Ascending};
+ghost use Rattle.laws.specs.Window.LineRanges.{Split};
+ghost use Rattle.laws.specs.Window.LeadingLines.{Has-lines, leading-lines, run-list};
+use crate::lines::extend_lone;
+use crate::extend::extend_key;
+use directory::lines::key_of;
+use directory::lines::positions_of;
+
+// Raises the window by one key at each offset at which it does not start after the string.
+fn extend_back(
+    key: &[u16],
+    string: &[u16],
+    positions: &[u16],
+    first: usize,
+    reach: &mut [u16],
+    max_reach: usize,
+) -> usize
+    requires { ⌜ (length (now key) ≤ 32) × (1 ≤ length (now string)) × (first ≤ 65536) × Within «max_reach» (now reach) × Ascending (now positions) ⌝ }
+    ensures { λ r. ⌜ Reaches (back-all (length (now (key .entry))) 0 (now (string .entry)) (now (key .entry)) first (now (positions .entry)) (now (reach .entry))) (now (reach .exit)) r ⌝ }
+{
+    let mut highest = max_reach;
+    let mut i = 0;
+    while i < key.len() {
+        let at = i;
+        i += 1;
+        if key[at] == string[0] {
+            highest = extend_key(key, string, positions, at, 0, first, reach, highest);
+        }
+    }
+    highest
+}
+
+// The same by the listed lines.
+fn extend_words_back<'a>(
+    chars: &'a [u16],
+    lengths: &[u16],
+    index: &'a [u16],
+    word_starts: &[u16],
+    list_starts: &[u32],
+    string: &[u16],
+    lines: &[u16],
+    first: usize,
+    reach: &mut [u16],
+    max_reach: usize,
+) -> usize
+    requires { ⌜ Opened (now chars) (now lengths) (now index) (now «word_starts») (now «list_starts») × Has-lines (now index) (now lines) × (1 ≤ length (now string)) × (first ≤ 65536) × Within «max_reach» (now reach) ⌝ }
+    ensures { λ r. ⌜ Reaches (run-list (leading-at (lexicon (now (chars .entry)) (now (lengths .entry))) (now (index .entry)) (now (string .entry)) first) (now (lines .entry)) (now (reach .entry))) (now (reach .exit)) r ⌝ }
+{
+    let mut highest = max_reach;
+    let mut i = 0;
+    while i < lines.len() {
+        let line = lines[i] as usize;
+        let key = key_of(chars, lengths, index, word_starts, line);
+        let positions = positions_of(index, list_starts, line);
+        highest = extend_back(key, string, positions, first, reach, highest);
+        i += 1;
+    }
+    highest
+}
+
+// The first stage. A lone character does not start before the string.
+pub(crate) fn extend_leading<'a>(
+    chars: &'a [u16],
+    lengths: &[u16],
+    index: &'a [u16],
+    word_starts: &[u16],
+    list_starts: &[u32],
+    string: &[u16],
+    word_lines: usize,
+    lines: &[u16],
+    first: usize,
+    reach: &mut [u16],
+    max_reach: usize,
+) -> usize
+    requires { ⌜ Opened (now chars) (now lengths) (now index) (now «word_starts») (now «list_starts») × Split (now index) «word_lines» × (now lines ≡ leading-lines (lexicon (now chars) (now lengths)) (now index) (now string) «word_lines») × (1 ≤ length (now string)) × (length (now string) ≤ 256) × (first ≤ 65536) × Within «max_reach» (now reach) ⌝ }
+    ensures { λ r. ⌜ Reaches (leading-all (lexicon (now (chars .entry)) (now (lengths .entry))) (lines-in (now (index .entry))) (now (string .entry)) first (now (reach .entry))) (now (reach .exit)) r ⌝ }
+{
+    let highest = extend_words_back(
+        chars,
+        lengths,
+        index,
+        word_starts,
+        list_starts,
+        string,
+        lines,
+        first,
+        reach,
+        max_reach,
+    );
+    extend_lone(
+        chars,
+        lengths,
+        index,
+        word_starts,
+        list_starts,
+        string,
+        0,
+        word_lines,
+        first,
+        reach,
+        highest,
+    )
+}

@@ -1,0 +1,87 @@
+// The lines of words whose keys agree with the string at an offset of 0 or below, listed.
+//
+// Which they are does not depend on the window: whoever searches several windows for one string lists them once.
+ghost use mathlib.Core.Path.{_≡_};
+ghost use Prim.Native.Nat.{_≤_};
+ghost use lib.ListN.{length, take};
+ghost use Rattle.spec.specs.Dictionary.{lexicon};
+ghost use Rattle.spec.specs.Index.{keys-of};
+ghost use Rattle.spec.specs.Calls.{in-front};
+ghost use Rattle.laws.specs.Directory.Tables.{Can-read, Word-starts};
+ghost use Rattle.laws.specs.Window.LineRanges.{Split};
+ghost use Rattle.laws.specs.Window.LeadingLines.{agrees-leading, leading-lines};
+use directory::lines::key_of;
+use directory::ranges::count_word_lines;
+use postings::agreement::agrees_at;
+
+// Whether a key agrees with the string at an offset of 0 or below.
+fn agrees_leading(key: &[u16], string: &[u16]) -> bool
+    requires { ⌜ (length (now key) ≤ 32) × (1 ≤ length (now string)) ⌝ }
+    ensures { λ r. ⌜ r ≡ agrees-leading (now (string .entry)) (now (key .entry)) ⌝ }
+{
+    let character = string[0];
+    let mut i = 0;
+    while i < key.len() {
+        let at = i;
+        i += 1;
+        if key[at] == character {
+            if agrees_at(key, string, -(at as i32)) {
+                return true;
+            }
+        }
+    }
+    false
+}
+
+// Lists those of the first `ends` lines whose keys do, at the front of `lines`. Answers how many they are.
+fn fill_leading<'a>(
+    chars: &'a [u16],
+    lengths: &[u16],
+    index: &'a [u16],
+    word_starts: &[u16],
+    string: &[u16],
+    word_lines: usize,
+    lines: &mut [u16],
+) -> usize
+    requires { ⌜ Can-read (now chars) (now lengths) (now index) × Word-starts (now lengths) (length (now lengths)) (now «word_starts») × (1 ≤ length (now string)) × («word_lines» ≤ keys-of (now index)) × («word_lines» ≤ length (now lines)) ⌝ }
+    ensures { λ r. ⌜ (r ≡ length (leading-lines (lexicon (now (chars .entry)) (now (lengths .entry))) (now (index .entry)) (now (string .entry)) «word_lines»)) × (now (lines .exit) ≡ in-front (leading-lines (lexicon (now (chars .entry)) (now (lengths .entry))) (now (index .entry)) (now (string .entry)) «word_lines») (now (lines .entry))) ⌝ }
+{
+    let mut count = 0;
+    let mut line = 0;
+    while line < word_lines {
+        let at = line;
+        line += 1;
+        let key = key_of(chars, lengths, index, word_starts, at);
+        if agrees_leading(key, string) {
+            lines[count] = at as u16;
+            count += 1;
+        }
+    }
+    count
+}
+
+// How many lines are those of words, and how many of these are listed.
+pub struct Leading {
+    pub words: usize,
+    pub count: usize,
+}
+
+// Lists all such lines at the front of `lines`: there are no more lines of words than words.
+pub fn list_leading<'a>(
+    chars: &'a [u16],
+    lengths: &[u16],
+    index: &'a [u16],
+    word_starts: &[u16],
+    string: &[u16],
+    lines: &mut [u16],
+) -> Leading
+    requires { ⌜ Can-read (now chars) (now lengths) (now index) × Word-starts (now lengths) (length (now lengths)) (now «word_starts») × (1 ≤ length (now string)) × (4096 ≤ length (now lines)) ⌝ }
+    ensures { λ r. ⌜ Split (now (index .entry)) (r .words) × (r .count ≤ length (now (lines .exit))) × (take (r .count) (now (lines .exit)) ≡ leading-lines (lexicon (now (chars .entry)) (now (lengths .entry))) (now (index .entry)) (now (string .entry)) (r .words)) ⌝ }
+{
+    let word_lines = count_word_lines(index);
+    let count = fill_leading(chars, lengths, index, word_starts, string, word_lines, lines);
+    Leading {
+        words: word_lines,
+        count,
+    }
+}

@@ -1,0 +1,38 @@
+// The lower bound of a number in an ascending list of positions: binary search.
+ghost use Rattle.laws.specs.Window.ListRange.{Ascending, List-lower-bound};
+
+// The first index whose position is not below `least`.
+fn search_positions(positions: &[u16], least: usize) -> usize
+    requires { ⌜ Ascending (now positions) ⌝ }
+    ensures { λ r. ⌜ List-lower-bound (now (positions .entry)) least r ⌝ }
+{
+    let mut a = 0;
+    let mut b = positions.len();
+    while a < b {
+        let middle = a + (b - a) / 2;
+        if (positions[middle] as usize) < least {
+            a = middle + 1;
+        } else {
+            b = middle;
+        }
+    }
+    a
+}
+
+// The same, where the first position or the last one often tells.
+pub(crate) fn lower_bound(positions: &[u16], least: usize) -> usize
+    requires { ⌜ Ascending (now positions) ⌝ }
+    ensures { λ r. ⌜ List-lower-bound (now (positions .entry)) least r ⌝ }
+{
+    let count = positions.len();
+    if count == 0 {
+        return 0;
+    }
+    if least <= positions[0] as usize {
+        return 0;
+    }
+    if (positions[count - 1] as usize) < least {
+        return count;
+    }
+    search_positions(positions, least)
+}

@@ -1,0 +1,87 @@
+-- `first_line` meets its contract. The invariant: the line is not before a and not after b. The measure is how many lie between.
+-- Assumes nothing.
+use Prim.Native.Nat.{_/_, _+_, _*_, _-_}
+use native.Mathlib.Omega.{arith}
+use borrow.Author.Needs.{needs}
+use Rattle.basics.specs.LowerBound.{Bisected, bisected-start, bisected-up, bisected-down, bisected-end}
+use Rattle.laws.specs.Window.LineRanges.{number-at}
+use Rattle.directory.proofs.ranges.line_lower_bound.Statement.{statement}
+use Rattle.directory.proofs.ranges.line_lower_bound.Tie as tie
+
+abbrev Inv-loop : tie.InvT-loop
+Inv-loop index low high field least a₀ b₀ a b = Bisected (number-at index field) low high least a b
+
+abbrev μ-loop : tie.MeasureT-loop
+μ-loop index low high field least a₀ b₀ a b = b - a
+
+loop-holds : tie.Need-loop-holds Inv-loop μ-loop
+loop-holds c = bisected-start (number-at (c .args .index .now) (c .args .field)) (c .args .low) (c .args .high) (c .pre .2) (c .args .least)
+
+sub-middle : tie.Need-sub-middle Inv-loop μ-loop
+sub-middle c = search needs
+
+add-middle : tie.Need-add-middle Inv-loop μ-loop
+add-middle c = search needs
+
+mul-if1 : tie.Need-mul-if1 Inv-loop μ-loop
+mul-if1 c = omega (arith, c .before .loop .inv .to, c .before .before .pre .0, c .before .before .pre .1)
+
+add-if1 : tie.Need-add-if1 Inv-loop μ-loop
+add-if1 c = omega (arith, c .before .loop .inv .to, c .before .before .pre .0, c .before .before .pre .1)
+
+add-if1-2 : tie.Need-add-if1-2 Inv-loop μ-loop
+add-if1-2 c = omega (arith, c .before .loop .inv .to, c .before .before .pre .0, c .before .before .pre .1)
+
+mul-if1-2 : tie.Need-mul-if1-2 Inv-loop μ-loop
+mul-if1-2 c = omega (arith, c .before .loop .inv .to, c .before .before .pre .0, c .before .before .pre .1)
+
+shared-slice-read-if1 : tie.Need-shared-slice-read-if1 Inv-loop μ-loop
+shared-slice-read-if1 c = omega (arith, c .before .before .loop .inv .to, c .before .before .before .pre .0, c .before .before .before .pre .1)
+
+cast-if1 : tie.Need-cast-if1 Inv-loop μ-loop
+cast-if1 c = omega (arith, c .shared-slice-known .given (2 + 3 * (c .before .before .loop .a + (c .before .before .loop .b - c .before .before .loop .a) / 2) + c .before .before .before .args .field))
+
+add-a : tie.Need-add-a Inv-loop μ-loop
+add-a c = search needs
+
+loop-less : tie.Need-loop-less Inv-loop μ-loop
+loop-less c = omega arith
+
+loop-again : tie.Need-loop-again Inv-loop μ-loop
+loop-again c =
+    bisected-up (number-at (c .before .before .before .before .args .index .now) (c .before .before .before .before .args .field)) (c .before .before .before .before .args .low) (c .before .before .before .before .args .high) (c .before .before .before .before .pre .2) (c .before .before .before .before .args .least)
+    (c .before .before .before .loop .a) (c .before .before .before .loop .b) (c .before .before .before .loop .inv) (c .before .before .before .loop .a + (c .before .before .before .loop .b - c .before .before .before .loop .a) / 2) (omega arith) (omega arith) (c .if1 .taken)
+
+loop-less-2 : tie.Need-loop-less-2 Inv-loop μ-loop
+loop-less-2 c = omega arith
+
+loop-again-2 : tie.Need-loop-again-2 Inv-loop μ-loop
+loop-again-2 c =
+    bisected-down (number-at (c .before .before .before .before .args .index .now) (c .before .before .before .before .args .field)) (c .before .before .before .before .args .low) (c .before .before .before .before .args .high) (c .before .before .before .before .pre .2) (c .before .before .before .before .args .least)
+    (c .before .before .before .loop .a) (c .before .before .before .loop .b) (c .before .before .before .loop .inv) (c .before .before .before .loop .a + (c .before .before .before .loop .b - c .before .before .before .loop .a) / 2) (omega arith) (omega arith) (c .if1 .left)
+
+returns : tie.Need-returns Inv-loop μ-loop
+returns c =
+    bisected-end (number-at (c .before .before .args .index .now) (c .before .before .args .field)) (c .before .before .args .low) (c .before .before .args .high) (c .before .before .pre .2) (c .before .before .args .least) (c .before .loop .a) (c .before .loop .b) (c .before .loop .inv) (c .loop-test .left)
+
+pub line-lower-bound-spec : {M : Type 1} → statement M
+line-lower-bound-spec =
+    tie.close
+    (tie.spec
+    Inv-loop
+    μ-loop
+    loop-holds
+    sub-middle
+    add-middle
+    mul-if1
+    add-if1
+    add-if1-2
+    mul-if1-2
+    shared-slice-read-if1
+    cast-if1
+    add-a
+    loop-less
+    loop-again
+    loop-less-2
+    loop-again-2
+    returns)

@@ -1,0 +1,96 @@
+-- `first_word` meets its contract. The invariant: the line is not before a and not after b. The measure is how many lie between.
+-- Assumes nothing.
+use Prim.Native.Nat.{ℕ, _/_, _+_, _-_, _≤_, _<_}
+use native.Mathlib.Omega.{arith}
+use borrow.Author.Needs.{needs}
+use Rattle.basics.specs.LowerBound.{Bisected, bisected-start, bisected-up, bisected-down, bisected-end}
+use Rattle.laws.specs.Window.WordLines.{word-char}
+use Rattle.directory.proofs.ranges.word_lower_bound.Statement.{statement}
+use Rattle.directory.proofs.ranges.word_lower_bound.Tie as tie
+
+abbrev Inv-loop : tie.InvT-loop
+Inv-loop chars index word-starts low high depth least a₀ b₀ a b = Bisected (word-char chars index word-starts depth) low high least a b
+
+abbrev μ-loop : tie.MeasureT-loop
+μ-loop chars index word-starts low high depth least a₀ b₀ a b = b - a
+
+-- the line in the middle
+abbrev middle : tie.In-loop Inv-loop μ-loop → ℕ
+middle c = c .before .loop .a + (c .before .loop .b - c .before .loop .a) / 2
+
+after-low : (c : tie.In-loop Inv-loop μ-loop) → c .before .before .before .before .before .args .low ≤ middle c
+after-low c = omega (arith, c .before .loop .inv .from)
+
+before-high : (c : tie.In-loop Inv-loop μ-loop) → middle c < c .before .before .before .before .before .args .high
+before-high c = omega (arith, c .before .loop .inv .to)
+
+loop-holds : tie.Need-loop-holds Inv-loop μ-loop
+loop-holds c =
+    let s = c .before .before .before in
+    let a = s .args in
+    bisected-start (word-char (a .chars .now) (a .index .now) (a .word-starts .now) (a .depth)) (a .low) (a .high) (s .pre .rising) (a .least)
+
+sub-middle : tie.Need-sub-middle Inv-loop μ-loop
+sub-middle c = search needs
+
+add-middle : tie.Need-add-middle Inv-loop μ-loop
+add-middle c = omega (arith, c .before .before .before .before .before .pre .line (middle c) (after-low c) (before-high c))
+
+char-at-requires : tie.Need-char-at-requires Inv-loop μ-loop
+char-at-requires c κs =
+    let p = c .before .before .before .before .before .pre in
+    (p .line (middle c) (after-low c) (before-high c), p .word (middle c) (after-low c) (before-high c), p .room (middle c) (after-low c) (before-high c))
+
+cast-if1 : tie.Need-cast-if1 Inv-loop μ-loop
+cast-if1 c = omega (arith, c .char-at .ok)
+
+add-a : tie.Need-add-a Inv-loop μ-loop
+add-a c =
+    let i = c .before .before in
+    omega (arith, c .before .before .before .before .before .before .before .pre .line (middle i) (after-low i) (before-high i))
+
+loop-less : tie.Need-loop-less Inv-loop μ-loop
+loop-less c = search needs
+
+loop-again : tie.Need-loop-again Inv-loop μ-loop
+loop-again c =
+    let s = c .before .before .before .before .before .before .before in
+    let a = s .args in
+    let l = c .before .before .before .loop in
+    bisected-up (word-char (a .chars .now) (a .index .now) (a .word-starts .now) (a .depth)) (a .low) (a .high) (s .pre .rising) (a .least) (l .a) (l .b) (l .inv) (middle (c .before .before)) (omega arith) (omega arith)
+    (omega (arith, c .before .char-at .ensures, c .if1 .taken))
+
+loop-less-2 : tie.Need-loop-less-2 Inv-loop μ-loop
+loop-less-2 c = search needs
+
+loop-again-2 : tie.Need-loop-again-2 Inv-loop μ-loop
+loop-again-2 c =
+    let s = c .before .before .before .before .before .before .before in
+    let a = s .args in
+    let l = c .before .before .before .loop in
+    bisected-down (word-char (a .chars .now) (a .index .now) (a .word-starts .now) (a .depth)) (a .low) (a .high) (s .pre .rising) (a .least) (l .a) (l .b) (l .inv) (middle (c .before .before)) (omega arith) (omega arith)
+    (omega (arith, c .before .char-at .ensures, c .if1 .left))
+
+returns : tie.Need-returns Inv-loop μ-loop
+returns c =
+    let s = c .before .before .before .before .before in
+    let a = s .args in
+    bisected-end (word-char (a .chars .now) (a .index .now) (a .word-starts .now) (a .depth)) (a .low) (a .high) (s .pre .rising) (a .least) (c .before .loop .a) (c .before .loop .b) (c .before .loop .inv) (c .loop-test .left)
+
+pub word-lower-bound-spec : {M : Type 1} → statement M
+word-lower-bound-spec =
+    tie.close
+    (tie.spec
+    Inv-loop
+    μ-loop
+    loop-holds
+    sub-middle
+    add-middle
+    char-at-requires
+    cast-if1
+    add-a
+    loop-less
+    loop-again
+    loop-less-2
+    loop-again-2
+    returns)

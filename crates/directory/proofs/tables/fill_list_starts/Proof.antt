@@ -1,0 +1,113 @@
+-- `fill_lists` meets its contract. The invariant: the starts of the first i lines are in the table, and `at` is the next one. The
+-- measure is how many lines are left. Assumes nothing.
+use borrow.Author.Needs.{needs}
+use mathlib.Core.Path.{_≡_, refl, _∙_}
+use Prim.Native.Nat.{_+_, _*_, _-_, _≤_}
+use native.Mathlib.Omega.{arith}
+use lib.ListN.{length, length-set}
+use Rattle.spec.specs.Index.{keys-of, counts-from}
+use Rattle.laws.specs.Numbers.Slices.{Fits}
+use Rattle.laws.specs.Directory.Opened.{counts-next}
+use Rattle.laws.specs.Directory.Tables.{List-starts, list-starts-none, list-starts-first, list-starts-next, list-starts-all}
+use Rattle.directory.proofs.tables.fill_list_starts.Statement.{statement}
+use Rattle.directory.proofs.tables.fill_list_starts.Tie as tie
+
+abbrev Inv-loop : tie.InvT-loop
+Inv-loop index keys list-starts₀ at₀ i₀ list-starts at i =
+    List-starts index i list-starts × (length list-starts ≡ length list-starts₀) × (at ≡ counts-from i 0 index) × (at ≤ 65535 * i) × (keys ≡ keys-of index) × (keys ≤ 65535) × Fits index
+
+abbrev μ-loop : tie.MeasureT-loop
+μ-loop index keys list-starts₀ at₀ i₀ list-starts at i = keys - i
+
+loop-holds : tie.Need-loop-holds Inv-loop μ-loop
+loop-holds c =
+    let a = c .args in (
+      list-starts-none (a .index .now) (a .list-starts .now) (omega (arith, c .pre .1, c .pre .3)),
+      refl,
+      list-starts-first (a .index .now),
+      omega arith,
+      c .pre .1,
+      c .pre .2,
+      c .pre .0,
+    )
+
+cast-list-starts : tie.Need-cast-list-starts Inv-loop μ-loop
+cast-list-starts c = omega (arith, c .before .loop .inv .3, c .before .loop .inv .5, c .loop-test .taken)
+
+mul-list-starts : tie.Need-mul-list-starts Inv-loop μ-loop
+mul-list-starts c = search needs
+
+slice-write-list-starts : tie.Need-slice-write-list-starts Inv-loop μ-loop
+slice-write-list-starts c = search needs
+
+mul-at : tie.Need-mul-at Inv-loop μ-loop
+mul-at c = search needs
+
+add-at : tie.Need-add-at Inv-loop μ-loop
+add-at c = search needs
+
+add-at-2 : tie.Need-add-at-2 Inv-loop μ-loop
+add-at-2 c = search needs
+
+mul-at-2 : tie.Need-mul-at-2 Inv-loop μ-loop
+mul-at-2 c = search needs
+
+shared-slice-read-at : tie.Need-shared-slice-read-at Inv-loop μ-loop
+shared-slice-read-at c = search needs
+
+cast-at : tie.Need-cast-at Inv-loop μ-loop
+cast-at c = omega (arith, c .shared-slice-known .given (2 + 3 * c .before .before .loop .i + 2))
+
+add-at-3 : tie.Need-add-at-3 Inv-loop μ-loop
+add-at-3 c = omega (arith, c .before .before .loop .inv .3, c .before .before .loop .inv .5, c .before .loop-test .taken, c .shared-slice-known .given (2 + 3 * c .before .before .loop .i + 2))
+
+add-i : tie.Need-add-i Inv-loop μ-loop
+add-i c = search needs
+
+loop-less : tie.Need-loop-less Inv-loop μ-loop
+loop-less c = search needs
+
+loop-again : tie.Need-loop-again Inv-loop μ-loop
+loop-again c =
+    let a = c .before .before .before .args in
+    let l = c .before .before .loop in (
+      list-starts-next (a .index .now) (l .i) (l .list-starts) (l .inv .0) (omega (arith, c .before .loop-test .taken, l .inv .4)) (l .at) (l .inv .2),
+      length-set (l .list-starts) (l .i) (l .at) ∙ l .inv .1,
+      omega (arith, l .inv .2, counts-next (l .i) (a .index .now)),
+      omega (arith, l .inv .3, c .shared-slice-known .given (2 + 3 * l .i + 2)),
+      l .inv .4,
+      l .inv .5,
+      l .inv .6,
+    )
+
+same-length : tie.Need-same-length Inv-loop μ-loop
+same-length c = c .before .loop .inv .1
+
+returns : tie.Need-returns Inv-loop μ-loop
+returns c =
+    let a = c .before .before .args in
+    let l = c .before .loop in
+    list-starts-all (a .index .now) (l .i) (l .list-starts) (l .inv .0) (omega (arith, c .loop-test .left, l .inv .4))
+
+pub fill-list-starts-spec : {M : Type 1} → statement M
+fill-list-starts-spec =
+    tie.close
+    (tie.spec
+    Inv-loop
+    μ-loop
+    loop-holds
+    cast-list-starts
+    mul-list-starts
+    slice-write-list-starts
+    mul-at
+    add-at
+    add-at-2
+    mul-at-2
+    shared-slice-read-at
+    cast-at
+    add-at-3
+    add-i
+    loop-less
+    loop-again
+    same-length
+    returns)

@@ -1,0 +1,109 @@
+// Where in the directory the keys lie that have a character at a depth: binary search.
+//
+// Lines of words come first, and their words ascend; those that share their first characters are neighbours, and the next ones do
+// not fall. The lone characters after them ascend by value.
+ghost use mathlib.Core.Path.{_≡_};
+ghost use Prim.Native.Nat.{_+_, _*_, _≤_, _<_};
+ghost use lib.ListN.{length, getD};
+ghost use Rattle.spec.specs.Index.{keys-of, value-at};
+ghost use Rattle.laws.specs.Numbers.Slices.{Fits};
+ghost use Rattle.basics.specs.LowerBound.{Rising, Lower-bound};
+ghost use Rattle.laws.specs.Window.LineRanges.{number-at};
+ghost use Rattle.laws.specs.Window.WordLines.{Word-column, word-char};
+
+// Lines `from` to `to` - 1.
+pub struct Range {
+    pub from: usize,
+    pub to: usize,
+}
+
+// The first of the lines `low` to `high` - 1 whose number at `field` is not below `least`.
+pub fn line_lower_bound(index: &[u16], low: usize, high: usize, field: usize, least: usize) -> usize
+    requires { ⌜ (2 + 3 * high ≤ length (now index)) × (field ≤ 2) × Rising (number-at (now index) field) low high ⌝ }
+    ensures { λ r. ⌜ Lower-bound (number-at (now (index .entry)) field) low high least r ⌝ }
+{
+    let mut a = low;
+    let mut b = high;
+    while a < b {
+        let middle = a + (b - a) / 2;
+        if (index[2 + 3 * middle + field] as usize) < least {
+            a = middle + 1;
+        } else {
+            b = middle;
+        }
+    }
+    a
+}
+
+// How many lines are those of words: the first whose kind is not 0.
+pub fn count_word_lines(index: &[u16]) -> usize
+    requires { ⌜ Fits (now index) × Rising (number-at (now index) 0) 0 (keys-of (now index)) ⌝ }
+    ensures { λ r. ⌜ Lower-bound (number-at (now (index .entry)) 0) 0 (keys-of (now (index .entry))) 1 r ⌝ }
+{
+    line_lower_bound(index, 0, index[1] as usize, 0, 1)
+}
+
+// The character at `depth` of the word of a line.
+fn char_at(chars: &[u16], index: &[u16], word_starts: &[u16], line: usize, depth: usize) -> u16
+    requires { ⌜ (2 + 3 * line + 2 < length (now index)) × (value-at (now index) line < length (now «word_starts»)) × (getD (now «word_starts») (value-at (now index) line) 0 + depth < length (now chars)) ⌝ }
+    ensures { λ r. ⌜ r ≡ word-char (now (chars .entry)) (now (index .entry)) (now («word_starts» .entry)) depth line ⌝ }
+{
+    let word = index[2 + 3 * line + 1] as usize;
+    let at = word_starts[word] as usize + depth;
+    chars[at]
+}
+
+// The first of the lines `low` to `high` - 1 whose word's character at `depth` is not below `least`.
+fn word_lower_bound(
+    chars: &[u16],
+    index: &[u16],
+    word_starts: &[u16],
+    low: usize,
+    high: usize,
+    depth: usize,
+    least: usize,
+) -> usize
+    requires { ⌜ Word-column (now chars) (now index) (now «word_starts») low high depth ⌝ }
+    ensures { λ r. ⌜ Lower-bound (word-char (now (chars .entry)) (now (index .entry)) (now («word_starts» .entry)) depth) low high least r ⌝ }
+{
+    let mut a = low;
+    let mut b = high;
+    while a < b {
+        let middle = a + (b - a) / 2;
+        if (char_at(chars, index, word_starts, middle, depth) as usize) < least {
+            a = middle + 1;
+        } else {
+            b = middle;
+        }
+    }
+    a
+}
+
+// The lines among `low` to `high` - 1 whose word has this character at `depth`: all of them where the first and the last have it.
+pub fn equal_range(
+    chars: &[u16],
+    index: &[u16],
+    word_starts: &[u16],
+    low: usize,
+    high: usize,
+    depth: usize,
+    character: u16,
+) -> Range
+    requires { ⌜ Word-column (now chars) (now index) (now «word_starts») low high depth ⌝ }
+    ensures { λ r. ⌜ Lower-bound (word-char (now (chars .entry)) (now (index .entry)) (now («word_starts» .entry)) depth) low high character (r .from) × Lower-bound (word-char (now (chars .entry)) (now (index .entry)) (now («word_starts» .entry)) depth) (r .from) high (character + 1) (r .to) ⌝ }
+{
+    if low < high {
+        if char_at(chars, index, word_starts, low, depth) == character {
+            if char_at(chars, index, word_starts, high - 1, depth) == character {
+                return Range {
+                    from: low,
+                    to: high,
+                };
+            }
+        }
+    }
+    let least = character as usize;
+    let from = word_lower_bound(chars, index, word_starts, low, high, depth, least);
+    let to = word_lower_bound(chars, index, word_starts, from, high, depth, least + 1);
+    Range { from, to }
+}

@@ -1,0 +1,85 @@
+-- `reach_painted` meets its contract: it answers whether every entry stands in what was painted, and tells the window if so. Assumes
+-- nothing.
+use mathlib.Core.Path.{refl}
+use mathlib.Core.Bool.{true, false}
+use native.Mathlib.Omega.{arith}
+use borrow.Author.Needs.{needs}
+use borrow.Author.Tests.{not-true, not-false}
+use Rattle.basics.specs.Bools.{clash}
+use Rattle.basics.specs.Absent.{absent-at}
+use Rattle.spec.specs.Dictionary.{lexicon}
+use Rattle.spec.specs.Index.{n-of, lines-in}
+use Rattle.laws.specs.TextScan.ReconstructedSearch.{reconstructed-finds, reconstructed-once}
+use Rattle.finding.proofs.text_scan.reach_reconstructed.Statement.{statement}
+use Rattle.finding.proofs.text_scan.reach_reconstructed.Tie as tie
+
+sentinel-of-requires : tie.Need-sentinel-of-requires
+sentinel-of-requires c κs = search needs
+
+reconstruct-checked-requires : tie.Need-reconstruct-checked-requires
+reconstruct-checked-requires c κs = search needs
+
+same-length : tie.Need-same-length
+same-length c = search needs
+
+returns : tie.Need-returns
+returns c =
+    let a = c .before .before .before .before .before .before .before .before .before .before .before .before .before .args in
+    let sentinel = c .before .before .before .before .before .sentinel-of in
+    let shown = c .before .before .before .reconstruct-checked in (
+      λ t. clash t refl,
+      (
+        λ f. refl,
+        (
+          reconstructed-once (lexicon (a .chars .now) (a .lengths .now)) (lines-in (a .index .now)) (n-of (a .index .now)) (a .string .now)
+              (shown .last .1 .1 .1 .1 .1 .0) (sentinel .result) (shown .result) false (sentinel .ensures) (shown .ensures .0)
+              (shown .ensures .1) (not-true (shown .result) (c .if1 .taken)),
+          λ t. clash t refl,
+        ),
+      ),
+    )
+
+reach-prefixes-requires : tie.Need-reach-prefixes-requires
+reach-prefixes-requires c κs = search needs
+
+same-length-2 : tie.Need-same-length-2
+same-length-2 c = search needs
+
+same-length-3 : tie.Need-same-length-3
+same-length-3 c = search needs
+
+returns-2 : tie.Need-returns-2
+returns-2 c =
+    let s = c .before .before .before .before .before .before .before .before .before .before .before .before .before .before .before .before .before .before in
+    let a = s .args in
+    let sentinel = c .before .before .before .before .before .before .before .before .before .before .sentinel-of in
+    let shown = c .before .before .before .before .before .before .before .before .reconstruct-checked in
+    let yes-all = not-false (shown .result) (c .before .before .before .before .before .if1 .left) in
+    let told = c .before .before .reach-prefixes in (
+      λ t.
+          reconstructed-finds (lexicon (a .chars .now) (a .lengths .now)) (a .index .now) (n-of (a .index .now)) (sentinel .result)
+          (shown .last .1 .1 .1 .1 .1 .0) (a .string .now) (told .last .1 .1 .0) (record { is = shown .ensures .0; all = shown .ensures .1 .holds yes-all })
+          (absent-at (a .string .now) (sentinel .result) (sentinel .ensures .absent)) (omega (arith, s .pre .4, told .kept .1 .1 .0)) (told .ensures),
+      (
+        λ f. clash refl f,
+        (
+          reconstructed-once (lexicon (a .chars .now) (a .lengths .now)) (lines-in (a .index .now)) (n-of (a .index .now)) (a .string .now)
+              (shown .last .1 .1 .1 .1 .1 .0) (sentinel .result) (shown .result) true (sentinel .ensures) (shown .ensures .0)
+              (shown .ensures .1) yes-all,
+          λ t. told .ensures,
+        ),
+      ),
+    )
+
+pub reach-reconstructed-spec : {M : Type 1} → statement M
+reach-reconstructed-spec =
+    tie.close
+    (tie.spec
+    sentinel-of-requires
+    reconstruct-checked-requires
+    same-length
+    returns
+    reach-prefixes-requires
+    same-length-2
+    same-length-3
+    returns-2)

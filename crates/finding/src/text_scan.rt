@@ -1,0 +1,55 @@
+// A window of starts told by the text that the entries show, for strings that would otherwise be laid against very many entries.
+//
+// The text is painted over a sentinel, the least number that is no character of the string. If every entry stands in it, the string is
+// found exactly where it stands in that text, which one pass tells whatever the characters are. If two entries contradict one another,
+// one of them does not stand in it, and the window is left as it was.
+ghost use mathlib.Core.Path.{_≡_};
+ghost use mathlib.Core.Bool.{true, false};
+ghost use Prim.Native.Nat.{ℕ, suc, _+_, _≤_};
+ghost use lib.ListN.{length};
+ghost use Rattle.basics.specs.Absent.{Least-absent};
+ghost use Rattle.basics.specs.Bools.{Reflects};
+ghost use Rattle.spec.specs.Dictionary.{lexicon};
+ghost use Rattle.spec.specs.Index.{n-of, lines-in};
+ghost use Rattle.laws.specs.Text.Facts.{All-stand};
+ghost use Rattle.laws.specs.Directory.Tables.{Can-read, Word-starts};
+ghost use Rattle.laws.specs.TextScan.ZSearch.{Prefix-lengths};
+ghost use Rattle.laws.specs.TextScan.ReconstructedSearch.{reconstructed-over, Finds};
+use reconstruction::checked::reconstruct_checked;
+use zsearch::sentinel::sentinel_of;
+use zsearch::zarray::fill_zarray;
+use zsearch::prefix_lengths::fill_prefix_lengths;
+
+// The length of the longest prefix of the string at each start of a text.
+fn reach_prefixes(text: &[u16], string: &[u16], reach: &mut [u16])
+    requires { ⌜ (length (now string) ≤ 256) × (length (now reach) + length (now string) ≤ suc (length (now text))) ⌝ }
+    ensures { λ r. ⌜ Prefix-lengths (now (string .entry)) (now (text .entry)) (now (reach .exit)) ⌝ }
+{
+    let mut zarray = [0u16; 256];
+    fill_zarray(string, &mut zarray);
+    fill_prefix_lengths(text, string, &zarray, reach);
+}
+
+// Paints the text into the room lent for it, and answers whether every entry stands there. The window is told exactly then.
+pub fn reach_reconstructed(
+    chars: &[u16],
+    lengths: &[u16],
+    index: &[u16],
+    word_starts: &[u16],
+    string: &[u16],
+    text: &mut [u16],
+    reach: &mut [u16],
+) -> bool
+    requires { ⌜ Can-read (now chars) (now lengths) (now index) × Word-starts (now lengths) (length (now lengths)) (now «word_starts») × (length (now string) ≤ 256) × (length (now text) ≡ n-of (now index)) × (length (now reach) + length (now string) ≤ suc (n-of (now index))) ⌝ }
+    ensures told { λ r. ⌜ (r ≡ true → Finds (lexicon (now (chars .entry)) (now (lengths .entry))) (now (index .entry)) (now (string .entry)) (now (reach .exit))) ⌝ }
+    ensures kept { λ r. ⌜ (r ≡ false → now (reach .exit) ≡ now (reach .entry)) ⌝ }
+    ensures reconstructed { λ r. ⌜ ((g : ℕ) → Least-absent (now (string .entry)) g → (now (text .exit) ≡ reconstructed-over (lexicon (now (chars .entry)) (now (lengths .entry))) (lines-in (now (index .entry))) (n-of (now (index .entry))) g) × Reflects r (All-stand (lexicon (now (chars .entry)) (now (lengths .entry))) (lines-in (now (index .entry))) (reconstructed-over (lexicon (now (chars .entry)) (now (lengths .entry))) (lines-in (now (index .entry))) (n-of (now (index .entry))) g))) ⌝ }
+    ensures reached { λ r. ⌜ (r ≡ true → Prefix-lengths (now (string .entry)) (now (text .exit)) (now (reach .exit))) ⌝ }
+{
+    let sentinel = sentinel_of(string);
+    if !reconstruct_checked(chars, lengths, word_starts, index, sentinel, text) {
+        return false;
+    }
+    reach_prefixes(text, string, reach);
+    true
+}

@@ -1,3 +1,0 @@
-// Positions are put together under their keys, and written as the numbers of an index.
-pub mod group;
-pub mod write;

@@ -1,0 +1,188 @@
+-- `link` meets its contract. The invariant: the positions above p hang in the chains of their codes, and are counted. The measure is
+-- p. Assumes nothing.
+use mathlib.Core.Path.{_≡_, sym, _∙_}
+use Prim.Native.Nat.{_-_, _<_}
+use native.Mathlib.Omega.{arith}
+use lib.ListN.{length, getD}
+use Rattle.spec.specs.Replaced.{replaced}
+use Rattle.laws.specs.Text.WidthFolding.{length-replaced, getD-replaced}
+use Rattle.laws.specs.Build.KeyCode.{coded-none}
+use Rattle.laws.specs.Build.PostingChains.{Links, links-start, links-below, links-token, links-passed, links-new, links-more}
+use Rattle.inversion.proofs.chains.chain_positions.Statement.{statement}
+use Rattle.inversion.proofs.chains.chain_positions.Tie as tie
+
+abbrev Inv-loop : tie.InvT-loop
+Inv-loop text tokens₀ heads₀ pages₀ keys₀ entries₀ p₀ tokens heads pages keys entries p =
+    Links (replaced text) tokens₀ tokens heads pages keys entries p
+
+abbrev μ-loop : tie.MeasureT-loop
+μ-loop text tokens₀ heads₀ pages₀ keys₀ entries₀ p₀ tokens heads pages keys entries p = p
+
+below : (c : tie.In-loop Inv-loop μ-loop) → c .before .loop .p - 1 < length (c .before .loop .tokens)
+below c =
+    let start = c .before .before .before .before .before .before in
+    let l = c .before .loop in
+    links-below (replaced (start .args .text .now)) (start .args .tokens .now) (l .tokens) (l .heads) (l .pages) (l .keys) (l .entries) (l .p)
+    (l .p - 1) (omega (arith, c .loop-test .taken)) (l .inv)
+
+text-below :
+    (c : tie.After-shared-slice-known2 Inv-loop μ-loop) →
+    c .before .before .before .before .loop .p - 1 < length (c .before .before .before .before .before .before .before .before .before .args .text .now)
+text-below c =
+    omega (
+      arith,
+      below (c .before .before .before),
+      c .before .before .before .before .loop .inv .linked .len,
+      c .before .before .before .before .before .before .before .before .before .pre .0 .len,
+      length-replaced (c .before .before .before .before .before .before .before .before .before .args .text .now),
+    )
+
+loop-holds : tie.Need-loop-holds Inv-loop μ-loop
+loop-holds c =
+    let start = c .before .before .before .before in
+    links-start (replaced (start .args .text .now)) (start .args .tokens .now) (start .args .heads .now) (start .args .pages .now)
+    (start .pre .1)
+
+sub-p : tie.Need-sub-p Inv-loop μ-loop
+sub-p c = omega arith
+
+mul-token : tie.Need-mul-token Inv-loop μ-loop
+mul-token c = omega (arith, below c, c .before .loop .inv .linked .len)
+
+slice-read-token : tie.Need-slice-read-token Inv-loop μ-loop
+slice-read-token c = below (c .before)
+
+mul-code-of : tie.Need-mul-code-of Inv-loop μ-loop
+mul-code-of c = omega (arith, below (c .before .before), c .before .before .before .loop .inv .linked .len)
+
+shared-slice-read-code-of : tie.Need-shared-slice-read-code-of Inv-loop μ-loop
+shared-slice-read-code-of c = text-below c
+
+code-of-requires : tie.Need-code-of-requires Inv-loop μ-loop
+code-of-requires c κs =
+    let start = c .before .before .before .before .before .before .before .before .before in
+    let l = c .before .before .before .before .loop in
+    let same : getD (l .tokens) (l .p - 1) 0 ≡ getD (start .args .tokens .now) (l .p - 1) 0 =
+    links-token (replaced (start .args .text .now)) (start .args .tokens .now) (l .tokens) (l .heads) (l .pages) (l .keys) (l .entries) (l .p)
+    (l .p - 1) (omega (arith, c .before .before .before .loop-test .taken)) (l .inv) in
+    (omega (arith, c .before .if1 .taken), omega (arith, start .pre .0 .small (l .p - 1) (omega (arith, below (c .before .before .before), l .inv .linked .len))))
+
+mul-head : tie.Need-mul-head Inv-loop μ-loop
+mul-head c = omega (arith, c .code-of .ensures .1)
+
+slice-read-head : tie.Need-slice-read-head Inv-loop μ-loop
+slice-read-head c = omega (arith, c .before .code-of .ensures .1, c .before .before .before .before .before .before .loop .inv .codes)
+
+mul-tokens : tie.Need-mul-tokens Inv-loop μ-loop
+mul-tokens c = omega (arith, below (c .before .before .before .before .before), c .before .before .before .before .before .before .loop .inv .linked .len)
+
+slice-write-tokens : tie.Need-slice-write-tokens Inv-loop μ-loop
+slice-write-tokens c = below (c .before .before .before .before .before)
+
+add-heads : tie.Need-add-heads Inv-loop μ-loop
+add-heads c = omega (arith, below (c .before .before .before .before .before))
+
+cast-heads : tie.Need-cast-heads Inv-loop μ-loop
+cast-heads c = omega (arith, below (c .before .before .before .before .before), c .before .before .before .before .before .before .loop .inv .linked .len, c .before .before .before .before .before .before .before .before .before .before .before .pre .0 .len, c .before .before .before .before .before .before .before .before .before .before .before .pre .0 .short)
+
+mul-heads : tie.Need-mul-heads Inv-loop μ-loop
+mul-heads c = omega (arith, c .before .code-of .ensures .1)
+
+slice-write-heads : tie.Need-slice-write-heads Inv-loop μ-loop
+slice-write-heads c = omega (arith, c .before .code-of .ensures .1, c .before .before .before .before .before .before .loop .inv .codes)
+
+slice-write-pages : tie.Need-slice-write-pages Inv-loop μ-loop
+slice-write-pages c = omega (arith, c .before .code-of .ensures .1, c .before .before .before .before .before .before .loop .inv .codes, c .before .before .before .before .before .before .loop .inv .paged .whole)
+
+add-entries : tie.Need-add-entries Inv-loop μ-loop
+add-entries c = omega (arith, c .before .before .before .before .before .before .loop .inv .counted .few-entries, c .before .before .before .before .before .before .before .before .before .before .before .pre .0 .len, c .before .before .before .before .before .before .before .before .before .before .before .pre .0 .short)
+
+add-keys : tie.Need-add-keys Inv-loop μ-loop
+add-keys c = omega (arith, c .before .before .before .before .before .before .before .loop .inv .counted .few-keys, c .before .before .before .before .before .before .before .loop .inv .counted .few-entries, c .before .before .before .before .before .before .before .before .before .before .before .before .pre .0 .len, c .before .before .before .before .before .before .before .before .before .before .before .before .pre .0 .short)
+
+loop-less : tie.Need-loop-less Inv-loop μ-loop
+loop-less c = omega (arith, c .before .before .before .before .before .before .loop-test .taken)
+
+loop-again : tie.Need-loop-again Inv-loop μ-loop
+loop-again c =
+    let start = c .before .before .before .before .before .before .before .before .before .before .before .before in
+    let l = c .before .before .before .before .before .before .before .loop in
+    links-new (replaced (start .args .text .now)) (start .args .tokens .now) (l .tokens) (l .heads) (l .pages) (l .keys) (l .entries)
+    (l .p) (l .p - 1)
+    (omega (arith, c .before .before .before .before .before .before .loop-test .taken)) (l .inv) (c .before .before .code-of .result)
+    (rw (← getD-replaced (start .args .text .now) (l .p - 1)) at (c .before .before .code-of .ensures .0))
+    (c .before .before .code-of .ensures .1) (c .if2 .taken)
+
+loop-less-2 : tie.Need-loop-less-2 Inv-loop μ-loop
+loop-less-2 c = omega (arith, c .before .before .before .before .before .before .loop-test .taken)
+
+loop-again-2 : tie.Need-loop-again-2 Inv-loop μ-loop
+loop-again-2 c =
+    let start = c .before .before .before .before .before .before .before .before .before .before .before .before in
+    let l = c .before .before .before .before .before .before .before .loop in
+    links-more (replaced (start .args .text .now)) (start .args .tokens .now) (l .tokens) (l .heads) (l .pages) (l .keys) (l .entries)
+    (l .p) (l .p - 1)
+    (omega (arith, c .before .before .before .before .before .before .loop-test .taken)) (l .inv) (c .before .before .code-of .result)
+    (rw (← getD-replaced (start .args .text .now) (l .p - 1)) at (c .before .before .code-of .ensures .0))
+    (c .before .before .code-of .ensures .1) (c .if2 .left)
+
+loop-less-3 : tie.Need-loop-less-3 Inv-loop μ-loop
+loop-less-3 c = omega (arith, c .before .before .loop-test .taken)
+
+loop-again-3 : tie.Need-loop-again-3 Inv-loop μ-loop
+loop-again-3 c =
+    let start = c .before .before .before .before .before .before .before .before in
+    let l = c .before .before .before .loop in
+    links-passed (replaced (start .args .text .now)) (start .args .tokens .now) (l .tokens) (l .heads) (l .pages) (l .keys) (l .entries)
+    (l .p) (l .p - 1)
+    (omega (arith, c .before .before .loop-test .taken)) (l .inv)
+    (coded-none (getD (l .tokens) (l .p - 1) 0) (getD (replaced (start .args .text .now)) (l .p - 1) 0) (c .if1 .left))
+
+same-length : tie.Need-same-length Inv-loop μ-loop
+same-length c = c .before .loop .inv .linked .len
+
+same-length-2 : tie.Need-same-length-2 Inv-loop μ-loop
+same-length-2 c = c .before .loop .inv .codes ∙ sym (c .before .before .before .before .before .before .pre .1 .codes)
+
+same-length-3 : tie.Need-same-length-3 Inv-loop μ-loop
+same-length-3 c = omega (arith, c .before .loop .inv .codes, c .before .loop .inv .paged .whole, c .before .before .before .before .before .before .pre .1 .page-count)
+
+returns : tie.Need-returns Inv-loop μ-loop
+returns c =
+    let none : c .before .loop .p ≡ 0 = omega (arith, c .loop-test .left) in
+    rw none at (c .before .loop .inv)
+
+pub chain-positions-spec : {M : Type 1} → statement M
+chain-positions-spec =
+    tie.close
+    (tie.spec
+    Inv-loop
+    μ-loop
+    loop-holds
+    sub-p
+    mul-token
+    slice-read-token
+    mul-code-of
+    shared-slice-read-code-of
+    code-of-requires
+    mul-head
+    slice-read-head
+    mul-tokens
+    slice-write-tokens
+    add-heads
+    cast-heads
+    mul-heads
+    slice-write-heads
+    slice-write-pages
+    add-entries
+    add-keys
+    loop-less
+    loop-again
+    loop-less-2
+    loop-again-2
+    loop-less-3
+    loop-again-3
+    same-length
+    same-length-2
+    same-length-3
+    returns)

@@ -1,0 +1,37 @@
+-- `code_of` meets its contract: a word's mark is one more than its code. Assumes nothing.
+use mathlib.Core.Path.{_≡_}
+use native.Mathlib.Omega.{arith}
+use borrow.Author.Needs.{needs}
+use Rattle.spec.specs.Replaced.{replaced-char}
+use Rattle.laws.specs.Build.KeyCode.{coded-lone, coded-word}
+use Rattle.inversion.proofs.chains.code_of.Statement.{statement}
+use Rattle.inversion.proofs.chains.code_of.Tie as tie
+
+replace-requires : tie.Need-replace-requires
+replace-requires c κs = search needs
+
+cast-result : tie.Need-cast-result
+cast-result c = search needs
+
+add-result : tie.Need-add-result
+add-result c = search needs
+
+sub-result : tie.Need-sub-result
+sub-result c = search needs
+
+returns : tie.Need-returns
+returns c =
+    let start = c .before .before in (
+      rw (c .replace .ensures) (coded-lone (start .args .token) (replaced-char (start .args .character)) (c .before .if1 .taken)),
+      omega (arith, c .replace .ok),
+    )
+
+returns-2 : tie.Need-returns-2
+returns-2 c = (
+  coded-word (c .before .args .token) (replaced-char (c .before .args .character)) (λ (z : c .before .args .token ≡ 0). omega arith)
+      (c .if1 .left),
+  omega arith,
+)
+
+pub code-of-spec : {M : Type 1} → statement M
+code-of-spec = tie.close (tie.spec replace-requires cast-result add-result sub-result returns returns-2)

@@ -1,0 +1,74 @@
+-- `next_code` meets its contract. The invariant: no code passed has a chain. The measure is how many codes are left. Assumes nothing.
+use Prim.Native.Nat.{_+_, _-_}
+use native.Mathlib.Omega.{arith}
+use borrow.Author.Needs.{needs}
+use lib.ListN.{length}
+use Rattle.laws.specs.Build.CodeWalk.{Passed, passed-start, passed-one, passed-page, next-found, next-none}
+use Rattle.inversion.proofs.chains.next_code.Statement.{statement}
+use Rattle.inversion.proofs.chains.next_code.Tie as tie
+
+abbrev Inv-loop : tie.InvT-loop
+Inv-loop heads pages from code₀ code = Passed heads from code
+
+abbrev μ-loop : tie.MeasureT-loop
+μ-loop heads pages from code₀ code = length heads - code
+
+page : (c : tie.Then2 Inv-loop μ-loop) → Passed (c .before .before .before .before .before .args .heads .now) (c .before .before .before .before .before .args .from) (c .before .before .before .before .loop .code + 64)
+page c =
+    passed-page (c .before .before .before .before .before .args .heads .now) (c .before .before .before .before .before .args .from) (c .before .before .before .before .loop .code) (c .before .before .before .before .loop .inv)
+    (c .before .before .before .before .before .args .pages .now) (c .before .before .before .before .before .pre .0) (c .before .before .before .loop-test .taken) (c .before .before .if1 .taken) (c .if2 .taken)
+
+loop-holds : tie.Need-loop-holds Inv-loop μ-loop
+loop-holds c = passed-start (c .args .heads .now) (c .args .from) (c .pre .1)
+
+shared-slice-read-if2 : tie.Need-shared-slice-read-if2 Inv-loop μ-loop
+shared-slice-read-if2 c = omega (arith, c .before .before .before .before .pre .0 .whole)
+
+add-code : tie.Need-add-code Inv-loop μ-loop
+add-code c = omega (arith, page c .within)
+
+loop-less : tie.Need-loop-less Inv-loop μ-loop
+loop-less c = omega arith
+
+loop-again : tie.Need-loop-again Inv-loop μ-loop
+loop-again c = page c
+
+mul-if3 : tie.Need-mul-if3 Inv-loop μ-loop
+mul-if3 c = search needs
+
+shared-slice-read-if3 : tie.Need-shared-slice-read-if3 Inv-loop μ-loop
+shared-slice-read-if3 c = search needs
+
+returns : tie.Need-returns Inv-loop μ-loop
+returns c = next-found (c .before .before .before .before .before .args .heads .now) (c .before .before .before .before .before .args .from) (c .before .before .before .before .loop .code) (c .before .before .before .before .loop .inv) (c .if3 .taken)
+
+add-code-2 : tie.Need-add-code-2 Inv-loop μ-loop
+add-code-2 c = omega arith
+
+loop-less-2 : tie.Need-loop-less-2 Inv-loop μ-loop
+loop-less-2 c = omega arith
+
+loop-again-2 : tie.Need-loop-again-2 Inv-loop μ-loop
+loop-again-2 c = passed-one (c .before .before .before .before .before .args .heads .now) (c .before .before .before .before .before .args .from) (c .before .before .before .before .loop .code) (c .before .before .before .before .loop .inv) (omega arith) (c .if3 .left)
+
+returns-2 : tie.Need-returns-2 Inv-loop μ-loop
+returns-2 c = next-none (c .before .before .args .heads .now) (c .before .before .args .from) (c .before .loop .code) (c .before .loop .inv) (c .loop-test .left)
+
+pub next-code-spec : {M : Type 1} → statement M
+next-code-spec =
+    tie.close
+    (tie.spec
+    Inv-loop
+    μ-loop
+    loop-holds
+    shared-slice-read-if2
+    add-code
+    loop-less
+    loop-again
+    mul-if3
+    shared-slice-read-if3
+    returns
+    add-code-2
+    loop-less-2
+    loop-again-2
+    returns-2)

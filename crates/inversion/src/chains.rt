@@ -1,0 +1,101 @@
+// Grouping: the positions of a text under their keys, by chains.
+//
+// A key is one number, its code: the word number, or 4,096 + the character, so that codes in order are keys in order. There are
+// 69,632. A pass from the last position to the first hangs each marked position before the chain of its code; its mark gives way
+// to its link, so the chains take no room of their own and run through ascending positions. A flag for each page of 64 codes lets
+// the walks over all codes pass over the pages that no key of this text falls into. The counts of keys and entries are known
+// before anything is written.
+ghost use mathlib.Core.Path.{_≡_};
+ghost use Prim.Native.Nat.{suc, _+_, _≤_, _<_};
+ghost use lib.ListN.{length};
+ghost use Rattle.basics.specs.Chain.{chain, Threaded};
+ghost use Rattle.spec.specs.Replaced.{replaced-char, replaced};
+ghost use Rattle.laws.specs.Build.KeyCode.{coded};
+ghost use Rattle.laws.specs.Build.Pages.{Paged};
+ghost use Rattle.laws.specs.Build.PostingChains.{Linkable, Fresh, Links};
+ghost use Rattle.laws.specs.Build.CodeWalk.{Next};
+use folding::forms::replace;
+
+// How many keys and entries there are.
+pub struct Counts {
+    pub keys: usize,
+    pub entries: usize,
+}
+
+// The code of a mark, where `character` stands in the text as it was lent.
+fn code_of(token: u16, character: u16) -> usize
+    requires { ⌜ (1 ≤ token) × (token ≤ 4097) ⌝ }
+    ensures is { λ r. ⌜ coded token (replaced-char character) ≡ suc r ⌝ }
+    ensures small { λ r. ⌜ r < 69632 ⌝ }
+{
+    if token == 4097 {
+        4096 + replace(character) as usize
+    } else {
+        token as usize - 1
+    }
+}
+
+// Turns marks into links, and heads and pages from none into those of the marks, which are those of the replaced text.
+pub fn chain_positions(text: &[u16], tokens: &mut [u16], heads: &mut [u16], pages: &mut [u8]) -> Counts
+    requires { ⌜ Linkable (replaced (now text)) (now tokens) ⌝ }
+    requires { ⌜ Fresh (now heads) (now pages) ⌝ }
+    ensures { λ r. ⌜
+        Links (replaced (now (text .entry))) (now (tokens .entry)) (now (tokens .exit))
+        (now (heads .exit)) (now (pages .exit)) (r .keys) (r .entries) 0 ⌝ }
+{
+    let mut keys = 0;
+    let mut entries = 0;
+    let mut p = tokens.len();
+    while 0 < p {
+        p -= 1;
+        let token = tokens[p];
+        if token != 0 {
+            let code = code_of(token, text[p]);
+            let head = heads[code];
+            tokens[p] = head;
+            heads[code] = (p + 1) as u16;
+            pages[code / 64] = 1;
+            entries += 1;
+            if head == 0 {
+                keys += 1;
+            }
+        }
+    }
+    Counts { keys, entries }
+}
+
+// The first code from `from` on that has a chain, or the number of codes.
+pub(crate) fn next_code(heads: &[u16], pages: &[u8], from: usize) -> usize
+    requires { ⌜ Paged (now heads) (now pages) ⌝ }
+    requires { ⌜ from ≤ length (now heads) ⌝ }
+    ensures { λ r. ⌜ Next (now (heads .entry)) from r ⌝ }
+{
+    let mut code = from;
+    while code < heads.len() {
+        if code % 64 == 0 {
+            if pages[code / 64] == 0 {
+                code += 64;
+                continue;
+            }
+        }
+        if heads[code] != 0 {
+            return code;
+        }
+        code += 1;
+    }
+    code
+}
+
+// How many members a chain has.
+pub(crate) fn chain_length(links: &[u16], head: u16) -> usize
+    requires { ⌜ Threaded (now links) head ⌝ }
+    ensures { λ r. ⌜ r ≡ length (chain (now (links .entry)) head) ⌝ }
+{
+    let mut count = 0;
+    let mut at = head as usize;
+    while at != 0 {
+        count += 1;
+        at = links[at - 1] as usize;
+    }
+    count
+}

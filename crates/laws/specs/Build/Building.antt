@@ -1,0 +1,290 @@
+-- A build, from its tests to its answer: the order of the refusals, and the result from the marks. Assumes nothing.
+use mathlib.Core.Path.{_≡_, refl, sym, ap, _∙_}
+use mathlib.Core.Logic.{⊎-elim}
+use mathlib.Core.Bool.{Bool, true, false, cond}
+use mathlib.Core.List.{List}
+use Prim.Native.Nat.{ℕ, zero, suc, _+_, _*_, _≤_, _<_}
+use native.Mathlib.Omega.{arith}
+use lib.Dec.{ltb, eqb}
+use lib.ListN.{length, getD, take, replicate, length-replicate, getD-replicate}
+use borrow.Author.Tests.{lt-ltb, le-ltb, eq-eqb, ne-eqb, eqb-true, eqb-false}
+use Rattle.basics.specs.Bools.{and-put, true-or-false, le-or-lt}
+use Rattle.basics.specs.Writing.{over}
+use Rattle.spec.specs.declared.Answer.{Answer}
+use Rattle.spec.specs.Replaced.{replaced}
+use Rattle.spec.specs.Dictionary.{Lexicon, lexicon, dictionary-refusal, admitted}
+use Rattle.spec.specs.Numbers.{numbers, index-of}
+use Rattle.spec.specs.Calls.{text-too-long, work-short, output-short, or-else, build-refusal, in-front, Puts}
+use Rattle.laws.specs.Text.Facts.{Chars, Good-lexicon}
+use Rattle.laws.specs.Text.WidthFolding.{length-replaced, replaced-chars}
+use Rattle.laws.specs.Text.Chars.{all-chars-put}
+use Rattle.laws.specs.Dictionary.Lexicon.{admitted-lexicon, admitted-get}
+use Rattle.laws.specs.Match.MatchTable.{Room}
+use Rattle.laws.specs.Dictionary.Answering.{accepted-yes, accepted-no, answers-accepted, answers-refused}
+use Rattle.laws.specs.Numbers.Slices.{length-numbers}
+use Rattle.laws.specs.Build.Tokens.{Tokens}
+use Rattle.laws.specs.Build.TokenLines.{token-index}
+use Rattle.laws.specs.Build.PostingsByKey.{inverted}
+use Rattle.laws.specs.Build.PostingChains.{lines-at, linked-threads, linked-lines, Linkable, Fresh, Links}
+use Rattle.laws.specs.Build.CodeWalk.{Listable}
+
+-- ANSWER AND OUTPUT
+
+module _ (n : ℕ) (xs : List ℕ) (r : Answer) (o z : List ℕ) (number : r .refusal ≡ n) where
+  pub puts-accepted : n ≡ 0 → r .count ≡ length xs → z ≡ over xs o → Puts n xs r o z
+  unfolding Puts in-front
+  puts-accepted none count put =
+      (answers-accepted n (length xs) r number none count, put ∙ sym (accepted-yes n (in-front xs o) o none))
+
+  pub puts-refused : (n ≡ 0 → ⊥) → r .count ≡ 0 → z ≡ o → Puts n xs r o z
+  unfolding Puts
+  puts-refused some count kept = (answers-refused n (length xs) r number some count, kept ∙ sym (accepted-no n (in-front xs o) o some))
+
+-- THE ORDER OF THE REFUSALS
+
+-- 8 or none, once the result is known
+unfoldable pub output-refusal : (result output : ℕ) → ℕ
+output-refusal r o = cond (output-short r o) 8 0
+
+pub output-fits : (r o : ℕ) → r ≤ o → output-refusal r o ≡ 0
+unfolding output-refusal output-short
+output-fits r o h = rw (le-ltb o r h)
+
+pub output-refused : (r o : ℕ) → o < r → output-refusal r o ≡ 8
+unfolding output-refusal output-short
+output-refused r o h = rw (lt-ltb o r h)
+
+-- the refusals that need no result: 1 to 3, 12, 4, 7
+unfoldable pub early-refusal : (chars lengths text : List ℕ) → (work : ℕ) → ℕ
+early-refusal cs ls ts w = or-else (dictionary-refusal cs ls) (cond (text-too-long ts) 4 (cond (work-short (length ts) w) 7 0))
+
+-- what holds where none of them is met
+pub record Reached (cs ls ts : List ℕ) (w : ℕ) : Type 0 where
+  pub admits : dictionary-refusal cs ls ≡ 0
+  pub short : length ts ≤ 65535
+  pub room : 8 * length ts ≤ w
+
+module _ (cs ls ts : List ℕ) (w : ℕ) where
+  pub early-dictionary : (dictionary-refusal cs ls ≡ 0 → ⊥) → early-refusal cs ls ts w ≡ dictionary-refusal cs ls
+  unfolding early-refusal or-else
+  early-dictionary some = rw (ne-eqb (dictionary-refusal cs ls) 0 some)
+
+  module _ (admits : dictionary-refusal cs ls ≡ 0) where
+    pub early-text : 65535 < length ts → early-refusal cs ls ts w ≡ 4
+    unfolding early-refusal or-else text-too-long
+    early-text len = rw (eq-eqb (dictionary-refusal cs ls) 0 admits, lt-ltb 65535 (length ts) len)
+
+    module _ (short : length ts ≤ 65535) where
+      pub early-work : w < 8 * length ts → early-refusal cs ls ts w ≡ 7
+      unfolding early-refusal or-else text-too-long work-short
+      early-work small =
+          rw (eq-eqb (dictionary-refusal cs ls) 0 admits, le-ltb 65535 (length ts) short, lt-ltb w (8 * length ts) small)
+
+      pub early-none : 8 * length ts ≤ w → early-refusal cs ls ts w ≡ 0
+      unfolding early-refusal or-else text-too-long work-short
+      early-none room =
+          rw (eq-eqb (dictionary-refusal cs ls) 0 admits, le-ltb 65535 (length ts) short, le-ltb w (8 * length ts) room)
+
+  pub reached : early-refusal cs ls ts w ≡ 0 → Reached cs ls ts w
+  reached none = record { admits = admits; short = short; room = room }
+    where
+      admits : dictionary-refusal cs ls ≡ 0
+      admits =
+          ⊎-elim (λ (e : eqb (dictionary-refusal cs ls) 0 ≡ true). eqb-true (dictionary-refusal cs ls) 0 e)
+          (λ (e : eqb (dictionary-refusal cs ls) 0 ≡ false). sym (early-dictionary (eqb-false (dictionary-refusal cs ls) 0 e)) ∙ none)
+          (true-or-false (eqb (dictionary-refusal cs ls) 0))
+
+      short : length ts ≤ 65535
+      short =
+          ⊎-elim (λ (h : length ts ≤ 65535). h) (λ (h : 65535 < length ts). absurd (omega (arith, early-text admits h)))
+          (le-or-lt (length ts) 65535)
+
+      room : 8 * length ts ≤ w
+      room =
+          ⊎-elim (λ (h : 8 * length ts ≤ w). h) (λ (h : w < 8 * length ts). absurd (omega (arith, early-work admits short h)))
+          (le-or-lt (8 * length ts) w)
+
+  -- an early refusal is the call's
+  pub build-early : (o : ℕ) → (early-refusal cs ls ts w ≡ 0 → ⊥) → build-refusal cs ls ts o w ≡ early-refusal cs ls ts w
+  unfolding build-refusal early-refusal or-else text-too-long work-short
+  build-early o some =
+      go (eqb (dictionary-refusal cs ls) 0) refl (ltb 65535 (length ts)) refl (ltb w (8 * length ts)) refl
+    where
+      go :
+          (a : Bool) → eqb (dictionary-refusal cs ls) 0 ≡ a → (b : Bool) → ltb 65535 (length ts) ≡ b → (c : Bool) →
+          ltb w (8 * length ts) ≡ c →
+          cond a (cond b 4 (cond c 7 (cond (output-short (length (index-of (lexicon cs ls) (replaced ts))) o) 8 0)))
+          (dictionary-refusal cs ls)
+          ≡ cond a (cond b 4 (cond c 7 0)) (dictionary-refusal cs ls)
+      go false p b q c r = refl
+      go true p true q c r = refl
+      go true p false q true r = refl
+      go true p false q false r = absurd (some (rw (p, q, r) refl))
+
+  -- without one it is 8 or none
+  pub build-late :
+      (o : ℕ) → early-refusal cs ls ts w ≡ 0 →
+      build-refusal cs ls ts o w ≡ output-refusal (length (index-of (lexicon cs ls) (replaced ts))) o
+  unfolding build-refusal or-else text-too-long work-short output-refusal
+  build-late o none =
+      let r : Reached cs ls ts w = reached none in
+      rw (eq-eqb (dictionary-refusal cs ls) 0 (r .admits), le-ltb 65535 (length ts) (r .short), le-ltb w (8 * length ts) (r .room))
+
+-- THE RESULT FROM THE MARKS
+
+-- the numbers that marks of a text stand for
+unfoldable pub token-numbers : (tokens text : List ℕ) → List ℕ
+token-numbers ms ts = numbers (length ts) (inverted ms ts)
+
+-- what is answered and written for marks: these numbers, or 8
+abbrev pub Tokens-say : (tokens text : List ℕ) → Answer → (out out-now : List ℕ) → Type 0
+Tokens-say ms ts r o z = Puts (output-refusal (length (token-numbers ms ts)) (length o)) (token-numbers ms ts) r o z
+
+pub token-numbers-index :
+    (lex : Lexicon) → Good-lexicon lex → (ts : List ℕ) → Chars ts → (ms : List ℕ) → Tokens lex ts ms →
+    token-numbers ms ts ≡ index-of lex ts
+unfolding token-numbers
+token-numbers-index lex good ts chars ms tokens = token-index lex good ts chars ms tokens
+
+pub fresh : (n m : ℕ) → n ≡ 69632 → m ≡ 1088 → Fresh (replicate n 0) (replicate m 0)
+fresh n m e f =
+    record {
+      codes = length-replicate {A = ℕ} n 0 ∙ e;
+      page-count = length-replicate {A = ℕ} m 0 ∙ f;
+      none = λ k h. getD-replicate n k 0 0 (omega (arith, length-replicate {A = ℕ} n 0));
+    }
+
+module _ (ts ms links heads pages : List ℕ) (keys entries : ℕ) (can : Linkable ts ms)
+    (l : Links ts ms links heads pages keys entries 0) where
+  pub linked-listable : Listable heads pages links
+  linked-listable =
+      record {
+        codes = l .codes;
+        paged = l .paged;
+        threads = linked-threads ms ts heads links (l .linked);
+        short = omega (arith, l .linked .len, can .len, can .short);
+      }
+
+  lines-are : lines-at heads links 0 ≡ inverted ms ts
+  unfolding inverted
+  lines-are = linked-lines ms ts heads links (l .linked) 69632 (l .codes)
+
+  pub linked-keys : keys ≡ length (lines-at heads links 0)
+  unfolding inverted
+  linked-keys = l .counted .keys-are ∙ ap length (sym lines-are)
+
+  pub few-keys : keys ≤ 65535
+  few-keys = omega (arith, l .counted .few-keys, l .counted .few-entries, can .len, can .short)
+
+  pub linked-numbers : numbers (length links) (lines-at heads links 0) ≡ token-numbers ms ts
+  unfolding token-numbers
+  linked-numbers = rw (lines-are, l .linked .len, can .len)
+
+  pub linked-size : 2 + 3 * keys + entries ≡ length (token-numbers ms ts)
+  unfolding token-numbers inverted
+  linked-size =
+      omega (arith, length-numbers (length ts) (inverted ms ts), l .counted .keys-are, l .counted .entries-are)
+
+  -- the answer: 8 where the output is shorter than the size, else the numbers
+  module _ (o : List ℕ) where
+    pub linked-room : 2 + 3 * keys + entries ≤ length o → length (numbers (length links) (lines-at heads links 0)) ≤ length o
+    linked-room h = rw (linked-numbers, ← linked-size) h
+
+    pub token-entry-refused :
+        length o < 2 + 3 * keys + entries → Tokens-say ms ts (record { refusal = 8; count = 0 }) o o
+    token-entry-refused h =
+        let eight : output-refusal (length (token-numbers ms ts)) (length o) ≡ 8 =
+        output-refused (length (token-numbers ms ts)) (length o) (rw (← linked-size) h) in
+        puts-refused (output-refusal (length (token-numbers ms ts)) (length o)) (token-numbers ms ts)
+        (record { refusal = 8; count = 0 }) o o (sym eight)
+        (λ (z : output-refusal (length (token-numbers ms ts)) (length o) ≡ 0). omega arith) refl refl
+
+    pub token-entry-put :
+        (z : List ℕ) → 2 + 3 * keys + entries ≤ length o → z ≡ over (numbers (length links) (lines-at heads links 0)) o →
+        Tokens-say ms ts (record { refusal = 0; count = 2 + 3 * keys + entries }) o z
+    token-entry-put z h e =
+        let none : output-refusal (length (token-numbers ms ts)) (length o) ≡ 0 =
+        output-fits (length (token-numbers ms ts)) (length o) (rw (← linked-size) h) in
+        puts-accepted (output-refusal (length (token-numbers ms ts)) (length o)) (token-numbers ms ts)
+        (record { refusal = 0; count = 2 + 3 * keys + entries }) o z (sym none) none linked-size
+        (e ∙ ap (λ (xs : List ℕ). over xs o) linked-numbers)
+
+-- THE WHOLE CALL
+
+-- a dictionary of characters that meets no line is admitted, and a good lexicon
+pub reached-admitted : (cs ls : List ℕ) → Chars cs → dictionary-refusal cs ls ≡ 0 → admitted cs ls ≡ true
+unfolding admitted
+reached-admitted cs ls chars none = and-put (all-chars-put cs chars) (eq-eqb (dictionary-refusal cs ls) 0 none)
+
+pub reached-lexicon : (cs ls : List ℕ) → Chars cs → dictionary-refusal cs ls ≡ 0 → Good-lexicon (lexicon cs ls)
+reached-lexicon cs ls chars none = admitted-lexicon cs ls (reached-admitted cs ls chars none)
+
+pub tokens-linkable :
+    (lex : Lexicon) → Good-lexicon lex → (ts ms : List ℕ) → Tokens lex ts ms → length ts ≤ 65535 → Linkable ts ms
+tokens-linkable lex good ts ms tokens short = record { len = tokens .len; short = short; small = small }
+  where
+    at-most : (q m : ℕ) → q < length ms → getD ms q 0 ≡ m → m ≤ 4097
+    at-most q zero h e = omega arith
+    at-most q (suc i) h e =
+        ⊎-elim (λ (w : i < length (lex .words)). omega (arith, good .few)) (λ (l : i ≡ 4096). omega arith) (tokens .known q i h e)
+
+    small : (q : ℕ) → q < length ms → getD ms q 0 ≤ 4097
+    small q h = at-most q (getD ms q 0) h refl
+
+module _ (cs ls ts : List ℕ) (w : ℕ) (o : List ℕ) where
+  pub build-refused :
+      (early-refusal cs ls ts w ≡ 0 → ⊥) → (r : Answer) → r .refusal ≡ early-refusal cs ls ts w → r .count ≡ 0 →
+      Puts (build-refusal cs ls ts (length o) w) (index-of (lexicon cs ls) (replaced ts)) r o o
+  build-refused some r number count =
+      let same : build-refusal cs ls ts (length o) w ≡ early-refusal cs ls ts w = build-early cs ls ts w (length o) some in
+      puts-refused (build-refusal cs ls ts (length o) w) (index-of (lexicon cs ls) (replaced ts)) r o o (number ∙ sym same)
+      (λ (z : build-refusal cs ls ts (length o) w ≡ 0). some (sym same ∙ z)) count refl
+
+  -- what follows the scan answers for the call
+  pub build-tokens :
+      Chars cs → Chars ts → early-refusal cs ls ts w ≡ 0 → (ms : List ℕ) → Tokens (lexicon cs ls) (replaced ts) ms →
+      (r : Answer) (z : List ℕ) →
+      Tokens-say ms (replaced ts) r o z →
+      Puts (build-refusal cs ls ts (length o) w) (index-of (lexicon cs ls) (replaced ts)) r o z
+  build-tokens chars text none ms tokens r z puts =
+      let good : Good-lexicon (lexicon cs ls) = reached-lexicon cs ls chars (reached cs ls ts w none .admits) in
+      rw (
+        build-late cs ls ts w (length o) none,
+        ← token-numbers-index (lexicon cs ls) good (replaced ts) (replaced-chars ts text) ms tokens,
+      )
+      puts
+
+-- a match table's slices before the words are hung up
+pub record Blank (heads links starts : List ℕ) : Type 0 where
+  pub heads-clear : heads ≡ replicate 10240 0
+  pub links-long : 4096 ≤ length links
+  pub starts-long : 4096 < length starts
+
+pub blank : (n m k : ℕ) → n ≡ 10240 → m ≡ 4096 → k ≡ 4097 → Blank (replicate n 0) (replicate m 0) (replicate k 0)
+blank n m k e f h =
+    record {
+      heads-clear = rw e;
+      links-long = omega (arith, length-replicate {A = ℕ} m 0);
+      starts-long = omega (arith, length-replicate {A = ℕ} k 0);
+    }
+
+pub blank-room :
+    (cs ls ts : List ℕ) (w : ℕ) (heads links starts : List ℕ) → Chars cs → early-refusal cs ls ts w ≡ 0 → Blank heads links starts →
+    Room cs ls heads links starts
+blank-room cs ls ts w heads links starts chars none b =
+    let adm : admitted cs ls ≡ true = reached-admitted cs ls chars (reached cs ls ts w none .admits) in
+    let few : length ls ≤ 4096 = admitted-get cs ls adm .few in
+    record {
+      dictionary = adm;
+      heads-clear = b .heads-clear;
+      links-long = omega (arith, b .links-long);
+      starts-long = omega (arith, b .starts-long);
+    }
+
+-- the marks at the front of the work slice can be linked
+pub front-linkable :
+    (cs ls ts : List ℕ) (w : ℕ) (work : List ℕ) → Chars cs → early-refusal cs ls ts w ≡ 0 →
+    Tokens (lexicon cs ls) (replaced ts) (take (length ts) work) → Linkable (replaced ts) (take (length ts) work)
+front-linkable cs ls ts w work chars none tokens =
+    tokens-linkable (lexicon cs ls) (reached-lexicon cs ls chars (reached cs ls ts w none .admits)) (replaced ts) (take (length ts) work)
+    tokens (omega (arith, reached cs ls ts w none .short, length-replaced ts))

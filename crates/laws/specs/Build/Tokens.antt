@@ -1,0 +1,28 @@
+-- One number for each position of a text, as the builder's scan leaves them: 0 where nothing is registered, i + 1 for word i, 4,097 for
+-- the lone character. Assumes nothing.
+use mathlib.Core.Path.{_≡_}
+use mathlib.Core.Bool.{cond}
+use mathlib.Core.Logic.{_⊎_}
+use mathlib.Core.List.{List, [], _∷_, _++_}
+use Prim.Native.Nat.{ℕ, zero, suc, _<_}
+use lib.Dec.{eqb}
+use lib.ListN.{length, getD}
+use Rattle.spec.specs.Dictionary.{Lexicon}
+use Rattle.spec.specs.Words.{key, Entry, entry}
+use Rattle.laws.specs.Entries.Longest.{make-index}
+
+-- the entry that a mark at p stands for, c being the character there
+unfoldable pub token-entry : Lexicon → (p token c : ℕ) → List Entry
+token-entry lex p zero c = []
+token-entry lex p (suc i) c = cond (eqb i 4096) (entry (key 1 c) p 1) (entry (key 0 i) p (length (getD (lex .words) i []))) ∷ []
+
+unfoldable pub entries-of-tokens : Lexicon → (p : ℕ) → (tokens text : List ℕ) → List Entry
+entries-of-tokens lex p [] ts = []
+entries-of-tokens lex p (m ∷ ms) [] = []
+entries-of-tokens lex p (m ∷ ms) (c ∷ cs) = token-entry lex p m c ++ entries-of-tokens lex (suc p) ms cs
+
+-- the marks of a text: they stand for its maximal entries, in the order of their places
+pub record Tokens (lex : Lexicon) (ts ms : List ℕ) : Type 0 where
+  pub len : length ms ≡ length ts
+  pub known : (q i : ℕ) → q < length ms → getD ms q 0 ≡ suc i → (i < length (lex .words)) ⊎ (i ≡ 4096)
+  pub exact : entries-of-tokens lex 1 ms ts ≡ make-index lex ts

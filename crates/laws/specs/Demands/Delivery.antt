@@ -1,0 +1,214 @@
+-- What the calls say of numbers that a text has as its index, under an admitted dictionary: reception and recovery accept, and so do
+-- searches, first and cuts, and searches and first of what was cut down. Assumes nothing.
+use mathlib.Core.Path.{_≡_, refl, sym, ap, _∙_, subst}
+use mathlib.Core.Bool.{Bool, true, false}
+use mathlib.Core.Logic.{inl, inr, ⊎-elim}
+use mathlib.Core.List.{List, [], _∷_, _++_}
+use Prim.Native.Nat.{ℕ, _*_, _≤_, _<_}
+use native.Mathlib.Omega.{arith}
+use lib.Dec.{eqb}
+use lib.ListN.{length, take}
+use borrow.Author.Tests.{eq-eqb, eqb-true}
+use Rattle.basics.specs.Bools.{clash, and-put, and-left, and-right}
+use Rattle.spec.specs.declared.Answer.{Answer}
+use Rattle.spec.specs.Replaced.{replaced}
+use Rattle.spec.specs.Dictionary.{longest-text, lexicon, all-chars, dictionary-refusal, admitted}
+use Rattle.spec.specs.Index.{n-of, readable}
+use Rattle.spec.specs.Reception.{recovered, received}
+use Rattle.spec.specs.Search.{find}
+use Rattle.spec.specs.First.{first-position}
+use Rattle.spec.specs.Cut.{cut-down}
+use Rattle.spec.specs.Theorems.{Query}
+use Rattle.spec.specs.FurtherTheorems.{Text-of, Exactly-positions, First-stands, Serves, Demand-three}
+use Rattle.spec.specs.Calls.{Cut-says}
+use Rattle.spec.specs.RefusalTable.{Written, Untouched, Unreadable, String-wrong, Work-short, Output-short, Recovery-short, No-text, Row, row, Meets, Accepts, Refuses, Decides, dictionary-rows, index-rows, reception-rows, recovery-rows, string-rows, find-rows}
+use Rattle.spec.specs.Demands.{Received-for, Recovered-for, Found-for, First-for, Cut-for, Delivered}
+use Rattle.laws.specs.Receive.Received.{received-reads}
+use Rattle.laws.specs.Demands.Theorems.{demand-three}
+use Rattle.laws.specs.Demands.RefusalRows.{first-decides, first-meets, dictionary-first, dictionary-numbered}
+use Rattle.laws.specs.Demands.DemandOne.{first-demand}
+
+-- ROWS THAT ARE NOT MET
+
+-- a Boolean that can't be false is true
+pub true-put : (b : Bool) → (b ≡ false → ⊥) → b ≡ true
+true-put true h = refl
+true-put false h = absurd (h refl)
+
+abbrev pub None-met : List Row → Type 0
+None-met rows = (k : ℕ) → Meets rows k → ⊥
+
+module _ (rows : List Row) (n : ℕ) (A B : Type 0) (d : Decides rows n A B) where
+  pub accepts-zero : n ≡ 0 → Accepts rows n A
+  accepts-zero z = ⊎-elim (λ (h : Accepts rows n A). h) (λ (h : Refuses rows n B). absurd (h .number z)) d
+
+  pub accepts-none : None-met rows → Accepts rows n A
+  accepts-none none = ⊎-elim (λ (h : Accepts rows n A). h) (λ (h : Refuses rows n B). absurd (none n (first-meets rows n (h .first)))) d
+
+pub none-nil : None-met []
+none-nil k m = m
+
+pub none-row : (n : ℕ) (W : Type 0) (rows : List Row) → (W → ⊥) → None-met rows → None-met (row n W ∷ rows)
+none-row n W rows unmet none k (inl m) = unmet (m .1)
+none-row n W rows unmet none k (inr m) = none k m
+
+pub none-left : (rows more : List Row) → None-met (rows ++ more) → None-met rows
+none-left [] more none k m = m
+none-left (l ∷ rows) more none k (inl m) = none k (inl m)
+none-left (l ∷ rows) more none k (inr m) = none-left rows more (λ j h. none j (inr h)) k m
+
+pub none-both : (rows more : List Row) → None-met rows → None-met more → None-met (rows ++ more)
+none-both [] more a b k m = b k m
+none-both (l ∷ rows) more a b k (inl m) = a k (inl m)
+none-both (l ∷ rows) more a b k (inr m) = none-both rows more (λ j h. a j (inr h)) b k m
+
+module _ (cs ls : List ℕ) where
+  dictionary-decides : Decides (dictionary-rows cs ls) (dictionary-refusal cs ls) Unit Unit
+  dictionary-decides =
+      first-decides (dictionary-rows cs ls) (dictionary-numbered cs ls) (dictionary-refusal cs ls) (dictionary-first cs ls)
+
+  pub none-admitted : all-chars cs ≡ true → None-met (dictionary-rows cs ls) → admitted cs ls ≡ true
+  unfolding admitted
+  none-admitted chars none =
+      and-put chars
+      (eq-eqb (dictionary-refusal cs ls) 0
+      (accepts-none (dictionary-rows cs ls) (dictionary-refusal cs ls) Unit Unit dictionary-decides none .number))
+
+  pub admitted-none : admitted cs ls ≡ true → None-met (dictionary-rows cs ls)
+  unfolding admitted
+  admitted-none a =
+      accepts-zero (dictionary-rows cs ls) (dictionary-refusal cs ls) Unit Unit dictionary-decides
+      (eqb-true (dictionary-refusal cs ls) 0 (and-right (all-chars cs) (eqb (dictionary-refusal cs ls) 0) a)) .none-met
+
+-- NUMBERS OF A TEXT
+
+module _ (cs ls : List ℕ) (adm : admitted cs ls ≡ true) where
+  chars : all-chars cs ≡ true
+  unfolding admitted
+  chars = and-left (all-chars cs) (eqb (dictionary-refusal cs ls) 0) adm
+
+  none-index : (xs : List ℕ) → readable longest-text (lexicon cs ls) xs ≡ true → None-met (index-rows cs ls xs)
+  none-index xs can =
+      none-both (dictionary-rows cs ls) (row 5 (Unreadable (lexicon cs ls) xs) ∷ []) (admitted-none cs ls adm)
+      (none-row 5 (Unreadable (lexicon cs ls) xs) [] (λ f. clash can f) none-nil)
+
+  -- readable numbers and a query meet no line of first
+  none-string : (xs s : List ℕ) → readable longest-text (lexicon cs ls) xs ≡ true → Query s → None-met (string-rows cs ls xs s)
+  none-string xs s can q =
+      none-both (index-rows cs ls xs) (row 6 (String-wrong s) ∷ []) (none-index xs can)
+      (none-row 6 (String-wrong s) []
+      (⊎-elim (λ (e : length s ≡ 0). omega (arith, q .nonempty)) (λ (l : 256 < length s). omega (arith, q .short))) none-nil)
+
+  -- with output enough they meet no line of a search or cut-down
+  none-find :
+      (xs s result o : List ℕ) → readable longest-text (lexicon cs ls) xs ≡ true → Query s → length result ≤ length o →
+      None-met (find-rows cs ls xs s result o)
+  none-find xs s result o can q room =
+      none-both (string-rows cs ls xs s) (row 8 (Output-short result o) ∷ []) (none-string xs s can q)
+      (none-row 8 (Output-short result o) [] (λ l. omega (arith, room)) none-nil)
+
+  -- any readable numbers whose search gives the places of a text
+  found-for :
+      (xs ts s : List ℕ) → readable longest-text (lexicon cs ls) xs ≡ true → Query s →
+      Exactly-positions (replaced s) ts (find (lexicon cs ls) xs (replaced s)) → Found-for cs ls xs ts s
+  found-for xs ts s can q exactly r o z room says =
+      let found = find (lexicon cs ls) xs (replaced s) in
+      let h =
+      accepts-none (find-rows cs ls xs s found o) (r .refusal) (Written found r o z) (Untouched r o z)
+      (first-demand .searches cs ls xs s r o z says)
+      (none-find xs s found o can q (omega (arith, room, ap length (exactly .are-positions)))) in (
+        h .number,
+        subst (λ (ps : List ℕ). Written ps r o z) (exactly .are-positions) (h .result),
+        subst (Exactly-positions (replaced s) ts) (sym (h .result .front)) exactly,
+      )
+
+  -- any readable numbers whose first position is where the string stands first
+  first-for :
+      (xs ts s : List ℕ) → readable longest-text (lexicon cs ls) xs ≡ true → Query s →
+      First-stands (replaced s) ts (first-position (lexicon cs ls) xs (replaced s)) → First-for cs ls xs ts s
+  first-for xs ts s can q stands r says =
+      let h =
+      accepts-none (string-rows cs ls xs s) (r .refusal) (r .position ≡ first-position (lexicon cs ls) xs (replaced s)) (r .position ≡ 0)
+      (first-demand .firsts cs ls xs s r says) (none-string xs s can q) in
+      (h .number, subst (First-stands (replaced s) ts) (sym (h .result)) stands)
+
+  module _ (xs ts : List ℕ) (text : Text-of longest-text (lexicon cs ls) xs ts) where
+    is-received : received longest-text (lexicon cs ls) xs ≡ true
+    unfolding Demand-three
+    is-received = demand-three longest-text cs ls xs adm .1 ts text
+
+    can : readable longest-text (lexicon cs ls) xs ≡ true
+    can = received-reads longest-text (lexicon cs ls) xs is-received
+
+    is-recovered : recovered (lexicon cs ls) xs ≡ ts
+    unfolding Demand-three
+    is-recovered = sym (demand-three longest-text cs ls xs adm .0 is-received .only-text ts text)
+
+    serves : Serves longest-text (lexicon cs ls) xs ts
+    unfolding Demand-three
+    serves = subst (Serves longest-text (lexicon cs ls) xs) is-recovered (demand-three longest-text cs ls xs adm .0 is-received)
+
+    -- 9 is not met
+    none-nine : None-met (row 9 (No-text (lexicon cs ls) xs) ∷ [])
+    none-nine = none-row 9 (No-text (lexicon cs ls) xs) [] (λ h. h .1 (ts, text)) none-nil
+
+    none-reception : (w : List ℕ) → 8 * length ts ≤ length w → None-met (reception-rows cs ls xs w)
+    none-reception w room =
+        none-both (index-rows cs ls xs) (row 7 (Work-short (n-of xs) w) ∷ row 9 (No-text (lexicon cs ls) xs) ∷ []) (none-index xs can)
+        (none-row 7 (Work-short (n-of xs) w) (row 9 (No-text (lexicon cs ls) xs) ∷ []) (λ l. omega (arith, room, text .length-is))
+        none-nine)
+
+    pub received-for : Received-for cs ls xs ts
+    received-for r w v room says =
+        let h =
+        accepts-none (reception-rows cs ls xs w) (r .refusal) (r .count ≡ n-of xs) (r .count ≡ 0)
+        (first-demand .receives cs ls xs r w v chars says .0) (none-reception w room) in
+        (h .number, h .result ∙ sym (text .length-is))
+
+    pub recovered-for : Recovered-for cs ls xs ts
+    recovered-for r o z w v room fits says =
+        let h =
+        accepts-none (recovery-rows cs ls xs o w) (r .refusal) (Written (recovered (lexicon cs ls) xs) r o z) (Untouched r o z)
+        (first-demand .recovers cs ls xs r o z w v chars says .0)
+        (none-both (reception-rows cs ls xs w) (row 8 (Recovery-short (lexicon cs ls) xs o) ∷ []) (none-reception w room)
+        (none-row 8 (Recovery-short (lexicon cs ls) xs o) [] (λ l. omega (arith, l .0, fits, text .length-is)) none-nil)) in
+        (h .number, subst (λ (us : List ℕ). Written us r o z) is-recovered (h .result))
+
+    -- numbers equal to the cut-down index serve for it
+    cut-found :
+        (s ys : List ℕ) → Query s → ys ≡ cut-down (lexicon cs ls) xs (replaced s) → Found-for cs ls ys ts s × First-for cs ls ys ts s
+    cut-found s ys q e =
+        let cut = cut-down (lexicon cs ls) xs (replaced s) in
+        subst (λ (zs : List ℕ). Found-for cs ls zs ts s × First-for cs ls zs ts s) (sym e) (
+          found-for cut ts s (serves .cut-readable s q) q (serves .cut-exact s q),
+          first-for cut ts s (serves .cut-readable s q) q (serves .cut-first-exact s q),
+        )
+
+    cut-for : (s : List ℕ) → Query s → Cut-for cs ls xs ts s
+    cut-for s q r o z room says =
+        let cut = cut-down (lexicon cs ls) xs (replaced s) in
+        let h =
+        accepts-none (find-rows cs ls xs s cut o) (r .refusal) (Written cut r o z) (Untouched r o z)
+        (first-demand .cuts cs ls xs s r o z says) (none-find xs s cut o can q room) in
+        let found = cut-found s (take (r .count) z) q (h .result .front) in (h .number, h .result, found .0, found .1)
+
+    -- what an accepted call of cut wrote is the cut-down index
+    cut-written :
+        (s : List ℕ) (r : Answer) (o z : List ℕ) → Cut-says cs ls xs s r o z → r .refusal ≡ 0 →
+        take (r .count) z ≡ cut-down (lexicon cs ls) xs (replaced s)
+    cut-written s r o z says zero =
+        let cut = cut-down (lexicon cs ls) xs (replaced s) in
+        accepts-zero (find-rows cs ls xs s cut o) (r .refusal) (Written cut r o z) (Untouched r o z)
+        (first-demand .cuts cs ls xs s r o z says) zero .result .front
+
+    pub delivered : Delivered cs ls xs ts
+    delivered =
+        record {
+          text = text;
+          only-text = serves .only-text;
+          is-recovered = recovered-for;
+          searched = λ s q. found-for xs ts s can q (serves .search-exact s q);
+          first = λ s q. first-for xs ts s can q (serves .first-exact s q);
+          cut = cut-for;
+          accepted-cut = λ s q r o z says zero. cut-found s (take (r .count) z) q (cut-written s r o z says zero);
+        }

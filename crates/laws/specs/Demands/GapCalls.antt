@@ -1,0 +1,189 @@
+-- The calls of to_gaps and from_gaps, one after the other, and what meets 5; from the tests on the way to what a call says. Assumes
+-- nothing.
+use mathlib.Core.Path.{_≡_, refl, sym, ap, _∙_}
+use mathlib.Core.Bool.{Bool, true, false, cond}
+use mathlib.Core.Logic.{inl, inr, ⊎-elim}
+use mathlib.Core.List.{List, [], _∷_, _++_}
+use Prim.Native.Nat.{ℕ, _≤_}
+use native.Mathlib.Omega.{arith}
+use lib.ListN.{length, take, drop}
+use borrow.Author.Tests.{ne-eqb}
+use Rattle.basics.specs.Bools.{clash, true-or-false}
+use Rattle.spec.specs.declared.Answer.{Answer}
+use Rattle.spec.specs.Dictionary.{longest-text, lexicon, dictionary-refusal}
+use Rattle.spec.specs.Index.{readable}
+use Rattle.spec.specs.Gaps.{gaps, prefix-sums, with-lists, gap-form, restored}
+use Rattle.spec.specs.GapsTheorems.{Gap-calls}
+use Rattle.spec.specs.Calls.{output-short, or-else, index-refusal, gaps-refusal, Answers, in-front, Puts, To-gaps-says, From-gaps-says}
+use Rattle.spec.specs.RefusalTable.{Written, Untouched, Unreadable, Output-short, row, gaps-rows, dictionary-rows, index-rows}
+use Rattle.laws.specs.Dictionary.Answering.{or-else-some, or-else-none}
+use Rattle.laws.specs.Dictionary.WordCode.{Small}
+use Rattle.laws.specs.Readable.LineWalk.{readable-fits}
+use Rattle.laws.specs.Readable.KeyTests.{no-refusal}
+use Rattle.laws.specs.Gaps.GapLists.{length-gaps, length-sums}
+use Rattle.laws.specs.Gaps.WithLists.{length-with}
+use Rattle.laws.specs.Gaps.ReadLists.{read-as, read-positions, read-gaps}
+use Rattle.laws.specs.Gaps.GapParts.{write-as, Writable}
+use Rattle.laws.specs.Readable.IndexRefusal.{refuses-unreadable, accepts-index, index-accepted}
+use Rattle.laws.specs.Search.Sizing.{Sized, refused}
+use Rattle.laws.specs.Gaps.GapForms.{gaps-restored, restored-gaps, count-some, restored-fits, restored-some, totals-small, sums-small}
+use Rattle.laws.specs.Demands.DemandOne.{first-demand}
+use Rattle.laws.specs.Demands.Delivery.{true-put, None-met, accepts-zero, accepts-none, none-nil, none-row, none-left, none-both}
+
+-- FROM THE TESTS TO WHAT A CALL SAYS
+
+module _ (cs ls xs ys : List ℕ) (r : Answer) (o : List ℕ) where
+  pub gaps-refused :
+      (index-refusal cs ls xs ≡ 0 → ⊥) → r .refusal ≡ index-refusal cs ls xs → r .count ≡ 0 →
+      Puts (gaps-refusal cs ls xs (length ys) (length o)) ys r o o
+  unfolding gaps-refusal or-else
+  gaps-refused some number none =
+      rw (ne-eqb (index-refusal cs ls xs) 0 some) (refused (index-refusal cs ls xs) ys r o some number none)
+
+  pub gaps-sized :
+      index-refusal cs ls xs ≡ 0 → (z : List ℕ) → Sized ys r o z → Puts (gaps-refusal cs ls xs (length ys) (length o)) ys r o z
+  unfolding gaps-refusal or-else Sized
+  gaps-sized accepts z h = rw accepts h
+
+-- what the writer builds on, once no line is met
+pub writable :
+    (cs ls xs : List ℕ) (b : Bool) → Small cs → index-refusal cs ls (with-lists (read-as b) xs) ≡ 0 → Writable b xs
+writable cs ls xs true small none =
+    let a = index-accepted cs ls (with-lists (read-as true) xs) none in
+    let good = no-refusal cs ls small (a .no-refusal) in
+    let can : readable longest-text (lexicon cs ls) (restored xs) ≡ true = rw (← read-gaps xs) (a .is-readable) in
+    record {
+      fits = restored-fits longest-text cs ls xs good can;
+      some = restored-some longest-text cs ls xs good can;
+      totals = λ e. totals-small longest-text cs ls xs good can;
+      sums = λ e. sums-small longest-text cs ls xs good can;
+    }
+writable cs ls xs false small none =
+    let a = index-accepted cs ls (with-lists (read-as false) xs) none in
+    let can : readable longest-text (lexicon cs ls) xs ≡ true = rw (read-positions xs) at (a .is-readable) in
+    record {
+      fits = readable-fits longest-text (lexicon cs ls) xs can;
+      some = λ i below. count-some longest-text (lexicon cs ls) xs i can below;
+      totals = λ (e : _≡_ {A = Bool} false true). clash e refl;
+      sums = λ (e : _≡_ {A = Bool} false true). clash e refl;
+    }
+
+-- what is written is as long as what was lent
+pub form-length : (b : Bool) (xs : List ℕ) → length (with-lists (write-as b) xs) ≡ length xs
+form-length true xs = length-with prefix-sums (length-sums 0) xs
+form-length false xs = length-with gaps (length-gaps 0) xs
+
+-- the form in front of the output that it was lent the front of
+pub form-front :
+    (b : Bool) (xs o part : List ℕ) → part ≡ with-lists (write-as b) xs →
+    part ++ drop (length xs) o ≡ in-front (with-lists (write-as b) xs) o
+unfolding in-front
+form-front b xs o part is = rw (is, form-length b xs)
+
+-- what both directions say, as what each says
+abbrev pub Form-says : (restore : Bool) → (chars lengths numbers : List ℕ) → Answer → (out out-now : List ℕ) → Type 0
+Form-says b cs ls xs r o z =
+    let form = with-lists (write-as b) xs in
+    Puts (gaps-refusal cs ls (with-lists (read-as b) xs) (length form) (length o)) form r o z
+
+module _ (cs ls xs : List ℕ) (r : Answer) (o z : List ℕ) where
+  pub to-gaps-said : Form-says false cs ls xs r o z → To-gaps-says cs ls xs r o z
+  unfolding To-gaps-says gap-form
+  to-gaps-said says = rw (read-positions xs) at says
+
+  pub from-gaps-said : Form-says true cs ls xs r o z → From-gaps-says cs ls xs r o z
+  unfolding From-gaps-says restored
+  from-gaps-said says = rw (read-gaps xs) at says
+
+-- ONE CALL AFTER THE OTHER
+
+-- a dictionary that is accepted with one index is so with any readable one, if the output is long enough
+other-none :
+    (cs ls xs ys us vs o p : List ℕ) → None-met (gaps-rows cs ls xs us o) → readable longest-text (lexicon cs ls) ys ≡ true →
+    length vs ≤ length p → None-met (gaps-rows cs ls ys vs p)
+other-none cs ls xs ys us vs o p none can room =
+    none-both (index-rows cs ls ys) (row 8 (Output-short vs p) ∷ [])
+    (none-both (dictionary-rows cs ls) (row 5 (Unreadable (lexicon cs ls) ys) ∷ [])
+    (none-left (dictionary-rows cs ls) (row 5 (Unreadable (lexicon cs ls) xs) ∷ row 8 (Output-short us o) ∷ []) none)
+    (none-row 5 (Unreadable (lexicon cs ls) ys) [] (λ f. clash can f) none-nil))
+    (none-row 8 (Output-short vs p) [] (λ short. omega arith) none-nil)
+
+can-read : (cs ls xs us o : List ℕ) → None-met (gaps-rows cs ls xs us o) → readable longest-text (lexicon cs ls) xs ≡ true
+can-read cs ls xs us o none =
+    true-put (readable longest-text (lexicon cs ls) xs) (λ f. none 5 (inr (inr (inr (inr (inl (refl, f)))))))
+
+restores :
+    (cs ls xs : List ℕ) (r s : Answer) (o z p q : List ℕ) → To-gaps-says cs ls xs r o z → r .refusal ≡ 0 → length xs ≤ length p →
+    From-gaps-says cs ls (take (r .count) z) s p q → (s .refusal ≡ 0) × (s .count ≡ length xs) × (take (s .count) q ≡ xs)
+restores cs ls xs r s o z p q to zero room from =
+    let form = gap-form xs in
+    let index = restored (take (r .count) z) in
+    let h =
+    accepts-zero (gaps-rows cs ls xs form o) (r .refusal) (Written form r o z) (Untouched r o z)
+    (first-demand .rearranges cs ls xs r o z to) zero in
+    let can = can-read cs ls xs form o (h .none-met) in
+    let back : index ≡ xs = ap restored (h .result .front) ∙ gaps-restored longest-text (lexicon cs ls) xs can in
+    let a =
+    accepts-none (gaps-rows cs ls index index p) (s .refusal) (Written index s p q) (Untouched s p q)
+    (first-demand .restores cs ls (take (r .count) z) s p q from)
+    (other-none cs ls xs index form index o p (h .none-met) (rw back can) (omega (arith, ap length back))) in
+    (a .number, a .result .count ∙ ap length back, a .result .front ∙ back)
+
+comes-back :
+    (cs ls ds : List ℕ) (r s : Answer) (o z p q : List ℕ) → From-gaps-says cs ls ds r o z → r .refusal ≡ 0 → length ds ≤ length p →
+    To-gaps-says cs ls (take (r .count) z) s p q → (s .refusal ≡ 0) × (s .count ≡ length ds) × (take (s .count) q ≡ ds)
+comes-back cs ls ds r s o z p q from zero room to =
+    let index = restored ds in
+    let ys = take (r .count) z in
+    let form = gap-form ys in
+    let h =
+    accepts-zero (gaps-rows cs ls index index o) (r .refusal) (Written index r o z) (Untouched r o z)
+    (first-demand .restores cs ls ds r o z from) zero in
+    let can = can-read cs ls index index o (h .none-met) in
+    let back : form ≡ ds = ap gap-form (h .result .front) ∙ restored-gaps ds in
+    let a =
+    accepts-none (gaps-rows cs ls ys form p) (s .refusal) (Written form s p q) (Untouched s p q)
+    (first-demand .rearranges cs ls ys s p q to)
+    (other-none cs ls index ys index form o p (h .none-met) (rw (h .result .front) can) (omega (arith, ap length back))) in
+    (a .number, a .result .count ∙ ap length back, a .result .front ∙ back)
+
+-- WHAT MEETS 5
+
+module _ (cs ls ds : List ℕ) (r : Answer) (o z : List ℕ) (none : dictionary-refusal cs ls ≡ 0) (says : From-gaps-says cs ls ds r o z) where
+  abbrev index : List ℕ
+  index = restored ds
+
+  abbrev eight : ℕ
+  eight = cond (output-short (length index) (length o)) 8 0
+
+  number : r .refusal ≡ or-else (index-refusal cs ls index) eight
+  unfolding From-gaps-says Puts Answers gaps-refusal
+  number = says .0 .0
+
+  five-met : readable longest-text (lexicon cs ls) index ≡ false → r .refusal ≡ 5
+  five-met f =
+      let five : index-refusal cs ls index ≡ 5 = sym (refuses-unreadable cs ls index none f) in
+      number ∙ or-else-some (index-refusal cs ls index) eight (λ (e : index-refusal cs ls index ≡ 0). omega (arith, five)) ∙ five
+
+  five-only : r .refusal ≡ 5 → readable longest-text (lexicon cs ls) index ≡ false
+  five-only five =
+      ⊎-elim
+      (λ (can : readable longest-text (lexicon cs ls) index ≡ true).
+      let zero : index-refusal cs ls index ≡ 0 = sym (accepts-index cs ls index none can) in
+      absurd
+      (by-test (output-short (length index) (length o))
+      (sym (or-else-none (index-refusal cs ls index) eight zero) ∙ sym number ∙ five)))
+      (λ (f : readable longest-text (lexicon cs ls) index ≡ false). f)
+      (true-or-false (readable longest-text (lexicon cs ls) index))
+    where
+      by-test : (b : Bool) → _≡_ {A = ℕ} (cond b 8 0) 5 → ⊥
+      by-test true e = omega arith
+      by-test false e = omega arith
+
+pub gap-calls : Gap-calls
+gap-calls =
+    record {
+      restores = restores;
+      comes-back = comes-back;
+      five = λ cs ls ds r o z none says. (five-met cs ls ds r o z none says, five-only cs ls ds r o z none says);
+    }

@@ -1,0 +1,167 @@
+-- The statements of ReplacedPromise on a full-width form as a lone key, and on the calls over such an index, proved. Assumes nothing.
+use mathlib.Core.Path.{_≡_, refl, sym, ap, _∙_}
+use mathlib.Core.Bool.{true, false}
+use mathlib.Core.List.{List, [], _∷_}
+use Prim.Native.Nat.{ℕ, _+_, _-_, _*_, _≤_}
+use native.Mathlib.Omega.{arith}
+use lib.Dec.{eqb}
+use lib.ListN.{length, getD}
+use borrow.Author.Tests.{eqb-true}
+use Rattle.basics.specs.Bools.{clash, false-put, and-right}
+use Rattle.basics.specs.Member.{In, in-getD}
+use Rattle.spec.specs.declared.TallyAnswer.{TallyAnswer}
+use Rattle.spec.specs.Replaced.{is-full-width, replaced}
+use Rattle.spec.specs.Dictionary.{longest-text, Lexicon, all-chars, lexicon, dictionary-refusal, admitted}
+use Rattle.spec.specs.Words.{key, is-word, spells}
+use Rattle.spec.specs.Numbers.{Line}
+use Rattle.spec.specs.Index.{n-of, entries-of, lines-in, key-good, readable}
+use Rattle.spec.specs.Reception.{recovered, is-index, received}
+use Rattle.spec.specs.Search.{agrees, find}
+use Rattle.spec.specs.Cut.{bears, cut-down}
+use Rattle.spec.specs.FurtherTheorems.{Cut-any}
+use Rattle.spec.specs.Calls.{index-refusal, reception-refusal, recovery-refusal, Answers, Puts, Receive-says, Recover-says, Tally-says}
+use Rattle.spec.specs.ReplacedTheorems.{Lone-form, Form-as-key, Form-calls}
+use Rattle.laws.specs.Text.Strings.{Stand}
+use Rattle.laws.specs.Text.Facts.{Good-lexicon}
+use Rattle.laws.specs.Text.WidthFolding.{form-get, length-replaced, replaced-plain}
+use Rattle.laws.specs.Dictionary.Answering.{accepted-yes}
+use Rattle.laws.specs.Dictionary.Lexicon.{admitted-lexicon}
+use Rattle.laws.specs.Dictionary.Keys.{is-word-get, lone-is-key, spells-lone}
+use Rattle.laws.specs.Text.Overlaps.{stand-at}
+use Rattle.laws.specs.Entries.Entries.{entries-get}
+use Rattle.laws.specs.Numbers.Flat.{posting, flat-put}
+use Rattle.laws.specs.Readable.Readable.{readable-get}
+use Rattle.laws.specs.Search.Agree.{Agree, agrees-get}
+use Rattle.laws.specs.Cut.Bears.{bears-get}
+use Rattle.laws.specs.Cut.Same.{bearing-get}
+use Rattle.laws.specs.Cut.Readable.{lines-in-cut}
+use Rattle.laws.specs.Receive.Received.{Received, received-get, readable-chars}
+use Rattle.laws.specs.Receive.ReceptionTest.{is-index-only}
+use Rattle.laws.specs.Demands.Theorems.{cut-any}
+use Rattle.laws.specs.Readable.IndexRefusal.{accepts-index}
+use Rattle.laws.specs.Receive.Receiving.{short-none, reception-unreceived, recovery-early}
+
+-- NO WORD, BUT A KEY
+
+module _ (cs ls : List ℕ) (c : ℕ) (adm : admitted cs ls ≡ true) (form : is-full-width c ≡ true) where
+  no-word : In (c ∷ []) (lexicon cs ls .words) → ⊥
+  no-word m = clash form (admitted-lexicon cs ls adm .plain (c ∷ []) m 0 (omega arith))
+
+  never-word : is-word (lexicon cs ls) (c ∷ []) ≡ false
+  never-word = false-put (is-word (lexicon cs ls) (c ∷ [])) (λ t. no-word (is-word-get (lexicon cs ls) (c ∷ []) t))
+
+  lone-good : key-good (lexicon cs ls) (key 1 c) ≡ true
+  unfolding key
+  lone-good =
+      lone-is-key (lexicon cs ls) (key 1 c) (record { kind-is = refl; char = omega (arith, form-get c form); no-word = no-word }) .good
+
+-- AGREES WITH NO STRING
+
+module _ (s : List ℕ) (c : ℕ) (form : is-full-width c ≡ true) where
+  -- at the shared place the string would have it
+  agree-never : (a b : ℕ) → Agree (replaced s) a (c ∷ []) b → ⊥
+  agree-never a b h =
+      let here : h .shared - b ≡ 0 = omega (arith, h .entry-from, h .entry-to) in
+      let same : getD (replaced s) (h .shared - a) 0 ≡ c =
+      h .equal (h .shared) (h .string-from) (h .string-to) (h .entry-from) (h .entry-to)
+      ∙ ap (λ (i : ℕ). getD (c ∷ []) i 0) here in
+      clash form
+      (sym (ap is-full-width same)
+      ∙ replaced-plain s (h .shared - a) (omega (arith, h .string-from, h .string-to)))
+
+  agrees-never : (a b : ℕ) → agrees (replaced s) a (c ∷ []) b ≡ false
+  agrees-never a b =
+      false-put (agrees (replaced s) a (c ∷ []) b) (λ t. agree-never a b (agrees-get (replaced s) a (c ∷ []) b t))
+
+  bears-never : 1 ≤ length s → bears (c ∷ []) (replaced s) ≡ false
+  bears-never some =
+      false-put (bears (c ∷ []) (replaced s))
+      (λ t.
+      let h = bears-get (c ∷ []) (replaced s) (omega arith) (omega (arith, length-replaced s)) t in agree-never (h .0) (h .1) (h .2))
+
+spells-form : (lex : Lexicon) (l : Line) (c : ℕ) → l .key-of ≡ key 1 c → spells lex (l .key-of) ≡ c ∷ []
+unfolding key
+spells-form lex l c e = rw e (spells-lone lex (key 1 c) refl)
+
+cut-out : (lex : Lexicon) (xs s : List ℕ) (c : ℕ) → 1 ≤ length s → Lone-form (cut-down lex xs (replaced s)) c → ⊥
+cut-out lex xs s c some (form, (l, m, e)) =
+    let bear = bearing-get lex (replaced s) (lines-in xs) l (rw (lines-in-cut lex xs (replaced s)) at m) .1 in
+    clash (rw (spells-form lex l c e) at bear) (bears-never s c form some)
+
+-- NO TEXT HAS IT
+
+module _ (lex : Lexicon) (good : Good-lexicon lex) (g : ℕ) (xs : List ℕ) (can : readable g lex xs ≡ true) where
+  -- the entries of numbers that are the index of what they show stand in it
+  line-stands :
+      is-index g lex xs ≡ true → (l : Line) → In l (lines-in xs) → (p : ℕ) → In p (l .positions) →
+      Stand (spells lex (l .key-of)) (recovered lex xs) p
+  line-stands own l m p n =
+      entries-get lex good (recovered lex xs) (readable-chars lex good g xs can) (posting lex (l .key-of) p)
+      (is-index-only lex good g xs own (posting lex (l .key-of) p) (flat-put lex (lines-in xs) l p m n)) .is-entry .stand
+
+  -- so the form stands at the first of its positions, in a text without any
+  unreceived : (c : ℕ) → Lone-form xs c → received g lex xs ≡ false
+  unreceived c (form, (l, m, e)) = false-put (received g lex xs) (λ t. shown (received-get g lex xs t))
+    where
+      shown : Received g lex xs → ⊥
+      shown h =
+          let p = getD (l .positions) 0 0 in
+          let stand : Stand (c ∷ []) (recovered lex xs) p =
+          rw (spells-form lex l c e) at
+          (line-stands (h .is-own) l m p (in-getD (l .positions) 0 0 (readable-get g lex xs can .lines .each l m .some))) in
+          clash form
+          (ap is-full-width (stand-at (c ∷ []) (recovered lex xs) p 0 stand (omega arith))
+          ∙ h .plain (p + 0 - 1) (omega (arith, stand .from, stand .within)))
+
+found-without :
+    (g : ℕ) (lex : Lexicon) (xs s : List ℕ) → readable g lex xs ≡ true →
+    find lex xs (replaced s) ≡ find lex (cut-down lex xs (replaced s)) (replaced s)
+unfolding Cut-any
+found-without g lex xs s can = sym (cut-any g lex xs (replaced s) can .1)
+
+pub form-as-key : (g : ℕ) → Form-as-key g
+form-as-key g =
+    record {
+      never-word = never-word;
+      is-key = lone-good;
+      agrees-never = λ s a c b form. agrees-never s c form a b;
+      bears-never = λ s c some form. bears-never s c form some;
+      cut-out = cut-out;
+      found-without = found-without g;
+      unreceived = λ cs ls xs c adm can. unreceived (lexicon cs ls) (admitted-lexicon cs ls adm) g xs can c;
+    }
+
+-- OVER THE CALLS
+
+module _ (cs ls xs : List ℕ) (adm : admitted cs ls ≡ true) (can : readable longest-text (lexicon cs ls) xs ≡ true) where
+  no-refusal : index-refusal cs ls xs ≡ 0
+  unfolding admitted
+  no-refusal =
+      sym
+      (accepts-index cs ls xs
+      (eqb-true (dictionary-refusal cs ls) 0 (and-right (all-chars cs) (eqb (dictionary-refusal cs ls) 0) adm)) can)
+
+  tallied : (r : TallyAnswer) → Tally-says cs ls xs r → (r .refusal ≡ 0) × (r .count ≡ entries-of xs)
+  unfolding Tally-says
+  tallied r says =
+      (says .0 ∙ no-refusal, says .1 ∙ accepted-yes (index-refusal cs ls xs) (entries-of xs) 0 no-refusal)
+
+  module _ (c : ℕ) (lone : Lone-form xs c) (w : ℕ) (room : 8 * n-of xs ≤ w) where
+    nine : reception-refusal cs ls xs w ≡ 9
+    nine =
+        reception-unreceived cs ls xs w (sym (short-none (index-refusal cs ls xs) xs w no-refusal room))
+        (unreceived (lexicon cs ls) (admitted-lexicon cs ls adm) longest-text xs can c lone)
+
+    nine-recovery : (o : ℕ) → recovery-refusal cs ls xs o w ≡ 9
+    nine-recovery o = recovery-early cs ls xs w o (λ (z : reception-refusal cs ls xs w ≡ 0). omega (arith, nine)) ∙ nine
+
+pub form-calls : Form-calls
+unfolding Receive-says Recover-says Puts Answers
+form-calls =
+    record {
+      tallied = λ cs ls xs r adm can. tallied cs ls xs adm can r;
+      not-received = λ cs ls xs c r w v adm can lone room says. says .0 .0 ∙ nine cs ls xs adm can c lone (length w) room;
+      not-recovered =
+          λ cs ls xs c r o z w v adm can lone room says.
+          says .0 .0 .0 ∙ nine-recovery cs ls xs adm can c lone (length w) room (length o);
+    }

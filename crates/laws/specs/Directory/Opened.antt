@@ -1,0 +1,118 @@
+-- An index read by tables: where each word's characters start, and where each directory line's positions start. Assumes nothing.
+use mathlib.Core.Path.{_≡_, refl, ap, _∙_}
+use mathlib.Core.List.{List, [], _∷_}
+use Prim.Native.Nat.{ℕ, zero, suc, _+_, _*_, _-_, _≤_, _<_}
+use native.Mathlib.Numerals.{add-one}
+use native.Mathlib.Omega.{arith}
+use lib.ListN.{length, getD, take, drop, drop-of-length-le}
+use lib.Seq.{drop-drop}
+use Rattle.spec.specs.Dictionary.{words-from, total}
+use Rattle.spec.specs.Numbers.{Line, line}
+use Rattle.spec.specs.Index.{header, keys-of, count-at, key-at, counts-from, entries-of, lines-from, lines-in}
+use Rattle.laws.specs.Numbers.Slices.{length-lines-from, Fits}
+
+-- WORDS
+
+-- where word w's characters start
+abbrev pub word-start : (lengths : List ℕ) → (w : ℕ) → ℕ
+word-start ls w = total (take w ls)
+
+start-suc : (ls : List ℕ) (w : ℕ) → w < length ls → word-start ls (suc w) ≡ word-start ls w + getD ls w 0
+unfolding total
+start-suc [] w h = absurd (omega arith)
+start-suc (l ∷ ls) zero h = omega arith
+start-suc (l ∷ ls) (suc w) h = omega (arith, start-suc ls w (omega arith))
+
+pub word-start-next : (ls : List ℕ) (w : ℕ) → w < length ls → word-start ls (w + 1) ≡ word-start ls w + getD ls w 0
+word-start-next ls w h = rw (add-one w) (start-suc ls w h)
+
+pub word-start-room : (ls : List ℕ) (w : ℕ) → w < length ls → word-start ls w + getD ls w 0 ≤ total ls
+unfolding total
+word-start-room [] w h = absurd (omega arith)
+word-start-room (l ∷ ls) zero h = omega arith
+word-start-room (l ∷ ls) (suc w) h = omega (arith, word-start-room ls w (omega arith))
+
+pub word-there :
+    (ls cs : List ℕ) (w : ℕ) → w < length ls → getD (words-from ls cs) w [] ≡ take (getD ls w 0) (drop (word-start ls w) cs)
+unfolding words-from total
+word-there [] cs w h = absurd (omega arith)
+word-there (l ∷ ls) cs zero h = refl
+word-there (l ∷ ls) cs (suc w) h =
+    word-there ls (drop l cs) w (omega arith) ∙ ap (λ (d : List ℕ). take (getD ls w 0) d) (drop-drop (word-start ls w) l cs)
+
+-- LINES
+
+-- where the positions of line i start
+abbrev pub list-start : (numbers : List ℕ) → (i : ℕ) → ℕ
+list-start xs i = header + 3 * keys-of xs + counts-from i 0 xs
+
+-- line i with its positions
+abbrev pub line-of : (numbers : List ℕ) → (i : ℕ) → Line
+line-of xs i = line (key-at xs i) (take (count-at xs i) (drop (list-start xs i) xs))
+
+counts-snoc : (k i : ℕ) (xs : List ℕ) → counts-from (suc k) i xs ≡ counts-from k i xs + count-at xs (i + k)
+unfolding counts-from
+counts-snoc zero i xs = let z : i + 0 ≡ i = omega arith in rw z (omega arith)
+counts-snoc (suc k) i xs =
+    let z : i + suc k ≡ suc i + k = omega arith in
+    rw z (omega (arith, counts-snoc k (suc i) xs))
+
+pub counts-next : (i : ℕ) (xs : List ℕ) → counts-from (i + 1) 0 xs ≡ counts-from i 0 xs + count-at xs i
+counts-next i xs = let z : 0 + i ≡ i = omega arith in rw (add-one i) (rw z at (counts-snoc i 0 xs))
+
+counts-split : (a b i : ℕ) (xs : List ℕ) → counts-from (a + b) i xs ≡ counts-from a i xs + counts-from b (i + a) xs
+unfolding counts-from
+counts-split zero b i xs =
+    let z : 0 + b ≡ b = omega arith in
+    let y : i + 0 ≡ i = omega arith in
+    rw (z, y) (omega arith)
+counts-split (suc a) b i xs =
+    let z : suc a + b ≡ suc (a + b) = omega arith in
+    let y : i + suc a ≡ suc i + a = omega arith in
+    rw (z, y) (omega (arith, counts-split a b (suc i) xs))
+
+lines-cut :
+    (k i j : ℕ) (xs ps : List ℕ) → j < k →
+    drop j (lines-from k i xs ps)
+    ≡ line (key-at xs (i + j)) (take (count-at xs (i + j)) (drop (counts-from j i xs) ps)) ∷ drop (suc j) (lines-from k i xs ps)
+unfolding lines-from counts-from
+lines-cut zero i j xs ps h = absurd (omega arith)
+lines-cut (suc k) i zero xs ps h = let z : i + 0 ≡ i = omega arith in rw z
+lines-cut (suc k) i (suc j) xs ps h =
+    let z : i + suc j ≡ suc i + j = omega arith in
+    rw z
+    (lines-cut k (suc i) j xs (drop (count-at xs i) ps) (omega arith)
+    ∙ ap
+    (λ (d : List ℕ).
+    line (key-at xs (suc i + j)) (take (count-at xs (suc i + j)) d)
+    ∷ drop (suc j) (lines-from k (suc i) xs (drop (count-at xs i) ps)))
+    (drop-drop (counts-from j (suc i) xs) (count-at xs i) ps))
+
+pub length-lines-in : (xs : List ℕ) → length (lines-in xs) ≡ keys-of xs
+unfolding lines-in
+length-lines-in xs = length-lines-from (keys-of xs) 0 xs (drop (header + 3 * keys-of xs) xs)
+
+module _ (xs : List ℕ) (i : ℕ) (below : i < keys-of xs) where
+  -- the lines from i on start with line i
+  pub lines-next : drop i (lines-in xs) ≡ line-of xs i ∷ drop (i + 1) (lines-in xs)
+  unfolding lines-in
+  lines-next =
+      let z : 0 + i ≡ i = omega arith in
+      rw (add-one i, ← drop-drop (counts-from i 0 xs) (header + 3 * keys-of xs) xs)
+      (rw z at (lines-cut (keys-of xs) 0 i xs (drop (header + 3 * keys-of xs) xs) below))
+
+  -- and its positions are there
+  pub list-room : Fits xs → list-start xs i + count-at xs i ≤ length xs
+  unfolding entries-of
+  list-room fits =
+      let z : i + 1 + (keys-of xs - (i + 1)) ≡ keys-of xs = omega arith in
+      omega (
+        arith,
+        fits .is-long,
+        rw z at (counts-split (i + 1) (keys-of xs - (i + 1)) 0 xs),
+        counts-next i xs,
+      )
+
+pub lines-none : (xs : List ℕ) (i : ℕ) → keys-of xs ≤ i → drop i (lines-in xs) ≡ []
+lines-none xs i past =
+    let h : length (lines-in xs) ≤ i = omega (arith, length-lines-in xs) in drop-of-length-le (lines-in xs) h

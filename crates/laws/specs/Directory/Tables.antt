@@ -1,0 +1,219 @@
+-- An accepted index with its tables of starts: what a directory line's key spells and where its positions lie. Assumes nothing.
+use mathlib.Core.Path.{_≡_, refl, sym, ap, _∙_}
+use mathlib.Core.Bool.{true, _&&_}
+use mathlib.Core.Logic.{inl, inr, ⊎-elim}
+use mathlib.Core.List.{List, [], _∷_}
+use Prim.Native.Nat.{ℕ, zero, suc, _+_, _*_, _-_, _≤_, _<_}
+use native.Mathlib.Omega.{arith}
+use lib.Dec.{leb}
+use lib.ListN.{length, getD, take, drop, set, length-set}
+use lib.Seq.{drop-nil, drop-cons, getD-set-same, getD-set-other}
+use borrow.Author.Count.{below-more}
+use Rattle.basics.specs.Bools.{and-left}
+use Rattle.basics.specs.Member.{In}
+use Rattle.spec.specs.Dictionary.{longest-text, lexicon, total, ascend}
+use Rattle.spec.specs.Words.{key, spells}
+use Rattle.spec.specs.Numbers.{Line, line}
+use Rattle.spec.specs.Index.{header, n-of, keys-of, kind-at, value-at, count-at, key-at, counts-from, lines-in, kinds-good, keys-ascend, lines-good, lengths-fit, readable}
+use Rattle.spec.specs.Calls.{index-refusal}
+use Rattle.laws.specs.Text.Facts.{Good-lexicon, Is-key, Good-line, Good-lines}
+use Rattle.laws.specs.Dictionary.Keys.{Is-word-key, Is-lone-key, key-kinds, spells-word, spells-lone, spells-short, spells-some}
+use Rattle.laws.specs.Dictionary.Lexicon.{Is-admitted, length-words, admitted-lexicon, admitted-ascend}
+use Rattle.laws.specs.Dictionary.WordCode.{Small}
+use Rattle.laws.specs.Readable.KeyTests.{no-refusal, dictionary-read}
+use Rattle.laws.specs.Readable.IndexRefusal.{Accepted, index-accepted}
+use Rattle.laws.specs.Readable.Readable.{readable-get}
+use Rattle.laws.specs.Numbers.Slices.{Fits, lengths-fit-get}
+use Rattle.laws.specs.Directory.Opened.{word-start, word-there, word-start-room, list-start, line-of, lines-next, list-room}
+
+-- what no refusal of 1, 2, 3 and 5 comes to
+pub record Can-read (cs ls xs : List ℕ) : Type 0 where
+  pub few-words : length ls ≤ 4096
+  pub few-chars : length cs ≤ 65535
+  pub sum : total ls ≡ length cs
+  pub lexicon-good : Good-lexicon (lexicon cs ls)
+  pub words-rise : ascend (lexicon cs ls .words) ≡ true
+  pub fits : Fits xs
+  pub lines : Good-lines (lexicon cs ls) (n-of xs) (lines-in xs)
+  pub n-small : n-of xs ≤ 65535
+  pub keys-small : keys-of xs ≤ 65535
+
+-- the first n words' starts are in the table
+pub record Word-starts (ls : List ℕ) (n : ℕ) (ws : List ℕ) : Type 0 where
+  pub within : n ≤ length ls
+  pub room : length ls ≤ length ws
+  pub at : (w : ℕ) → w < n → getD ws w 0 ≡ word-start ls w
+
+-- the first n lines' starts are in the table, from the end of the directory
+pub record List-starts (xs : List ℕ) (n : ℕ) (ts : List ℕ) : Type 0 where
+  pub within : n ≤ keys-of xs
+  pub room : keys-of xs ≤ length ts
+  pub at : (i : ℕ) → i < n → getD ts i 0 ≡ counts-from i 0 xs
+
+pub in-front-of : (xs : List Line) (i : ℕ) (l : Line) (more : List Line) → drop i xs ≡ l ∷ more → In l xs
+in-front-of [] i l more e = absurd (omega (arith, sym (ap length (drop-nil i)) ∙ ap length e))
+in-front-of (x ∷ xs) zero l more e = inl (sym (ap (λ (ys : List Line). getD ys 0 l) e))
+in-front-of (x ∷ xs) (suc i) l more e = inr (in-front-of xs i l more e)
+
+module _ (cs ls xs : List ℕ) (can : Can-read cs ls xs) (i : ℕ) (below : i < keys-of xs) where
+  -- the numbers of line i are there
+  pub line-room : header + 3 * i + 2 < length xs
+  line-room = omega (arith, can .fits .has-directory)
+
+  pub line-is-good : Good-line (lexicon cs ls) (n-of xs) (line-of xs i)
+  line-is-good =
+      can .lines .each (line-of xs i)
+      (in-front-of (lines-in xs) i (line-of xs i) (drop (i + 1) (lines-in xs)) (lines-next xs i below))
+
+  pub key-is : Is-key (lexicon cs ls) (key-at xs i)
+  unfolding line
+  key-is = line-is-good .is-key
+
+  -- a word's key
+  module _ (kind : kind-at xs i ≡ 0) where
+    pub word-below : value-at xs i < length ls
+    unfolding key lexicon
+    word-below =
+        ⊎-elim (λ (w : Is-word-key (lexicon cs ls) (key-at xs i)). omega (arith, w .below, length-words ls cs))
+        (λ (l : Is-lone-key (lexicon cs ls) (key-at xs i)). absurd (omega (arith, l .kind-is)))
+        (key-kinds (lexicon cs ls) (key-at xs i) key-is)
+
+    module _ (ws : List ℕ) (table : Word-starts ls (length ls) ws) where
+      start-is : getD ws (value-at xs i) 0 ≡ word-start ls (value-at xs i)
+      start-is = table .at (value-at xs i) word-below
+
+      pub word-room : getD ws (value-at xs i) 0 + getD ls (value-at xs i) 0 ≤ length cs
+      word-room = omega (arith, start-is, word-start-room ls (value-at xs i) word-below, can .sum)
+
+      pub word-spelt :
+          take (getD ws (value-at xs i) 0 + getD ls (value-at xs i) 0 - getD ws (value-at xs i) 0)
+          (drop (getD ws (value-at xs i) 0) cs)
+          ≡ spells (lexicon cs ls) (key-at xs i)
+      unfolding key lexicon
+      word-spelt =
+          let z : getD ws (value-at xs i) 0 + getD ls (value-at xs i) 0 - getD ws (value-at xs i) 0 ≡ getD ls (value-at xs i) 0 =
+          omega arith in
+          rw (z, start-is)
+          (sym (word-there ls cs (value-at xs i) word-below) ∙ sym (spells-word (lexicon cs ls) (key-at xs i) kind))
+
+  pub lone-spelt :
+      (kind-at xs i ≡ 0 → ⊥) →
+      take (header + 3 * i + 2 - (header + 3 * i + 1)) (drop (header + 3 * i + 1) xs) ≡ spells (lexicon cs ls) (key-at xs i)
+  unfolding key
+  lone-spelt other =
+      let kind : kind-at xs i ≡ 1 = omega (arith, key-is .kind-small, other) in
+      let one : header + 3 * i + 2 - (header + 3 * i + 1) ≡ 1 = omega arith in
+      rw one
+      (ap (λ (d : List ℕ). take 1 d) (drop-cons xs (header + 3 * i + 1) 0 (omega (arith, line-room)))
+      ∙ sym (spells-lone (lexicon cs ls) (key-at xs i) kind))
+
+  pub key-short : length (spells (lexicon cs ls) (key-at xs i)) ≤ 32
+  key-short = spells-short (lexicon cs ls) (can .lexicon-good) (key-at xs i) key-is
+
+  pub spelt-short : (k : List ℕ) → k ≡ spells (lexicon cs ls) (key-at xs i) → length k ≤ 32
+  spelt-short k e = rw e key-short
+
+-- FILLING THE TABLES
+
+module _ (ls : List ℕ) where
+  pub word-starts-none : (ws : List ℕ) → length ls ≤ length ws → Word-starts ls 0 ws
+  word-starts-none ws h = record { within = omega arith; room = h; at = λ w b. absurd (omega arith) }
+
+  pub word-starts-first : 0 ≡ word-start ls 0
+  unfolding total
+  word-starts-first = refl
+
+  pub word-starts-next :
+      (n : ℕ) (ws : List ℕ) → Word-starts ls n ws → n < length ls → (v : ℕ) → v ≡ word-start ls n → Word-starts ls (n + 1) (set ws n v)
+  word-starts-next n ws h below v e =
+      record {
+        within = omega arith;
+        room = omega (arith, h .room, length-set ws n v);
+        at =
+            below-more (λ (w : ℕ). getD (set ws n v) w 0 ≡ word-start ls w) n
+            (λ w b. getD-set-other ws n w v 0 (λ (z : w ≡ n). omega arith) ∙ h .at w b)
+            (getD-set-same ws n v 0 (omega (arith, h .room)) ∙ e);
+      }
+
+module _ (xs : List ℕ) where
+  pub list-starts-none : (ts : List ℕ) → keys-of xs ≤ length ts → List-starts xs 0 ts
+  list-starts-none ts h = record { within = omega arith; room = h; at = λ w b. absurd (omega arith) }
+
+  pub list-starts-first : 0 ≡ counts-from 0 0 xs
+  unfolding counts-from
+  list-starts-first = refl
+
+  pub list-starts-next :
+      (n : ℕ) (ts : List ℕ) → List-starts xs n ts → n < keys-of xs → (v : ℕ) → v ≡ counts-from n 0 xs → List-starts xs (n + 1) (set ts n v)
+  list-starts-next n ts h below v e =
+      record {
+        within = omega arith;
+        room = omega (arith, h .room, length-set ts n v);
+        at =
+            below-more (λ (w : ℕ). getD (set ts n v) w 0 ≡ counts-from w 0 xs) n
+            (λ w b. getD-set-other ts n w v 0 (λ (z : w ≡ n). omega arith) ∙ h .at w b)
+            (getD-set-same ts n v 0 (omega (arith, h .room)) ∙ e);
+      }
+
+-- READING THE POSITIONS
+
+module _ (xs : List ℕ) (fits : Fits xs) (i : ℕ) (below : i < keys-of xs) (ts : List ℕ) (table : List-starts xs (keys-of xs) ts) where
+  starts-at : getD ts i 0 ≡ counts-from i 0 xs
+  starts-at = table .at i below
+
+  pub positions-room : header + 3 * keys-of xs + getD ts i 0 + count-at xs i ≤ length xs
+  positions-room = omega (arith, starts-at, list-room xs i below fits)
+
+  pub positions-are :
+      take (header + 3 * keys-of xs + getD ts i 0 + count-at xs i - (header + 3 * keys-of xs + getD ts i 0))
+      (drop (header + 3 * keys-of xs + getD ts i 0) xs)
+      ≡ take (count-at xs i) (drop (list-start xs i) xs)
+  positions-are =
+      let z :
+      header + 3 * keys-of xs + getD ts i 0 + count-at xs i - (header + 3 * keys-of xs + getD ts i 0) ≡ count-at xs i =
+      omega arith in
+      rw (z, starts-at)
+
+pub word-starts-all : (ls : List ℕ) (n : ℕ) (ws : List ℕ) → Word-starts ls n ws → length ls ≤ n → Word-starts ls (length ls) ws
+word-starts-all ls n ws h past = let e : n ≡ length ls = omega (arith, h .within) in rw e at h
+
+pub list-starts-all : (xs : List ℕ) (n : ℕ) (ts : List ℕ) → List-starts xs n ts → keys-of xs ≤ n → List-starts xs (keys-of xs) ts
+list-starts-all xs n ts h past = let e : n ≡ keys-of xs = omega (arith, h .within) in rw e at h
+
+-- an accepted index with both tables
+pub record Opened (cs ls xs ws ts : List ℕ) : Type 0 where
+  pub can : Can-read cs ls xs
+  pub word-starts : Word-starts ls (length ls) ws
+  pub list-starts : List-starts xs (keys-of xs) ts
+
+-- what an accepted index comes to
+pub can-read : (cs ls xs : List ℕ) → Small cs → Small xs → index-refusal cs ls xs ≡ 0 → Can-read cs ls xs
+unfolding readable
+can-read cs ls xs small-chars small none =
+    record {
+      few-words = admitted .few;
+      few-chars = admitted .small;
+      sum = admitted .sum;
+      lexicon-good = admitted-lexicon cs ls (no-refusal cs ls small-chars (ok .no-refusal));
+      words-rise = admitted-ascend cs ls (no-refusal cs ls small-chars (ok .no-refusal));
+      fits = lengths-fit-get xs (and-left (lengths-fit xs) (leb (n-of xs) longest-text) front);
+      lines = readable-get longest-text (lexicon cs ls) xs (ok .is-readable) .lines;
+      n-small = omega (arith, small 0);
+      keys-small = omega (arith, small 1);
+    }
+  where
+    ok : Accepted cs ls xs
+    ok = index-accepted cs ls xs none
+
+    admitted : Is-admitted cs ls
+    admitted = dictionary-read cs ls small-chars (ok .no-refusal)
+
+    front : (lengths-fit xs && leb (n-of xs) longest-text) ≡ true
+    front =
+        and-left (lengths-fit xs && leb (n-of xs) longest-text)
+        (kinds-good (keys-of xs) 0 xs && (keys-ascend (lines-in xs) && lines-good (lexicon cs ls) (n-of xs) (lines-in xs)))
+        (ok .is-readable)
+
+pub key-some :
+    (cs ls xs : List ℕ) → Can-read cs ls xs → (i : ℕ) → i < keys-of xs → 1 ≤ length (spells (lexicon cs ls) (key-at xs i))
+key-some cs ls xs can i below = spells-some (lexicon cs ls) (can .lexicon-good) (key-at xs i) (key-is cs ls xs can i below)

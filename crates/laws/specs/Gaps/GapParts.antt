@@ -1,0 +1,182 @@
+-- The parts of an index that are lent for writing its gap form, or the index from it: what each writer is handed, what it leaves, and that
+-- together they are the form. Assumes nothing.
+use mathlib.Core.Path.{_≡_, refl, sym, ap, _∙_}
+use mathlib.Core.Bool.{Bool, true, false}
+use mathlib.Core.List.{List, [], _∷_, _++_, append-nil}
+use Prim.Native.Nat.{ℕ, suc, _+_, _*_, _-_, _≤_, _<_}
+use native.Mathlib.Omega.{arith}
+use lib.ListN.{length, getD, take, drop, replicate, length-append, length-drop, drop-of-length-le}
+use lib.Seq.{drop-drop, take-at, drop-at, length-take-le}
+use Rattle.basics.specs.Member.{In}
+use Rattle.basics.specs.Writing.{over, Writing, lent-tail, tail-back, lent-tail-is, tail-written}
+use Rattle.spec.specs.Dictionary.{total}
+use Rattle.spec.specs.Numbers.{Line}
+use Rattle.spec.specs.Index.{header, keys-of, count-at, counts-from, entries-of, lines-in}
+use Rattle.spec.specs.Gaps.{gaps-after, gaps, prefix-sums, lists-from, with-lists}
+use Rattle.laws.specs.Numbers.Slices.{Fits}
+use Rattle.laws.specs.Gaps.WithLists.{Keeps-length, length-lists, length-with}
+use Rattle.laws.specs.Gaps.GapWriting.{by-pairs, first-apart, length-pairs, gaps-pairs, gaps-apart, lists-alike}
+use Rattle.laws.specs.Gaps.GapWriting.{Firsts, first-room, list-room}
+use Rattle.laws.specs.Gaps.GapSums.{carry, masks, masked-sums, masked-lists, carry-pairs}
+
+-- WHAT IS WRITTEN, by the direction: gaps of positions, or positions of gaps
+
+-- a list's numbers as they are written
+abbrev pub write-as : (restore : Bool) → List ℕ → List ℕ
+write-as true ps = prefix-sums ps
+write-as false ps = gaps ps
+
+-- all numbers as they are written at once, and the first of a list: masks, or distances
+abbrev pub pair-as : (restore : Bool) → (before number : ℕ) → ℕ
+pair-as true b p = carry
+pair-as false b p = p - b
+
+abbrev pub first-as : (restore : Bool) → ℕ → ℕ
+first-as true p = 0
+first-as false p = p
+
+-- what the numbers have to be for it
+pub record Writable (restore : Bool) (xs : List ℕ) : Type 0 where
+  pub fits : Fits xs
+  pub some : (i : ℕ) → i < keys-of xs → 1 ≤ count-at xs i
+  pub totals : restore ≡ true → (l : Line) → In l (lines-in xs) → total (l .positions) ≤ carry
+  pub sums : restore ≡ true → (j : ℕ) → getD (lists-from prefix-sums (keys-of xs) 0 xs (drop (header + 3 * keys-of xs) xs)) j 0 ≤ carry
+
+-- the counts are as many as the positions
+pub counts-all : (xs : List ℕ) → Fits xs → counts-from (keys-of xs) 0 xs ≡ length (drop (header + 3 * keys-of xs) xs)
+unfolding entries-of
+counts-all xs fits = omega (arith, fits .is-long, length-drop (header + 3 * keys-of xs) xs)
+
+length-apart : (y : ℕ → ℕ) (x : ℕ → ℕ → ℕ) (ps : List ℕ) → length (first-apart y x ps) ≡ length ps
+unfolding first-apart
+length-apart y x [] = refl
+length-apart y x (p ∷ ps) = ap suc (length-pairs x p ps)
+
+-- the parts of the numbers that are lent: the positions, and a run of them with the number before
+module _ (xs : List ℕ) (fits : Fits xs) (keys : ℕ) (is : keys ≡ keys-of xs) where
+  abbrev positions : List ℕ
+  positions = drop (header + 3 * keys-of xs) xs
+
+  abbrev run : List ℕ
+  run = lent-tail (1 + 3 * keys) xs
+
+  pub run-long : length run ≡ suc (length positions)
+  run-long =
+      ap length (lent-tail-is (1 + 3 * keys) xs)
+      ∙ omega (arith, length-drop (1 + 3 * keys) xs, length-drop (header + 3 * keys-of xs) xs, fits .has-directory, is)
+
+  run-positions : drop 1 run ≡ positions
+  run-positions =
+      let next : 1 + 3 * keys + 1 ≡ header + 3 * keys-of xs = omega (arith, is) in
+      ap (λ (l : List ℕ). drop 1 l) (lent-tail-is (1 + 3 * keys) xs)
+      ∙ drop-drop 1 (1 + 3 * keys) xs
+      ∙ ap (λ (j : ℕ). drop j xs) next
+
+  pub positions-lent : lent-tail (2 + 3 * keys) xs ≡ positions
+  positions-lent =
+      let first : 2 + 3 * keys ≡ header + 3 * keys-of xs = omega (arith, is) in
+      lent-tail-is (2 + 3 * keys) xs ∙ ap (λ (j : ℕ). drop j xs) first
+
+  -- DISTANCES, and then the firsts, are the gaps
+  pub distances-ready :
+      (part : List ℕ) → part ≡ gaps-after (getD run 0 0) (drop 1 run) → (b : ℕ) × (part ≡ by-pairs (pair-as false) b positions)
+  distances-ready part e =
+      (getD run 0 0, e ∙ ap (gaps-after (getD run 0 0)) run-positions ∙ gaps-pairs (getD run 0 0) positions)
+
+  pub gaps-written :
+      lists-from (first-apart (first-as false) (pair-as false)) (keys-of xs) 0 xs positions ≡ lists-from gaps (keys-of xs) 0 xs positions
+  gaps-written = lists-alike (first-apart (first-as false) (pair-as false)) gaps gaps-apart (keys-of xs) 0 xs positions
+
+  -- MASKS, and the sums that they let through, are the positions
+  pub masks-ready :
+      (old part : List ℕ) → length old ≡ length positions → part ≡ replicate (length old) carry →
+      (b : ℕ) × (part ≡ by-pairs (pair-as true) b positions)
+  masks-ready old part even e = (0, e ∙ ap (λ (n : ℕ). replicate n carry) even ∙ carry-pairs 0 positions)
+
+  module _ (totals : (l : Line) → In l (lines-in xs) → total (l .positions) ≤ carry) (ms : List ℕ)
+      (masked : ms ≡ lists-from (first-apart (first-as true) (pair-as true)) (keys-of xs) 0 xs positions) where
+    pub sums-written : masked-sums 0 ms (lent-tail (2 + 3 * keys) xs) ≡ lists-from prefix-sums (keys-of xs) 0 xs positions
+    unfolding lines-in
+    sums-written =
+        ap (λ (l : List ℕ). masked-sums 0 l (lent-tail (2 + 3 * keys) xs)) masked
+        ∙ ap (masked-sums 0 (lists-from masks (keys-of xs) 0 xs positions)) positions-lent
+        ∙ masked-lists 0 (keys-of xs) 0 xs positions (counts-all xs fits) totals
+
+    pub masks-long : length ms ≡ length (lent-tail (2 + 3 * keys) xs)
+    masks-long =
+        ap length masked
+        ∙ length-lists (first-apart (first-as true) (pair-as true)) (length-apart (first-as true) (pair-as true)) (keys-of xs) 0 xs positions
+        ∙ ap length (sym positions-lent)
+
+-- THE WHOLE: the directory copied, and the lists written after it
+
+module _ (f : List ℕ → List ℕ) (keeps : Keeps-length f) (xs : List ℕ) (fits : Fits xs)
+    (first : ℕ) (is : first ≡ header + 3 * keys-of xs) where
+  pub front-long : first ≡ length (take first xs)
+  front-long = sym (length-take-le first xs (omega (arith, fits .has-directory, is)))
+
+  module _ (old now : List ℕ) (even : length old ≡ length xs) (copied : now ≡ over (take 0 old ++ take first xs) old) where
+    front-way : Writing (with-lists f xs) old now (lists-from f (keys-of xs) 0 xs (drop (header + 3 * keys-of xs) xs)) first
+    unfolding with-lists
+    front-way =
+        record {
+          so-far =
+              ap (λ (l : List ℕ). take first l ++ lists-from f (keys-of xs) 0 xs (drop (header + 3 * keys-of xs) xs)) copied
+              ∙ ap (λ (l : List ℕ). l ++ lists-from f (keys-of xs) 0 xs (drop (header + 3 * keys-of xs) xs))
+              (take-at (take first xs) (drop (length (take first xs)) old) first (sym front-long))
+              ∙ ap (λ (j : ℕ). take j xs ++ lists-from f (keys-of xs) 0 xs (drop (header + 3 * keys-of xs) xs)) is;
+          rest =
+              ap (λ (l : List ℕ). drop first l) copied
+              ∙ drop-at (take first xs) (drop (length (take first xs)) old) first (sym front-long)
+              ∙ ap (λ (j : ℕ). drop j old) (sym front-long);
+          len =
+              ap length copied
+              ∙ length-append (take first xs) (drop (length (take first xs)) old)
+              ∙ omega (arith, length-drop (length (take first xs)) old, front-long, even, fits .has-directory, is);
+          room =
+              omega (
+                arith,
+                length-lists f keeps (keys-of xs) 0 xs (drop (header + 3 * keys-of xs) xs),
+                length-drop (header + 3 * keys-of xs) xs,
+                even,
+                fits .has-directory,
+                is,
+              );
+        }
+
+    pub part-long : length (lent-tail first now) ≡ length (drop (header + 3 * keys-of xs) xs)
+    part-long =
+        ap length (lent-tail-is first now)
+        ∙ omega (arith, length-drop first now, length-drop (header + 3 * keys-of xs) xs, front-way .len, even, is)
+
+    pub form-written :
+        (part : List ℕ) → part ≡ lists-from f (keys-of xs) 0 xs (drop (header + 3 * keys-of xs) xs) →
+        tail-back first now part ≡ with-lists f xs
+    form-written part e =
+        let todo : List ℕ = lists-from f (keys-of xs) 0 xs (drop (header + 3 * keys-of xs) xs) in
+        let part-all : length (lent-tail first now) ≤ length todo =
+        omega (arith, part-long, length-lists f keeps (keys-of xs) 0 xs (drop (header + 3 * keys-of xs) xs)) in
+        let all : length old ≤ length (with-lists f xs) = omega (arith, even, length-with f keeps xs) in
+        tail-written (with-lists f xs) old now todo part first front-way
+        (e ∙ sym (append-nil todo) ∙ ap (λ (l : List ℕ). todo ++ l) (sym (drop-of-length-le (lent-tail first now) part-all)))
+        ∙ ap (λ (l : List ℕ). with-lists f xs ++ l) (drop-of-length-le old all)
+        ∙ append-nil (with-lists f xs)
+
+-- what is read and written for line i is there
+pub record Line-there (xs part : List ℕ) (i at : ℕ) : Type 0 where
+  pub read : header + 3 * keys-of xs + at < length xs
+  pub write : at < length part
+  pub next : at + count-at xs i ≤ length xs
+
+pub line-there :
+    (b : Bool) (xs part : List ℕ) (i at : ℕ) → Writable b xs →
+    Firsts (first-as b) (pair-as b) xs (drop (header + 3 * keys-of xs) xs) part i at → i < keys-of xs → Line-there xs part i at
+line-there b xs part i at can h below =
+    let write : at < length part =
+    first-room (first-as b) (pair-as b) xs (drop (header + 3 * keys-of xs) xs) part i at h below (can .some i below) in
+    let len = length-drop (header + 3 * keys-of xs) xs in
+    record {
+      read = omega (arith, write, h .len, len);
+      write = write;
+      next = omega (arith, list-room (first-as b) (pair-as b) xs (drop (header + 3 * keys-of xs) xs) part i at h below, len);
+    }

@@ -1,0 +1,19 @@
+-- The job sheet: reading, printing, answering.
+pub mod IndexPrinting
+pub mod Printing
+pub mod PrintedBounds
+pub mod AcceptedCalls
+pub mod FormReading
+pub mod LineReading
+pub mod SheetReading
+pub mod WholeSheet
+pub mod JobReading
+pub mod JobAnswering
+pub mod JobParts
+pub mod Hexadecimal
+pub mod Digits
+pub mod FormRendering
+pub mod SheetChars
+pub mod AnswerLength
+pub mod FindWalk
+pub mod SheetRendering

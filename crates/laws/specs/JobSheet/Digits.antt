@@ -1,0 +1,136 @@
+-- A space and the four digits of a character, read from a line. Assumes nothing.
+use mathlib.Core.Path.{_≡_, refl, sym, _∙_}
+use mathlib.Core.Bool.{true, false, cond, _&&_}
+use mathlib.Core.Logic.{⊎-elim}
+use mathlib.Core.List.{List}
+use Prim.Native.Nat.{ℕ, _+_, _*_, _≤_, _<_}
+use native.Mathlib.Omega.{arith}
+use lib.Dec.{ltb, eqb}
+use lib.ListN.{getD}
+use borrow.Author.Tests.{eqb-true, eq-eqb, lt-ltb}
+use Rattle.basics.specs.Bools.{clash, true-or-false, false-put, and-put, and-left, and-right}
+use Rattle.spec.specs.JobSheet.{space, no-digit, digit, is-digit, character, is-spaced}
+use Rattle.laws.specs.JobSheet.Hexadecimal.{character-small}
+use Rattle.laws.specs.JobSheet.FormReading.{spaced-at, character-at}
+
+-- FIVE BYTES
+
+pub record Spaced (x a b c d : ℕ) : Type 0 where
+  pub gap : x ≡ space
+  pub first : is-digit a ≡ true
+  pub second : is-digit b ≡ true
+  pub third : is-digit c ≡ true
+  pub fourth : is-digit d ≡ true
+
+pub spaced-get : (x a b c d : ℕ) → is-spaced x a b c d ≡ true → Spaced x a b c d
+unfolding is-spaced
+spaced-get x a b c d t =
+    let three = and-left (((eqb x space && is-digit a) && is-digit b) && is-digit c) (is-digit d) t in
+    let two = and-left ((eqb x space && is-digit a) && is-digit b) (is-digit c) three in
+    let one = and-left (eqb x space && is-digit a) (is-digit b) two in
+    record {
+      gap = eqb-true x space (and-left (eqb x space) (is-digit a) one);
+      first = and-right (eqb x space) (is-digit a) one;
+      second = and-right (eqb x space && is-digit a) (is-digit b) two;
+      third = and-right ((eqb x space && is-digit a) && is-digit b) (is-digit c) three;
+      fourth = and-right (((eqb x space && is-digit a) && is-digit b) && is-digit c) (is-digit d) t;
+    }
+
+spaced-put : (x a b c d : ℕ) → Spaced x a b c d → is-spaced x a b c d ≡ true
+unfolding is-spaced
+spaced-put x a b c d s =
+    and-put (and-put (and-put (and-put (eq-eqb x space (s .gap)) (s .first)) (s .second)) (s .third)) (s .fourth)
+
+-- ONE DIGIT, by its value
+
+module _ (b : ℕ) {v : ℕ} where
+  digit-not : v ≡ digit b → v ≡ no-digit → is-digit b ≡ false
+  unfolding is-digit
+  digit-not is none = rw (sym is ∙ none) refl
+
+  -- what `value_of` answers, and that it was tested
+  digit-put : (v ≡ digit b) × (v ≤ no-digit) → (v ≡ no-digit → ⊥) → is-digit b ≡ true
+  unfolding is-digit
+  digit-put (is, small) some = rw (sym is) (lt-ltb v no-digit (omega arith))
+
+-- THE CHARACTER AT A PLACE
+
+-- 65,536, which no character is, where no space and four digits stand
+unfoldable pub spaced-character : List ℕ → (at : ℕ) → ℕ
+spaced-character l at = cond (spaced-at l at) (character-at l at) 65536
+
+module _ (l : List ℕ) (at : ℕ) where
+  -- the byte so many places further
+  abbrev byte : ℕ → ℕ
+  byte k = getD l (at + k) 0
+
+  abbrev Spaced-there : Type 0
+  Spaced-there = Spaced (getD l at 0) (byte 1) (byte 2) (byte 3) (byte 4)
+
+  there-get : spaced-at l at ≡ true → Spaced-there
+  unfolding spaced-at
+  there-get t = spaced-get (getD l at 0) (byte 1) (byte 2) (byte 3) (byte 4) t
+
+  -- WHERE IT STANDS
+
+  small : spaced-at l at ≡ true → character-at l at < 65536
+  unfolding character-at
+  small t =
+      let s : Spaced-there = there-get t in
+      character-small (byte 1) (byte 2) (byte 3) (byte 4) (s .first) (s .second) (s .third) (s .fourth)
+
+  pub character-there : spaced-at l at ≡ true → spaced-character l at ≡ character-at l at
+  unfolding spaced-character
+  character-there t = rw t
+
+  pub character-fits : spaced-at l at ≡ true → spaced-character l at < 65536
+  character-fits t = omega (arith, character-there t, small t)
+
+  pub spaced-told : ltb (spaced-character l at) 65536 ≡ spaced-at l at
+  unfolding spaced-character
+  spaced-told =
+      ⊎-elim
+      (λ (t : spaced-at l at ≡ true). rw t (lt-ltb (character-at l at) 65536 (small t)))
+      (λ (f : spaced-at l at ≡ false). rw f refl)
+      (true-or-false (spaced-at l at))
+
+  -- READ BYTE BY BYTE
+
+  none : (Spaced-there → ⊥) → 65536 ≡ spaced-character l at
+  unfolding spaced-character
+  none h = rw (false-put (spaced-at l at) (λ (t : spaced-at l at ≡ true). h (there-get t)))
+
+  pub no-space : (getD l at 0 ≡ space → ⊥) → 65536 ≡ spaced-character l at
+  no-space other = none (λ (s : Spaced-there). other (s .gap))
+
+  module _ {v : ℕ} where
+    pub no-first : v ≡ digit (byte 1) → v ≡ no-digit → 65536 ≡ spaced-character l at
+    no-first is e = none (λ (s : Spaced-there). clash (s .first) (digit-not (byte 1) is e))
+
+    pub no-second : v ≡ digit (byte 2) → v ≡ no-digit → 65536 ≡ spaced-character l at
+    no-second is e = none (λ (s : Spaced-there). clash (s .second) (digit-not (byte 2) is e))
+
+    pub no-third : v ≡ digit (byte 3) → v ≡ no-digit → 65536 ≡ spaced-character l at
+    no-third is e = none (λ (s : Spaced-there). clash (s .third) (digit-not (byte 3) is e))
+
+    pub no-fourth : v ≡ digit (byte 4) → v ≡ no-digit → 65536 ≡ spaced-character l at
+    no-fourth is e = none (λ (s : Spaced-there). clash (s .fourth) (digit-not (byte 4) is e))
+
+  pub character-read :
+      {a b c d : ℕ} → getD l at 0 ≡ space →
+      (a ≡ digit (byte 1)) × (a ≤ no-digit) → (a ≡ no-digit → ⊥) →
+      (b ≡ digit (byte 2)) × (b ≤ no-digit) → (b ≡ no-digit → ⊥) →
+      (c ≡ digit (byte 3)) × (c ≤ no-digit) → (c ≡ no-digit → ⊥) →
+      (d ≡ digit (byte 4)) × (d ≤ no-digit) → (d ≡ no-digit → ⊥) →
+      ((a * 16 + b) * 16 + c) * 16 + d ≡ spaced-character l at
+  unfolding spaced-at character-at character
+  character-read gap p na q nb r nc s nd =
+      let all : Spaced-there =
+      record {
+        gap = gap;
+        first = digit-put (byte 1) p na;
+        second = digit-put (byte 2) q nb;
+        third = digit-put (byte 3) r nc;
+        fourth = digit-put (byte 4) s nd;
+      } in
+      rw (p .0, q .0, r .0, s .0) (sym (character-there (spaced-put (getD l at 0) (byte 1) (byte 2) (byte 3) (byte 4) all)))

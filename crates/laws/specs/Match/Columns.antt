@@ -1,0 +1,145 @@
+-- The d-th characters of a run of words, read where they stand, and the search for the first that is not below a character. Assumes
+-- nothing.
+use mathlib.Core.Path.{_≡_, sym, _∙_}
+use mathlib.Core.Bool.{true}
+use mathlib.Core.List.{List}
+use Prim.Native.Nat.{ℕ, suc, _+_, _-_, _≤_, _<_}
+use native.Mathlib.Omega.{arith}
+use lib.ListN.{length, getD}
+use Rattle.spec.specs.Dictionary.{lexicon, ascend}
+use Rattle.basics.specs.LowerBound.{Rising}
+use Rattle.basics.specs.LowerBound as halving
+use Rattle.laws.specs.Dictionary.Lexicon.{admitted-ascend}
+use Rattle.laws.specs.Match.MatchTable.{word, start-of, Started, many-words, word-long, word-short, word-room, word-char}
+use Rattle.laws.specs.Match.PrefixRanges.{Last-standing, Narrowed, Lower-bound-at, narrow-hit, narrow-longer, narrow-rises, narrow-stop, narrow-step}
+
+abbrev pub column : (cs ss : List ℕ) (d i : ℕ) → ℕ
+column cs ss d i = getD cs (getD ss i 0 + d) 0
+
+-- words lo to hi − 1 have a d-th character, and these do not fall
+pub record Column (cs ss : List ℕ) (lo hi d : ℕ) : Type 0 where
+  pub order : lo ≤ hi
+  pub known : hi ≤ length ss
+  pub room : (i : ℕ) → lo ≤ i → i < hi → getD ss i 0 + d < length cs
+  pub rises : (i j : ℕ) → lo ≤ i → i ≤ j → j < hi → column cs ss d i ≤ column cs ss d j
+
+-- r is the first of them that is not below c
+abbrev pub Lower-bound : (cs ss : List ℕ) (lo hi d c r : ℕ) → Type 0
+Lower-bound cs ss lo hi d c r = halving.Lower-bound (column cs ss d) lo hi c r
+
+-- BINARY SEARCH
+
+-- it is not before a and not after b
+abbrev pub Bisected : (cs ss : List ℕ) (lo hi d c a b : ℕ) → Type 0
+Bisected cs ss lo hi d c a b = halving.Bisected (column cs ss d) lo hi c a b
+
+module _ (cs ss : List ℕ) (lo hi d c : ℕ) (h : Column cs ss lo hi d) where
+  rising : Rising (column cs ss d) lo hi
+  rising = record { order = h .order; rises = h .rises }
+
+  pub bisected-start : Bisected cs ss lo hi d c lo hi
+  bisected-start = halving.bisected-start (column cs ss d) lo hi rising c
+
+  -- the first is not below c already
+  pub bound-first : lo < hi → c ≤ column cs ss d lo → Lower-bound cs ss lo hi d c lo
+  bound-first = halving.bound-first (column cs ss d) lo hi rising c
+
+  -- the last is still below c
+  pub bound-last : lo < hi → column cs ss d (hi - 1) < c → Lower-bound cs ss lo hi d c hi
+  bound-last = halving.bound-last (column cs ss d) lo hi rising c
+
+  module _ (a b : ℕ) (s : Bisected cs ss lo hi d c a b) where
+    pub bisected-end : b ≤ a → Lower-bound cs ss lo hi d c a
+    bisected-end = halving.bisected-end (column cs ss d) lo hi rising c a b s
+
+    module _ (m : ℕ) (l : a ≤ m) (r : m < b) where
+      pub bisected-up : column cs ss d m < c → Bisected cs ss lo hi d c (m + 1) b
+      bisected-up = halving.bisected-up (column cs ss d) lo hi rising c a b s m l r
+
+      pub bisected-down : c ≤ column cs ss d m → Bisected cs ss lo hi d c a m
+      bisected-down = halving.bisected-down (column cs ss d) lo hi rising c a b s m l r
+
+-- a part of the run has its column
+pub column-part : (cs ss : List ℕ) (lo hi d r : ℕ) → Column cs ss lo hi d → lo ≤ r → r ≤ hi → Column cs ss r hi d
+column-part cs ss lo hi d r h from to =
+    record {
+      order = to;
+      known = h .known;
+      room = λ i a b. h .room i (omega arith) b;
+      rises = λ i j a b c. h .rises i j (omega arith) b c;
+    }
+
+-- THE COLUMN OF A NARROWED RUN OF WORDS
+
+module _
+    (cs ls ss : List ℕ) (t : Started cs ls ss) (ts : List ℕ) (p k lo hi d best : ℕ)
+    (h : Narrowed (lexicon cs ls .words) ts p k lo hi d best) where
+  known : (i : ℕ) → i < hi → i < length ls
+  known i b = omega (arith, h .within, h .known, many-words cs ls (t .dictionary))
+
+  pub run-known : lo < hi → lo < length ls
+  run-known some = known lo some
+
+  pub run-hit : lo < hi → getD ls lo 0 ≡ d → Narrowed (lexicon cs ls .words) ts p k (lo + 1) hi d (lo + 1)
+  run-hit some e =
+      narrow-hit (lexicon cs ls .words) ts p k lo hi d best h some (word-long cs ls (t .dictionary) lo (known lo some) ∙ e)
+
+  module _ (some : lo < hi) (more : getD ls lo 0 ≡ d → ⊥) where
+    sorted : ascend (lexicon cs ls .words) ≡ true
+    sorted = admitted-ascend cs ls (t .dictionary)
+
+    other : length (word cs ls lo) ≡ d → ⊥
+    other e = more (sym (word-long cs ls (t .dictionary) lo (known lo some)) ∙ e)
+
+    longer : (i : ℕ) → lo ≤ i → i < hi → d < getD ls i 0
+    longer i a b =
+        omega (
+          arith,
+          word-long cs ls (t .dictionary) i (known i b),
+          narrow-longer (lexicon cs ls .words) ts p k lo hi d best h some sorted other i a b,
+        )
+
+    -- a word of at most 32 characters: narrowing ends
+    pub run-deep : d < 32
+    run-deep = omega (arith, longer lo (omega arith) some, word-short cs ls (t .dictionary) lo (known lo some))
+
+    start : (i : ℕ) → i < hi → getD ss i 0 ≡ start-of ls i
+    start i b = t .started i (omega (arith, known i b))
+
+    column-word : (i : ℕ) → lo ≤ i → i < hi → column cs ss d i ≡ getD (word cs ls i) d 0
+    column-word i a b = rw (start i b) (sym (word-char cs ls (t .dictionary) i (known i b) d (longer i a b)))
+
+    pub run-column : Column cs ss lo hi d
+    run-column =
+        record {
+          order = h .order;
+          known = omega (arith, known (hi - 1) (omega arith), t .starts-long);
+          room = λ i a b. omega (arith, start i b, longer i a b, word-room cs ls (t .dictionary) i (known i b));
+          rises =
+              λ i j a b c.
+              omega (
+                arith,
+                column-word i a (omega arith),
+                column-word j (omega arith) c,
+                narrow-rises (lexicon cs ls .words) ts p k lo hi d best h some sorted other i j a b c,
+              );
+        }
+
+    cut-words : (from c r : ℕ) → lo ≤ from → Lower-bound cs ss from hi d c r → Lower-bound-at (lexicon cs ls .words) from hi d c r
+    cut-words from c r l q =
+        record {
+          from = q .from;
+          to = q .to;
+          below = λ i a b. omega (arith, column-word i (omega arith) (omega (arith, q .to)), q .below i a b);
+          above = λ i a b. omega (arith, column-word i (omega (arith, q .from)) b, q .above i a b);
+        }
+
+    pub run-stop : suc (length ts) ≤ p + d → Last-standing (lexicon cs ls .words) ts p k best
+    run-stop past = narrow-stop (lexicon cs ls .words) ts p k lo hi d best h some sorted other past
+
+    pub run-step :
+        (c from to : ℕ) → c ≡ getD ts (p + d - 1) 0 → p + d ≤ length ts → Lower-bound cs ss lo hi d c from → Lower-bound cs ss from hi d (c + 1) to →
+        Narrowed (lexicon cs ls .words) ts p k from to (d + 1) best
+    run-step c from to e room l r =
+        narrow-step (lexicon cs ls .words) ts p k lo hi d best h some sorted other c from to e room
+        (cut-words lo c from (omega arith) l) (cut-words from (c + 1) to (l .from) r)

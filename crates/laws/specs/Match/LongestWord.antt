@@ -1,0 +1,168 @@
+-- The longest word at a place: found by the chain of the two characters there, else by that of the one. Places are q + 1 and ends
+-- are e + 1, with q and e counted from 0 as in code. Assumes nothing.
+use mathlib.Core.Path.{_≡_, sym, ap}
+use mathlib.Core.Bool.{true}
+use mathlib.Core.Logic.{⊎-elim}
+use mathlib.Core.List.{List, []}
+use Prim.Native.Nat.{ℕ, suc, _+_, _-_, _≤_, _<_}
+use native.Mathlib.Omega.{arith}
+use lib.ListN.{length, getD}
+use Rattle.basics.specs.Bools.{le-or-lt}
+use Rattle.spec.specs.Dictionary.{Lexicon, lexicon, admitted}
+use Rattle.laws.specs.Text.Strings.{Stand}
+use Rattle.laws.specs.Dictionary.Lexicon.{admitted-ascend}
+use Rattle.laws.specs.Dictionary.Prefixes.{standing-ascend}
+use Rattle.laws.specs.Entries.WordAt.{None-after, Word-at}
+use Rattle.laws.specs.Match.MatchTable.{word, many-words, word-long, word-some}
+use Rattle.laws.specs.Match.WordChains.{Pair-found, Single-found}
+
+-- WHAT IS FOUND
+
+-- word i is the longest that stands at p, has `long` characters and ends after `last`
+pub record Found-word (lex : Lexicon) (ts : List ℕ) (p last i len : ℕ) : Type 0 where
+  pub is-word : Word-at lex ts p i
+  pub len-is : len ≡ length (getD (lex .words) i [])
+  pub after : last < p + len
+
+-- the longest word that stands at p and ends after `last`, by its number plus 1, or 0 if there is none
+pub record Found (lex : Lexicon) (ts : List ℕ) (p last number len : ℕ) : Type 0 where
+  pub none : number ≡ 0 → None-after lex ts p last
+  pub some : (i : ℕ) → number ≡ suc i → Found-word lex ts p last i len
+
+-- THE LONGEST OF TWO CHARACTERS OR MORE
+
+-- no word of two characters or more that stands at p ends after `last`
+abbrev pub Pairless : (ws : List (List ℕ)) (ts : List ℕ) (p last : ℕ) → Type 0
+Pairless ws ts p last =
+    (j : ℕ) → j < length ws → 2 ≤ length (getD ws j []) → Stand (getD ws j []) ts p → p + length (getD ws j []) ≤ last
+
+-- the longest word at p, if it has two characters or more and ends after `last`; or 0, where no such word does
+pub record Pair-longest (lex : Lexicon) (ts : List ℕ) (p last number len : ℕ) : Type 0 where
+  pub none : number ≡ 0 → Pairless (lex .words) ts p last
+  pub some : (i : ℕ) → number ≡ suc i → Found-word lex ts p last i len
+
+module _ (cs ls : List ℕ) (a : admitted cs ls ≡ true) (ts : List ℕ) (q e : ℕ) where
+  -- of two standing words the later one is the longer
+  no-longer :
+      (i j : ℕ) → j < suc i → i < length (lexicon cs ls .words) → Stand (word cs ls i) ts (q + 1) → Stand (word cs ls j) ts (q + 1) →
+      length (word cs ls j) ≤ length (word cs ls i)
+  no-longer i j l b s r =
+      ⊎-elim (λ (z : i ≤ j). let same : i ≡ j = omega arith in omega (arith, ap (λ (x : ℕ). length (word cs ls x)) same))
+      (λ (z : j < i). omega (arith, standing-ascend (lexicon cs ls .words) (admitted-ascend cs ls a) ts (q + 1) j i z b r s))
+      (le-or-lt i j)
+
+  word-there : (j : ℕ) → j < length (lexicon cs ls .words) → 1 ≤ length (word cs ls j)
+  word-there j b =
+      let in-list : j < length ls = omega (arith, many-words cs ls a) in
+      omega (arith, word-long cs ls a j in-list, word-some cs ls a j in-list)
+
+  -- the text ends after one character
+  pub pair-past : (len : ℕ) → length ts ≤ q + 1 → Pair-longest (lexicon cs ls) ts (q + 1) (e + 1) 0 len
+  pair-past len end =
+      record { none = λ z j b l s. absurd (omega (arith, s .within)); some = λ i z. absurd (omega arith) }
+
+  module _ (number : ℕ) (h : Pair-found (lexicon cs ls .words) ts (q + 1) (e + 1) number) where
+    pub pair-missing : (len : ℕ) → number ≡ 0 → Pair-longest (lexicon cs ls) ts (q + 1) (e + 1) 0 len
+    pair-missing len z =
+        record {
+          none =
+              λ y j b l s.
+              ⊎-elim (λ (x : q + 1 + length (word cs ls j) ≤ e + 1). x)
+              (λ (x : e + 1 < q + 1 + length (word cs ls j)). absurd (omega (arith, h .over j b l s x)))
+              (le-or-lt (q + 1 + length (word cs ls j)) (e + 1));
+          some = λ i y. absurd (omega arith);
+        }
+
+    module _ (some : number ≡ 0 → ⊥) where
+      pub pair-in : number - 1 < length ls
+      pair-in = omega (arith, some, h .below, many-words cs ls a)
+
+      there : number - 1 < length (lexicon cs ls .words)
+      there = omega (arith, some, h .below)
+
+      standing : Stand (word cs ls (number - 1)) ts (q + 1)
+      standing = h .stand (number - 1) (omega (arith, some))
+
+      -- it ends too early, and so does every other
+      pub pair-early : (len : ℕ) → q + getD ls (number - 1) 0 ≤ e → Pair-longest (lexicon cs ls) ts (q + 1) (e + 1) 0 len
+      pair-early len early =
+          record {
+            none =
+                λ y j b l s.
+                ⊎-elim (λ (x : q + 1 + length (word cs ls j) ≤ e + 1). x)
+                (λ (x : e + 1 < q + 1 + length (word cs ls j)).
+                let before : j < number = h .over j b l s x in
+                absurd (omega (arith, no-longer (number - 1) j (omega (arith, some)) there standing s, word-long cs ls a (number - 1) pair-in)))
+                (le-or-lt (q + 1 + length (word cs ls j)) (e + 1));
+            some = λ i y. absurd (omega arith);
+          }
+
+      pub pair-longest :
+          e < q + getD ls (number - 1) 0 → Pair-longest (lexicon cs ls) ts (q + 1) (e + 1) number (getD ls (number - 1) 0)
+      pair-longest after = record { none = λ z. absurd (some z); some = λ i z. let here : number - 1 ≡ i = omega arith in rw (← here) found }
+        where
+          longest : (j : ℕ) → j < length (lexicon cs ls .words) → Stand (word cs ls j) ts (q + 1) → length (word cs ls j) ≤ length (word cs ls (number - 1))
+          longest j b s =
+              ⊎-elim
+              (λ (l : 2 ≤ length (word cs ls j)).
+              ⊎-elim (λ (x : q + 1 + length (word cs ls j) ≤ e + 1). omega (arith, word-long cs ls a (number - 1) pair-in))
+              (λ (x : e + 1 < q + 1 + length (word cs ls j)).
+              no-longer (number - 1) j (omega (arith, some, h .over j b l s x)) there standing s)
+              (le-or-lt (q + 1 + length (word cs ls j)) (e + 1)))
+              (λ (l : length (word cs ls j) < 2). omega (arith, word-there (number - 1) there)) (le-or-lt 2 (length (word cs ls j)))
+
+          found : Found-word (lexicon cs ls) ts (q + 1) (e + 1) (number - 1) (getD ls (number - 1) 0)
+          found =
+              record {
+                is-word = record { below = there; stand = standing; longest = longest };
+                len-is = sym (word-long cs ls a (number - 1) pair-in);
+                after = omega arith;
+              }
+
+  -- BOTH CHAINS
+
+  module _ (number len : ℕ) (h : Pair-longest (lexicon cs ls) ts (q + 1) (e + 1) number len) where
+    pub found-pair : (number ≡ 0 → ⊥) → Found (lexicon cs ls) ts (q + 1) (e + 1) number len
+    found-pair some = record { none = λ z. absurd (some z); some = h .some }
+
+    -- a covered place: a word of one character ends too early
+    pub found-none : (zero-long : ℕ) → number ≡ 0 → q < e → Found (lexicon cs ls) ts (q + 1) (e + 1) 0 zero-long
+    found-none zero-long z covered =
+        record {
+          none =
+              λ y.
+              record {
+                none =
+                    λ j b s.
+                    ⊎-elim (λ (l : 2 ≤ length (word cs ls j)). h .none z j b l s) (λ (l : length (word cs ls j) < 2). omega arith)
+                    (le-or-lt 2 (length (word cs ls j)));
+              };
+          some = λ i y. absurd (omega arith);
+        }
+
+    module _ (none : number ≡ 0) (uncovered : e ≤ q) where
+      -- only words of one character stand
+      short : (j : ℕ) → j < length (lexicon cs ls .words) → Stand (word cs ls j) ts (q + 1) → length (word cs ls j) ≡ 1
+      short j b s =
+          ⊎-elim (λ (l : 2 ≤ length (word cs ls j)). absurd (omega (arith, h .none none j b l s)))
+          (λ (l : length (word cs ls j) < 2). let one : length (word cs ls j) ≡ 1 = omega (arith, word-there j b) in one)
+          (le-or-lt 2 (length (word cs ls j)))
+
+      pub found-single :
+          (single : ℕ) → Single-found (lexicon cs ls .words) ts (q + 1) single → Found (lexicon cs ls) ts (q + 1) (e + 1) single 1
+      found-single single s =
+          record {
+            none = λ z. record { none = λ j b r. absurd (s .none z j b (short j b r) r) };
+            some =
+                λ i z.
+                record {
+                  is-word =
+                      record {
+                        below = omega (arith, s .below);
+                        stand = s .stand i z;
+                        longest = λ j b r. omega (arith, short j b r, s .one i z);
+                      };
+                  len-is = sym (s .one i z);
+                  after = omega arith;
+                };
+          }

@@ -1,0 +1,58 @@
+-- The lines of a slice by their number. Assumes nothing.
+use mathlib.Core.Path.{_≡_, ap}
+use mathlib.Core.List.{List, []}
+use Prim.Native.Nat.{ℕ, zero, suc, _+_, _*_, _<_}
+use native.Mathlib.Omega.{arith}
+use lib.ListN.{length, getD, take, drop}
+use lib.Seq.{drop-drop}
+use Rattle.basics.specs.Member.{In, in-getD, in-place}
+use Rattle.spec.specs.Words.{key}
+use Rattle.spec.specs.Numbers.{Line, line}
+use Rattle.spec.specs.Index.{header, keys-of, key-at, count-at, counts-from, lines-from, lines-in}
+use Rattle.laws.specs.Numbers.Slices.{length-lines-from}
+
+unfoldable pub no-line : Line
+no-line = line (key 0 0) []
+
+-- line i, if there is one
+unfoldable pub line-of : (numbers : List ℕ) → (i : ℕ) → Line
+line-of xs i = getD (lines-in xs) i no-line
+
+-- the key of line i and its places, as they lie
+line-from :
+    (k i : ℕ) (xs ps : List ℕ) (j : ℕ) → j < k →
+    getD (lines-from k i xs ps) j no-line ≡ line (key-at xs (i + j)) (take (count-at xs (i + j)) (drop (counts-from j i xs) ps))
+unfolding lines-from counts-from
+line-from zero i xs ps j h = absurd (omega arith)
+line-from (suc k) i xs ps zero h = let z : i + 0 ≡ i = omega arith in rw z
+line-from (suc k) i xs ps (suc j) h =
+    let z : i + suc j ≡ suc i + j = omega arith in
+    rw (z, line-from k (suc i) xs (drop (count-at xs i) ps) j (omega arith), drop-drop (counts-from j (suc i) xs) (count-at xs i) ps)
+
+pub length-lines-in : (xs : List ℕ) → length (lines-in xs) ≡ keys-of xs
+unfolding lines-in
+length-lines-in xs = length-lines-from (keys-of xs) 0 xs (drop (header + 3 * keys-of xs) xs)
+
+module _ (xs : List ℕ) (i : ℕ) (below : i < keys-of xs) where
+  pub line-of-is :
+      line-of xs i
+      ≡ line (key-at xs i) (take (count-at xs i) (drop (header + 3 * keys-of xs + counts-from i 0 xs) xs))
+  unfolding line-of lines-in
+  line-of-is =
+      let z : 0 + i ≡ i = omega arith in
+      rw (line-from (keys-of xs) 0 xs (drop (header + 3 * keys-of xs) xs) i below, z, drop-drop (counts-from i 0 xs) (header + 3 * keys-of xs) xs)
+
+  pub line-of-key : line-of xs i .key-of ≡ key-at xs i
+  unfolding line
+  line-of-key = ap (λ (l : Line). l .key-of) line-of-is
+
+  pub line-of-in : In (line-of xs i) (lines-in xs)
+  unfolding line-of
+  line-of-in = in-getD (lines-in xs) i no-line (omega (arith, length-lines-in xs))
+
+-- every line has a number
+pub line-number : (xs : List ℕ) (l : Line) → In l (lines-in xs) → (i : ℕ) × (i < keys-of xs) × (line-of xs i ≡ l)
+unfolding line-of
+line-number xs l m =
+    let (i, b, e) = in-place l (lines-in xs) no-line m in
+    (i, omega (arith, length-lines-in xs), e)

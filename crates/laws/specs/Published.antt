@@ -1,0 +1,4 @@
+-- The definitions and algorithms of the source papers.
+pub mod Extension
+pub mod Figure
+pub mod Growing

@@ -1,0 +1,91 @@
+-- The tests that a directory line's key has to meet, one by one, as a reader of the numbers makes them. Assumes nothing.
+use mathlib.Core.Path.{_≡_, refl}
+use mathlib.Core.Bool.{true, false, and-false}
+use mathlib.Core.List.{List, [], _∷_}
+use Prim.Native.Nat.{ℕ, zero, suc, _+_, _*_, _≤_, _<_}
+use native.Mathlib.Omega.{arith}
+use lib.Dec.{leb}
+use lib.ListN.{length, getD, drop, length-drop}
+use lib.Seq.{length-take-le}
+use borrow.Author.Tests.{le-leb, lt-leb, lt-ltb, le-ltb, eq-eqb}
+use Rattle.basics.specs.Bools.{and-put}
+use Rattle.spec.specs.Dictionary.{Lexicon, is-char, total, words-from, lexicon, dictionary-refusal, admitted}
+use Rattle.spec.specs.Words.{key, spells, is-word}
+use Rattle.spec.specs.Index.{key-good}
+use Rattle.laws.specs.Dictionary.WordCode.{Small}
+use Rattle.laws.specs.Text.Chars.{all-chars-put}
+use Rattle.laws.specs.Dictionary.Lexicon.{Is-admitted, admitted-get, length-words}
+use Rattle.laws.specs.Readable.LineWalk.{line-list-good, key-fits, line-fits}
+
+-- THE DICTIONARY
+
+-- the characters are 16-bit numbers, so no line met is admission
+pub no-refusal : (cs ls : List ℕ) → Small cs → dictionary-refusal cs ls ≡ 0 → admitted cs ls ≡ true
+unfolding admitted
+no-refusal cs ls small none =
+    and-put (all-chars-put cs (λ i h. omega (arith, small i))) (eq-eqb (dictionary-refusal cs ls) 0 none)
+
+pub dictionary-read : (cs ls : List ℕ) → Small cs → dictionary-refusal cs ls ≡ 0 → Is-admitted cs ls
+dictionary-read cs ls small none = admitted-get cs ls (no-refusal cs ls small none)
+
+word-longs :
+    (ls cs : List ℕ) (v : ℕ) → total ls ≤ length cs → v < length ls → length (getD (words-from ls cs) v []) ≡ getD ls v 0
+unfolding words-from total
+word-longs [] cs v h b = absurd (omega arith)
+word-longs (l ∷ ls) cs zero h b = length-take-le l cs (omega arith)
+word-longs (l ∷ ls) cs (suc v) h b = word-longs ls (drop l cs) v (omega (arith, length-drop l cs)) (omega arith)
+
+module _ (cs ls : List ℕ) (h : Is-admitted cs ls) where
+  pub word-long : (v : ℕ) → v < length ls → length (getD (lexicon cs ls .words) v []) ≡ getD ls v 0
+  unfolding lexicon
+  word-long v b = word-longs ls cs v (omega (arith, h .sum)) b
+
+  pub word-count : length (lexicon cs ls .words) ≡ length ls
+  unfolding lexicon
+  word-count = length-words ls cs
+
+-- A WORD'S LINE
+
+module _ (read : List ℕ → List ℕ) (cs ls : List ℕ) (h : Is-admitted cs ls) (n least v c : ℕ) (ps : List ℕ) where
+  pub word-low : v < least → false ≡ line-fits read (lexicon cs ls) n least (key 0 v) c ps
+  unfolding line-fits key-fits key
+  word-low low = rw (lt-leb least (0 * 65536 + v) (omega arith))
+
+  pub word-high : length ls ≤ v → false ≡ line-fits read (lexicon cs ls) n least (key 0 v) c ps
+  unfolding line-fits key-fits key-good key
+  word-high high = rw (le-ltb v (length (lexicon cs ls .words)) (omega (arith, word-count cs ls h)), and-false (leb least (0 * 65536 + v)))
+
+  pub word-fits :
+      least ≤ v → v < length ls → line-list-good read n (getD ls v 0) c ps ≡ line-fits read (lexicon cs ls) n least (key 0 v) c ps
+  unfolding line-fits key-fits key-good key spells
+  word-fits order below =
+      rw (
+        le-leb least (0 * 65536 + v) (omega arith),
+        lt-ltb v (length (lexicon cs ls .words)) (omega (arith, word-count cs ls h)),
+        word-long cs ls h v below,
+      )
+
+-- A LONE CHARACTER'S LINE
+
+module _ (read : List ℕ → List ℕ) (lex : Lexicon) (n least v c : ℕ) (ps : List ℕ) where
+  pub lone-low : v < least → false ≡ line-fits read lex n (65536 + least) (key 1 v) c ps
+  unfolding line-fits key-fits key
+  lone-low low = rw (lt-leb (65536 + least) (1 * 65536 + v) (omega arith))
+
+  pub lone-word : is-word lex (v ∷ []) ≡ true → false ≡ line-fits read lex n (65536 + least) (key 1 v) c ps
+  unfolding line-fits key-fits key-good key
+  lone-word t = rw (t, and-false (is-char v), and-false (leb (65536 + least) (1 * 65536 + v)))
+
+  pub lone-fits :
+      least ≤ v → v < 65536 → is-word lex (v ∷ []) ≡ false →
+      line-list-good read n 1 c ps ≡ line-fits read lex n (65536 + least) (key 1 v) c ps
+  unfolding line-fits key-fits key-good key spells is-char
+  lone-fits order small none =
+      rw (le-leb (65536 + least) (1 * 65536 + v) (omega arith), lt-ltb v 65536 small, none)
+
+  -- after the words, any other kind
+  pub kind-other : (k : ℕ) → v < 65536 → (k ≡ 1 → ⊥) → line-fits read lex n (65536 + least) (key k v) c ps ≡ false
+  unfolding line-fits key-fits key
+  kind-other zero small other = rw (lt-leb (65536 + least) (0 * 65536 + v) (omega arith))
+  kind-other (suc zero) small other = absurd (other refl)
+  kind-other (suc (suc k)) small other = rw (lt-leb (suc (suc k)) 1 (omega arith))

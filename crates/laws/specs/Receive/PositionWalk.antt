@@ -1,0 +1,91 @@
+-- A string set at each place of a list, as loops do it: the copy at one place, and the walk over the places. Assumes nothing.
+use mathlib.Core.Path.{_≡_, refl, ap, _∙_}
+use mathlib.Core.List.{List, [], _∷_}
+use Prim.Native.Nat.{ℕ, suc, _+_, _-_, _≤_, _<_}
+use native.Mathlib.Numerals.{add-one}
+use native.Mathlib.Omega.{arith}
+use lib.ListN.{length, getD, drop, set, length-set, drop-of-length-le}
+use lib.Seq.{sets, length-sets, drop-cons}
+use Rattle.laws.specs.Receive.LineMapFill.{fill-positions}
+
+-- AT ONE PLACE
+
+-- the first j characters of s are set, from `at` on
+pub record Setting (s : List ℕ) (at : ℕ) (old now : List ℕ) (j : ℕ) : Type 0 where
+  pub within : j ≤ length s
+  pub left : sets now (at + j) (drop j s) ≡ sets old at s
+  pub len : length now ≡ length old
+
+module _ (s : List ℕ) (at : ℕ) (old : List ℕ) where
+  pub setting-start : Setting s at old old 0
+  setting-start =
+      let z : at + 0 ≡ at = omega arith in
+      record { within = omega arith; left = rw z; len = refl }
+
+  module _ (now : List ℕ) (j : ℕ) (h : Setting s at old now j) where
+    pub setting-step : j < length s → Setting s at old (set now (at + j) (getD s j 0)) (j + 1)
+    setting-step below =
+        let z : at + (j + 1) ≡ suc (at + j) = omega arith in
+        record {
+          within = omega arith;
+          left = rw (z, add-one j) (rw (drop-cons s j 0 below) at (h .left));
+          len = length-set now (at + j) (getD s j 0) ∙ h .len;
+        }
+
+    pub setting-end : length s ≤ j → now ≡ sets old at s
+    setting-end past = rw (drop-of-length-le s past) at (h .left)
+
+-- AT EACH PLACE OF A LIST
+
+-- a string at each place of a list; place p is at p − 1
+unfoldable pub reconstruct-positions : (string positions text : List ℕ) → List ℕ
+reconstruct-positions s [] us = us
+reconstruct-positions s (p ∷ ps) us = reconstruct-positions s ps (sets us (p - 1) s)
+
+pub length-reconstruct-positions : (s ps us : List ℕ) → length (reconstruct-positions s ps us) ≡ length us
+unfolding reconstruct-positions
+length-reconstruct-positions s [] us = refl
+length-reconstruct-positions s (p ∷ ps) us = length-reconstruct-positions s ps (sets us (p - 1) s) ∙ length-sets us (p - 1) s
+
+-- a string of one character is a mark
+pub reconstruct-character : (m : ℕ) (ps us : List ℕ) → reconstruct-positions (m ∷ []) ps us ≡ fill-positions m ps us
+unfolding reconstruct-positions fill-positions
+reconstruct-character m [] us = refl
+reconstruct-character m (p ∷ ps) us = reconstruct-character m ps (set us (p - 1) m)
+
+-- a string of `long` characters lies within n characters at each of these places
+pub record Lie-within (len n : ℕ) (ps : List ℕ) : Type 0 where
+  pub from : (j : ℕ) → j < length ps → 1 ≤ getD ps j 0
+  pub to : (j : ℕ) → j < length ps → getD ps j 0 + len ≤ suc n
+
+-- the string is set at the first j places
+pub record Reconstructed (s ps old now : List ℕ) (j : ℕ) : Type 0 where
+  pub within : j ≤ length ps
+  pub left : reconstruct-positions s (drop j ps) now ≡ reconstruct-positions s ps old
+  pub len : length now ≡ length old
+
+module _ (s ps old : List ℕ) where
+  pub reconstructed-start : Reconstructed s ps old old 0
+  reconstructed-start = record { within = omega arith; left = refl; len = refl }
+
+  module _ (now : List ℕ) (j : ℕ) (h : Reconstructed s ps old now j) where
+    pub reconstructed-step : j < length ps → (next : List ℕ) → next ≡ sets now (getD ps j 0 - 1) s → Reconstructed s ps old next (j + 1)
+    unfolding reconstruct-positions
+    reconstructed-step below next e =
+        record {
+          within = omega arith;
+          left = rw (e, add-one j) (rw (drop-cons ps j 0 below) at (h .left));
+          len = ap length e ∙ length-sets now (getD ps j 0 - 1) s ∙ h .len;
+        }
+
+    pub reconstructed-end : length ps ≤ j → now ≡ reconstruct-positions s ps old
+    unfolding reconstruct-positions
+    reconstructed-end past = rw (drop-of-length-le ps past) at (h .left)
+
+-- the same with a mark
+module _ (m : ℕ) (ps old now : List ℕ) (j : ℕ) (h : Reconstructed (m ∷ []) ps old now j) where
+  pub filled-step : j < length ps → Reconstructed (m ∷ []) ps old (set now (getD ps j 0 - 1) m) (j + 1)
+  filled-step below = reconstructed-step (m ∷ []) ps old now j h below (set now (getD ps j 0 - 1) m) refl
+
+  pub filled-end : length ps ≤ j → now ≡ fill-positions m ps old
+  filled-end past = reconstructed-end (m ∷ []) ps old now j h past ∙ reconstruct-character m ps old

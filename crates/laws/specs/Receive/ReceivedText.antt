@@ -1,0 +1,105 @@
+-- The text that reception paints into its work slice, and the notes behind it: the test of both accepts exactly where the index is that
+-- of what it shows, and the painting is then the recovered text; without full-width forms in it, the index is received. Assumes nothing.
+use mathlib.Core.Path.{_≡_, refl, sym, _∙_}
+use mathlib.Core.Bool.{Bool, true, false, not}
+use mathlib.Core.List.{List, []}
+use mathlib.Core.Logic.{⊎-elim}
+use Prim.Native.Nat.{ℕ, _-_, _≤_, _<_}
+use native.Mathlib.Omega.{arith}
+use lib.ListN.{length, take, replicate, length-replicate, getD-replicate, List·getD-eq-default}
+use lib.Seq.{length-take-le}
+use Rattle.basics.specs.Bools.{clash, le-or-lt}
+use Rattle.spec.specs.Replaced.{holds-full-width}
+use Rattle.spec.specs.Dictionary.{longest-text, Lexicon, lexicon}
+use Rattle.spec.specs.Index.{n-of, lines-in, readable}
+use Rattle.spec.specs.Reception.{recovered, is-index, received}
+use Rattle.laws.specs.Text.Facts.{Chars, Good-lexicon, flat}
+use Rattle.laws.specs.Text.Chars.{chars-take}
+use Rattle.laws.specs.Match.MatchTable.{Room}
+use Rattle.laws.specs.Build.Building.{early-none, reached-lexicon, Blank, blank-room}
+use Rattle.laws.specs.Receive.Reconstruction.{reconstruct}
+use Rattle.laws.specs.Receive.LineMapFill.{mapped-at, fill-line-map, line-map-mapped}
+use Rattle.laws.specs.Receive.LineMap.{Line-map, verify}
+use Rattle.laws.specs.Receive.Reception.{reception-exact, reception-recovers}
+use Rattle.laws.specs.Receive.Receiving.{delivery-refusal, delivered}
+
+-- THE TEXT
+
+-- whether an index is that of what it shows, and that at the front of the work slice where it is
+pub record Read-back (lex : Lexicon) (xs : List ℕ) (r : Bool) (work-now : List ℕ) : Type 0 where
+  pub exact : r ≡ is-index longest-text lex xs
+  pub text : r ≡ true → take (n-of xs) work-now ≡ recovered lex xs
+
+-- whether an index is received, and its text at the front of the work slice where it is
+pub record Tried (lex : Lexicon) (xs : List ℕ) (r : Bool) (work-now : List ℕ) : Type 0 where
+  pub exact : r ≡ received longest-text lex xs
+  pub text : r ≡ true → take (n-of xs) work-now ≡ recovered lex xs
+
+-- a cleared slice has nothing noted
+cleared-line-map : (n p : ℕ) → mapped-at (replicate n 0) p ≡ 0
+unfolding mapped-at
+cleared-line-map n p =
+    ⊎-elim
+    (λ (h : n ≤ p - 1). List·getD-eq-default (replicate n 0) 0 (omega (arith, length-replicate {A = ℕ} n 0)))
+    (λ (h : p - 1 < n). getD-replicate n (p - 1) 0 0 h) (le-or-lt n (p - 1))
+
+module _ (cs ls xs : List ℕ) (w : ℕ) (chars : Chars cs) (none : delivery-refusal cs ls xs w ≡ 0) where
+  pub delivered-lexicon : Good-lexicon (lexicon cs ls)
+  delivered-lexicon = reached-lexicon cs ls chars (delivered cs ls xs w none .admits)
+
+  pub delivered-room : (heads links starts : List ℕ) → Blank heads links starts → Room cs ls heads links starts
+  delivered-room heads links starts b =
+      blank-room cs ls [] 0 heads links starts chars
+      (early-none cs ls [] 0 (delivered cs ls xs w none .admits) (omega arith) (omega arith)) b
+
+-- w before the painting, u after it, v after the noting
+module _ (cs ls xs w : List ℕ) (chars : Chars cs) (work : Chars w) (none : delivery-refusal cs ls xs (length w) ≡ 0) (u v ns : List ℕ)
+    (reconstructs : take (n-of xs) u ≡ reconstruct (lexicon cs ls) (flat (lexicon cs ls) (lines-in xs)) (take (n-of xs) w))
+    (keeps : take (n-of xs) v ≡ take (n-of xs) u) (line-map : ns ≡ fill-line-map 0 (lines-in xs) (replicate (n-of xs) 0)) where
+  reconstructed : take (n-of xs) v ≡ reconstruct (lexicon cs ls) (flat (lexicon cs ls) (lines-in xs)) (take (n-of xs) w)
+  reconstructed = keeps ∙ reconstructs
+
+  good : Good-lexicon (lexicon cs ls)
+  good = delivered-lexicon cs ls xs (length w) chars none
+
+  can : readable longest-text (lexicon cs ls) xs ≡ true
+  can = delivered cs ls xs (length w) none .can-read
+
+  text-long : length (take (n-of xs) w) ≡ n-of xs
+  text-long = length-take-le (n-of xs) w (omega (arith, delivered cs ls xs (length w) none .room))
+
+  line-map-long : n-of xs ≤ length (replicate {A = ℕ} (n-of xs) 0)
+  line-map-long = omega (arith, length-replicate {A = ℕ} (n-of xs) 0)
+
+  pub tried-mapped : Line-map xs (mapped-at ns)
+  tried-mapped =
+      rw line-map
+      (line-map-mapped (lexicon cs ls) good longest-text xs can (replicate (n-of xs) 0) line-map-long
+      (λ p lo. cleared-line-map (n-of xs) p))
+
+  pub read-back : (r : Bool) → r ≡ verify (lexicon cs ls) (mapped-at ns) xs (take (n-of xs) v) → Read-back (lexicon cs ls) xs r v
+  read-back r e = record { exact = exact; text = λ t. reconstructed ∙ recovers (sym exact ∙ t) }
+    where
+      exact : r ≡ is-index longest-text (lexicon cs ls) xs
+      exact =
+          e
+          ∙ rw (line-map, reconstructed)
+          (reception-exact (lexicon cs ls) good longest-text xs can (take (n-of xs) w) (replicate (n-of xs) 0)
+          (chars-take (n-of xs) w work) text-long line-map-long (λ p lo. cleared-line-map (n-of xs) p))
+
+      recovers :
+          is-index longest-text (lexicon cs ls) xs ≡ true →
+          reconstruct (lexicon cs ls) (flat (lexicon cs ls) (lines-in xs)) (take (n-of xs) w) ≡ recovered (lexicon cs ls) xs
+      recovers =
+          reception-recovers (lexicon cs ls) good longest-text xs can (take (n-of xs) w) (replicate (n-of xs) 0)
+          (chars-take (n-of xs) w work) text-long line-map-long (λ p lo. cleared-line-map (n-of xs) p)
+
+-- it is received where that holds no full-width form
+module _ (lex : Lexicon) (xs v : List ℕ) (shown : Bool) (h : Read-back lex xs shown v) where
+  pub not-tried : shown ≡ false → Tried lex xs false v
+  unfolding received
+  not-tried f = record { exact = rw (← h .exact, f) refl; text = λ t. clash t refl }
+
+  pub tried : shown ≡ true → (held : Bool) → held ≡ holds-full-width (take (n-of xs) v) → Tried lex xs (not held) v
+  unfolding received
+  tried t held e = record { exact = rw (← h .exact, t, ← h .text t, ← e) refl; text = λ u. h .text t }

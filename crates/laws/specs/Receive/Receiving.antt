@@ -1,0 +1,225 @@
+-- Reception and recovery, from their tests to their answers: the order of the refusals, and what each call says. Assumes nothing.
+use mathlib.Core.Path.{_≡_, refl, sym, _∙_}
+use mathlib.Core.Bool.{Bool, true, false, cond}
+use mathlib.Core.List.{List}
+use mathlib.Core.Logic.{⊎-elim}
+use Prim.Native.Nat.{ℕ, _+_, _*_, _≤_, _<_}
+use native.Mathlib.Omega.{arith}
+use lib.Dec.{ltb, eqb}
+use lib.ListN.{length, take}
+use lib.Seq.{length-take-le}
+use borrow.Author.Tests.{lt-ltb, le-ltb, eq-eqb, ne-eqb, eqb-true, eqb-false}
+use Rattle.basics.specs.Bools.{true-or-false, le-or-lt}
+use Rattle.basics.specs.Placed.{placed, Wrote}
+use Rattle.spec.specs.declared.Answer.{Answer}
+use Rattle.spec.specs.Dictionary.{longest-text, lexicon, dictionary-refusal}
+use Rattle.spec.specs.Index.{n-of, readable}
+use Rattle.spec.specs.Reception.{recovered, received}
+use Rattle.spec.specs.Calls.{work-short, no-text, or-else, index-refusal, reception-refusal, recovery-refusal, in-front, zeros, Puts, Receive-says, Recover-says}
+use Rattle.laws.specs.Numbers.Slices.{Fits}
+use Rattle.laws.specs.Readable.LineWalk.{readable-fits}
+use Rattle.laws.specs.Dictionary.Answering.{answers-accepted, answers-refused, Refuses}
+use Rattle.laws.specs.Readable.IndexRefusal.{index-accepted}
+use Rattle.laws.specs.Build.Building.{puts-accepted, puts-refused, output-refusal, output-fits, output-refused}
+
+-- THE ORDER OF THE REFUSALS
+
+-- a refusal, or 7 for a work slice too short
+unfoldable pub or-work-short : (refusal : ℕ) (index : List ℕ) (work : ℕ) → ℕ
+or-work-short refusal xs w = or-else refusal (cond (work-short (n-of xs) w) 7 0)
+
+-- the refusals that need no painting: 1 to 3, 12, 5, 7
+abbrev pub delivery-refusal : (chars lengths index : List ℕ) → (work : ℕ) → ℕ
+delivery-refusal cs ls xs w = or-work-short (index-refusal cs ls xs) xs w
+
+module _ (refusal : ℕ) (xs : List ℕ) (w : ℕ) where
+  pub short-refused : (refusal ≡ 0 → ⊥) → refusal ≡ or-work-short refusal xs w
+  unfolding or-work-short or-else
+  short-refused some = rw (ne-eqb refusal 0 some)
+
+  module _ (none : refusal ≡ 0) where
+    pub short-work : w < 8 * n-of xs → 7 ≡ or-work-short refusal xs w
+    unfolding or-work-short or-else work-short
+    short-work short = rw (eq-eqb refusal 0 none, lt-ltb w (8 * n-of xs) short)
+
+    pub short-none : 8 * n-of xs ≤ w → 0 ≡ or-work-short refusal xs w
+    unfolding or-work-short or-else work-short
+    short-none room = rw (eq-eqb refusal 0 none, le-ltb w (8 * n-of xs) room)
+
+-- what holds where none of them is met
+pub record Delivered (cs ls xs : List ℕ) (w : ℕ) : Type 0 where
+  pub admits : dictionary-refusal cs ls ≡ 0
+  pub can-read : readable longest-text (lexicon cs ls) xs ≡ true
+  pub fits : Fits xs
+  pub room : 8 * n-of xs ≤ w
+
+pub delivery-header : (cs ls xs : List ℕ) → index-refusal cs ls xs ≡ 0 → 1 ≤ length xs
+delivery-header cs ls xs none =
+    omega (arith, readable-fits longest-text (lexicon cs ls) xs (index-accepted cs ls xs none .is-readable) .has-header)
+
+module _ (cs ls xs : List ℕ) (w : ℕ) where
+  -- by the refusal of an opened index
+  pub opened-delivery :
+      (refusal early : ℕ) → refusal ≡ index-refusal cs ls xs → early ≡ or-work-short refusal xs w → early ≡ delivery-refusal cs ls xs w
+  opened-delivery refusal early number e = rw number at e
+
+  -- an early refusal is the call's
+  pub reception-early :
+      (number : ℕ) → number ≡ delivery-refusal cs ls xs w → (number ≡ 0 → ⊥) → reception-refusal cs ls xs w ≡ number
+  unfolding reception-refusal or-work-short or-else work-short
+  reception-early number e some = go (eqb (index-refusal cs ls xs) 0) refl (ltb w (8 * n-of xs)) refl ∙ sym e
+    where
+      go :
+          (a : Bool) → eqb (index-refusal cs ls xs) 0 ≡ a → (b : Bool) → ltb w (8 * n-of xs) ≡ b →
+          cond a (cond b 7 (cond (no-text (lexicon cs ls) xs) 9 0)) (index-refusal cs ls xs)
+          ≡ cond a (cond b 7 0) (index-refusal cs ls xs)
+      go false p b q = refl
+      go true p true q = refl
+      go true p false q = absurd (some (e ∙ rw (p, q) refl))
+
+  module _ (none : delivery-refusal cs ls xs w ≡ 0) where
+    no-index-refusal : index-refusal cs ls xs ≡ 0
+    no-index-refusal =
+        ⊎-elim (λ (e : eqb (index-refusal cs ls xs) 0 ≡ true). eqb-true (index-refusal cs ls xs) 0 e)
+        (λ (e : eqb (index-refusal cs ls xs) 0 ≡ false). short-refused (index-refusal cs ls xs) xs w (eqb-false (index-refusal cs ls xs) 0 e) ∙ none)
+        (true-or-false (eqb (index-refusal cs ls xs) 0))
+
+    pub delivered : Delivered cs ls xs w
+    delivered =
+        let a = index-accepted cs ls xs no-index-refusal in
+        record {
+          admits = a .no-refusal;
+          can-read = a .is-readable;
+          fits = readable-fits longest-text (lexicon cs ls) xs (a .is-readable);
+          room =
+              ⊎-elim (λ (h : 8 * n-of xs ≤ w). h)
+              (λ (h : w < 8 * n-of xs). absurd (omega (arith, short-work (index-refusal cs ls xs) xs w no-index-refusal h))) (le-or-lt (8 * n-of xs) w);
+        }
+
+    -- without one it is 9 or none
+    pub reception-unreceived : received longest-text (lexicon cs ls) xs ≡ false → reception-refusal cs ls xs w ≡ 9
+    unfolding reception-refusal or-else work-short no-text
+    reception-unreceived f =
+        rw (eq-eqb (index-refusal cs ls xs) 0 no-index-refusal, le-ltb w (8 * n-of xs) (delivered .room), f)
+
+    pub reception-received : received longest-text (lexicon cs ls) xs ≡ true → reception-refusal cs ls xs w ≡ 0
+    unfolding reception-refusal or-else work-short no-text
+    reception-received t =
+        rw (eq-eqb (index-refusal cs ls xs) 0 no-index-refusal, le-ltb w (8 * n-of xs) (delivered .room), t)
+
+  -- a refusal of reception is recovery's; else it is 8 or none
+  module _ (o : ℕ) where
+    pub recovery-early : (reception-refusal cs ls xs w ≡ 0 → ⊥) → recovery-refusal cs ls xs o w ≡ reception-refusal cs ls xs w
+    unfolding recovery-refusal or-else
+    recovery-early some = rw (ne-eqb (reception-refusal cs ls xs w) 0 some)
+
+    pub recovery-late : reception-refusal cs ls xs w ≡ 0 → recovery-refusal cs ls xs o w ≡ output-refusal (n-of xs) o
+    unfolding recovery-refusal or-else output-refusal
+    recovery-late none = rw (eq-eqb (reception-refusal cs ls xs w) 0 none)
+
+-- THE ANSWERS
+
+-- the first n numbers of the work slice written to the output, or 8; and the work slice cleared
+pub record Gives (n : ℕ) (r : Answer) (out out-now work work-now : List ℕ) : Type 0 where
+  pub puts : Puts (output-refusal n (length out)) (take n work) r out out-now
+  pub cleared : work-now ≡ zeros work
+
+module _ (n : ℕ) (r : Answer) (o w v : List ℕ) where
+  pub gives-short : length o < n → Refuses 8 r w v → Gives n r o o w v
+  gives-short short h =
+      let eight : output-refusal n (length o) ≡ 8 = output-refused n (length o) short in
+      record {
+        puts =
+            puts-refused (output-refusal n (length o)) (take n w) r o o (h .is ∙ sym eight)
+            (λ (z : output-refusal n (length o) ≡ 0). omega arith) (h .nothing) refl;
+        cleared = h .cleared;
+      }
+
+  pub gives-text :
+      n ≤ length o → n ≤ length w → r .refusal ≡ 0 → r .count ≡ n → (z : List ℕ) → z ≡ in-front (take n w) o → v ≡ zeros w →
+      Gives n r o z w v
+  unfolding in-front
+  gives-text room len zero count z put cleared =
+      let none : output-refusal n (length o) ≡ 0 = output-fits n (length o) room in
+      record {
+        puts =
+            puts-accepted (output-refusal n (length o)) (take n w) r o z (zero ∙ sym none) none (count ∙ sym (length-take-le n w len)) put;
+        cleared = cleared;
+      }
+
+-- a text that was written from the first place on
+pub text-put : (text old now : List ℕ) (end : ℕ) → Wrote text 0 old end now → now ≡ in-front text old
+unfolding in-front placed
+text-put text old now end h = let same : 0 + length text ≡ length text = omega arith in h .content ∙ rw same
+
+-- a slice of the same length is cleared alike
+pub zeros-alike : (w u : List ℕ) → length u ≡ length w → zeros u ≡ zeros w
+unfolding zeros
+zeros-alike w u e = rw e
+
+-- w is the work slice as it was lent, u before it is cleared, and v after that
+module _ (cs ls xs : List ℕ) (r : Answer) (w u v : List ℕ) (same : length u ≡ length w) where
+  pub receive-refused :
+      (number : ℕ) → number ≡ delivery-refusal cs ls xs (length w) → (number ≡ 0 → ⊥) → Refuses number r u v → Receive-says cs ls xs r w v
+  unfolding Receive-says
+  receive-refused number e some h =
+      let early : reception-refusal cs ls xs (length w) ≡ number = reception-early cs ls xs (length w) number e some in (
+        answers-refused (reception-refusal cs ls xs (length w)) (n-of xs) r (h .is ∙ sym early)
+            (λ (z : reception-refusal cs ls xs (length w) ≡ 0). some (sym early ∙ z)) (h .nothing),
+        h .cleared ∙ zeros-alike w u same,
+      )
+
+  module _ (none : delivery-refusal cs ls xs (length w) ≡ 0) where
+    pub receive-unreceived : received longest-text (lexicon cs ls) xs ≡ false → Refuses 9 r u v → Receive-says cs ls xs r w v
+    unfolding Receive-says
+    receive-unreceived f h =
+        let nine : reception-refusal cs ls xs (length w) ≡ 9 = reception-unreceived cs ls xs (length w) none f in (
+          answers-refused (reception-refusal cs ls xs (length w)) (n-of xs) r (h .is ∙ sym nine)
+              (λ (z : reception-refusal cs ls xs (length w) ≡ 0). omega arith) (h .nothing),
+          h .cleared ∙ zeros-alike w u same,
+        )
+
+    pub receive-received :
+        received longest-text (lexicon cs ls) xs ≡ true → r .refusal ≡ 0 → r .count ≡ n-of xs → v ≡ zeros u → Receive-says cs ls xs r w v
+    unfolding Receive-says
+    receive-received t zero count cleared =
+        let accepted : reception-refusal cs ls xs (length w) ≡ 0 = reception-received cs ls xs (length w) none t in (
+          answers-accepted (reception-refusal cs ls xs (length w)) (n-of xs) r (zero ∙ sym accepted) accepted count,
+          cleared ∙ zeros-alike w u same,
+        )
+
+module _ (cs ls xs : List ℕ) (r : Answer) (o w u v : List ℕ) (same : length u ≡ length w) where
+  refusing :
+      (number : ℕ) → recovery-refusal cs ls xs (length o) (length w) ≡ number → (number ≡ 0 → ⊥) → Refuses number r u v →
+      Recover-says cs ls xs r o o w v
+  unfolding Recover-says
+  refusing number e some h = (
+    puts-refused (recovery-refusal cs ls xs (length o) (length w)) (recovered (lexicon cs ls) xs) r o o (h .is ∙ sym e)
+        (λ (z : recovery-refusal cs ls xs (length o) (length w) ≡ 0). some (sym e ∙ z)) (h .nothing) refl,
+    h .cleared ∙ zeros-alike w u same,
+  )
+
+  pub recover-refused :
+      (number : ℕ) → number ≡ delivery-refusal cs ls xs (length w) → (number ≡ 0 → ⊥) → Refuses number r u v →
+      Recover-says cs ls xs r o o w v
+  recover-refused number e some h =
+      let early : reception-refusal cs ls xs (length w) ≡ number = reception-early cs ls xs (length w) number e some in
+      refusing number
+      (recovery-early cs ls xs (length w) (length o) (λ (z : reception-refusal cs ls xs (length w) ≡ 0). some (sym early ∙ z)) ∙ early) some h
+
+  module _ (none : delivery-refusal cs ls xs (length w) ≡ 0) where
+    pub recover-unreceived : received longest-text (lexicon cs ls) xs ≡ false → Refuses 9 r u v → Recover-says cs ls xs r o o w v
+    recover-unreceived f h =
+        let nine : reception-refusal cs ls xs (length w) ≡ 9 = reception-unreceived cs ls xs (length w) none f in
+        refusing 9
+        (recovery-early cs ls xs (length w) (length o) (λ (z : reception-refusal cs ls xs (length w) ≡ 0). omega arith) ∙ nine)
+        (λ (z : 9 ≡ 0). omega arith) h
+
+    pub recover-received :
+        received longest-text (lexicon cs ls) xs ≡ true → take (n-of xs) u ≡ recovered (lexicon cs ls) xs → (z : List ℕ) →
+        Gives (n-of xs) r o z u v → Recover-says cs ls xs r o z w v
+    unfolding Recover-says
+    recover-received t text z h =
+        let late : recovery-refusal cs ls xs (length o) (length w) ≡ output-refusal (n-of xs) (length o) =
+        recovery-late cs ls xs (length w) (length o) (reception-received cs ls xs (length w) none t) in
+        (rw (late, ← text) (h .puts), h .cleared ∙ zeros-alike w u same)

@@ -1,0 +1,82 @@
+-- Reception as it is done: paint the entries, note the lines, scan the painting. For every readable slice that accepts exactly if
+-- `is-index`, and the painting is then the recovered text. Assumes nothing.
+use mathlib.Core.Path.{_≡_, refl, _∙_}
+use mathlib.Core.Bool.{true}
+use mathlib.Core.Logic.{inl, inr, ⊎-elim}
+use mathlib.Core.List.{List, [], _∷_}
+use Prim.Native.Nat.{ℕ, suc, _-_, _≤_, _<_}
+use native.Mathlib.Omega.{arith}
+use lib.ListN.{length, getD, set, length-set}
+use lib.Seq.{sets}
+use Rattle.basics.specs.Member.{In}
+use Rattle.basics.specs.Stores.{set-either}
+use Rattle.spec.specs.Dictionary.{Lexicon}
+use Rattle.spec.specs.Words.{spells, Entry}
+use Rattle.spec.specs.Index.{n-of, lines-in, readable}
+use Rattle.spec.specs.Reception.{recovered, is-index}
+use Rattle.laws.specs.Text.Facts.{Chars, Good-lexicon, flat}
+use Rattle.laws.specs.Dictionary.Keys.{spells-chars}
+use Rattle.laws.specs.Readable.Readable.{readable-get}
+use Rattle.laws.specs.Numbers.Lines.{good-flat-sound}
+use Rattle.laws.specs.Receive.LineMap.{Line-map, verify, verify-exact}
+use Rattle.laws.specs.Receive.Reconstruction.{reconstruct, length-reconstruct, reconstruct-recovered}
+use Rattle.laws.specs.Receive.LineMapFill.{mapped-at, fill-line-map, line-map-mapped}
+
+-- A PAINTING IS MADE OF CHARACTERS, if what was there is
+
+set-chars : (us : List ℕ) (k c : ℕ) → Chars us → c < 65536 → Chars (set us k c)
+set-chars us k c chars small i b =
+    ⊎-elim
+    (λ (e : getD (set us k c) i 0 ≡ getD us i 0).
+    let old : getD us i 0 < 65536 = chars i (omega (arith, length-set us k c)) in omega arith)
+    (λ (e : (i ≡ k) × (getD (set us k c) i 0 ≡ c)). omega (arith, e .1)) (set-either 0 us k c i)
+
+sets-chars : (us : List ℕ) (k : ℕ) (cs : List ℕ) → Chars us → Chars cs → Chars (sets us k cs)
+sets-chars us k [] chars cs-chars = chars
+sets-chars us k (c ∷ cs) chars cs-chars =
+    sets-chars (set us k c) (suc k) cs (set-chars us k c chars (cs-chars 0 (omega arith))) (λ i b. cs-chars (suc i) (omega arith))
+
+pub reconstruct-chars :
+    (lex : Lexicon) (es : List Entry) (us : List ℕ) → Chars us → ((e : Entry) → In e es → Chars (spells lex (e .key-of))) →
+    Chars (reconstruct lex es us)
+unfolding reconstruct
+reconstruct-chars lex [] us chars spelt = chars
+reconstruct-chars lex (e ∷ es) us chars spelt =
+    reconstruct-chars lex es (sets us (e .at - 1) (spells lex (e .key-of)))
+    (sets-chars us (e .at - 1) (spells lex (e .key-of)) chars (spelt e (inl refl))) (λ f m. spelt f (inr m))
+
+-- THE WHOLE OF RECEPTION
+
+module _ (lex : Lexicon) (good : Good-lexicon lex) (g : ℕ) (xs : List ℕ) (can : readable g lex xs ≡ true) (us ns : List ℕ)
+    (chars : Chars us) (len : length us ≡ n-of xs) (room : n-of xs ≤ length ns) (clear : (p : ℕ) → 1 ≤ p → mapped-at ns p ≡ 0) where
+  reconstructing : List ℕ
+  reconstructing = reconstruct lex (flat lex (lines-in xs)) us
+
+  line-map : ℕ → ℕ
+  line-map = mapped-at (fill-line-map 0 (lines-in xs) ns)
+
+  mapped : Line-map xs line-map
+  unfolding line-map
+  mapped = line-map-mapped lex good g xs can ns room clear
+
+  reconstructing-chars : Chars reconstructing
+  unfolding reconstructing
+  reconstructing-chars =
+      reconstruct-chars lex (flat lex (lines-in xs)) us chars
+      (λ e m.
+      spells-chars lex good (e .key-of)
+      (good-flat-sound lex (n-of xs) (lines-in xs) (readable-get g lex xs can .lines) e m .is-key))
+
+  reconstructing-long : length reconstructing ≡ n-of xs
+  unfolding reconstructing
+  reconstructing-long = length-reconstruct lex (flat lex (lines-in xs)) us ∙ len
+
+  pub reception-exact :
+      verify lex (mapped-at (fill-line-map 0 (lines-in xs) ns)) xs (reconstruct lex (flat lex (lines-in xs)) us) ≡ is-index g lex xs
+  unfolding reconstructing line-map
+  reception-exact =
+      verify-exact lex good g xs can line-map mapped reconstructing reconstructing-chars reconstructing-long
+      (λ r. reconstruct-recovered lex good g xs r (flat lex (lines-in xs)) us len (λ e m. m) (λ e m. m))
+
+  pub reception-recovers : is-index g lex xs ≡ true → reconstruct lex (flat lex (lines-in xs)) us ≡ recovered lex xs
+  reception-recovers r = reconstruct-recovered lex good g xs r (flat lex (lines-in xs)) us len (λ e m. m) (λ e m. m)

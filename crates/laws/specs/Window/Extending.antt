@@ -1,0 +1,112 @@
+-- The passes of the search over the offsets of a key and over the stages, each with the window midway. Assumes nothing.
+use mathlib.Core.Path.{_≡_, refl, sym, ap, _∙_}
+use mathlib.Core.Bool.{true, false}
+use mathlib.Core.List.{List}
+use Prim.Native.Nat.{ℕ, _+_, _-_, _≤_, _<_}
+use native.Mathlib.Nat.{sub-zero}
+use native.Mathlib.Omega.{arith}
+use lib.ListN.{length, getD}
+use Rattle.spec.specs.Dictionary.{Lexicon}
+use Rattle.spec.specs.Numbers.{Line}
+use Rattle.spec.specs.Search.{agrees}
+use Rattle.laws.specs.Search.AgreeWalk.{key-starts-apart}
+use Rattle.laws.specs.Window.Window.{Within, Reaches, Progress, progress-start, progress-step, progress-end}
+use Rattle.laws.specs.Window.WindowSearch.{positions-all, key-all, back-all, leading-all, offset-all, offsets-all, key-apart, key-agrees, back-none, back-next, offsets-none, offsets-next, offsets-stop}
+
+-- ONE KEY AT ONE OFFSET
+
+module _ (i o : ℕ) (s k : List ℕ) (q : ℕ) (bs old : List ℕ) where
+  pub extends-none : agrees s i k o ≡ false → (max-reach : ℕ) → Within max-reach old → Reaches (key-all i o s k q bs old) old max-reach
+  extends-none f max-reach w = record { is = sym (key-apart i o s k q bs old f); bounded = w }
+
+  pub extends-all :
+      agrees s i k o ≡ true → (rs : List ℕ) (max-reach : ℕ) → Reaches (positions-all i o (length k) q bs old) rs max-reach →
+      Reaches (key-all i o s k q bs old) rs max-reach
+  extends-all t rs max-reach r = record { is = r .is ∙ sym (key-agrees i o s k q bs old t); bounded = r .bounded }
+
+-- ONE KEY AT THE OFFSETS FROM 0 DOWN
+
+-- i offsets are done
+pub record Backing (s k : List ℕ) (q : ℕ) (bs old rs : List ℕ) (highest i : ℕ) : Type 0 where
+  pub within : i ≤ length k
+  pub way : Progress (back-all (length k - i) i s k q bs) (back-all (length k) 0 s k q bs old) old rs highest
+
+module _ (s k : List ℕ) (q : ℕ) (bs old : List ℕ) where
+  pub backing-start : (max-reach : ℕ) → Within max-reach old → Backing s k q bs old old max-reach 0
+  backing-start max-reach w =
+      record {
+        within = omega arith;
+        way =
+            record {
+              left = ap (λ (n : ℕ). back-all n 0 s k q bs old) (sub-zero (length k));
+              len = refl;
+              bounded = w;
+            };
+      }
+
+  module _ (rs : List ℕ) (highest i : ℕ) (h : Backing s k q bs old rs highest i) where
+    pub backing-step :
+        i < length k → (now : List ℕ) (max-reach : ℕ) → length now ≡ length rs → Reaches (key-all i 0 s k q bs rs) now max-reach →
+        Backing s k q bs old now max-reach (i + 1)
+    backing-step some now max-reach kept r =
+        record {
+          within = omega arith;
+          way =
+              progress-step (back-all (length k - i) i s k q bs) (back-all (length k - (i + 1)) (i + 1) s k q bs)
+              (back-all (length k) 0 s k q bs old) old rs now highest max-reach (key-all i 0 s k q bs rs) (h .way)
+              (back-next s k q bs i some rs) kept r;
+        }
+
+    -- at an offset at which the key does not have the string's first character
+    pub backing-pass : i < length k → (getD k i 0 ≡ getD s 0 0 → ⊥) → Backing s k q bs old rs highest (i + 1)
+    backing-pass some other =
+        backing-step some rs highest refl (extends-none i 0 s k q bs rs (key-starts-apart i s k some other) highest (h .way .bounded))
+
+    pub backing-end : length k ≤ i → Reaches (back-all (length k) 0 s k q bs old) rs highest
+    backing-end past =
+        progress-end (back-all (length k - i) i s k q bs) (back-all (length k) 0 s k q bs old) old rs highest (h .way)
+        (back-none s k q bs i past rs)
+
+-- THE STAGES
+
+-- the stages before o are done
+pub record Offsets (lex : Lexicon) (ls : List Line) (s : List ℕ) (q : ℕ) (old rs : List ℕ) (highest o : ℕ) : Type 0 where
+  pub within : o ≤ length s
+  pub way : Progress (offsets-all (length s - o) o lex ls s q) (offsets-all (length s - 1) 1 lex ls s q old) old rs highest
+
+module _ (lex : Lexicon) (ls : List Line) (s : List ℕ) (q : ℕ) (old : List ℕ) where
+  pub offsets-start : (max-reach : ℕ) → 1 ≤ length s → Within max-reach old → Offsets lex ls s q old old max-reach 1
+  offsets-start max-reach some w =
+      record { within = some; way = progress-start (offsets-all (length s - 1) 1 lex ls s q) old max-reach w }
+
+  module _ (rs : List ℕ) (highest o : ℕ) (h : Offsets lex ls s q old rs highest o) where
+    pub offsets-step :
+        o < length s → (now : List ℕ) (max-reach : ℕ) → length now ≡ length rs → Reaches (offset-all o lex ls s q rs) now max-reach →
+        Offsets lex ls s q old now max-reach (o + 1)
+    offsets-step below now max-reach kept r =
+        record {
+          within = omega arith;
+          way =
+              progress-step (offsets-all (length s - o) o lex ls s q) (offsets-all (length s - (o + 1)) (o + 1) lex ls s q)
+              (offsets-all (length s - 1) 1 lex ls s q old) old rs now highest max-reach (offset-all o lex ls s q rs) (h .way)
+              (offsets-next lex ls s q o below rs) kept r;
+        }
+
+    -- all stages are done, or no start gets to the next one
+    pub offsets-end : length s ≤ o → Reaches (offsets-all (length s - 1) 1 lex ls s q old) rs highest
+    offsets-end past =
+        progress-end (offsets-all (length s - o) o lex ls s q) (offsets-all (length s - 1) 1 lex ls s q old) old rs highest (h .way)
+        (offsets-none lex ls s q o past rs)
+
+    pub offsets-early : highest < o → Reaches (offsets-all (length s - 1) 1 lex ls s q old) rs highest
+    offsets-early early =
+        progress-end (offsets-all (length s - o) o lex ls s q) (offsets-all (length s - 1) 1 lex ls s q old) old rs highest (h .way)
+        (offsets-stop lex ls s q (length s - o) o highest rs (h .way .bounded) early)
+
+-- all stages, after the first one
+pub offsets-after :
+    (lex : Lexicon) (ls : List Line) (s : List ℕ) (q : ℕ) (old mid now : List ℕ) (highest max-reach : ℕ) → Reaches (leading-all lex ls s q old) mid highest →
+    Reaches (offsets-all (length s - 1) 1 lex ls s q mid) now max-reach →
+    Reaches (offsets-all (length s - 1) 1 lex ls s q (leading-all lex ls s q old)) now max-reach
+offsets-after lex ls s q old mid now highest max-reach p r =
+    record { is = r .is ∙ ap (offsets-all (length s - 1) 1 lex ls s q) (p .is); bounded = r .bounded }

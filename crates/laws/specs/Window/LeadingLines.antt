@@ -1,0 +1,227 @@
+-- The lines of words whose keys agree with a string at an offset of 0 or below, listed once: the first stage of every window is a
+-- walk over these alone. Assumes nothing.
+use mathlib.Core.Path.{_≡_, refl, sym, ap, _∙_}
+use mathlib.Core.Bool.{Bool, true, false, cond}
+use mathlib.Core.List.{List, [], _∷_}
+use Prim.Native.Nat.{ℕ, zero, suc, _+_, _-_, _≤_, _<_}
+use native.Mathlib.Nat.{sub-zero}
+use native.Mathlib.Numerals.{add-one}
+use native.Mathlib.Omega.{arith}
+use lib.ListN.{length, getD, take, drop, set, drop-of-length-le}
+use lib.Seq.{drop-cons, take-at}
+use borrow.Author.Count.{below-more}
+use Rattle.basics.specs.Bools.{clash, false-put}
+use Rattle.basics.specs.Member.{in-getD}
+use Rattle.basics.specs.Steps.{any-from, any-from-get, any-from-put, those-from, those-from-get}
+use Rattle.basics.specs.Writing.{Writing, starts, has-room, writes, written, written-length}
+use Rattle.spec.specs.Dictionary.{Lexicon}
+use Rattle.spec.specs.Words.{spells}
+use Rattle.spec.specs.Index.{keys-of, key-at}
+use Rattle.spec.specs.Search.{agrees}
+use Rattle.spec.specs.Models.{reach-back}
+use Rattle.spec.specs.Calls.{in-front}
+use Rattle.laws.specs.Build.PostingsByKey.{those-short}
+use Rattle.laws.specs.Search.Reach.{reach-key-apart}
+use Rattle.laws.specs.Search.AgreeWalk.{key-starts-apart}
+use Rattle.laws.specs.Window.Window.{Within, Reaches, extended-same, Progress, progress-start, progress-step, progress-end}
+use Rattle.laws.specs.Window.WindowSearch.{back-all}
+use Rattle.laws.specs.Window.LineSteps.{run-from, run, positions-at, leading-at}
+
+-- ONE KEY
+
+-- whether a key agrees with the string at some offset of 0 or below
+unfoldable pub agrees-leading : (string key : List ℕ) → Bool
+agrees-leading s k = any-from (length k) 0 (λ i. agrees s i k 0)
+
+-- it agrees at none of the first n of them
+abbrev pub Apart-to : (string key : List ℕ) → (n : ℕ) → Type 0
+Apart-to s k n = (i : ℕ) → i < n → agrees s i k 0 ≡ false
+
+module _ (s k : List ℕ) where
+  pub apart-start : Apart-to s k 0
+  apart-start i b = absurd (omega arith)
+
+  module _ (n : ℕ) (h : Apart-to s k n) where
+    pub apart-next : agrees s n k 0 ≡ false → Apart-to s k (n + 1)
+    apart-next f = below-more (λ (i : ℕ). agrees s i k 0 ≡ false) n h f
+
+    -- where the key does not have the string's first character
+    pub apart-pass : n < length k → (getD k n 0 ≡ getD s 0 0 → ⊥) → Apart-to s k (n + 1)
+    apart-pass some other = apart-next (key-starts-apart n s k some other)
+
+    pub apart-end : length k ≤ n → false ≡ agrees-leading s k
+    unfolding agrees-leading
+    apart-end past =
+        sym
+        (false-put (any-from (length k) 0 (λ i. agrees s i k 0))
+        (λ t.
+        let some = any-from-get (length k) 0 (λ i. agrees s i k 0) t in
+        clash (some .3) (h (some .0) (omega (arith, some .2)))))
+
+  pub leading-found : (i : ℕ) → i < length k → agrees s i k 0 ≡ true → true ≡ agrees-leading s k
+  unfolding agrees-leading
+  leading-found i b t = sym (any-from-put (length k) 0 (λ i. agrees s i k 0) i (omega arith) (omega arith) t)
+
+  -- a key that agrees at none of them raises nothing
+  back-apart : (p : ℕ) (bs : List ℕ) (n i r : ℕ) → Apart-to s k (i + n) → reach-back n i s k p bs r ≡ r
+  unfolding reach-back
+  back-apart p bs zero i r h = refl
+  back-apart p bs (suc n) i r h =
+      rw (reach-key-apart i 0 s k p bs r (h i (omega arith)))
+      (back-apart p bs n (suc i) r (λ j b. h j (omega arith)))
+
+  pub leading-none : agrees-leading s k ≡ false → Apart-to s k (length k)
+  unfolding agrees-leading
+  leading-none f i b =
+      false-put (agrees s i k 0)
+      (λ t. clash (any-from-put (length k) 0 (λ i. agrees s i k 0) i (omega arith) (omega arith) t) f)
+
+  pub leading-all-apart :
+      (q : ℕ) (bs rs : List ℕ) → agrees-leading s k ≡ false → back-all (length k) 0 s k q bs rs ≡ rs
+  unfolding back-all
+  leading-all-apart q bs rs f =
+      extended-same (λ p r. reach-back (length k) 0 s k p bs r) q rs
+      (λ j w. back-apart (q + j) bs (length k) 0 (getD rs j 0) (λ i b. leading-none f i (omega arith)))
+
+-- THE LINES THAT HAVE SUCH A KEY
+
+-- whether the key of line i is one
+abbrev pub is-leading : Lexicon → (numbers string : List ℕ) → (i : ℕ) → Bool
+is-leading lex xs s i = agrees-leading s (spells lex (key-at xs i))
+
+-- those of the first w lines, ascending
+unfoldable pub leading-lines : Lexicon → (numbers string : List ℕ) → (w : ℕ) → List ℕ
+leading-lines lex xs s w = those-from w 0 (is-leading lex xs s)
+
+-- the index has every line of a list
+abbrev pub Has-lines : (numbers lines : List ℕ) → Type 0
+Has-lines xs is = (j : ℕ) → j < length is → getD is j 0 < keys-of xs
+
+-- the steps of the numbers of a list, one after another
+unfoldable pub run-list : (step : ℕ → List ℕ → List ℕ) → (numbers reaches : List ℕ) → List ℕ
+run-list f [] rs = rs
+run-list f (i ∷ is) rs = run-list f is (f i rs)
+
+-- a walk may pass over the steps that change nothing
+run-those :
+    (f : ℕ → List ℕ → List ℕ) (test : ℕ → Bool) → ((i : ℕ) → test i ≡ false → (rs : List ℕ) → f i rs ≡ rs) → (n i : ℕ) (rs : List ℕ) →
+    run-list f (those-from n i test) rs ≡ run-from f n i rs
+unfolding run-list those-from run-from
+run-those f test still zero i rs = refl
+run-those f test still (suc n) i rs = by-test (test i) refl (λ old. run-those f test still n (suc i) old)
+  where
+    by-test :
+        (b : Bool) → test i ≡ b → ((old : List ℕ) → run-list f (those-from n (suc i) test) old ≡ run-from f n (suc i) old) →
+        run-list f (cond b (i ∷ those-from n (suc i) test) (those-from n (suc i) test)) rs ≡ run-from f n (suc i) (f i rs)
+    by-test true t rest = rest (f i rs)
+    by-test false t rest = rest rs ∙ ap (run-from f n (suc i)) (sym (still i t rs))
+
+module _ (lex : Lexicon) (xs s : List ℕ) where
+  -- a line whose key is none changes nothing
+  pub leading-apart : (q i : ℕ) → is-leading lex xs s i ≡ false → (rs : List ℕ) → leading-at lex xs s q i rs ≡ rs
+  unfolding leading-at
+  leading-apart q i f rs = leading-all-apart s (spells lex (key-at xs i)) q (positions-at xs i) rs f
+
+  -- so walking the listed lines is walking all
+  pub leading-run : (q w : ℕ) (rs : List ℕ) → run-list (leading-at lex xs s q) (leading-lines lex xs s w) rs ≡ run (leading-at lex xs s q) 0 w rs
+  unfolding leading-lines
+  leading-run q w rs = rw (sub-zero w) (run-those (leading-at lex xs s q) (is-leading lex xs s) (leading-apart q) w 0 rs)
+
+  pub leading-reaches :
+      (q w : ℕ) (is old now : List ℕ) (max-reach : ℕ) → is ≡ leading-lines lex xs s w → Reaches (run-list (leading-at lex xs s q) is old) now max-reach →
+      Reaches (run (leading-at lex xs s q) 0 w old) now max-reach
+  leading-reaches q w is old now max-reach e r =
+      record {
+        is = r .is ∙ ap (λ (js : List ℕ). run-list (leading-at lex xs s q) js old) e ∙ leading-run q w old;
+        bounded = r .bounded;
+      }
+
+  -- and the index has each of them
+  pub leading-has : (w : ℕ) (is : List ℕ) → is ≡ leading-lines lex xs s w → w ≤ keys-of xs → Has-lines xs is
+  unfolding leading-lines
+  leading-has w is e within j b =
+      let listed : List ℕ = those-from w 0 (is-leading lex xs s) in
+      let m = those-from-get w 0 (is-leading lex xs s) (getD listed j 0) (in-getD listed j 0 (omega (arith, ap length e))) in
+      rw e (omega (arith, m .1))
+
+  pub leading-short : (w : ℕ) → length (leading-lines lex xs s w) ≤ w
+  unfolding leading-lines
+  leading-short w = those-short w 0 (is-leading lex xs s)
+
+-- WALKING A LIST OF LINES
+
+-- the steps of the first j listed numbers are done, `rs` stands where `old` stood, and no reach is above `top`
+abbrev pub Listed : (step : ℕ → List ℕ → List ℕ) → (numbers old rs : List ℕ) → (highest j : ℕ) → Type 0
+Listed f is old rs highest j = Progress (run-list f (drop j is)) (run-list f is old) old rs highest
+
+module _ (f : ℕ → List ℕ → List ℕ) (is old : List ℕ) where
+  pub listed-start : (max-reach : ℕ) → Within max-reach old → Listed f is old old max-reach 0
+  listed-start max-reach w = progress-start (run-list f is) old max-reach w
+
+  module _ (rs : List ℕ) (highest j : ℕ) (h : Listed f is old rs highest j) where
+    pub listed-step :
+        j < length is → (now : List ℕ) (max-reach : ℕ) → length now ≡ length rs → Reaches (f (getD is j 0) rs) now max-reach →
+        Listed f is old now max-reach (j + 1)
+    unfolding run-list
+    listed-step some now max-reach kept r =
+        progress-step (run-list f (drop j is)) (run-list f (drop (j + 1) is)) (run-list f is old) old rs now highest max-reach (f (getD is j 0) rs) h
+        next kept r
+      where
+        next : run-list f (drop j is) rs ≡ run-list f (drop (j + 1) is) (f (getD is j 0) rs)
+        next = rw (add-one j, drop-cons is j 0)
+
+    pub listed-end : length is ≤ j → Reaches (run-list f is old) rs highest
+    unfolding run-list
+    listed-end past = progress-end (run-list f (drop j is)) (run-list f is old) old rs highest h (rw (drop-of-length-le is past))
+
+-- FILLING THE LIST
+
+-- of the first w lines those from i on are left to try, and so many are listed
+abbrev pub Leading : Lexicon → (numbers string : List ℕ) → (w : ℕ) → (old now : List ℕ) → (count i : ℕ) → Type 0
+Leading lex xs s w old now count i = Writing (leading-lines lex xs s w) old now (those-from (w - i) i (is-leading lex xs s)) count
+
+module _ (lex : Lexicon) (xs s : List ℕ) (w : ℕ) (old : List ℕ) where
+  pub leading-start : w ≤ length old → Leading lex xs s w old old 0 0
+  unfolding leading-lines
+  leading-start room = rw (sub-zero w) (starts old (leading-lines lex xs s w) 0 (omega (arith, leading-short lex xs s w)))
+
+  module _ (now : List ℕ) (count i : ℕ) (h : Leading lex xs s w old now count i) where
+    module _ (some : i < w) where
+      cut :
+          those-from (w - i) i (is-leading lex xs s)
+          ≡ cond (is-leading lex xs s i) (i ∷ those-from (w - (i + 1)) (i + 1) (is-leading lex xs s))
+          (those-from (w - (i + 1)) (i + 1) (is-leading lex xs s))
+      unfolding those-from
+      cut = let z : w - i ≡ suc (w - suc i) = omega arith in rw (add-one i, z)
+
+      pub leading-passed : false ≡ is-leading lex xs s i → Leading lex xs s w old now count (i + 1)
+      leading-passed f = rw (cut, ← f) at h
+
+      module _ (t : true ≡ is-leading lex xs s i) where
+        here : Writing (leading-lines lex xs s w) old now (i ∷ those-from (w - (i + 1)) (i + 1) (is-leading lex xs s)) count
+        here = rw (cut, ← t) at h
+
+        pub leading-room : count < length now
+        leading-room =
+            has-room (leading-lines lex xs s w) old now i (those-from (w - (i + 1)) (i + 1) (is-leading lex xs s)) count here
+
+        pub leading-listed : Leading lex xs s w old (set now count i) (count + 1) (i + 1)
+        leading-listed =
+            writes (leading-lines lex xs s w) old now i (those-from (w - (i + 1)) (i + 1) (is-leading lex xs s)) count here
+
+    module _ (past : w ≤ i) where
+      last : Writing (leading-lines lex xs s w) old now [] count
+      unfolding those-from
+      last = let z : w - i ≡ 0 = omega arith in rw z at h
+
+      pub leading-count : count ≡ length (leading-lines lex xs s w)
+      leading-count = sym (written-length (leading-lines lex xs s w) old now count last)
+
+      pub leading-written : now ≡ in-front (leading-lines lex xs s w) old
+      unfolding in-front
+      leading-written = written (leading-lines lex xs s w) old now count last
+
+-- what stands at the front of the list filled
+pub leading-taken : (count : ℕ) (new old now : List ℕ) → count ≡ length new → now ≡ in-front new old → take count now ≡ new
+unfolding in-front
+leading-taken count new old now e w = rw w (take-at new (drop (length new) old) count (sym e))

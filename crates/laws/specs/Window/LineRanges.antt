@@ -1,0 +1,250 @@
+-- The directory lines of an accepted index in order: words first, then lone characters, each part rising; and which of the lone
+-- characters can agree at an offset. Assumes nothing.
+use mathlib.Core.Path.{_≡_, refl, sym, ap, _∙_}
+use mathlib.Core.Bool.{true, false}
+use mathlib.Core.Logic.{⊎-elim}
+use mathlib.Core.List.{List, [], _∷_}
+use Prim.Native.Nat.{ℕ, zero, suc, _+_, _*_, _-_, _≤_, _<_}
+use native.Mathlib.Nat.{add-zero}
+use native.Mathlib.Omega.{arith}
+use lib.ListN.{length, getD, drop}
+use lib.Seq.{drop-nil}
+use Rattle.basics.specs.Bools.{clash, false-put, le-or-lt}
+use Rattle.spec.specs.Dictionary.{lexicon, word-before}
+use Rattle.spec.specs.Words.{key, spells}
+use Rattle.spec.specs.Numbers.{Line, line, key-before}
+use Rattle.spec.specs.Index.{header, keys-of, kind-at, value-at, key-at, lines-in}
+use Rattle.spec.specs.Search.{agrees}
+use Rattle.laws.specs.Text.Facts.{Keys-rise}
+use Rattle.laws.specs.Dictionary.Keys.{spells-word, spells-lone}
+use Rattle.laws.specs.Numbers.KeyOrder.{Key-before, key-before-get}
+use Rattle.laws.specs.Dictionary.Lexicon.{length-words}
+use Rattle.laws.specs.Dictionary.WordOrder.{ascend-get}
+use Rattle.laws.specs.Search.Agree.{agrees-get, agree-first}
+use Rattle.laws.specs.Search.AgreeWalk.{together}
+use Rattle.laws.specs.Directory.Opened.{line-of, lines-next}
+use Rattle.laws.specs.Directory.Tables.{Can-read, key-is, word-below, in-front-of}
+use Rattle.basics.specs.LowerBound.{Rising, Lower-bound}
+use Rattle.laws.specs.Window.Window.{Within, Reaches}
+use Rattle.laws.specs.Window.WindowSearch.{positions-all}
+use Rattle.laws.specs.Window.Extending.{extends-all}
+use Rattle.laws.specs.Window.LineSteps.{run, run-one, run-skip, run-unchanged, Unchanged, positions-at, offset-at, offset-apart, offset-done}
+
+-- KEYS RISE
+
+rise-at :
+    (ls : List Line) → Keys-rise ls → (i j : ℕ) (l m : Line) (after later : List Line) → i < j → drop i ls ≡ l ∷ after →
+    drop j ls ≡ m ∷ later → key-before (l .key-of) (m .key-of) ≡ true
+rise-at [] k i j l m after later h p q = absurd (omega (arith, sym (ap length (drop-nil i)) ∙ ap length p))
+rise-at (x ∷ xs) k i zero l m after later h p q = absurd (omega arith)
+rise-at (x ∷ xs) k zero (suc j) l m after later h p q =
+    let e : x ≡ l = ap (λ (ys : List Line). getD ys 0 l) p in
+    ap (λ (y : Line). key-before (y .key-of) (m .key-of)) (sym e) ∙ k .0 m (in-front-of xs j m later q)
+rise-at (x ∷ xs) k (suc i) (suc j) l m after later h p q = rise-at xs (k .1) i j l m after later (omega arith) p q
+
+-- one number of each line: 0 its kind, 1 its value, 2 its count
+abbrev pub number-at : (numbers : List ℕ) → (field i : ℕ) → ℕ
+number-at xs f i = getD xs (header + 3 * i + f) 0
+
+-- the first w lines are words, the others lone characters
+pub record Split (xs : List ℕ) (w : ℕ) : Type 0 where
+  pub within : w ≤ keys-of xs
+  pub words : (i : ℕ) → i < w → kind-at xs i ≡ 0
+  pub lone : (i : ℕ) → w ≤ i → i < keys-of xs → kind-at xs i ≡ 1
+
+module _ (cs ls xs : List ℕ) (can : Can-read cs ls xs) where
+  keys-before : (i j : ℕ) → i < j → j < keys-of xs → Key-before (key-at xs i) (key-at xs j)
+  unfolding line
+  keys-before i j h b =
+      key-before-get (key-at xs i) (key-at xs j)
+      (rise-at (lines-in xs) (can .lines .order) i j (line-of xs i) (line-of xs j) (drop (i + 1) (lines-in xs))
+      (drop (j + 1) (lines-in xs)) h (lines-next xs i (omega arith)) (lines-next xs j b))
+
+  -- of two lines of one kind the later has the greater value
+  values-before : (i j : ℕ) → i < j → j < keys-of xs → kind-at xs i ≡ kind-at xs j → value-at xs i < value-at xs j
+  unfolding key
+  values-before i j h b same =
+      ⊎-elim (λ (p : kind-at xs i < kind-at xs j). absurd (omega arith))
+      (λ (p : (kind-at xs i ≡ kind-at xs j) × (value-at xs i < value-at xs j)). p .1) (keys-before i j h b)
+
+  kinds-before : (i j : ℕ) → i < j → j < keys-of xs → kind-at xs i ≤ kind-at xs j
+  unfolding key
+  kinds-before i j h b =
+      ⊎-elim (λ (p : kind-at xs i < kind-at xs j). omega arith)
+      (λ (p : (kind-at xs i ≡ kind-at xs j) × (value-at xs i < value-at xs j)). omega (arith, p .0)) (keys-before i j h b)
+
+  -- so binary search by kind finds the first lone character
+  pub kinds-rise : Rising (number-at xs 0) 0 (keys-of xs)
+  kinds-rise =
+      record {
+        order = omega arith;
+        rises =
+            λ i j a b c.
+            rw (add-zero (header + 3 * i), add-zero (header + 3 * j))
+            (⊎-elim (λ (p : j ≤ i). let e : i ≡ j = omega arith in omega (arith, ap (kind-at xs) e))
+            (λ (p : i < j). kinds-before i j p c) (le-or-lt j i));
+      }
+
+  pub split-found : (w : ℕ) → Lower-bound (number-at xs 0) 0 (keys-of xs) 1 w → Split xs w
+  unfolding key
+  split-found w h =
+      record {
+        within = h .to;
+        words = λ i b. omega (arith, rw (add-zero (header + 3 * i)) at (h .below i (omega arith) b));
+        lone =
+            λ i a b.
+            omega (arith, rw (add-zero (header + 3 * i)) at (h .above i a b), key-is cs ls xs can i b .kind-small);
+      }
+
+  module _ (w : ℕ) (split : Split xs w) where
+    -- WORDS
+
+    pub word-lines-rise :
+        (i j : ℕ) → i < j → j < w →
+        word-before (spells (lexicon cs ls) (key-at xs i)) (spells (lexicon cs ls) (key-at xs j)) ≡ true
+    unfolding key lexicon
+    word-lines-rise i j h b =
+        let p : kind-at xs i ≡ 0 = split .words i (omega arith) in
+        let q : kind-at xs j ≡ 0 = split .words j b in
+        let r : j < keys-of xs = omega (arith, split .within) in
+        rw (spells-word (lexicon cs ls) (key-at xs i) p, spells-word (lexicon cs ls) (key-at xs j) q)
+        (ascend-get (lexicon cs ls .words) (can .words-rise) (value-at xs i) (value-at xs j) (values-before i j h r (p ∙ sym q))
+        (omega (arith, word-below cs ls xs can j r q, length-words ls cs)))
+
+    value-least : (i : ℕ) → i < w → i ≤ value-at xs i
+    value-least zero b = omega arith
+    value-least (suc i) b =
+        omega (
+          arith,
+          value-least i (omega arith),
+          values-before i (suc i) (omega arith) (omega (arith, split .within)) (split .words i (omega arith) ∙ sym (split .words (suc i) b)),
+        )
+
+    -- no more than the dictionary has words
+    pub word-lines-few : w ≤ 4096
+    word-lines-few = ⊎-elim (λ (none : w ≤ 0). omega arith) (λ (some : 0 < w). last some) (le-or-lt w 0)
+      where
+        last : 0 < w → w ≤ 4096
+        last some =
+            omega (
+              arith,
+              value-least (w - 1) (omega arith),
+              word-below cs ls xs can (w - 1) (omega (arith, split .within)) (split .words (w - 1) (omega arith)),
+              can .few-words,
+            )
+
+    -- LONE CHARACTERS
+
+    pub lone-rise : Rising (number-at xs 1) w (keys-of xs)
+    lone-rise =
+        record {
+          order = split .within;
+          rises =
+              λ i j a b c.
+              ⊎-elim (λ (p : j ≤ i). let e : i ≡ j = omega arith in omega (arith, ap (value-at xs) e))
+              (λ (p : i < j). omega (arith, values-before i j p c (split .lone i a (omega arith) ∙ sym (split .lone j (omega arith) c))))
+              (le-or-lt j i);
+        }
+
+    lone-is : (i : ℕ) → w ≤ i → i < keys-of xs → spells (lexicon cs ls) (key-at xs i) ≡ value-at xs i ∷ []
+    unfolding key
+    lone-is i a b = spells-lone (lexicon cs ls) (key-at xs i) (split .lone i a b)
+
+    pub lone-single : (i : ℕ) → w ≤ i → i < keys-of xs → length (spells (lexicon cs ls) (key-at xs i)) ≡ 1
+    lone-single i a b = ap length (lone-is i a b)
+
+    module _ (s : List ℕ) (o c : ℕ) (is : c ≡ getD s o 0) where
+      -- another character does not agree
+      lone-apart :
+          (i : ℕ) → w ≤ i → i < keys-of xs → (value-at xs i ≡ c → ⊥) → agrees s 0 (spells (lexicon cs ls) (key-at xs i)) o ≡ false
+      lone-apart i a b other =
+          rw (lone-is i a b)
+          (false-put (agrees s 0 (value-at xs i ∷ []) o)
+          (λ t. other (sym (agree-first s (value-at xs i ∷ []) o (agrees-get s 0 (value-at xs i ∷ []) o t)) ∙ sym is)))
+
+      -- the character itself does
+      pub lone-agrees :
+          (i : ℕ) → w ≤ i → i < keys-of xs → value-at xs i ≡ c → o < length s → agrees s 0 (spells (lexicon cs ls) (key-at xs i)) o ≡ true
+      lone-agrees i a b e below =
+          rw (lone-is i a b)
+          (sym (together s (value-at xs i ∷ []) o 1 below (λ z. omega arith) (omega arith) (λ j l. same j l)))
+        where
+          same : (j : ℕ) → j < 1 → getD s (o + j) 0 ≡ getD (value-at xs i ∷ []) j 0
+          same j l =
+              let z : j ≡ 0 = omega arith in
+              let y : o + 0 ≡ o = omega arith in
+              rw z (rw y (sym (e ∙ is)))
+
+      -- so what its positions do is done by its line
+      pub lone-done :
+          (i : ℕ) → w ≤ i → i < keys-of xs → value-at xs i ≡ c → o < length s → (q : ℕ) (bs : List ℕ) → bs ≡ positions-at xs i →
+          (old now : List ℕ) (max-reach : ℕ) → Reaches (positions-all 0 o 1 q bs old) now max-reach →
+          Reaches (offset-at o (lexicon cs ls) xs s q i old) now max-reach
+      lone-done i a b e below q bs positions old now max-reach r =
+          offset-done (lexicon cs ls) xs s q i (spells (lexicon cs ls) (key-at xs i)) bs refl positions old now max-reach o
+          (extends-all 0 o s (spells (lexicon cs ls) (key-at xs i)) q bs old (lone-agrees i a b e below) now max-reach
+          (rw (lone-single i a b) r))
+
+      module _ (r : ℕ) (cut : Lower-bound (number-at xs 1) w (keys-of xs) c r) where
+        -- of all lines only the one found can agree
+        pub lone-others :
+            (i : ℕ) → w ≤ i → i < keys-of xs → (i ≡ r → ⊥) → agrees s 0 (spells (lexicon cs ls) (key-at xs i)) o ≡ false
+        lone-others i a b other =
+            lone-apart i a b
+            (λ e.
+            ⊎-elim
+            (λ (l : r ≤ i).
+            omega (
+              arith,
+              other,
+              cut .above r (omega arith) (omega arith),
+              values-before r i (omega (arith, other)) b (split .lone r (cut .from) (omega arith) ∙ sym (split .lone i a b)),
+            ))
+            (λ (l : i < r). omega (arith, cut .below i a l)) (le-or-lt r i))
+
+        -- and not where it has another character
+        pub lone-all :
+            (r < keys-of xs → value-at xs r ≡ c → ⊥) → (i : ℕ) → w ≤ i → i < keys-of xs →
+            agrees s 0 (spells (lexicon cs ls) (key-at xs i)) o ≡ false
+        lone-all other i a b =
+            false-put (agrees s 0 (spells (lexicon cs ls) (key-at xs i)) o)
+            (λ t. clash t (lone-others i a b (λ e. clash t (lone-apart i a b (λ z. other (omega arith) (ap (value-at xs) (sym e) ∙ z))))))
+
+        module _ (q : ℕ) where
+          step : ℕ → List ℕ → List ℕ
+          step = offset-at o (lexicon cs ls) xs s q
+
+          -- the character has a line, and that alone can agree
+          pub lone-found :
+              r < keys-of xs → (old now : List ℕ) (max-reach : ℕ) → Reaches (offset-at o (lexicon cs ls) xs s q r old) now max-reach →
+              Reaches (run (offset-at o (lexicon cs ls) xs s q) w (keys-of xs) old) now max-reach
+          unfolding step
+          lone-found some old now max-reach done =
+              record {
+                is =
+                    done .is
+                    ∙ sym (run-one step r old)
+                    ∙ sym (run-skip step w r (r + 1) (keys-of xs) (cut .from) (omega arith) (omega arith) before after old);
+                bounded = done .bounded;
+              }
+            where
+              before : Unchanged step w r
+              before i a b =
+                  offset-apart (lexicon cs ls) xs s q o i (lone-others i a (omega (arith, cut .to)) (λ e. omega arith))
+
+              after : Unchanged step (r + 1) (keys-of xs)
+              after i a b =
+                  offset-apart (lexicon cs ls) xs s q o i (lone-others i (omega (arith, cut .from)) b (λ e. omega arith))
+
+          -- or it has none
+          pub lone-none :
+              (r < keys-of xs → value-at xs r ≡ c → ⊥) → (old : List ℕ) (max-reach : ℕ) → Within max-reach old →
+              Reaches (run (offset-at o (lexicon cs ls) xs s q) w (keys-of xs) old) old max-reach
+          lone-none other old max-reach within =
+              record {
+                is =
+                    sym
+                    (run-unchanged (offset-at o (lexicon cs ls) xs s q) w (keys-of xs)
+                    (λ i a b. offset-apart (lexicon cs ls) xs s q o i (lone-all other i a b)) old);
+                bounded = within;
+              }

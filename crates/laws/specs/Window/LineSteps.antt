@@ -1,0 +1,227 @@
+-- A walk over the directory lines from a to b − 1, each with a step on the window; a stage as such a walk, and the lines that it may
+-- pass over. Assumes nothing.
+use mathlib.Core.Path.{_≡_, refl, sym, ap, _∙_}
+use mathlib.Core.Bool.{false}
+use mathlib.Core.List.{List}
+use Prim.Native.Nat.{ℕ, zero, suc, _+_, _-_, _≤_, _<_}
+use native.Mathlib.Nat.{sub-zero}
+use native.Mathlib.Numerals.{add-one}
+use native.Mathlib.Omega.{arith}
+use lib.ListN.{length, take, drop}
+use Rattle.spec.specs.Dictionary.{Lexicon}
+use Rattle.spec.specs.Words.{spells}
+use Rattle.spec.specs.Numbers.{line}
+use Rattle.spec.specs.Index.{keys-of, count-at, key-at, lines-in}
+use Rattle.spec.specs.Search.{agrees}
+use Rattle.laws.specs.Directory.Opened.{list-start, line-of, lines-next, lines-none}
+use Rattle.laws.specs.Window.Window.{Within, Reaches, Progress, progress-start, progress-step, progress-pass, progress-end}
+use Rattle.laws.specs.Window.WindowSearch.{key-all, back-all, leading-all, offset-all, key-apart, back-none, back-next, first-none, leading-next, offset-none, offset-next}
+
+-- A WALK OF STEPS
+
+unfoldable pub run-from : (step : ℕ → List ℕ → List ℕ) → (left i : ℕ) → (reaches : List ℕ) → List ℕ
+run-from f zero i rs = rs
+run-from f (suc n) i rs = run-from f n (suc i) (f i rs)
+
+-- the steps a to b − 1
+abbrev pub run : (step : ℕ → List ℕ → List ℕ) → (a b : ℕ) → (reaches : List ℕ) → List ℕ
+run f a b = run-from f (b - a) a
+
+-- the steps a to b − 1 change nothing
+abbrev pub Unchanged : (step : ℕ → List ℕ → List ℕ) → (a b : ℕ) → Type 0
+Unchanged f a b = (i : ℕ) → a ≤ i → i < b → (rs : List ℕ) → f i rs ≡ rs
+
+module _ (f : ℕ → List ℕ → List ℕ) where
+  from-join : (n m i : ℕ) (rs : List ℕ) → run-from f m (i + n) (run-from f n i rs) ≡ run-from f (n + m) i rs
+  unfolding run-from
+  from-join zero m i rs =
+      let y : i + 0 ≡ i = omega arith in
+      let z : 0 + m ≡ m = omega arith in
+      rw (y, z)
+  from-join (suc n) m i rs =
+      let y : i + suc n ≡ suc i + n = omega arith in
+      let z : suc n + m ≡ suc (n + m) = omega arith in
+      rw (y, z) (from-join n m (suc i) (f i rs))
+
+  from-unchanged : (n i : ℕ) → ((j : ℕ) → i ≤ j → j < i + n → (rs : List ℕ) → f j rs ≡ rs) → (rs : List ℕ) → run-from f n i rs ≡ rs
+  unfolding run-from
+  from-unchanged zero i still rs = refl
+  from-unchanged (suc n) i still rs =
+      from-unchanged n (suc i) (λ j l r. still j (omega arith) (omega arith)) (f i rs) ∙ still i (omega arith) (omega arith) rs
+
+  pub run-none : (a b : ℕ) → b ≤ a → (rs : List ℕ) → run f a b rs ≡ rs
+  unfolding run-from
+  run-none a b past rs = let z : b - a ≡ 0 = omega arith in rw z
+
+  pub run-next : (a b : ℕ) → a < b → (rs : List ℕ) → run f a b rs ≡ run f (a + 1) b (f a rs)
+  unfolding run-from
+  run-next a b some rs = let z : b - a ≡ suc (b - suc a) = omega arith in rw (add-one a, z)
+
+  pub run-one : (a : ℕ) (rs : List ℕ) → run f a (a + 1) rs ≡ f a rs
+  run-one a rs = run-next a (a + 1) (omega arith) rs ∙ run-none (a + 1) (a + 1) (omega arith) (f a rs)
+
+  pub run-join : (a b c : ℕ) → a ≤ b → b ≤ c → (rs : List ℕ) → run f b c (run f a b rs) ≡ run f a c rs
+  run-join a b c l r rs =
+      let y : a + (b - a) ≡ b = omega arith in
+      let z : (b - a) + (c - b) ≡ c - a = omega arith in
+      rw (y, z) at (from-join (b - a) (c - b) a rs)
+
+  pub run-unchanged : (a b : ℕ) → Unchanged f a b → (rs : List ℕ) → run f a b rs ≡ rs
+  run-unchanged a b still rs = from-unchanged (b - a) a (λ j l r. still j l (omega arith)) rs
+
+  -- steps at both ends that change nothing
+  pub run-skip :
+      (a r t b : ℕ) → a ≤ r → r ≤ t → t ≤ b → Unchanged f a r → Unchanged f t b → (rs : List ℕ) → run f a b rs ≡ run f r t rs
+  run-skip a r t b p q s front back rs =
+      sym (run-join a r b p (omega arith) rs)
+      ∙ ap (run f r b) (run-unchanged a r front rs)
+      ∙ sym (run-join r t b q s rs)
+      ∙ run-unchanged t b back (run f r t rs)
+
+  module _ (g : ℕ → List ℕ → List ℕ) where
+    from-alike :
+        (n i : ℕ) → ((j : ℕ) → i ≤ j → j < i + n → (rs : List ℕ) → f j rs ≡ g j rs) → (rs : List ℕ) → run-from f n i rs ≡ run-from g n i rs
+    unfolding run-from
+    from-alike zero i same rs = refl
+    from-alike (suc n) i same rs =
+        from-alike n (suc i) (λ j l r. same j (omega arith) (omega arith)) (f i rs)
+        ∙ ap (run-from g n (suc i)) (same i (omega arith) (omega arith) rs)
+
+    pub run-alike :
+        (a b : ℕ) → ((j : ℕ) → a ≤ j → j < b → (rs : List ℕ) → f j rs ≡ g j rs) → (rs : List ℕ) → run f a b rs ≡ run g a b rs
+    run-alike a b same rs = from-alike (b - a) a (λ j l r. same j l (omega arith)) rs
+
+-- WHAT IS LEFT OF A WALK
+
+-- of the steps a to b − 1 those from lo to hi − 1 are left to do, `rs` stands where `old` stood, and no reach is above `top`
+abbrev pub Left : (step : ℕ → List ℕ → List ℕ) → (a b : ℕ) → (old rs : List ℕ) → (highest lo hi : ℕ) → Type 0
+Left f a b old rs highest lo hi = Progress (run f lo hi) (run f a b old) old rs highest
+
+module _ (f : ℕ → List ℕ → List ℕ) (a b : ℕ) (old : List ℕ) where
+  pub left-start : (max-reach : ℕ) → Within max-reach old → Left f a b old old max-reach a b
+  left-start max-reach w = progress-start (run f a b) old max-reach w
+
+  module _ (rs : List ℕ) (highest lo hi : ℕ) (h : Left f a b old rs highest lo hi) where
+    -- the first of them done
+    pub left-step :
+        lo < hi → (now : List ℕ) (max-reach : ℕ) → length now ≡ length rs → Reaches (f lo rs) now max-reach → Left f a b old now max-reach (lo + 1) hi
+    left-step some now max-reach kept r =
+        progress-step (run f lo hi) (run f (lo + 1) hi) (run f a b old) old rs now highest max-reach (f lo rs) h (run-next f lo hi some rs) kept r
+
+    -- those at both ends passed over
+    pub left-narrow : (r t : ℕ) → lo ≤ r → r ≤ t → t ≤ hi → Unchanged f lo r → Unchanged f t hi → Left f a b old rs highest r t
+    left-narrow r t p q s front back =
+        progress-pass (run f lo hi) (run f r t) (run f a b old) old rs highest h (run-skip f lo r t hi p q s front back rs)
+
+    pub left-end : hi ≤ lo → Reaches (run f a b old) rs highest
+    left-end past = progress-end (run f lo hi) (run f a b old) old rs highest h (run-none f lo hi past rs)
+
+    -- all of them done
+    pub left-all : (now : List ℕ) (max-reach : ℕ) → Reaches (run f lo hi rs) now max-reach → Reaches (run f a b old) now max-reach
+    left-all now max-reach r = record { is = r .is ∙ h .left; bounded = r .bounded }
+
+-- THE LINES OF AN INDEX
+
+-- the positions of line i
+abbrev pub positions-at : (numbers : List ℕ) → (i : ℕ) → List ℕ
+positions-at xs i = take (count-at xs i) (drop (list-start xs i) xs)
+
+-- the key of line i at the offset o
+unfoldable pub offset-at : (o : ℕ) → Lexicon → (numbers string : List ℕ) → (first i : ℕ) → (reaches : List ℕ) → List ℕ
+offset-at o lex xs s q i rs = key-all 0 o s (spells lex (key-at xs i)) q (positions-at xs i) rs
+
+-- the key of line i at the offsets from 0 down
+unfoldable pub leading-at : Lexicon → (numbers string : List ℕ) → (first i : ℕ) → (reaches : List ℕ) → List ℕ
+leading-at lex xs s q i rs =
+    back-all (length (spells lex (key-at xs i))) 0 s (spells lex (key-at xs i)) q (positions-at xs i) rs
+
+module _ (lex : Lexicon) (xs s : List ℕ) (q : ℕ) where
+  offset-from :
+      (o n i : ℕ) → i + n ≡ keys-of xs → (rs : List ℕ) →
+      run-from (offset-at o lex xs s q) n i rs ≡ offset-all o lex (drop i (lines-in xs)) s q rs
+  unfolding run-from offset-at line
+  offset-from o zero i e rs = rw (lines-none xs i (omega arith)) (sym (offset-none lex s q o rs))
+  offset-from o (suc n) i e rs =
+      offset-from o n (suc i) (omega arith) (key-all 0 o s (spells lex (key-at xs i)) q (positions-at xs i) rs)
+      ∙ rw (lines-next xs i (omega arith))
+      (rw (add-one i) (sym (offset-next lex s q o (line-of xs i) (drop (suc i) (lines-in xs)) rs)))
+
+  -- a stage is the walk over all lines
+  pub offset-whole : (o : ℕ) (rs : List ℕ) → run (offset-at o lex xs s q) 0 (keys-of xs) rs ≡ offset-all o lex (lines-in xs) s q rs
+  offset-whole o rs = rw (sub-zero (keys-of xs)) (offset-from o (keys-of xs) 0 (omega arith) rs)
+
+  leading-from :
+      (n i : ℕ) → i + n ≡ keys-of xs → (rs : List ℕ) →
+      run-from (leading-at lex xs s q) n i rs ≡ leading-all lex (drop i (lines-in xs)) s q rs
+  unfolding run-from leading-at line
+  leading-from zero i e rs = rw (lines-none xs i (omega arith)) (sym (first-none lex s q rs))
+  leading-from (suc n) i e rs =
+      leading-from n (suc i) (omega arith)
+      (back-all (length (spells lex (key-at xs i))) 0 s (spells lex (key-at xs i)) q (positions-at xs i) rs)
+      ∙ rw (lines-next xs i (omega arith))
+      (rw (add-one i) (sym (leading-next lex s q (line-of xs i) (drop (suc i) (lines-in xs)) rs)))
+
+  -- and so is the first stage
+  pub leading-whole : (rs : List ℕ) → run (leading-at lex xs s q) 0 (keys-of xs) rs ≡ leading-all lex (lines-in xs) s q rs
+  leading-whole rs = rw (sub-zero (keys-of xs)) (leading-from (keys-of xs) 0 (omega arith) rs)
+
+  -- a key that does not agree
+  pub offset-apart : (o i : ℕ) → agrees s 0 (spells lex (key-at xs i)) o ≡ false → (rs : List ℕ) → offset-at o lex xs s q i rs ≡ rs
+  unfolding offset-at
+  offset-apart o i f rs = key-apart 0 o s (spells lex (key-at xs i)) q (positions-at xs i) rs f
+
+  -- a key of one character has one offset from 0 down
+  pub leading-single :
+      (i : ℕ) → length (spells lex (key-at xs i)) ≡ 1 → (rs : List ℕ) → leading-at lex xs s q i rs ≡ offset-at 0 lex xs s q i rs
+  unfolding leading-at offset-at
+  leading-single i one rs = single (spells lex (key-at xs i)) one
+    where
+      single :
+          (k : List ℕ) → length k ≡ 1 →
+          back-all (length k) 0 s k q (positions-at xs i) rs ≡ key-all 0 0 s k q (positions-at xs i) rs
+      single k e =
+          ap (λ (n : ℕ). back-all n 0 s k q (positions-at xs i) rs) (sym (sub-zero (length k)))
+          ∙ back-next s k q (positions-at xs i) 0 (omega arith) rs
+          ∙ back-none s k q (positions-at xs i) 1 (omega arith) (key-all 0 0 s k q (positions-at xs i) rs)
+
+  -- two walks one after the other, over the lines before w and those from it on
+  pub offset-both :
+      (o w : ℕ) → w ≤ keys-of xs → (old mid now : List ℕ) (highest max-reach : ℕ) → Reaches (run (offset-at o lex xs s q) 0 w old) mid highest →
+      Reaches (run (offset-at o lex xs s q) w (keys-of xs) mid) now max-reach → Reaches (offset-all o lex (lines-in xs) s q old) now max-reach
+  offset-both o w within old mid now highest max-reach p r =
+      record {
+        is =
+            r .is
+            ∙ ap (run (offset-at o lex xs s q) w (keys-of xs)) (p .is)
+            ∙ run-join (offset-at o lex xs s q) 0 w (keys-of xs) (omega arith) within old
+            ∙ offset-whole o old;
+        bounded = r .bounded;
+      }
+
+  -- the first stage, where the keys from w on have one character
+  pub leading-both :
+      (w : ℕ) → w ≤ keys-of xs → ((i : ℕ) → w ≤ i → i < keys-of xs → length (spells lex (key-at xs i)) ≡ 1) →
+      (old mid now : List ℕ) (highest max-reach : ℕ) → Reaches (run (leading-at lex xs s q) 0 w old) mid highest →
+      Reaches (run (offset-at 0 lex xs s q) w (keys-of xs) mid) now max-reach → Reaches (leading-all lex (lines-in xs) s q old) now max-reach
+  leading-both w within single old mid now highest max-reach p r =
+      record {
+        is =
+            r .is
+            ∙ sym
+            (run-alike (leading-at lex xs s q) (offset-at 0 lex xs s q) w (keys-of xs)
+            (λ j a b rs. leading-single j (single j a b) rs) mid)
+            ∙ ap (run (leading-at lex xs s q) w (keys-of xs)) (p .is)
+            ∙ run-join (leading-at lex xs s q) 0 w (keys-of xs) (omega arith) within old
+            ∙ leading-whole old;
+        bounded = r .bounded;
+      }
+
+  -- what is done by a key and its positions is done by its line
+  module _ (i : ℕ) (k bs : List ℕ) (key : k ≡ spells lex (key-at xs i)) (positions : bs ≡ positions-at xs i) (rs now : List ℕ) (max-reach : ℕ) where
+    pub offset-done : (o : ℕ) → Reaches (key-all 0 o s k q bs rs) now max-reach → Reaches (offset-at o lex xs s q i rs) now max-reach
+    unfolding offset-at
+    offset-done o r = rw (key, positions) at r
+
+    pub leading-done : Reaches (back-all (length k) 0 s k q bs rs) now max-reach → Reaches (leading-at lex xs s q i rs) now max-reach
+    unfolding leading-at
+    leading-done r = rw (key, positions) at r

@@ -1,0 +1,137 @@
+-- What a search of a window says, and of all starts: from the refusal to the whole promise. Assumes nothing.
+use mathlib.Core.Path.{_≡_, refl, sym, ap, _∙_, subst}
+use mathlib.Core.List.{List, [], _∷_}
+use Prim.Native.Nat.{ℕ, zero, suc, _-_, _≤_, _<_}
+use native.Mathlib.Omega.{arith}
+use lib.ListN.{length, take, replicate, length-replicate}
+use Rattle.spec.specs.declared.Answer.{Answer}
+use Rattle.spec.specs.Replaced.{replaced}
+use Rattle.spec.specs.Dictionary.{Lexicon, lexicon}
+use Rattle.spec.specs.Index.{n-of, lines-in}
+use Rattle.spec.specs.Search.{found-from, find}
+use Rattle.spec.specs.Cut.{cut-down}
+use Rattle.spec.specs.Calls.{index-refusal, in-front, Search-says, Cut-says}
+use Rattle.laws.specs.Window.Window.{Within, within-none, Reaches, found-in}
+use Rattle.laws.specs.Window.WindowSearch.{leading-all, offsets-all, window-found}
+use Rattle.laws.specs.Window.Finding.{count-in, count-found, none-found}
+use Rattle.laws.specs.Search.Sizing.{Is-string, Sized, sized-short, sized-written, finds-refused, finds-empty, finds-long, finds-sized}
+
+-- the n starts from q on, searched
+unfoldable pub Window-says : Lexicon → (index string : List ℕ) → (n q : ℕ) → Answer → (out out-now : List ℕ) → Type 0
+Window-says lex xs s n q r o z = Sized (found-from n q lex (lines-in xs) s) r o z
+
+-- nothing is reached in a cleared window
+pub cleared-within : (n : ℕ) (rs : List ℕ) → rs ≡ replicate n 0 → Within 0 rs
+cleared-within n rs e = rw e (within-none n)
+
+pub cleared-part : (n k : ℕ) (rs : List ℕ) → rs ≡ replicate n 0 → k ≤ n → take k rs ≡ replicate (length (take k rs)) 0
+cleared-part n k rs e h =
+    rw e (part n k h ∙ ap (λ (m : ℕ). replicate {A = ℕ} m 0) (sym (ap length (part n k h) ∙ length-replicate {A = ℕ} k 0)))
+  where
+    part : (n k : ℕ) → k ≤ n → take k (replicate {A = ℕ} n 0) ≡ replicate {A = ℕ} k 0
+    part n zero h = refl
+    part zero (suc k) h = absurd (omega arith)
+    part (suc n) (suc k) h = ap (λ (l : List ℕ). 0 ∷ l) (part n k (omega arith))
+
+module _ (lex : Lexicon) (xs s : List ℕ) (n q : ℕ) (o : List ℕ) where
+  found : List ℕ
+  found = found-from n q lex (lines-in xs) s
+
+  module _ (rs : List ℕ) (max-reach : ℕ) (old : List ℕ) (clear : old ≡ replicate n 0)
+      (done : Reaches (offsets-all (length s - 1) 1 lex (lines-in xs) s q (leading-all lex (lines-in xs) s q old)) rs max-reach) where
+    -- what the window shows is what the starts find
+    pub in-window : found-in (length s) q rs ≡ found-from n q lex (lines-in xs) s
+    in-window =
+        ap (found-in (length s) q)
+        (done .is
+        ∙ ap (λ (l : List ℕ). offsets-all (length s - 1) 1 lex (lines-in xs) s q (leading-all lex (lines-in xs) s q l)) clear)
+        ∙ window-found lex (lines-in xs) s q n
+
+    -- no start passes the string
+    pub says-none : max-reach < length s → (r : Answer) → r .refusal ≡ 0 → r .count ≡ 0 → Window-says lex xs s n q r o o
+    unfolding Window-says found in-front
+    says-none early r a b =
+        let none : found ≡ [] = sym in-window ∙ none-found (length s) max-reach q rs (done .bounded) early in
+        rw none (sized-written [] r o o (omega arith) a b refl)
+
+    -- what is said of the window is said of the starts
+    pub says-answered : (r : Answer) (z : List ℕ) → Sized (found-in (length s) q rs) r o z → Window-says lex xs s n q r o z
+    unfolding Window-says found
+    says-answered r z h = subst (λ (l : List ℕ). Sized l r o z) in-window h
+
+-- THE STARTS OF A WINDOW, counted and written
+
+module _ (m q : ℕ) (rs o : List ℕ) (count : ℕ) (e : count ≡ count-in m rs) where
+  pub count-is : count ≡ length (found-in m q rs)
+  count-is = e ∙ count-found m q rs
+
+  pub answer-short : length o < count → (r : Answer) → r .refusal ≡ 8 → r .count ≡ 0 → Sized (found-in m q rs) r o o
+  answer-short few r a b = sized-short (found-in m q rs) r o (omega (arith, count-is)) a b
+
+  pub answer-found :
+      count ≤ length o → (z : List ℕ) → z ≡ in-front (found-in m q rs) o → (r : Answer) → r .refusal ≡ 0 → r .count ≡ count →
+      Sized (found-in m q rs) r o z
+  answer-found enough z w r a b = sized-written (found-in m q rs) r o z (omega (arith, count-is)) a (b ∙ count-is) w
+
+-- all starts at which the string fits
+pub all-starts :
+    (lex : Lexicon) (xs s : List ℕ) (r : Answer) (o z : List ℕ) → (starts : ℕ) → starts ≡ suc (n-of xs) - length s →
+    Window-says lex xs s starts 1 r o z → Sized (find lex xs s) r o z
+unfolding Window-says find
+all-starts lex xs s r o z starts e h = rw e at h
+
+-- the number of starts, as the code has it
+pub says-count :
+    (lex : Lexicon) (xs s : List ℕ) (n k q : ℕ) (r : Answer) (o z : List ℕ) → n ≡ k → Window-says lex xs s n q r o z →
+    Window-says lex xs s k q r o z
+says-count lex xs s n k q r o z e h = rw e at h
+
+-- a local array is cleared when it is made, and as long as it is said to be
+pub cleared-room : (n k : ℕ) → k ≤ n → k ≤ length (replicate {A = ℕ} n 0)
+cleared-room n k h = omega (arith, length-replicate {A = ℕ} n 0)
+
+pub cleared-whole : (n : ℕ) → replicate {A = ℕ} n 0 ≡ replicate (length (replicate {A = ℕ} n 0)) 0
+cleared-whole n = ap (λ (m : ℕ). replicate {A = ℕ} m 0) (sym (length-replicate {A = ℕ} n 0))
+
+-- the refusals before the search, and what is answered after them
+module _ (cs ls xs s : List ℕ) (r : Answer) (o : List ℕ) where
+  pub search-refused :
+      (index-refusal cs ls xs ≡ 0 → ⊥) → r .refusal ≡ index-refusal cs ls xs → r .count ≡ 0 → Search-says cs ls xs s r o o
+  unfolding Search-says
+  search-refused = finds-refused cs ls xs s (find (lexicon cs ls) xs (replaced s)) r o
+
+  pub search-empty : index-refusal cs ls xs ≡ 0 → length s ≡ 0 → r .refusal ≡ 6 → r .count ≡ 0 → Search-says cs ls xs s r o o
+  unfolding Search-says
+  search-empty = finds-empty cs ls xs s (find (lexicon cs ls) xs (replaced s)) r o
+
+  pub search-long : index-refusal cs ls xs ≡ 0 → 256 < length s → r .refusal ≡ 6 → r .count ≡ 0 → Search-says cs ls xs s r o o
+  unfolding Search-says
+  search-long = finds-long cs ls xs s (find (lexicon cs ls) xs (replaced s)) r o
+
+  pub search-says :
+      index-refusal cs ls xs ≡ 0 → Is-string s → (z : List ℕ) → Sized (find (lexicon cs ls) xs (replaced s)) r o z →
+      Search-says cs ls xs s r o z
+  unfolding Search-says
+  search-says = finds-sized cs ls xs s (find (lexicon cs ls) xs (replaced s)) r o
+
+-- THE CUT-DOWN INDEX
+
+module _ (cs ls xs s : List ℕ) (r : Answer) (o : List ℕ) where
+  pub cut-refused :
+      (index-refusal cs ls xs ≡ 0 → ⊥) → r .refusal ≡ index-refusal cs ls xs → r .count ≡ 0 → Cut-says cs ls xs s r o o
+  unfolding Cut-says
+  cut-refused = finds-refused cs ls xs s (cut-down (lexicon cs ls) xs (replaced s)) r o
+
+  pub cut-empty : index-refusal cs ls xs ≡ 0 → length s ≡ 0 → r .refusal ≡ 6 → r .count ≡ 0 → Cut-says cs ls xs s r o o
+  unfolding Cut-says
+  cut-empty = finds-empty cs ls xs s (cut-down (lexicon cs ls) xs (replaced s)) r o
+
+  pub cut-too-long : index-refusal cs ls xs ≡ 0 → 256 < length s → r .refusal ≡ 6 → r .count ≡ 0 → Cut-says cs ls xs s r o o
+  unfolding Cut-says
+  cut-too-long = finds-long cs ls xs s (cut-down (lexicon cs ls) xs (replaced s)) r o
+
+  pub cut-says :
+      index-refusal cs ls xs ≡ 0 → Is-string s → (z : List ℕ) → Sized (cut-down (lexicon cs ls) xs (replaced s)) r o z →
+      Cut-says cs ls xs s r o z
+  unfolding Cut-says
+  cut-says = finds-sized cs ls xs s (cut-down (lexicon cs ls) xs (replaced s)) r o

@@ -1,0 +1,237 @@
+-- Lines of words narrowed character by character to those that share what the string has from an offset on: the others do not agree
+-- there. Assumes nothing.
+use mathlib.Core.Path.{_≡_, sym, ap, _∙_}
+use mathlib.Core.Bool.{true, false}
+use mathlib.Core.Logic.{_⊎_, ⊎-elim}
+use mathlib.Core.List.{List}
+use Prim.Native.Nat.{ℕ, _+_, _*_, _-_, _≤_, _<_}
+use native.Mathlib.Omega.{arith}
+use lib.ListN.{length, getD, take, drop, length-drop}
+use lib.Seq.{getD-take, getD-drop, length-take-le}
+use Rattle.basics.specs.Bools.{false-put, le-or-lt}
+use Rattle.spec.specs.Dictionary.{lexicon}
+use Rattle.spec.specs.Words.{spells}
+use Rattle.spec.specs.Index.{header, keys-of, value-at, key-at}
+use Rattle.spec.specs.Search.{agrees}
+use Rattle.laws.specs.Search.Agree.{Agree, agrees-get}
+use Rattle.laws.specs.Search.AgreeWalk.{together}
+use Rattle.laws.specs.Match.PrefixRanges.{prefix-not-before, next-rises}
+use Rattle.laws.specs.Directory.Tables.{Can-read, Word-starts, line-room, word-below, word-room, word-spelt, key-short, key-some}
+use Rattle.basics.specs.LowerBound.{Rising, Lower-bound, rising-part}
+use Rattle.laws.specs.Window.LineSteps.{Unchanged, offset-at, offset-apart}
+use Rattle.laws.specs.Window.LineRanges.{Split, word-lines-rise}
+
+-- a key at an offset within the string has the string's characters, as far as both lie
+agree-deep : (s k : List ℕ) (o d : ℕ) → Agree s 0 k o → d < length k → o + d < length s → getD s (o + d) 0 ≡ getD k d 0
+agree-deep s k o d h l r =
+    let y : o + d - 0 ≡ o + d = omega arith in
+    let z : o + d - o ≡ d = omega arith in
+    rw (y, z) at (h .equal (o + d) (omega arith) (omega arith) (omega arith) (omega arith))
+
+-- the character at depth d of the word of line i, read where it stands
+abbrev pub word-char : (chars numbers starts : List ℕ) → (d i : ℕ) → ℕ
+word-char cs xs ws d i = getD cs (getD ws (value-at xs i) 0 + d) 0
+
+-- words lo to hi − 1 have a character at depth d, and these do not fall
+pub record Word-column (cs xs ws : List ℕ) (lo hi d : ℕ) : Type 0 where
+  pub rising : Rising (word-char cs xs ws d) lo hi
+  pub line : (i : ℕ) → lo ≤ i → i < hi → header + 3 * i + 2 < length xs
+  pub word : (i : ℕ) → lo ≤ i → i < hi → value-at xs i < length ws
+  pub room : (i : ℕ) → lo ≤ i → i < hi → getD ws (value-at xs i) 0 + d < length cs
+
+pub column-part :
+    (cs xs ws : List ℕ) (lo hi d from : ℕ) → Word-column cs xs ws lo hi d → lo ≤ from → from ≤ hi → Word-column cs xs ws from hi d
+column-part cs xs ws lo hi d from h l r =
+    record {
+      rising = rising-part (word-char cs xs ws d) lo hi (h .rising) from hi l r (omega arith);
+      line = λ i a b. h .line i (omega arith) b;
+      word = λ i a b. h .word i (omega arith) b;
+      room = λ i a b. h .room i (omega arith) b;
+    }
+
+-- words lo to hi − 1, of the first w lines, have at least d characters, and share these with the string from o on
+pub record Shared-prefix (cs ls xs s : List ℕ) (o w lo hi d : ℕ) : Type 0 where
+  pub order : lo ≤ hi
+  pub within : hi ≤ w
+  pub len : (i : ℕ) → lo ≤ i → i < hi → d ≤ length (spells (lexicon cs ls) (key-at xs i))
+  pub share : (i j : ℕ) → lo ≤ i → i < hi → j < d → getD (spells (lexicon cs ls) (key-at xs i)) j 0 ≡ getD s (o + j) 0
+
+pub shared-prefix-start : (cs ls xs s : List ℕ) (o w : ℕ) → Shared-prefix cs ls xs s o w 0 w 0
+shared-prefix-start cs ls xs s o w =
+    record {
+      order = omega arith;
+      within = omega arith;
+      len = λ i a b. omega arith;
+      share = λ i j a b l. absurd (omega arith);
+    }
+
+module _
+    (cs ls xs : List ℕ) (can : Can-read cs ls xs) (w : ℕ) (split : Split xs w) (ws : List ℕ) (table : Word-starts ls (length ls) ws)
+    (s : List ℕ) (o lo hi d : ℕ) (h : Shared-prefix cs ls xs s o w lo hi d) where
+  abbrev word-of : ℕ → List ℕ
+  word-of i = spells (lexicon cs ls) (key-at xs i)
+
+  -- the first of them left out
+  pub shared-prefix-next : lo < hi → Shared-prefix cs ls xs s o w (lo + 1) hi d
+  shared-prefix-next some =
+      record {
+        order = omega arith;
+        within = h .within;
+        len = λ i a b. h .len i (omega arith) b;
+        share = λ i j a b l. h .share i j (omega arith) b l;
+      }
+
+  module _ (i : ℕ) (lo-i : lo ≤ i) (i-hi : i < hi) where
+    pub shared-line : i < keys-of xs
+    shared-line = omega (arith, h .within, split .within)
+
+    pub shared-word : value-at xs i < length ls
+    shared-word = word-below cs ls xs can i shared-line (split .words i (omega (arith, h .within)))
+
+    spelt :
+        take (getD ws (value-at xs i) 0 + getD ls (value-at xs i) 0 - getD ws (value-at xs i) 0) (drop (getD ws (value-at xs i) 0) cs)
+        ≡ word-of i
+    spelt = word-spelt cs ls xs can i shared-line (split .words i (omega (arith, h .within))) ws table
+
+    room : getD ws (value-at xs i) 0 + getD ls (value-at xs i) 0 ≤ length cs
+    room = word-room cs ls xs can i shared-line (split .words i (omega (arith, h .within))) ws table
+
+    -- its length stands among the lengths
+    pub shared-long : length (word-of i) ≡ getD ls (value-at xs i) 0
+    shared-long =
+        sym (ap length spelt)
+        ∙ length-take-le (getD ws (value-at xs i) 0 + getD ls (value-at xs i) 0 - getD ws (value-at xs i) 0)
+        (drop (getD ws (value-at xs i) 0) cs) (omega (arith, room, length-drop (getD ws (value-at xs i) 0) cs))
+        ∙ size
+      where
+        size : getD ws (value-at xs i) 0 + getD ls (value-at xs i) 0 - getD ws (value-at xs i) 0 ≡ getD ls (value-at xs i) 0
+        size = omega arith
+
+    char-at : (j : ℕ) → j < length (word-of i) → word-char cs xs ws j i ≡ getD (word-of i) j 0
+    char-at j b =
+        sym (getD-drop (getD ws (value-at xs i) 0) cs j 0)
+        ∙ sym
+        (getD-take (getD ws (value-at xs i) 0 + getD ls (value-at xs i) 0 - getD ws (value-at xs i) 0)
+        (drop (getD ws (value-at xs i) 0) cs) j 0 (omega (arith, shared-long)))
+        ∙ ap (λ (k : List ℕ). getD k j 0) spelt
+
+  -- those that have no more to share, or where the string has no more, agree
+  pub shared-prefix-agrees :
+      o < length s → (i : ℕ) → lo ≤ i → i < hi → (length s ≤ o + d) ⊎ (getD ls (value-at xs i) 0 ≡ d) →
+      agrees s 0 (spells (lexicon cs ls) (key-at xs i)) o ≡ true
+  shared-prefix-agrees below i a b done =
+      sym
+      (together s (word-of i) o d below
+      (λ (z : length (word-of i) ≡ 0). omega (arith, key-some cs ls xs can i (shared-line i a b)))
+      (⊎-elim (λ (p : length s ≤ o + d). omega arith)
+      (λ (p : getD ls (value-at xs i) 0 ≡ d). omega (arith, shared-long i a b)) done)
+      (λ j l. sym (h .share i j a b l)))
+
+  -- where the first has more than d characters, so have all
+  module _ (some : lo < hi) (more : getD ls (value-at xs lo) 0 ≡ d → ⊥) where
+    longer : (i : ℕ) → lo ≤ i → i < hi → d < length (word-of i)
+    longer i a b =
+        ⊎-elim (λ (l : length (word-of i) ≤ d). absurd (no l)) (λ (l : d < length (word-of i)). l) (le-or-lt (length (word-of i)) d)
+      where
+        first : d < length (word-of lo)
+        first = omega (arith, more, shared-long lo (omega arith) some, h .len lo (omega arith) some)
+
+        no : length (word-of i) ≤ d → ⊥
+        no l =
+            ⊎-elim
+            (λ (q : i ≤ lo). let here : i ≡ lo = omega arith in omega (arith, first, ap (λ (x : ℕ). length (word-of x)) here))
+            (λ (q : lo < i).
+            prefix-not-before (word-of i) (word-of lo) (word-lines-rise cs ls xs can w split lo i q (omega (arith, h .within)))
+            (omega (arith, first))
+            (λ j c. h .share lo j (omega arith) some (omega arith) ∙ sym (h .share i j a b (omega arith))))
+            (le-or-lt i lo)
+
+    -- a word has at most 32 characters: narrowing ends
+    pub shared-deep : d < 32
+    shared-deep = omega (arith, longer lo (omega arith) some, key-short cs ls xs can lo (shared-line lo (omega arith) some))
+
+    rises : (i j : ℕ) → lo ≤ i → i ≤ j → j < hi → getD (word-of i) d 0 ≤ getD (word-of j) d 0
+    rises i j a b c =
+        ⊎-elim (λ (q : j ≤ i). let here : i ≡ j = omega arith in omega (arith, ap (λ (x : ℕ). getD (word-of x) d 0) here))
+        (λ (q : i < j).
+        next-rises (word-of i) (word-of j) d (word-lines-rise cs ls xs can w split i j q (omega (arith, h .within)))
+        (longer i a (omega arith)) (longer j (omega arith) c)
+        (λ k l. h .share i k a (omega arith) l ∙ sym (h .share j k (omega arith) c l)))
+        (le-or-lt j i)
+
+    -- the next characters can be searched
+    pub shared-prefix-column : Word-column cs xs ws lo hi d
+    shared-prefix-column =
+        record {
+          rising =
+              record {
+                order = h .order;
+                rises =
+                    λ i j a b c.
+                    omega (
+                      arith,
+                      char-at i a (omega arith) d (longer i a (omega arith)),
+                      char-at j (omega arith) c d (longer j (omega arith) c),
+                      rises i j a b c,
+                    );
+              };
+          line = λ i a b. line-room cs ls xs can i (shared-line i a b);
+          word = λ i a b. omega (arith, shared-word i a b, table .room);
+          room = λ i a b. omega (arith, room i a b, shared-long i a b, longer i a b);
+        }
+
+    -- those that share one character more
+    module _
+        (c from to : ℕ) (is : c ≡ getD s (o + d) 0) (below : o + d < length s)
+        (low : Lower-bound (word-char cs xs ws d) lo hi c from) (high : Lower-bound (word-char cs xs ws d) from hi (c + 1) to) where
+      pub shared-prefix-deeper : Shared-prefix cs ls xs s o w from to (d + 1)
+      shared-prefix-deeper =
+          record {
+            order = high .from;
+            within = omega (arith, high .to, h .within);
+            len = λ i a b. omega (arith, longer i (omega (arith, low .from)) (omega (arith, high .to)));
+            share = λ i j a b l. shared i j a b l;
+          }
+        where
+          shared : (i j : ℕ) → from ≤ i → i < to → j < d + 1 → getD (word-of i) j 0 ≡ getD s (o + j) 0
+          shared i j a b l =
+              let a2 : lo ≤ i = omega (arith, low .from) in
+              let b2 : i < hi = omega (arith, high .to) in
+              ⊎-elim
+              (λ (q : d ≤ j).
+              let here : j ≡ d = omega arith in
+              let now : word-char cs xs ws d i ≡ c = omega (arith, low .above i a b2, high .below i a b) in
+              rw here (sym (char-at i a2 b2 d (longer i a2 b2)) ∙ now ∙ is))
+              (λ (q : j < d). h .share i j a2 b2 q) (le-or-lt d j)
+
+      -- the others do not agree
+      apart : (i : ℕ) → lo ≤ i → i < hi → (word-char cs xs ws d i ≡ c → ⊥) → agrees s 0 (word-of i) o ≡ false
+      apart i a b other =
+          false-put (agrees s 0 (word-of i) o)
+          (λ t.
+          other
+          (char-at i a b d (longer i a b)
+          ∙ sym (agree-deep s (word-of i) o d (agrees-get s 0 (word-of i) o t) (longer i a b) below)
+          ∙ sym is))
+
+      pub apart-front : (i : ℕ) → lo ≤ i → i < from → agrees s 0 (spells (lexicon cs ls) (key-at xs i)) o ≡ false
+      apart-front i a b = apart i a (omega (arith, low .to)) (λ e. omega (arith, low .below i a b))
+
+      pub apart-back : (i : ℕ) → to ≤ i → i < hi → agrees s 0 (spells (lexicon cs ls) (key-at xs i)) o ≡ false
+      apart-back i a b = apart i (omega (arith, low .from, high .from)) b (λ e. omega (arith, high .above i a b))
+
+      module _ (q : ℕ) where
+        pub unchanged-front : Unchanged (offset-at o (lexicon cs ls) xs s q) lo from
+        unchanged-front i a b = offset-apart (lexicon cs ls) xs s q o i (apart-front i a b)
+
+        pub unchanged-back : Unchanged (offset-at o (lexicon cs ls) xs s q) to hi
+        unchanged-back i a b = offset-apart (lexicon cs ls) xs s q o i (apart-back i a b)
+
+-- ALL WORDS
+
+-- the words of the first w lines are in the dictionary
+abbrev pub Words-at : (lengths numbers : List ℕ) → (w : ℕ) → Type 0
+Words-at ls xs w = (i : ℕ) → i < w → value-at xs i < length ls
+
+pub words-at : (cs ls xs : List ℕ) → Can-read cs ls xs → (w : ℕ) → Split xs w → Words-at ls xs w
+words-at cs ls xs can w split i b = word-below cs ls xs can i (omega (arith, split .within)) (split .words i b)

@@ -1,0 +1,59 @@
+-- `cut_low` meets its contract: the first word decides, or the search does. Assumes nothing.
+use Prim.Native.Nat.{_+_}
+use native.Mathlib.Omega.{arith}
+use lib.ListN.{getD}
+use borrow.Author.Needs.{needs}
+use Rattle.laws.specs.Match.Columns.{bound-first}
+use Rattle.matching.proofs.ranges.cut_low.Statement.{statement}
+use Rattle.matching.proofs.ranges.cut_low.Tie as tie
+
+returns : tie.Need-returns
+returns c = search needs
+
+mul-at : tie.Need-mul-at
+mul-at c = search needs
+
+shared-slice-read-at : tie.Need-shared-slice-read-at
+shared-slice-read-at c = search needs
+
+cast-at : tie.Need-cast-at
+cast-at c = omega (arith, c .shared-slice-known3 .given (c .before .before .before .before .args .low))
+
+add-at : tie.Need-add-at
+add-at c = omega (arith, c .before .before .before .before .pre .room (c .before .before .before .before .args .low) (omega arith) (omega arith))
+
+mul-if2 : tie.Need-mul-if2
+mul-if2 c = omega (arith, c .before .before .before .before .pre .room (c .before .before .before .before .args .low) (omega arith) (omega arith))
+
+shared-slice-read-if2 : tie.Need-shared-slice-read-if2
+shared-slice-read-if2 c = c .before .before .before .before .before .pre .room (c .before .before .before .before .before .args .low) (omega arith) (omega arith)
+
+cast-if2 : tie.Need-cast-if2
+cast-if2 c = omega (arith, c .shared-slice-known4 .given (getD (c .before .before .before .before .before .args .word-starts .now) (c .before .before .before .before .before .args .low) 0 + c .before .before .before .before .before .args .depth))
+
+returns-2 : tie.Need-returns-2
+returns-2 c =
+    let start = c .before .before .before .before .before .before in
+    bound-first (start .args .chars .now) (start .args .word-starts .now) (start .args .low) (start .args .high) (start .args .depth) (start .args .least) (start .pre) (omega arith) (c .if2 .taken)
+
+lower-bound-requires : tie.Need-lower-bound-requires
+lower-bound-requires c κs = search needs
+
+returns-3 : tie.Need-returns-3
+returns-3 c = search needs
+
+pub cut-low-spec : {M : Type 1} → statement M
+cut-low-spec =
+    tie.close
+    (tie.spec
+    returns
+    mul-at
+    shared-slice-read-at
+    cast-at
+    add-at
+    mul-if2
+    shared-slice-read-if2
+    cast-if2
+    returns-2
+    lower-bound-requires
+    returns-3)

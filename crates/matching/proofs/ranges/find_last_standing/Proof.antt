@@ -1,0 +1,143 @@
+-- `narrow` meets its contract. The invariant: the words that are left share `depth` characters with the text, and `best` is the last
+-- that stands of the others. The measure is how many words and characters are left. Assumes nothing.
+use mathlib.Core.Path.{ap, _≡_}
+use Prim.Native.Nat.{ℕ, _+_, _-_, _<_}
+use native.Mathlib.Omega.{arith}
+use lib.ListN.{length, getD}
+use Rattle.spec.specs.Dictionary.{lexicon}
+use Rattle.laws.specs.Match.Columns.{Column, column-part, run-known, run-hit, run-deep, run-column, run-stop, run-step}
+use Rattle.laws.specs.Match.MatchTable.{many-words}
+use Rattle.laws.specs.Match.PrefixRanges.{Narrowed, narrow-start, narrow-end}
+use Rattle.matching.proofs.ranges.find_last_standing.Statement.{statement}
+use Rattle.matching.proofs.ranges.find_last_standing.Tie as tie
+
+abbrev Inv-loop : tie.InvT-loop
+Inv-loop chars lengths word-starts text at count best₀ low₀ high₀ depth₀ best low high depth = Narrowed (lexicon chars lengths .words) text (at + 1) count low high depth best
+
+abbrev μ-loop : tie.MeasureT-loop
+μ-loop chars lengths word-starts text at count best₀ low₀ high₀ depth₀ best low high depth = (high - low) + (32 - depth)
+
+-- the first word that is left is one
+known : (c : tie.In-loop Inv-loop μ-loop) → c .before .loop .low < length (c .before .before .before .before .before .before .args .lengths .now)
+known c =
+    let start = c .before .before .before .before .before .before in
+    let turn = c .before .loop in
+    run-known (start .args .chars .now) (start .args .lengths .now) (start .args .word-starts .now) (start .pre .0) (start .args .text .now) (start .args .at + 1) (start .args .count) (turn .low) (turn .high) (turn .depth) (turn .best) (turn .inv) (c .loop-test .taken)
+
+-- it has more characters, so they are not all read
+deep : (c : tie.Else1 Inv-loop μ-loop) → c .before .before .before .loop .depth < 32
+deep c =
+    let start = c .before .before .before .before .before .before .before .before in
+    let turn = c .before .before .before .loop in
+    run-deep (start .args .chars .now) (start .args .lengths .now) (start .args .word-starts .now) (start .pre .0) (start .args .text .now) (start .args .at + 1) (start .args .count) (turn .low) (turn .high) (turn .depth) (turn .best) (turn .inv) (c .before .before .loop-test .taken) (c .if1 .left)
+
+-- all words that are left have a next character, and these do not fall
+column : (c : tie.Else1 Inv-loop μ-loop) → Column (c .before .before .before .before .before .before .before .before .args .chars .now) (c .before .before .before .before .before .before .before .before .args .word-starts .now) (c .before .before .before .loop .low) (c .before .before .before .loop .high) (c .before .before .before .loop .depth)
+column c =
+    let start = c .before .before .before .before .before .before .before .before in
+    let turn = c .before .before .before .loop in
+    run-column (start .args .chars .now) (start .args .lengths .now) (start .args .word-starts .now) (start .pre .0) (start .args .text .now) (start .args .at + 1) (start .args .count) (turn .low) (turn .high) (turn .depth) (turn .best) (turn .inv) (c .before .before .loop-test .taken) (c .if1 .left)
+
+loop-holds : tie.Need-loop-holds Inv-loop μ-loop
+loop-holds c =
+    let start = c .before .before .before .before in
+    narrow-start (lexicon (start .args .chars .now) (start .args .lengths .now) .words) (start .args .text .now) (start .args .at + 1) (start .args .count) (omega (arith, start .pre .2, many-words (start .args .chars .now) (start .args .lengths .now) (start .pre .0 .dictionary))) (omega arith) (omega (arith, start .pre .1))
+
+mul-if1 : tie.Need-mul-if1 Inv-loop μ-loop
+mul-if1 c = omega (arith, known c)
+
+shared-slice-read-if1 : tie.Need-shared-slice-read-if1 Inv-loop μ-loop
+shared-slice-read-if1 c = known (c .before)
+
+cast-if1 : tie.Need-cast-if1 Inv-loop μ-loop
+cast-if1 c = omega (arith, c .shared-slice-known5 .given (c .before .before .loop .low))
+
+add-low : tie.Need-add-low Inv-loop μ-loop
+add-low c = omega (arith, known (c .before .before))
+
+loop-less : tie.Need-loop-less Inv-loop μ-loop
+loop-less c = omega arith
+
+loop-again : tie.Need-loop-again Inv-loop μ-loop
+loop-again c =
+    let start = c .before .before .before .before .before .before .before .before in
+    let turn = c .before .before .before .loop in
+    run-hit (start .args .chars .now) (start .args .lengths .now) (start .args .word-starts .now) (start .pre .0) (start .args .text .now) (start .args .at + 1) (start .args .count) (turn .low) (turn .high) (turn .depth) (turn .best) (turn .inv) (c .before .before .loop-test .taken) (c .if1 .taken)
+
+add-if2 : tie.Need-add-if2 Inv-loop μ-loop
+add-if2 c = omega (arith, deep c)
+
+returns : tie.Need-returns Inv-loop μ-loop
+returns c =
+    let start = c .before .before .before .before .before .before .before .before .before in
+    let turn = c .before .before .before .before .loop in
+    run-stop (start .args .chars .now) (start .args .lengths .now) (start .args .word-starts .now) (start .pre .0) (start .args .text .now) (start .args .at + 1) (start .args .count) (turn .low) (turn .high) (turn .depth) (turn .best) (turn .inv) (c .before .before .before .loop-test .taken) (c .before .if1 .left) (omega (arith, c .if2 .taken))
+
+add-c : tie.Need-add-c Inv-loop μ-loop
+add-c c = omega (arith, deep (c .before))
+
+mul-c : tie.Need-mul-c Inv-loop μ-loop
+mul-c c = omega (arith, c .if2 .left)
+
+shared-slice-read-c : tie.Need-shared-slice-read-c Inv-loop μ-loop
+shared-slice-read-c c = omega (arith, c .before .if2 .left)
+
+cast-c : tie.Need-cast-c Inv-loop μ-loop
+cast-c c = omega (arith, c .shared-slice-known6 .given (c .before .before .before .before .before .before .before .before .before .before .args .at + c .before .before .before .before .before .loop .depth))
+
+cut-low-requires : tie.Need-cut-low-requires Inv-loop μ-loop
+cut-low-requires c κs = column (c .before .before)
+
+add-cut-high : tie.Need-add-cut-high Inv-loop μ-loop
+add-cut-high c = omega (arith, c .before .shared-slice-known6 .given (c .before .before .before .before .before .before .before .before .before .before .before .args .at + c .before .before .before .before .before .before .loop .depth))
+
+cut-high-requires : tie.Need-cut-high-requires Inv-loop μ-loop
+cut-high-requires c κs = column-part (c .before .before .before .before .before .before .before .before .before .before .before .args .chars .now) (c .before .before .before .before .before .before .before .before .before .before .before .args .word-starts .now) (c .before .before .before .before .before .before .loop .low) (c .before .before .before .before .before .before .loop .high) (c .before .before .before .before .before .before .loop .depth) (c .cut-low .result) (column (c .before .before .before)) (c .cut-low .ensures .from) (c .cut-low .ensures .to)
+
+add-depth : tie.Need-add-depth Inv-loop μ-loop
+add-depth c = omega (arith, deep (c .before .before .before .before))
+
+loop-less-2 : tie.Need-loop-less-2 Inv-loop μ-loop
+loop-less-2 c = omega (arith, deep (c .before .before .before .before), c .before .cut-low .ensures .from, c .cut-high .ensures .to, c .before .before .before .before .before .before .loop-test .taken)
+
+loop-again-2 : tie.Need-loop-again-2 Inv-loop μ-loop
+loop-again-2 c =
+    let start = c .before .before .before .before .before .before .before .before .before .before .before .before in
+    let turn = c .before .before .before .before .before .before .before .loop in
+    let position : start .args .at + turn .depth ≡ start .args .at + 1 + turn .depth - 1 = omega arith in
+    run-step (start .args .chars .now) (start .args .lengths .now) (start .args .word-starts .now) (start .pre .0) (start .args .text .now) (start .args .at + 1) (start .args .count) (turn .low) (turn .high) (turn .depth) (turn .best) (turn .inv) (c .before .before .before .before .before .before .loop-test .taken) (c .before .before .before .before .if1 .left)
+    (getD (start .args .text .now) (start .args .at + turn .depth) 0) (c .before .cut-low .result) (c .cut-high .result)
+    (ap (λ (i : ℕ). getD (start .args .text .now) i 0) position) (omega (arith, c .before .before .before .if2 .left)) (c .before .cut-low .ensures) (c .cut-high .ensures)
+
+returns-2 : tie.Need-returns-2 Inv-loop μ-loop
+returns-2 c =
+    let start = c .before .before .before .before .before .before in
+    let turn = c .before .loop in
+    narrow-end (lexicon (start .args .chars .now) (start .args .lengths .now) .words) (start .args .text .now) (start .args .at + 1) (start .args .count) (turn .low) (turn .high) (turn .depth) (turn .best) (turn .inv) (c .loop-test .left)
+
+pub find-last-standing-spec : {M : Type 1} → statement M
+find-last-standing-spec =
+    tie.close
+    (tie.spec
+    Inv-loop
+    μ-loop
+    loop-holds
+    mul-if1
+    shared-slice-read-if1
+    cast-if1
+    add-low
+    loop-less
+    loop-again
+    add-if2
+    returns
+    add-c
+    mul-c
+    shared-slice-read-c
+    cast-c
+    cut-low-requires
+    add-cut-high
+    cut-high-requires
+    add-depth
+    loop-less-2
+    loop-again-2
+    returns-2)

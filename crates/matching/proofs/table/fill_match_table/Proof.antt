@@ -1,0 +1,167 @@
+-- `hang_words` meets its contract. The invariant: the table of the first i words. The measure is how many words are left. Assumes
+-- nothing.
+use mathlib.Core.Path.{_≡_, refl}
+use Prim.Native.Nat.{_-_}
+use native.Mathlib.Omega.{arith}
+use lib.ListN.{length, length-set}
+use borrow.Author.Needs.{needs}
+use Rattle.laws.specs.Match.MatchTable.{few-words, word-some, word-room, Chained, chained-start, chained-small, chained-step, chained-end, bucket-read}
+use Rattle.matching.proofs.table.fill_match_table.Statement.{statement}
+use Rattle.matching.proofs.table.fill_match_table.Tie as tie
+
+abbrev Inv-loop : tie.InvT-loop
+Inv-loop chars lengths heads₀ links₀ word-starts₀ at₀ i₀ heads links word-starts at i =
+    Chained chars lengths heads links word-starts at i
+    × (length heads ≡ length heads₀)
+    × (length links ≡ length links₀)
+    × (length word-starts ≡ length word-starts₀)
+
+abbrev μ-loop : tie.MeasureT-loop
+μ-loop chars lengths heads₀ links₀ word-starts₀ at₀ i₀ heads links word-starts at i = length lengths - i
+
+loop-holds : tie.Need-loop-holds Inv-loop μ-loop
+loop-holds c =
+    let start = c .before .before .before .before .before in
+    (chained-start (start .args .chars .now) (start .args .lengths .now) (start .args .heads .now) (start .args .links .now) (start .args .word-starts .now) (start .pre), refl, refl, refl)
+
+mul-len : tie.Need-mul-len Inv-loop μ-loop
+mul-len c = search needs
+
+shared-slice-read-len : tie.Need-shared-slice-read-len Inv-loop μ-loop
+shared-slice-read-len c = search needs
+
+cast-len : tie.Need-cast-len Inv-loop μ-loop
+cast-len c = omega (arith, c .shared-slice-known3 .given (c .before .before .loop .i))
+
+bucket-of-word-requires : tie.Need-bucket-of-word-requires Inv-loop μ-loop
+bucket-of-word-requires c κs =
+    let start = c .before .before .before .before .before .before .before .before in
+    let turn = c .before .before in (
+      word-some (start .args .chars .now) (start .args .lengths .now) (start .pre .dictionary) (turn .loop .i) (c .before .loop-test .taken),
+      omega (arith, turn .loop .inv .0 .at-is, word-room (start .args .chars .now) (start .args .lengths .now) (start .pre .dictionary) (turn .loop .i) (c .before .loop-test .taken)),
+    )
+
+cast-word-starts : tie.Need-cast-word-starts Inv-loop μ-loop
+cast-word-starts c =
+    let start = c .before .before .before .before .before .before .before .before .before in
+    let turn = c .before .before .before in
+    omega (arith, chained-small (start .args .chars .now) (start .args .lengths .now) (turn .loop .heads) (turn .loop .links) (turn .loop .word-starts) (turn .loop .at) (turn .loop .i) (turn .loop .inv .0) (start .pre .dictionary))
+
+mul-word-starts : tie.Need-mul-word-starts Inv-loop μ-loop
+mul-word-starts c = search needs
+
+slice-write-word-starts : tie.Need-slice-write-word-starts Inv-loop μ-loop
+slice-write-word-starts c = omega (arith, c .before .before .before .loop .inv .0 .starts-long)
+
+mul-links : tie.Need-mul-links Inv-loop μ-loop
+mul-links c = omega (arith, c .bucket-of-word .ensures .small)
+
+slice-read-links : tie.Need-slice-read-links Inv-loop μ-loop
+slice-read-links c = omega (arith, c .before .bucket-of-word .ensures .small, c .before .before .before .before .loop .inv .0 .heads-long)
+
+mul-links-2 : tie.Need-mul-links-2 Inv-loop μ-loop
+mul-links-2 c = search needs
+
+slice-write-links : tie.Need-slice-write-links Inv-loop μ-loop
+slice-write-links c = omega (arith, c .before .before .before .before .loop .inv .0 .links-long)
+
+add-heads : tie.Need-add-heads Inv-loop μ-loop
+add-heads c = search needs
+
+cast-heads : tie.Need-cast-heads Inv-loop μ-loop
+cast-heads c =
+    let start = c .before .before .before .before .before .before .before .before .before .before in
+    omega (arith, few-words (start .args .chars .now) (start .args .lengths .now) (start .pre .dictionary))
+
+mul-heads : tie.Need-mul-heads Inv-loop μ-loop
+mul-heads c = omega (arith, c .before .bucket-of-word .ensures .small)
+
+slice-write-heads : tie.Need-slice-write-heads Inv-loop μ-loop
+slice-write-heads c = omega (arith, c .before .bucket-of-word .ensures .small, c .before .before .before .before .loop .inv .0 .heads-long)
+
+add-at : tie.Need-add-at Inv-loop μ-loop
+add-at c =
+    let start = c .before .before .before .before .before .before .before .before .before .before in
+    let turn = c .before .before .before .before in
+    omega (arith, chained-small (start .args .chars .now) (start .args .lengths .now) (turn .loop .heads) (turn .loop .links) (turn .loop .word-starts) (turn .loop .at) (turn .loop .i) (turn .loop .inv .0) (start .pre .dictionary), c .before .before .shared-slice-known3 .given (turn .loop .i))
+
+add-i : tie.Need-add-i Inv-loop μ-loop
+add-i c = search needs
+
+loop-less : tie.Need-loop-less Inv-loop μ-loop
+loop-less c = search needs
+
+loop-again : tie.Need-loop-again Inv-loop μ-loop
+loop-again c =
+    let start = c .before .before .before .before .before .before .before .before .before .before in
+    let turn = c .before .before .before .before in
+    let room = c .before .bucket-of-word .ensures .small in (
+      chained-step (start .args .chars .now) (start .args .lengths .now) (turn .loop .heads) (turn .loop .links) (turn .loop .word-starts) (turn .loop .at) (turn .loop .i) (turn .loop .inv .0)
+          (c .before .bucket-of-word .result) (c .before .before .before .loop-test .taken)
+          (bucket-read (start .args .chars .now) (start .args .lengths .now) (start .pre .dictionary) (turn .loop .i) (turn .loop .at) (c .before .bucket-of-word .result) (c .before .before .before .loop-test .taken) (turn .loop .inv .0 .at-is) (c .before .bucket-of-word .ensures))
+          room,
+      simp length-set (turn .loop .inv .1),
+      simp length-set (turn .loop .inv .2),
+      simp length-set (turn .loop .inv .3),
+    )
+
+cast-word-starts-2 : tie.Need-cast-word-starts-2 Inv-loop μ-loop
+cast-word-starts-2 c =
+    let start = c .before .before .before .before .before .before .before in
+    let turn = c .before in
+    omega (arith, chained-small (start .args .chars .now) (start .args .lengths .now) (turn .loop .heads) (turn .loop .links) (turn .loop .word-starts) (turn .loop .at) (turn .loop .i) (turn .loop .inv .0) (start .pre .dictionary))
+
+mul-word-starts-2 : tie.Need-mul-word-starts-2 Inv-loop μ-loop
+mul-word-starts-2 c = search needs
+
+slice-write-word-starts-2 : tie.Need-slice-write-word-starts-2 Inv-loop μ-loop
+slice-write-word-starts-2 c = omega (arith, c .before .loop .inv .0 .within, c .before .loop .inv .0 .starts-long)
+
+same-length : tie.Need-same-length Inv-loop μ-loop
+same-length c = c .before .loop .inv .1
+
+same-length-2 : tie.Need-same-length-2 Inv-loop μ-loop
+same-length-2 c = c .before .loop .inv .2
+
+same-length-3 : tie.Need-same-length-3 Inv-loop μ-loop
+same-length-3 c = simp length-set (c .before .loop .inv .3)
+
+returns : tie.Need-returns Inv-loop μ-loop
+returns c =
+    let start = c .before .before .before .before .before .before .before in
+    let turn = c .before in
+    chained-end (start .args .chars .now) (start .args .lengths .now) (turn .loop .heads) (turn .loop .links) (turn .loop .word-starts) (turn .loop .at) (turn .loop .i) (turn .loop .inv .0) (start .pre .dictionary) (c .loop-test .left)
+
+pub fill-match-table-spec : {M : Type 1} → statement M
+fill-match-table-spec =
+    tie.close
+    (tie.spec
+    Inv-loop
+    μ-loop
+    loop-holds
+    mul-len
+    shared-slice-read-len
+    cast-len
+    bucket-of-word-requires
+    cast-word-starts
+    mul-word-starts
+    slice-write-word-starts
+    mul-links
+    slice-read-links
+    mul-links-2
+    slice-write-links
+    add-heads
+    cast-heads
+    mul-heads
+    slice-write-heads
+    add-at
+    add-i
+    loop-less
+    loop-again
+    cast-word-starts-2
+    mul-word-starts-2
+    slice-write-word-starts-2
+    same-length
+    same-length-2
+    same-length-3
+    returns)

@@ -1,0 +1,88 @@
+-- `gaps_good` meets its contract. The invariant: the sums of the gaps before i ascend if none is 0, and `sum` is the last of them. The
+-- measure is how many gaps are left. Assumes nothing.
+use Prim.Native.Nat.{_-_}
+use native.Mathlib.Omega.{arith}
+use lib.ListN.{length}
+use Rattle.laws.specs.Gaps.GapLists.{Summed, summed-start, summed-step, summed-late, summed-end}
+use borrow.Author.Needs.{needs}
+use Rattle.readability.proofs.readability.gaps_good.Statement.{statement}
+use Rattle.readability.proofs.readability.gaps_good.Tie as tie
+
+abbrev Inv-loop : tie.InvT-loop
+Inv-loop gaps n len good₀ sum₀ i₀ good sum i = Summed gaps good sum i
+
+abbrev μ-loop : tie.MeasureT-loop
+μ-loop gaps n len good₀ sum₀ i₀ good sum i = length gaps - i
+
+loop-holds : tie.Need-loop-holds Inv-loop μ-loop
+loop-holds c = summed-start (c .args .gaps .now)
+
+mul-gap : tie.Need-mul-gap Inv-loop μ-loop
+mul-gap c = search needs
+
+shared-slice-read-gap : tie.Need-shared-slice-read-gap Inv-loop μ-loop
+shared-slice-read-gap c = search needs
+
+cast-sum : tie.Need-cast-sum Inv-loop μ-loop
+cast-sum c = omega (arith, c .shared-slice-known .given (c .before .before .loop .i))
+
+add-sum : tie.Need-add-sum Inv-loop μ-loop
+add-sum c =
+    let start = c .before .before .before in
+    let walk = c .before .before .loop in
+    omega (arith, walk .inv .small, c .before .loop-test .taken, start .pre .1, c .shared-slice-known .given (walk .i))
+
+add-i : tie.Need-add-i Inv-loop μ-loop
+add-i c = search needs
+
+loop-less : tie.Need-loop-less Inv-loop μ-loop
+loop-less c = search needs
+
+loop-again : tie.Need-loop-again Inv-loop μ-loop
+loop-again c =
+    let walk = c .before .before .loop in
+    summed-step (c .before .before .before .args .gaps .now) (walk .good) (walk .sum) (walk .i) (walk .inv) (c .before .loop-test .taken)
+    (omega (arith, c .shared-slice-known .given (walk .i)))
+
+add-if1 : tie.Need-add-if1 Inv-loop μ-loop
+add-if1 c = search needs
+
+cast-if1 : tie.Need-cast-if1 Inv-loop μ-loop
+cast-if1 c = search needs
+
+add-if1-2 : tie.Need-add-if1-2 Inv-loop μ-loop
+add-if1-2 c = search needs
+
+returns : tie.Need-returns Inv-loop μ-loop
+returns c =
+    let start = c .before .before .before in
+    let walk = c .before .before .loop in
+    summed-late (start .args .gaps .now) (walk .good) (walk .sum) (walk .i) (walk .inv) (c .before .loop-test .left)
+    (start .args .n) (start .args .len) (start .pre .0) (c .if1 .taken)
+
+returns-2 : tie.Need-returns-2 Inv-loop μ-loop
+returns-2 c =
+    let start = c .before .before .before in
+    let walk = c .before .before .loop in
+    summed-end (start .args .gaps .now) (walk .good) (walk .sum) (walk .i) (walk .inv) (c .before .loop-test .left)
+    (start .args .n) (start .args .len) (start .pre .0) (c .if1 .left)
+
+pub gaps-good-spec : {M : Type 1} → statement M
+gaps-good-spec =
+    tie.close
+    (tie.spec
+    Inv-loop
+    μ-loop
+    loop-holds
+    mul-gap
+    shared-slice-read-gap
+    cast-sum
+    add-sum
+    add-i
+    loop-less
+    loop-again
+    add-if1
+    cast-if1
+    add-if1-2
+    returns
+    returns-2)

@@ -1,0 +1,60 @@
+-- `readable` meets its contract: a slice without its header or its directory is not readable, and of any other the walk tells.
+-- Assumes nothing.
+use mathlib.Core.Path.{_∙_}
+use Prim.Native.Nat.{ℕ, _+_, _*_}
+use native.Mathlib.Omega.{arith}
+use Rattle.spec.specs.Dictionary.{longest-text, lexicon}
+use Rattle.spec.specs.Index.{header}
+use Rattle.laws.specs.Gaps.ReadLists.{read-as, read-keeps, header-missing, directory-missing, walk-tells}
+use borrow.Author.Needs.{needs}
+use Rattle.readability.proofs.readability.readable.Statement.{statement}
+use Rattle.readability.proofs.readability.readable.Tie as tie
+
+returns : tie.Need-returns
+returns c =
+    let args = c .before .before .before .before .args in
+    header-missing (read-as (args .as-gaps)) (read-keeps (args .as-gaps)) longest-text (lexicon (args .chars .now) (args .lengths .now))
+    (args .index .now) (c .if1 .taken)
+
+shared-slice-read-keys : tie.Need-shared-slice-read-keys
+shared-slice-read-keys c = search needs
+
+cast-keys : tie.Need-cast-keys
+cast-keys c = omega (arith, c .shared-slice-known4 .given 1)
+
+mul-if2 : tie.Need-mul-if2
+mul-if2 c = omega (arith, c .shared-slice-known4 .given 1)
+
+add-if2 : tie.Need-add-if2
+add-if2 c = omega (arith, c .shared-slice-known4 .given 1)
+
+returns-2 : tie.Need-returns-2
+returns-2 c =
+    let args = c .before .before .before .before .before .before .args in
+    directory-missing (read-as (args .as-gaps)) (read-keeps (args .as-gaps)) longest-text (lexicon (args .chars .now) (args .lengths .now))
+    (args .index .now) (c .if2 .taken)
+
+lines-good-requires : tie.Need-lines-good-requires
+lines-good-requires c κs = search needs
+
+returns-3 : tie.Need-returns-3
+returns-3 c =
+    let args = c .before .before .before .before .before .before .before .args in
+    let known = c .before .before .before .before .shared-slice-known3 in
+    c .lines-good .ensures
+    ∙ walk-tells (read-as (args .as-gaps)) (read-keeps (args .as-gaps)) longest-text (lexicon (args .chars .now) (args .lengths .now))
+    (args .index .now) (c .before .before .before .if1 .left) (c .before .if2 .left) (omega (arith, known .given 0))
+    (λ (j : ℕ) below. omega (arith, known .given (header + 3 * j + 1)))
+
+pub readable-spec : {M : Type 1} → statement M
+readable-spec =
+    tie.close
+    (tie.spec
+    returns
+    shared-slice-read-keys
+    cast-keys
+    mul-if2
+    add-if2
+    returns-2
+    lines-good-requires
+    returns-3)

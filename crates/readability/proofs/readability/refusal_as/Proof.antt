@@ -1,0 +1,51 @@
+-- `refusal_as` meets its contract: each way to a return has met the tests of one law. Assumes nothing.
+use mathlib.Core.Path.{_≡_, sym, _∙_}
+use Prim.Native.Nat.{ℕ}
+use native.Mathlib.Omega.{arith}
+use borrow.Author.Tests.{not-true, not-false}
+use Rattle.spec.specs.Dictionary.{dictionary-refusal}
+use Rattle.spec.specs.Gaps.{with-lists}
+use Rattle.laws.specs.Readable.KeyTests.{dictionary-read}
+use Rattle.laws.specs.Gaps.ReadLists.{read-as}
+use Rattle.laws.specs.Readable.IndexRefusal.{refuses-dictionary, refuses-unreadable, accepts-index}
+use borrow.Author.Needs.{needs}
+use Rattle.readability.proofs.readability.refusal_as.Statement.{statement}
+use Rattle.readability.proofs.readability.refusal_as.Tie as tie
+
+refusal-of-requires : tie.Need-refusal-of-requires
+refusal-of-requires c κs = search needs
+
+returns : tie.Need-returns
+returns c =
+    let args = c .before .before .before .before .before .args in
+    let numbers = with-lists (read-as (args .as-gaps)) (args .index .now) in
+    let found = c .before .refusal-of .ensures in
+    found
+    ∙ refuses-dictionary (args .chars .now) (args .lengths .now) numbers
+    (λ (none : dictionary-refusal (args .chars .now) (args .lengths .now) ≡ 0). c .if1 .taken (found ∙ none))
+
+readable-requires : tie.Need-readable-requires
+readable-requires c κs =
+    let start = c .before .before .before .before in
+    dictionary-read (start .before .args .chars .now) (start .before .args .lengths .now)
+    (λ (i : ℕ). omega (arith, start .shared-slice-known .given i)) (sym (c .before .refusal-of .ensures) ∙ c .if1 .left)
+
+returns-2 : tie.Need-returns-2
+returns-2 c =
+    let args = c .before .before .before .before .before .before .before .args in
+    let numbers = with-lists (read-as (args .as-gaps)) (args .index .now) in
+    refuses-unreadable (args .chars .now) (args .lengths .now) numbers
+    (sym (c .before .before .before .refusal-of .ensures) ∙ c .before .before .if1 .left)
+    (sym (c .before .readable .ensures) ∙ not-true (c .before .readable .result) (c .if2 .taken))
+
+returns-3 : tie.Need-returns-3
+returns-3 c =
+    let args = c .before .before .before .before .before .before .before .args in
+    let numbers = with-lists (read-as (args .as-gaps)) (args .index .now) in
+    accepts-index (args .chars .now) (args .lengths .now) numbers
+    (sym (c .before .before .before .refusal-of .ensures) ∙ c .before .before .if1 .left)
+    (sym (c .before .readable .ensures) ∙ not-false (c .before .readable .result) (c .if2 .left))
+
+pub refusal-as-spec : {M : Type 1} → statement M
+refusal-as-spec =
+    tie.close (tie.spec refusal-of-requires returns readable-requires returns-2 returns-3)

@@ -1,0 +1,19 @@
+-- `refusal_of` meets its contract: a list of positions is read as it lies. Assumes nothing.
+use mathlib.Core.Path.{ap, _∙_}
+use Rattle.spec.specs.Calls.{index-refusal}
+use Rattle.laws.specs.Gaps.ReadLists.{read-positions}
+use borrow.Author.Needs.{needs}
+use Rattle.readability.proofs.readability.refusal_of.Statement.{statement}
+use Rattle.readability.proofs.readability.refusal_of.Tie as tie
+
+refusal-as-requires : tie.Need-refusal-as-requires
+refusal-as-requires c κs = search needs
+
+returns : tie.Need-returns
+returns c =
+    let start = c .before .before .before .before in
+    c .refusal-as .ensures
+    ∙ ap (index-refusal (start .args .chars .now) (start .args .lengths .now)) (read-positions (start .args .index .now))
+
+pub refusal-of-spec : {M : Type 1} → statement M
+refusal-of-spec = tie.close (tie.spec refusal-as-requires returns)

@@ -1,0 +1,49 @@
+-- `rise` meets its contract. The invariant: the positions from i on, after the last one read, rise if all do. The measure is how
+-- many are left. Assumes nothing.
+use Prim.Native.Nat.{_-_}
+use lib.ListN.{length}
+use Rattle.laws.specs.Readable.LineSteps.{Rises, rises-start, rises-step, rises-end}
+use borrow.Author.Needs.{needs}
+use Rattle.readability.proofs.readability.rise.Statement.{statement}
+use Rattle.readability.proofs.readability.rise.Tie as tie
+
+abbrev Inv-loop : tie.InvT-loop
+Inv-loop positions good₀ last₀ i₀ good last i = Rises positions good last i
+
+abbrev μ-loop : tie.MeasureT-loop
+μ-loop positions good₀ last₀ i₀ good last i = length positions - i
+
+loop-holds : tie.Need-loop-holds Inv-loop μ-loop
+loop-holds c = rises-start (c .args .positions .now)
+
+mul-position : tie.Need-mul-position Inv-loop μ-loop
+mul-position c = search needs
+
+shared-slice-read-position : tie.Need-shared-slice-read-position Inv-loop μ-loop
+shared-slice-read-position c = search needs
+
+add-i : tie.Need-add-i Inv-loop μ-loop
+add-i c = search needs
+
+loop-less : tie.Need-loop-less Inv-loop μ-loop
+loop-less c = search needs
+
+loop-again : tie.Need-loop-again Inv-loop μ-loop
+loop-again c = rises-step (c .before .before .before .args .positions .now) (c .before .before .loop .good) (c .before .before .loop .last) (c .before .before .loop .i) (c .before .before .loop .inv) (c .before .loop-test .taken)
+
+returns : tie.Need-returns Inv-loop μ-loop
+returns c = rises-end (c .before .before .args .positions .now) (c .before .loop .good) (c .before .loop .last) (c .before .loop .i) (c .before .loop .inv) (c .loop-test .left)
+
+pub rise-spec : {M : Type 1} → statement M
+rise-spec =
+    tie.close
+    (tie.spec
+    Inv-loop
+    μ-loop
+    loop-holds
+    mul-position
+    shared-slice-read-position
+    add-i
+    loop-less
+    loop-again
+    returns)

@@ -1,0 +1,70 @@
+-- `skip_below` meets its contract. The invariant: the words passed are no character from `value` on. The measure is how many
+-- words are left. Assumes nothing.
+use Prim.Native.Nat.{_-_}
+use native.Mathlib.Omega.{arith}
+use lib.ListN.{length}
+use Rattle.laws.specs.Readable.LoneWords.{Passed, passed-step, word-some, word-room}
+use borrow.Author.Needs.{needs}
+use Rattle.readability.proofs.readability.skip_below.Statement.{statement}
+use Rattle.readability.proofs.readability.skip_below.Tie as tie
+
+abbrev Inv-loop : tie.InvT-loop
+Inv-loop chars lengths value word₀ at₀ word at = Passed chars lengths word at value
+
+abbrev μ-loop : tie.MeasureT-loop
+μ-loop chars lengths value word₀ at₀ word at = length lengths - word
+
+loop-holds : tie.Need-loop-holds Inv-loop μ-loop
+loop-holds c = c .pre
+
+mul-if1 : tie.Need-mul-if1 Inv-loop μ-loop
+mul-if1 c = search needs
+
+shared-slice-read-if1 : tie.Need-shared-slice-read-if1 Inv-loop μ-loop
+shared-slice-read-if1 c = word-some (c .before .before .before .args .chars .now) (c .before .before .before .args .lengths .now) (c .before .before .loop .word) (c .before .before .loop .at) (c .before .before .before .args .value) (c .before .before .loop .inv) (c .before .loop-test .taken)
+
+returns : tie.Need-returns Inv-loop μ-loop
+returns c = record { passed = c .before .before .before .loop .inv; first = λ h. c .if1 .taken }
+
+mul-at : tie.Need-mul-at Inv-loop μ-loop
+mul-at c = search needs
+
+shared-slice-read-at : tie.Need-shared-slice-read-at Inv-loop μ-loop
+shared-slice-read-at c = search needs
+
+cast-at : tie.Need-cast-at Inv-loop μ-loop
+cast-at c = omega (arith, c .shared-slice-known2 .given (c .before .before .before .before .loop .word))
+
+add-at : tie.Need-add-at Inv-loop μ-loop
+add-at c = omega (arith, word-room (c .before .before .before .before .before .args .chars .now) (c .before .before .before .before .before .args .lengths .now) (c .before .before .before .before .loop .word) (c .before .before .before .before .loop .at) (c .before .before .before .before .before .args .value) (c .before .before .before .before .loop .inv) (c .before .before .before .loop-test .taken))
+
+add-word : tie.Need-add-word Inv-loop μ-loop
+add-word c = search needs
+
+loop-less : tie.Need-loop-less Inv-loop μ-loop
+loop-less c = search needs
+
+loop-again : tie.Need-loop-again Inv-loop μ-loop
+loop-again c = passed-step (c .before .before .before .before .before .args .chars .now) (c .before .before .before .before .before .args .lengths .now) (c .before .before .before .before .loop .word) (c .before .before .before .before .loop .at) (c .before .before .before .before .before .args .value) (c .before .before .before .before .loop .inv) (c .before .before .before .loop-test .taken) (c .before .if1 .left)
+
+returns-2 : tie.Need-returns-2 Inv-loop μ-loop
+returns-2 c = record { passed = c .before .loop .inv; first = λ h. absurd (omega (arith, c .loop-test .left)) }
+
+pub skip-below-spec : {M : Type 1} → statement M
+skip-below-spec =
+    tie.close
+    (tie.spec
+    Inv-loop
+    μ-loop
+    loop-holds
+    mul-if1
+    shared-slice-read-if1
+    returns
+    mul-at
+    shared-slice-read-at
+    cast-at
+    add-at
+    add-word
+    loop-less
+    loop-again
+    returns-2)

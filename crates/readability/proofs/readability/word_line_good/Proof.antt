@@ -1,0 +1,57 @@
+-- `word_line_good` meets its contract: each way to a return has met the tests of one law. Assumes nothing.
+use mathlib.Core.Path.{_∙_}
+use native.Mathlib.Omega.{arith}
+use lib.ListN.{drop}
+use Rattle.laws.specs.Gaps.ReadLists.{read-as}
+use Rattle.laws.specs.Readable.KeyTests.{word-low, word-high, word-fits}
+use borrow.Author.Needs.{needs}
+use Rattle.readability.proofs.readability.word_line_good.Statement.{statement}
+use Rattle.readability.proofs.readability.word_line_good.Tie as tie
+
+returns : tie.Need-returns
+returns c =
+    let start = c .before .before .before .before in
+    let args = start .args in
+    word-low (read-as (args .as-gaps)) (args .chars .now) (args .lengths .now) (start .pre .0) (args .n) (args .least) (args .value)
+    (args .count) (drop (args .at) (args .index .now)) (c .if1 .taken)
+
+returns-2 : tie.Need-returns-2
+returns-2 c =
+    let start = c .before .before .before .before .before in
+    let args = start .args in
+    word-high (read-as (args .as-gaps)) (args .chars .now) (args .lengths .now) (start .pre .0) (args .n) (args .least) (args .value)
+    (args .count) (drop (args .at) (args .index .now)) (c .if2 .taken)
+
+mul-line-list-good : tie.Need-mul-line-list-good
+mul-line-list-good c = search needs
+
+shared-slice-read-line-list-good : tie.Need-shared-slice-read-line-list-good
+shared-slice-read-line-list-good c = search needs
+
+cast-line-list-good : tie.Need-cast-line-list-good
+cast-line-list-good c = omega (arith, c .shared-slice-known4 .given (c .before .before .before .before .before .before .args .value))
+
+line-list-good-requires : tie.Need-line-list-good-requires
+line-list-good-requires c κs =
+    let start = c .before .before .before .before .before .before in
+    (start .pre .1, start .pre .2, omega (arith, c .shared-slice-known4 .given (start .args .value)), start .pre .3)
+
+returns-3 : tie.Need-returns-3
+returns-3 c =
+    let start = c .before .before .before .before .before .before .before in
+    let args = start .args in
+    c .line-list-good .ensures
+    ∙ word-fits (read-as (args .as-gaps)) (args .chars .now) (args .lengths .now) (start .pre .0) (args .n) (args .least) (args .value)
+    (args .count) (drop (args .at) (args .index .now)) (c .before .before .before .if1 .left) (c .before .before .if2 .left)
+
+pub word-line-good-spec : {M : Type 1} → statement M
+word-line-good-spec =
+    tie.close
+    (tie.spec
+    returns
+    returns-2
+    mul-line-list-good
+    shared-slice-read-line-list-good
+    cast-line-list-good
+    line-list-good-requires
+    returns-3)

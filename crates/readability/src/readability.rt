@@ -1,0 +1,270 @@
+// Readability of a delivered index, and the refusals 1, 2, 3, 12 and 5.
+//
+// One walk over the directory, with the positions of each line as it is reached: the lines of words first, then those of lone
+// characters. Whether a lone character is a word is told by a walk over the words beside the lines, since both ascend. Sums are
+// in `usize`, so that no number of keys and no count wraps. The cost is linear in the index and the dictionary. A gap form is tested by
+// the same walk, without restoring it: only a line's list is read in another way.
+ghost use mathlib.Core.Path.{_≡_};
+ghost use mathlib.Core.List.{[], _∷_};
+ghost use Prim.Native.Nat.{_+_, _*_, _≤_, _<_};
+ghost use lib.ListN.{length, drop};
+ghost use Rattle.spec.specs.Dictionary.{longest-text, lexicon};
+ghost use Rattle.spec.specs.Words.{key, is-word};
+ghost use Rattle.spec.specs.Index.{header, keys-of, rise-from, readable};
+ghost use Rattle.spec.specs.Gaps.{prefix-sums, with-lists};
+ghost use Rattle.spec.specs.Calls.{index-refusal};
+ghost use Rattle.laws.specs.Dictionary.Lexicon.{Is-admitted};
+ghost use Rattle.laws.specs.Readable.LineWalk.{as-is, list-good, line-list-good, line-fits, walk-good};
+ghost use Rattle.laws.specs.Gaps.ReadLists.{read-as};
+ghost use Rattle.laws.specs.Readable.LineSteps.{Lines-read};
+ghost use Rattle.laws.specs.Readable.LoneWords.{Passed, Reached};
+
+// Whether positions ascend strictly from 1 or more.
+fn rise(positions: &[u16]) -> bool
+    ensures { λ r. ⌜ r ≡ rise-from 1 (now (positions .entry)) ⌝ }
+{
+    let mut good = true;
+    let mut last: u16 = 0;
+    let mut i = 0;
+    while i < positions.len() {
+        let position = positions[i];
+        good = good & (last < position);
+        last = position;
+        i += 1;
+    }
+    good
+}
+
+// Whether positions ascend from 1 or more, and a key of `long` characters ends by n at the last of them.
+fn positions_good(positions: &[u16], n: usize, len: usize) -> bool
+    requires { ⌜ (1 ≤ length (now positions)) × (n ≤ 65535) × (len ≤ 65535) ⌝ }
+    ensures { λ r. ⌜ r ≡ list-good as-is n len (now (positions .entry)) ⌝ }
+{
+    let last = positions[positions.len() - 1] as usize;
+    if n + 1 < last + len {
+        return false;
+    }
+    rise(positions)
+}
+
+// The same of the positions that gaps come to: they ascend from 1 if no gap is 0, and the last of them is the sum of all gaps, which
+// 32 bits hold.
+fn gaps_good(gaps: &[u16], n: usize, len: usize) -> bool
+    requires { ⌜ (1 ≤ length (now gaps)) × (length (now gaps) ≤ 65535) × (n ≤ 65535) × (len ≤ 65535) ⌝ }
+    ensures { λ r. ⌜ r ≡ list-good prefix-sums n len (now (gaps .entry)) ⌝ }
+{
+    let mut good = true;
+    let mut sum: u32 = 0;
+    let mut i = 0;
+    while i < gaps.len() {
+        let gap = gaps[i];
+        good = good & (0 < gap);
+        sum += gap as u32;
+        i += 1;
+    }
+    if n + 1 < sum as usize + len {
+        return false;
+    }
+    good
+}
+
+// Whether `count` numbers from `at` on are there, at least one, and are the positions, or the gaps, of a key of `long` characters. Most
+// lists have one number, which is both.
+fn line_list_good(index: &[u16], at: usize, count: usize, n: usize, len: usize, as_gaps: bool) -> bool
+    requires { ⌜ (at ≤ length (now index)) × (n ≤ 65535) × (len ≤ 65535) × (count ≤ 65535) ⌝ }
+    ensures { λ r. ⌜ r ≡ line-list-good (read-as as_gaps) n len count (drop at (now (index .entry))) ⌝ }
+{
+    if index.len() - at < count {
+        return false;
+    }
+    if count == 0 {
+        return false;
+    }
+    if count == 1 {
+        let only = index[at] as usize;
+        return (only + len <= n + 1) & (0 < only);
+    }
+    let end = at + count;
+    if as_gaps {
+        gaps_good(&index[at..end], n, len)
+    } else {
+        positions_good(&index[at..end], n, len)
+    }
+}
+
+// Whether a word's directory line is good, where word numbers from `least` on are allowed.
+fn word_line_good(
+    chars: &[u16],
+    lengths: &[u16],
+    index: &[u16],
+    at: usize,
+    n: usize,
+    least: usize,
+    value: usize,
+    count: usize,
+    as_gaps: bool,
+) -> bool
+    requires { ⌜ Is-admitted (now chars) (now lengths) × (at ≤ length (now index)) × (n ≤ 65535) × (count ≤ 65535) ⌝ }
+    ensures { λ r. ⌜
+        r ≡ line-fits (read-as as_gaps) (lexicon (now (chars .entry)) (now (lengths .entry))) n least (key 0 value) count
+        (drop at (now (index .entry))) ⌝ }
+{
+    if value < least {
+        return false;
+    }
+    if lengths.len() <= value {
+        return false;
+    }
+    line_list_good(index, at, count, n, lengths[value] as usize, as_gaps)
+}
+
+// A word's number and where its characters start.
+struct Position {
+    word: usize,
+    at: usize,
+}
+
+// The first word from a place on that does not start with a character below `value`.
+fn skip_below(chars: &[u16], lengths: &[u16], from: Position, value: u16) -> Position
+    requires { ⌜ Passed (now chars) (now lengths) (from .word) (from .at) value ⌝ }
+    ensures { λ r. ⌜ Reached (now (chars .entry)) (now (lengths .entry)) (r .word) (r .at) value ⌝ }
+{
+    let mut word = from.word;
+    let mut at = from.at;
+    while word < lengths.len() {
+        if value <= chars[at] {
+            return Position { word, at };
+        }
+        at += lengths[word] as usize;
+        word += 1;
+    }
+    Position { word, at }
+}
+
+// Whether the one character is a word, which could only be the word reached.
+fn is_reached(chars: &[u16], lengths: &[u16], position: Position, value: u16) -> bool
+    requires { ⌜ Reached (now chars) (now lengths) (position .word) (position .at) value ⌝ }
+    ensures { λ r. ⌜ r ≡ is-word (lexicon (now (chars .entry)) (now (lengths .entry))) (value ∷ []) ⌝ }
+{
+    let word = position.word;
+    let at = position.at;
+    if lengths.len() <= word {
+        return false;
+    }
+    if chars[at] != value {
+        return false;
+    }
+    lengths[word] == 1
+}
+
+// Whether the lines from `from` on are good, where only lone characters may follow; the positions of the first start at `start`.
+fn lone_lines(
+    chars: &[u16],
+    lengths: &[u16],
+    index: &[u16],
+    from: usize,
+    start: usize,
+    as_gaps: bool,
+) -> bool
+    requires { ⌜
+        Is-admitted (now chars) (now lengths) × (header + 3 * keys-of (now index) ≤ length (now index)) ×
+        Lines-read (read-as as_gaps) (lexicon (now chars) (now lengths)) (now index) from start 65536 ⌝ }
+    ensures { λ r. ⌜ r ≡ walk-good (read-as as_gaps) (lexicon (now (chars .entry)) (now (lengths .entry))) (now (index .entry)) ⌝ }
+{
+    let n = index[0] as usize;
+    let keys = index[1] as usize;
+    let mut at = start;
+    let mut least = 0;
+    let mut words = Position { word: 0, at: 0 };
+    let mut i = from;
+    while i < keys {
+        let kind = index[2 + 3 * i];
+        let value = index[2 + 3 * i + 1];
+        let count = index[2 + 3 * i + 2] as usize;
+        if kind != 1 {
+            return false;
+        }
+        if (value as usize) < least {
+            return false;
+        }
+        words = skip_below(chars, lengths, words, value);
+        if is_reached(chars, lengths, words, value) {
+            return false;
+        }
+        if !line_list_good(index, at, count, n, 1, as_gaps) {
+            return false;
+        }
+        at += count;
+        least = value as usize + 1;
+        i += 1;
+    }
+    at == index.len()
+}
+
+// Whether all lines are good, and their positions are all that follows the directory.
+fn lines_good(chars: &[u16], lengths: &[u16], index: &[u16], as_gaps: bool) -> bool
+    requires { ⌜
+        Is-admitted (now chars) (now lengths) × (header ≤ length (now index)) ×
+        (header + 3 * keys-of (now index) ≤ length (now index)) ⌝ }
+    ensures { λ r. ⌜ r ≡ walk-good (read-as as_gaps) (lexicon (now (chars .entry)) (now (lengths .entry))) (now (index .entry)) ⌝ }
+{
+    let n = index[0] as usize;
+    let keys = index[1] as usize;
+    let mut at = 2 + 3 * keys;
+    let mut least = 0;
+    let mut i = 0;
+    while i < keys {
+        if index[2 + 3 * i] != 0 {
+            return lone_lines(chars, lengths, index, i, at, as_gaps);
+        }
+        let value = index[2 + 3 * i + 1] as usize;
+        let count = index[2 + 3 * i + 2] as usize;
+        if !word_line_good(chars, lengths, index, at, n, least, value, count, as_gaps) {
+            return false;
+        }
+        at = at + count;
+        least = value + 1;
+        i += 1;
+    }
+    at == index.len()
+}
+
+// Whether an index is readable, or what a gap form restores to, with a dictionary that is admitted.
+fn readable(chars: &[u16], lengths: &[u16], index: &[u16], as_gaps: bool) -> bool
+    requires { ⌜ Is-admitted (now chars) (now lengths) ⌝ }
+    ensures { λ r. ⌜
+        r ≡ readable longest-text (lexicon (now (chars .entry)) (now (lengths .entry)))
+        (with-lists (read-as as_gaps) (now (index .entry))) ⌝ }
+{
+    if index.len() < 2 {
+        return false;
+    }
+    let keys = index[1] as usize;
+    if index.len() < 2 + 3 * keys {
+        return false;
+    }
+    lines_good(chars, lengths, index, as_gaps)
+}
+
+// The number of the first line of 1, 2, 3, 12 and 5 that dictionary and numbers meet, or 0; the numbers are an index, or a gap form, of
+// which 5 asks what it restores to.
+pub fn refusal_as(chars: &[u16], lengths: &[u16], index: &[u16], as_gaps: bool) -> u32
+    ensures { λ r. ⌜
+        r ≡ index-refusal (now (chars .entry)) (now (lengths .entry)) (with-lists (read-as as_gaps) (now (index .entry))) ⌝ }
+{
+    let refusal = dictionary::admission::refusal_of(chars, lengths);
+    if refusal != 0 {
+        return refusal;
+    }
+    if !readable(chars, lengths, index, as_gaps) {
+        return 5;
+    }
+    0
+}
+
+// The number of the first line of 1, 2, 3, 12 and 5 that dictionary and index meet, or 0.
+pub fn refusal_of(chars: &[u16], lengths: &[u16], index: &[u16]) -> u32
+    ensures { λ r. ⌜ r ≡ index-refusal (now (chars .entry)) (now (lengths .entry)) (now (index .entry)) ⌝ }
+{
+    refusal_as(chars, lengths, index, false)
+}

@@ -1,0 +1,57 @@
+-- `note_behind` meets its contract: the numbers before the lent part stay, and the part takes the notes. Assumes nothing.
+use mathlib.Core.Path.{_≡_, ap, _∙_}
+use Prim.Native.Nat.{_*_, _-_}
+use lib.ListN.{length, take, drop}
+use Rattle.spec.specs.Index.{lines-in}
+use Rattle.laws.specs.Receive.LineMapFill.{fill-line-map}
+use Rattle.laws.specs.Receive.WorkParts.{behind-long, behind-front, behind-put, zeros-are}
+use borrow.Author.Needs.{needs}
+use Rattle.receiver.proofs.text.fill_line_map_behind.Statement.{statement}
+use Rattle.receiver.proofs.text.fill_line_map_behind.Tie as tie
+
+mul-end : tie.Need-mul-end
+mul-end c = search needs
+
+mul-fill-line-map-afresh : tie.Need-mul-fill-line-map-afresh
+mul-fill-line-map-afresh c = search needs
+
+sub-fill-line-map-afresh : tie.Need-sub-fill-line-map-afresh
+sub-fill-line-map-afresh c = search needs
+
+part-fill-line-map-afresh-start : tie.Need-part-fill-line-map-afresh-start
+part-fill-line-map-afresh-start c = search needs
+
+part-fill-line-map-afresh-end : tie.Need-part-fill-line-map-afresh-end
+part-fill-line-map-afresh-end c = search needs
+
+fill-line-map-afresh-requires : tie.Need-fill-line-map-afresh-requires
+fill-line-map-afresh-requires c κs =
+    let start = c .before .before .before in
+    rw (behind-long (start .args .n) (start .args .work .now) (start .pre .1)) (start .pre .0)
+
+same-length : tie.Need-same-length
+same-length c = search needs
+
+returns : tie.Need-returns
+returns c =
+    let start = c .before .before .before .before .before .before in
+    let part = c .before .before .fill-line-map-afresh .last .1 .0 in
+    let len : length part ≡ start .args .n = c .before .before .fill-line-map-afresh .kept .1 .0 ∙ behind-long (start .args .n) (start .args .work .now) (start .pre .1) in (
+      behind-front (start .args .n) (start .args .work .now) (start .pre .1) part len,
+      behind-put (start .args .n) (start .args .work .now) (start .pre .1) part len
+          ∙ c .before .before .fill-line-map-afresh .ensures
+          ∙ ap (fill-line-map 0 (lines-in (start .args .index .now))) (zeros-are (start .args .n) (take (2 * start .args .n - start .args .n) (drop (start .args .n) (start .args .work .now))) (behind-long (start .args .n) (start .args .work .now) (start .pre .1))),
+    )
+
+pub fill-line-map-behind-spec : {M : Type 1} → statement M
+fill-line-map-behind-spec =
+    tie.close
+    (tie.spec
+    mul-end
+    mul-fill-line-map-afresh
+    sub-fill-line-map-afresh
+    part-fill-line-map-afresh-start
+    part-fill-line-map-afresh-end
+    fill-line-map-afresh-requires
+    same-length
+    returns)

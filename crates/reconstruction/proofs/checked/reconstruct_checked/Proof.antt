@@ -1,0 +1,34 @@
+-- `paint_shown` meets its contract: what was painted over the ground is looked at again. Assumes nothing.
+use Rattle.spec.specs.Dictionary.{lexicon}
+use Rattle.spec.specs.Index.{n-of, lines-in}
+use Rattle.laws.specs.TextScan.ReconstructedSearch.{reconstructed-sentinel}
+use borrow.Author.Needs.{needs}
+use Rattle.reconstruction.proofs.checked.reconstruct_checked.Statement.{statement}
+use Rattle.reconstruction.proofs.checked.reconstruct_checked.Tie as tie
+
+fill-requires : tie.Need-fill-requires
+fill-requires c κs = search needs
+
+reconstruct-entries-requires : tie.Need-reconstruct-entries-requires
+reconstruct-entries-requires c κs = search needs
+
+entries-match-requires : tie.Need-entries-match-requires
+entries-match-requires c κs = search needs
+
+same-length : tie.Need-same-length
+same-length c = search needs
+
+returns : tie.Need-returns
+returns c =
+    let s = c .before .before .before .before .before .before .before .before .before .before .before .before .before .before .before in
+    let a = s .args in
+    let filled = c .before .before .before .before .before .before .before .before .fill in
+    let reconstructed = c .before .before .before .before .reconstruct-entries in (
+      reconstructed-sentinel (lexicon (a .chars .now) (a .lengths .now)) (lines-in (a .index .now)) (n-of (a .index .now)) (a .sentinel)
+          (a .text .now) (filled .last .0) (reconstructed .last .1 .1 .1 .1 .0) (filled .ensures) (s .pre .2) (reconstructed .ensures),
+      c .entries-match .ensures,
+    )
+
+pub reconstruct-checked-spec : {M : Type 1} → statement M
+reconstruct-checked-spec =
+    tie.close (tie.spec fill-requires reconstruct-entries-requires entries-match-requires same-length returns)

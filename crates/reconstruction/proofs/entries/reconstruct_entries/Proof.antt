@@ -1,0 +1,127 @@
+-- `paint_entries` meets its contract. The invariant: the lines before `line` are painted. The measure is how many are left. Assumes
+-- nothing.
+use mathlib.Core.Path.{_∙_}
+use Prim.Native.Nat.{_+_, _*_, _-_}
+use native.Mathlib.Omega.{arith}
+use lib.ListN.{getD}
+use Rattle.spec.specs.Dictionary.{lexicon}
+use Rattle.laws.specs.Directory.Tables.{Can-read}
+use Rattle.laws.specs.Receive.LinePass.{lies-room}
+use Rattle.laws.specs.Receive.ReconstructionWalk.{Reconstructing-lines, reconstructing-start, reconstructing-lies, reconstructing-step, reconstructing-end}
+use Rattle.reconstruction.proofs.entries.reconstruct_entries.Statement.{statement}
+use Rattle.reconstruction.proofs.entries.reconstruct_entries.Tie as tie
+
+abbrev Inv-loop : tie.InvT-loop
+Inv-loop chars lengths word-starts index text₀ keys begin₀ line₀ text begin line =
+    Can-read chars lengths index × Reconstructing-lines (lexicon chars lengths) index text₀ text begin line
+
+abbrev μ-loop : tie.MeasureT-loop
+μ-loop chars lengths word-starts index text₀ keys begin₀ line₀ text begin line = keys - line
+
+shared-slice-read-keys : tie.Need-shared-slice-read-keys Inv-loop μ-loop
+shared-slice-read-keys c =
+    omega (arith, c .before .before .before .before .before .before .pre .0 .fits .has-header)
+
+cast-keys : tie.Need-cast-keys Inv-loop μ-loop
+cast-keys c = omega (arith, c .shared-slice-known5 .given 1)
+
+mul-begin : tie.Need-mul-begin Inv-loop μ-loop
+mul-begin c = omega (arith, c .shared-slice-known5 .given 1)
+
+add-begin : tie.Need-add-begin Inv-loop μ-loop
+add-begin c = omega (arith, c .shared-slice-known5 .given 1)
+
+loop-holds : tie.Need-loop-holds Inv-loop μ-loop
+loop-holds c =
+    let s = c .before .before .before .before .before .before in (
+      s .pre .0,
+      reconstructing-start (lexicon (s .args .chars .now) (s .args .lengths .now)) (s .args .index .now) (s .args .text .now),
+    )
+
+mul-end : tie.Need-mul-end Inv-loop μ-loop
+mul-end c = omega (arith, c .loop-test .taken, c .before .loop .inv .0 .keys-small)
+
+add-end : tie.Need-add-end Inv-loop μ-loop
+add-end c = omega (arith, c .loop-test .taken, c .before .loop .inv .0 .keys-small)
+
+add-end-2 : tie.Need-add-end-2 Inv-loop μ-loop
+add-end-2 c = omega (arith, c .loop-test .taken, c .before .loop .inv .0 .keys-small)
+
+mul-end-2 : tie.Need-mul-end-2 Inv-loop μ-loop
+mul-end-2 c = omega (arith, c .loop-test .taken, c .before .loop .inv .0 .keys-small)
+
+shared-slice-read-end : tie.Need-shared-slice-read-end Inv-loop μ-loop
+shared-slice-read-end c =
+    let l = c .before .before .loop in
+    omega (arith, c .before .loop-test .taken, l .inv .0 .fits .has-directory)
+
+cast-end : tie.Need-cast-end Inv-loop μ-loop
+cast-end c = omega (arith, c .shared-slice-known6 .given (2 + 3 * c .before .before .loop .line + 2))
+
+add-end-3 : tie.Need-add-end-3 Inv-loop μ-loop
+add-end-3 c =
+    let s = c .before .before .before .before .before .before .before .before .before in
+    let l = c .before .before .loop in
+    omega (arith, s .good, lies-room (s .args .index .now) (l .line) (l .begin) (l .begin + getD (s .args .index .now) (2 + 3 * l .line + 2) 0) (reconstructing-lies (lexicon (s .args .chars .now) (s .args .lengths .now)) (s .args .index .now) (s .args .text .now) (l .text) (l .begin) (l .line) (l .inv .1) (c .before .loop-test .taken)) (l .inv .0 .fits))
+
+reconstruct-line-requires : tie.Need-reconstruct-line-requires Inv-loop μ-loop
+reconstruct-line-requires c κs =
+    let s = c .before .before .before .before .before .before .before .before .before .before in
+    let l = c .before .before .before .loop in (
+      l .inv .0,
+      s .pre .1,
+      reconstructing-lies (lexicon (s .args .chars .now) (s .args .lengths .now)) (s .args .index .now) (s .args .text .now) (l .text) (l .begin) (l .line) (l .inv .1) (c .before .before .loop-test .taken),
+      l .inv .1 .len ∙ s .pre .2,
+    )
+
+add-line : tie.Need-add-line Inv-loop μ-loop
+add-line c =
+    let l = c .before .before .before .before .before .before .loop in
+    omega (arith, c .before .before .before .before .before .loop-test .taken, l .inv .0 .keys-small)
+
+loop-less : tie.Need-loop-less Inv-loop μ-loop
+loop-less c = omega (arith, c .before .before .before .before .before .loop-test .taken)
+
+loop-again : tie.Need-loop-again Inv-loop μ-loop
+loop-again c =
+    let s = c .before .before .before .before .before .before .before .before .before .before .before .before .before in
+    let l = c .before .before .before .before .before .before .loop in (
+      l .inv .0,
+      reconstructing-step (lexicon (s .args .chars .now) (s .args .lengths .now)) (s .args .index .now) (s .args .text .now) (l .text) (l .begin) (l .line) (l .inv .1)
+          (l .begin + getD (s .args .index .now) (2 + 3 * l .line + 2) 0) (reconstructing-lies (lexicon (s .args .chars .now) (s .args .lengths .now)) (s .args .index .now) (s .args .text .now) (l .text) (l .begin) (l .line) (l .inv .1) (c .before .before .before .before .before .loop-test .taken))
+          (c .before .before .reconstruct-line .last .1 .1 .1 .1 .1 .1 .1 .0) (c .before .before .reconstruct-line .ensures),
+    )
+
+same-length : tie.Need-same-length Inv-loop μ-loop
+same-length c = c .before .loop .inv .1 .len
+
+returns : tie.Need-returns Inv-loop μ-loop
+returns c =
+    let s = c .before .before .before .before .before .before .before .before in
+    let l = c .before .loop in
+    reconstructing-end (lexicon (s .args .chars .now) (s .args .lengths .now)) (s .args .index .now) (s .args .text .now) (l .text) (l .begin) (l .line) (l .inv .1) (c .loop-test .left)
+
+pub reconstruct-entries-spec : {M : Type 1} → statement M
+reconstruct-entries-spec =
+    tie.close
+    (tie.spec
+    Inv-loop
+    μ-loop
+    shared-slice-read-keys
+    cast-keys
+    mul-begin
+    add-begin
+    loop-holds
+    mul-end
+    add-end
+    add-end-2
+    mul-end-2
+    shared-slice-read-end
+    cast-end
+    add-end-3
+    reconstruct-line-requires
+    add-line
+    loop-less
+    loop-again
+    same-length
+    returns)

@@ -1,0 +1,187 @@
+-- `paint_line` meets its contract: a lone character is marked, a word is set by its part of the characters. Assumes nothing.
+use Prim.Native.Nat.{_+_, _*_}
+use native.Mathlib.Omega.{arith}
+use borrow.Author.Needs.{needs}
+use lib.ListN.{getD}
+use Rattle.laws.specs.Directory.Tables.{word-below, word-room}
+use Rattle.laws.specs.Receive.LinePass.{lies-room}
+use Rattle.laws.specs.Receive.ReconstructionWalk.{word-reconstructs, word-reconstructed, lone-reconstructs, lone-reconstructed}
+use Rattle.reconstruction.proofs.entries.reconstruct_line.Statement.{statement}
+use Rattle.reconstruction.proofs.entries.reconstruct_line.Tie as tie
+
+mul-value : tie.Need-mul-value
+mul-value c = search needs
+
+add-value : tie.Need-add-value
+add-value c = search needs
+
+add-value-2 : tie.Need-add-value-2
+add-value-2 c = search needs
+
+mul-value-2 : tie.Need-mul-value-2
+mul-value-2 c = search needs
+
+shared-slice-read-value : tie.Need-shared-slice-read-value
+shared-slice-read-value c = search needs
+
+mul-if1 : tie.Need-mul-if1
+mul-if1 c = search needs
+
+add-if1 : tie.Need-add-if1
+add-if1 c = search needs
+
+mul-if1-2 : tie.Need-mul-if1-2
+mul-if1-2 c = search needs
+
+shared-slice-read-if1 : tie.Need-shared-slice-read-if1
+shared-slice-read-if1 c = search needs
+
+mul-fill-at : tie.Need-mul-fill-at
+mul-fill-at c =
+    let s = c .before .before .before .before .before .before .before .before in
+    omega (arith, s .good, s .pre .2 .end-is, lies-room (s .args .index .now) (s .args .line) (s .args .begin) (s .args .end) (s .pre .2) (s .pre .0 .fits))
+
+sub-fill-at : tie.Need-sub-fill-at
+sub-fill-at c = search needs
+
+part-fill-at-start : tie.Need-part-fill-at-start
+part-fill-at-start c = search needs
+
+part-fill-at-end : tie.Need-part-fill-at-end
+part-fill-at-end c =
+    let s = c .before .before .before .before .before .before .before .before in
+    lies-room (s .args .index .now) (s .args .line) (s .args .begin) (s .args .end) (s .pre .2) (s .pre .0 .fits)
+
+fill-at-requires : tie.Need-fill-at-requires
+fill-at-requires c κs =
+    let s = c .before .before .before .before .before .before .before .before .before .before in
+    lone-reconstructs (s .args .chars .now) (s .args .lengths .now) (s .args .index .now) (s .pre .0) (s .args .line) (s .args .begin) (s .args .end) (s .pre .2) (s .args .text .now) (s .pre .3) (c .before .before .if1 .taken)
+
+same-length : tie.Need-same-length
+same-length c = search needs
+
+returns : tie.Need-returns
+returns c =
+    let s = c .before .before .before .before .before .before .before .before .before .before .before .before .before in
+    lone-reconstructed (s .args .chars .now) (s .args .lengths .now) (s .args .index .now) (s .pre .0) (s .args .line) (s .args .begin) (s .args .end) (s .pre .2) (s .args .text .now) (s .pre .3) (c .before .before .before .before .before .if1 .taken)
+    (c .before .before .fill-at .last .1 .1 .0) (c .before .before .fill-at .ensures)
+
+cast-word : tie.Need-cast-word
+cast-word c = omega (arith, c .before .shared-slice-known6 .given (2 + 3 * c .before .before .before .before .before .before .before .before .args .line + 1))
+
+mul-start : tie.Need-mul-start
+mul-start c = omega (arith, c .before .shared-slice-known6 .given (2 + 3 * c .before .before .before .before .before .before .before .before .args .line + 1))
+
+shared-slice-read-start : tie.Need-shared-slice-read-start
+shared-slice-read-start c =
+    let s = c .before .before .before .before .before .before .before .before .before in
+    omega (arith, s .pre .1 .room, word-below (s .args .chars .now) (s .args .lengths .now) (s .args .index .now) (s .pre .0) (s .args .line) (s .pre .2 .below) (c .before .if1 .left))
+
+cast-start : tie.Need-cast-start
+cast-start c =
+    let s = c .before .before .before .before .before .before .before .before .before in
+    omega (arith, c .shared-slice-known7 .given (getD (s .args .index .now) (2 + 3 * s .args .line + 1) 0))
+
+mul-stop : tie.Need-mul-stop
+mul-stop c = omega (arith, c .before .before .shared-slice-known6 .given (2 + 3 * c .before .before .before .before .before .before .before .before .before .args .line + 1))
+
+shared-slice-read-stop : tie.Need-shared-slice-read-stop
+shared-slice-read-stop c =
+    let s = c .before .before .before .before .before .before .before .before .before .before in
+    word-below (s .args .chars .now) (s .args .lengths .now) (s .args .index .now) (s .pre .0) (s .args .line) (s .pre .2 .below) (c .before .before .if1 .left)
+
+cast-stop : tie.Need-cast-stop
+cast-stop c =
+    let s = c .before .before .before .before .before .before .before .before .before .before in
+    omega (arith, c .shared-slice-known8 .given (getD (s .args .index .now) (2 + 3 * s .args .line + 1) 0))
+
+add-stop : tie.Need-add-stop
+add-stop c =
+    let s = c .before .before .before .before .before .before .before .before .before .before in
+    omega (arith, s .pre .0 .few-chars, word-room (s .args .chars .now) (s .args .lengths .now) (s .args .index .now) (s .pre .0) (s .args .line) (s .pre .2 .below) (c .before .before .if1 .left) (s .args .word-starts .now) (s .pre .1))
+
+mul-reconstruct-positions : tie.Need-mul-reconstruct-positions
+mul-reconstruct-positions c =
+    let s = c .before .before .before .before .before .before .before .before .before .before in
+    omega (arith, s .pre .0 .few-chars, word-room (s .args .chars .now) (s .args .lengths .now) (s .args .index .now) (s .pre .0) (s .args .line) (s .pre .2 .below) (c .before .before .if1 .left) (s .args .word-starts .now) (s .pre .1))
+
+sub-reconstruct-positions : tie.Need-sub-reconstruct-positions
+sub-reconstruct-positions c = search needs
+
+part-reconstruct-positions-start : tie.Need-part-reconstruct-positions-start
+part-reconstruct-positions-start c = search needs
+
+part-reconstruct-positions-end : tie.Need-part-reconstruct-positions-end
+part-reconstruct-positions-end c =
+    let s = c .before .before .before .before .before .before .before .before .before .before in
+    word-room (s .args .chars .now) (s .args .lengths .now) (s .args .index .now) (s .pre .0) (s .args .line) (s .pre .2 .below) (c .before .before .if1 .left) (s .args .word-starts .now) (s .pre .1)
+
+mul-reconstruct-positions-2 : tie.Need-mul-reconstruct-positions-2
+mul-reconstruct-positions-2 c =
+    let s = c .before .before .before .before .before .before .before .before .before .before .before in
+    omega (arith, s .good, s .pre .2 .end-is, lies-room (s .args .index .now) (s .args .line) (s .args .begin) (s .args .end) (s .pre .2) (s .pre .0 .fits))
+
+sub-reconstruct-positions-2 : tie.Need-sub-reconstruct-positions-2
+sub-reconstruct-positions-2 c = search needs
+
+part-reconstruct-positions-start-2 : tie.Need-part-reconstruct-positions-start-2
+part-reconstruct-positions-start-2 c = search needs
+
+part-reconstruct-positions-end-2 : tie.Need-part-reconstruct-positions-end-2
+part-reconstruct-positions-end-2 c =
+    let s = c .before .before .before .before .before .before .before .before .before .before .before in
+    lies-room (s .args .index .now) (s .args .line) (s .args .begin) (s .args .end) (s .pre .2) (s .pre .0 .fits)
+
+reconstruct-positions-requires : tie.Need-reconstruct-positions-requires
+reconstruct-positions-requires c κs =
+    let s = c .before .before .before .before .before .before .before .before .before .before .before .before .before in
+    word-reconstructs (s .args .chars .now) (s .args .lengths .now) (s .args .index .now) (s .pre .0) (s .args .line) (s .args .begin) (s .args .end) (s .pre .2) (s .args .text .now) (s .pre .3) (c .before .before .before .before .before .if1 .left) (s .args .word-starts .now) (s .pre .1)
+
+same-length-2 : tie.Need-same-length-2
+same-length-2 c = search needs
+
+returns-2 : tie.Need-returns-2
+returns-2 c =
+    let s = c .before .before .before .before .before .before .before .before .before .before .before .before .before .before .before .before in
+    word-reconstructed (s .args .chars .now) (s .args .lengths .now) (s .args .index .now) (s .pre .0) (s .args .line) (s .args .begin) (s .args .end) (s .pre .2) (s .args .text .now) (s .pre .3) (c .before .before .before .before .before .before .before .before .if1 .left) (s .args .word-starts .now) (s .pre .1)
+    (c .before .before .reconstruct-positions .last .1 .1 .0) (c .before .before .reconstruct-positions .ensures)
+
+pub reconstruct-line-spec : {M : Type 1} → statement M
+reconstruct-line-spec =
+    tie.close
+    (tie.spec
+    mul-value
+    add-value
+    add-value-2
+    mul-value-2
+    shared-slice-read-value
+    mul-if1
+    add-if1
+    mul-if1-2
+    shared-slice-read-if1
+    mul-fill-at
+    sub-fill-at
+    part-fill-at-start
+    part-fill-at-end
+    fill-at-requires
+    same-length
+    returns
+    cast-word
+    mul-start
+    shared-slice-read-start
+    cast-start
+    mul-stop
+    shared-slice-read-stop
+    cast-stop
+    add-stop
+    mul-reconstruct-positions
+    sub-reconstruct-positions
+    part-reconstruct-positions-start
+    part-reconstruct-positions-end
+    mul-reconstruct-positions-2
+    sub-reconstruct-positions-2
+    part-reconstruct-positions-start-2
+    part-reconstruct-positions-end-2
+    reconstruct-positions-requires
+    same-length-2
+    returns-2)

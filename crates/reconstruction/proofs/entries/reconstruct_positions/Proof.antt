@@ -1,0 +1,79 @@
+-- `paint_places` meets its contract. The invariant: the string is set at the first i positions. The measure is how many are left.
+-- Assumes nothing.
+use Prim.Native.Nat.{_-_}
+use native.Mathlib.Omega.{arith}
+use borrow.Author.Needs.{needs}
+use lib.ListN.{length}
+use Rattle.laws.specs.Receive.PositionWalk.{Reconstructed, reconstructed-start, reconstructed-step, reconstructed-end}
+use Rattle.reconstruction.proofs.entries.reconstruct_positions.Statement.{statement}
+use Rattle.reconstruction.proofs.entries.reconstruct_positions.Tie as tie
+
+abbrev Inv-loop : tie.InvT-loop
+Inv-loop string positions text₀ i₀ text i = Reconstructed string positions text₀ text i
+
+abbrev μ-loop : tie.MeasureT-loop
+μ-loop string positions text₀ i₀ text i = length positions - i
+
+loop-holds : tie.Need-loop-holds Inv-loop μ-loop
+loop-holds c =
+    let a = c .before .before .before .args in
+    reconstructed-start (a .string .now) (a .positions .now) (a .text .now)
+
+mul-reconstruct-string : tie.Need-mul-reconstruct-string Inv-loop μ-loop
+mul-reconstruct-string c = search needs
+
+shared-slice-read-reconstruct-string : tie.Need-shared-slice-read-reconstruct-string Inv-loop μ-loop
+shared-slice-read-reconstruct-string c = search needs
+
+cast-reconstruct-string : tie.Need-cast-reconstruct-string Inv-loop μ-loop
+cast-reconstruct-string c = omega (arith, c .shared-slice-known3 .given (c .before .before .loop .i))
+
+sub-reconstruct-string : tie.Need-sub-reconstruct-string Inv-loop μ-loop
+sub-reconstruct-string c = omega (arith, c .before .before .before .before .before .before .pre .from (c .before .before .loop .i) (c .before .loop-test .taken))
+
+reconstruct-string-requires : tie.Need-reconstruct-string-requires Inv-loop μ-loop
+reconstruct-string-requires c κs =
+    let s = c .before .before .before .before .before .before .before in
+    let l = c .before .before .before .loop in
+    let below = c .before .before .loop-test .taken in
+    omega (arith, s .pre .from (l .i) below, s .pre .to (l .i) below, l .inv .len)
+
+add-i : tie.Need-add-i Inv-loop μ-loop
+add-i c = search needs
+
+loop-less : tie.Need-loop-less Inv-loop μ-loop
+loop-less c = search needs
+
+loop-again : tie.Need-loop-again Inv-loop μ-loop
+loop-again c =
+    let s = c .before .before .before .before .before .before .before .before .before .before in
+    let l = c .before .before .before .before .before .before .loop in
+    reconstructed-step (s .args .string .now) (s .args .positions .now) (s .args .text .now) (l .text) (l .i) (l .inv) (c .before .before .before .before .before .loop-test .taken)
+    (c .before .before .reconstruct-string .last .1 .1 .0) (c .before .before .reconstruct-string .ensures)
+
+same-length : tie.Need-same-length Inv-loop μ-loop
+same-length c = c .before .loop .inv .len
+
+returns : tie.Need-returns Inv-loop μ-loop
+returns c =
+    let s = c .before .before .before .before .before in
+    let l = c .before .loop in
+    reconstructed-end (s .args .string .now) (s .args .positions .now) (s .args .text .now) (l .text) (l .i) (l .inv) (c .loop-test .left)
+
+pub reconstruct-positions-spec : {M : Type 1} → statement M
+reconstruct-positions-spec =
+    tie.close
+    (tie.spec
+    Inv-loop
+    μ-loop
+    loop-holds
+    mul-reconstruct-string
+    shared-slice-read-reconstruct-string
+    cast-reconstruct-string
+    sub-reconstruct-string
+    reconstruct-string-requires
+    add-i
+    loop-less
+    loop-again
+    same-length
+    returns)

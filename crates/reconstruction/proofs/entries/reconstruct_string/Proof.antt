@@ -1,0 +1,75 @@
+-- `paint_string` meets its contract. The invariant: the first i characters are set. The measure is how many are left. Assumes nothing.
+use Prim.Native.Nat.{_-_}
+use native.Mathlib.Omega.{arith}
+use borrow.Author.Needs.{needs}
+use lib.ListN.{length}
+use Rattle.laws.specs.Receive.PositionWalk.{Setting, setting-start, setting-step, setting-end}
+use Rattle.reconstruction.proofs.entries.reconstruct_string.Statement.{statement}
+use Rattle.reconstruction.proofs.entries.reconstruct_string.Tie as tie
+
+abbrev Inv-loop : tie.InvT-loop
+Inv-loop string at text₀ i₀ text i = Setting string at text₀ text i
+
+abbrev μ-loop : tie.MeasureT-loop
+μ-loop string at text₀ i₀ text i = length string - i
+
+loop-holds : tie.Need-loop-holds Inv-loop μ-loop
+loop-holds c = setting-start (c .args .string .now) (c .args .at) (c .args .text .now)
+
+mul-text : tie.Need-mul-text Inv-loop μ-loop
+mul-text c = search needs
+
+shared-slice-read-text : tie.Need-shared-slice-read-text Inv-loop μ-loop
+shared-slice-read-text c = search needs
+
+add-text : tie.Need-add-text Inv-loop μ-loop
+add-text c =
+    let s = c .before .before .before in
+    omega (arith, s .pre, s .good)
+
+mul-text-2 : tie.Need-mul-text-2 Inv-loop μ-loop
+mul-text-2 c = search needs
+
+slice-write-text : tie.Need-slice-write-text Inv-loop μ-loop
+slice-write-text c =
+    let l = c .before .before .loop in
+    omega (arith, c .before .before .before .pre, c .before .loop-test .taken, l .inv .len)
+
+add-i : tie.Need-add-i Inv-loop μ-loop
+add-i c = search needs
+
+loop-less : tie.Need-loop-less Inv-loop μ-loop
+loop-less c = search needs
+
+loop-again : tie.Need-loop-again Inv-loop μ-loop
+loop-again c =
+    let a = c .before .before .before .args in
+    let l = c .before .before .loop in
+    setting-step (a .string .now) (a .at) (a .text .now) (l .text) (l .i) (l .inv) (c .before .loop-test .taken)
+
+same-length : tie.Need-same-length Inv-loop μ-loop
+same-length c = c .before .loop .inv .len
+
+returns : tie.Need-returns Inv-loop μ-loop
+returns c =
+    let a = c .before .before .args in
+    let l = c .before .loop in
+    setting-end (a .string .now) (a .at) (a .text .now) (l .text) (l .i) (l .inv) (c .loop-test .left)
+
+pub reconstruct-string-spec : {M : Type 1} → statement M
+reconstruct-string-spec =
+    tie.close
+    (tie.spec
+    Inv-loop
+    μ-loop
+    loop-holds
+    mul-text
+    shared-slice-read-text
+    add-text
+    mul-text-2
+    slice-write-text
+    add-i
+    loop-less
+    loop-again
+    same-length
+    returns)

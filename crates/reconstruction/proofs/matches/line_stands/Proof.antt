@@ -1,0 +1,184 @@
+-- `line_stands` meets its contract: a lone character is one comparison, a word is compared by its part of the characters. Assumes nothing.
+use Prim.Native.Nat.{_+_, _*_}
+use native.Mathlib.Omega.{arith}
+use borrow.Author.Needs.{needs}
+use lib.ListN.{getD}
+use Rattle.laws.specs.Directory.Tables.{word-below, word-room}
+use Rattle.laws.specs.Receive.LinePass.{lies-room}
+use Rattle.laws.specs.Receive.ReconstructionWalk.{positions-some, positions-rise, word-reconstructs, word-stood, lone-reconstructs, lone-stood}
+use Rattle.reconstruction.proofs.matches.line_stands.Statement.{statement}
+use Rattle.reconstruction.proofs.matches.line_stands.Tie as tie
+
+mul-value : tie.Need-mul-value
+mul-value c = search needs
+
+add-value : tie.Need-add-value
+add-value c = search needs
+
+add-value-2 : tie.Need-add-value-2
+add-value-2 c = search needs
+
+mul-value-2 : tie.Need-mul-value-2
+mul-value-2 c = search needs
+
+shared-slice-read-value : tie.Need-shared-slice-read-value
+shared-slice-read-value c = search needs
+
+mul-if1 : tie.Need-mul-if1
+mul-if1 c = search needs
+
+add-if1 : tie.Need-add-if1
+add-if1 c = search needs
+
+mul-if1-2 : tie.Need-mul-if1-2
+mul-if1-2 c = search needs
+
+shared-slice-read-if1 : tie.Need-shared-slice-read-if1
+shared-slice-read-if1 c = search needs
+
+mul-holds-at-each : tie.Need-mul-holds-at-each
+mul-holds-at-each c =
+    let s = c .before .before .before .before .before .before .before .before in
+    omega (arith, s .good, s .pre .2 .end-is, lies-room (s .args .index .now) (s .args .line) (s .args .begin) (s .args .end) (s .pre .2) (s .pre .0 .fits))
+
+sub-holds-at-each : tie.Need-sub-holds-at-each
+sub-holds-at-each c = search needs
+
+part-holds-at-each-start : tie.Need-part-holds-at-each-start
+part-holds-at-each-start c = search needs
+
+part-holds-at-each-end : tie.Need-part-holds-at-each-end
+part-holds-at-each-end c =
+    let s = c .before .before .before .before .before .before .before .before in
+    lies-room (s .args .index .now) (s .args .line) (s .args .begin) (s .args .end) (s .pre .2) (s .pre .0 .fits)
+
+holds-at-each-requires : tie.Need-holds-at-each-requires
+holds-at-each-requires c κs =
+    let s = c .before .before .before .before .before .before .before .before .before in
+    let a = s .args in
+    lone-reconstructs (a .chars .now) (a .lengths .now) (a .index .now) (s .pre .0) (a .line) (a .begin) (a .end) (s .pre .2) (a .text .now) (s .pre .3) (c .before .if1 .taken)
+
+returns : tie.Need-returns
+returns c =
+    let s = c .before .before .before .before .before .before .before .before .before .before in
+    let a = s .args in
+    lone-stood (a .chars .now) (a .lengths .now) (a .index .now) (s .pre .0) (a .line) (a .begin) (a .end) (s .pre .2) (a .text .now) (s .pre .3) (c .before .before .if1 .taken) (a .text .now) (c .holds-at-each .result) (c .holds-at-each .ensures)
+
+cast-word : tie.Need-cast-word
+cast-word c = omega (arith, c .before .shared-slice-known7 .given (2 + 3 * c .before .before .before .before .before .before .before .before .args .line + 1))
+
+mul-start : tie.Need-mul-start
+mul-start c = omega (arith, c .before .shared-slice-known7 .given (2 + 3 * c .before .before .before .before .before .before .before .before .args .line + 1))
+
+shared-slice-read-start : tie.Need-shared-slice-read-start
+shared-slice-read-start c =
+    let s = c .before .before .before .before .before .before .before .before .before in
+    omega (arith, s .pre .1 .room, word-below (s .args .chars .now) (s .args .lengths .now) (s .args .index .now) (s .pre .0) (s .args .line) (s .pre .2 .below) (c .before .if1 .left))
+
+cast-start : tie.Need-cast-start
+cast-start c =
+    let s = c .before .before .before .before .before .before .before .before .before in
+    omega (arith, c .shared-slice-known8 .given (getD (s .args .index .now) (2 + 3 * s .args .line + 1) 0))
+
+mul-stop : tie.Need-mul-stop
+mul-stop c = omega (arith, c .before .before .shared-slice-known7 .given (2 + 3 * c .before .before .before .before .before .before .before .before .before .args .line + 1))
+
+shared-slice-read-stop : tie.Need-shared-slice-read-stop
+shared-slice-read-stop c =
+    let s = c .before .before .before .before .before .before .before .before .before .before in
+    word-below (s .args .chars .now) (s .args .lengths .now) (s .args .index .now) (s .pre .0) (s .args .line) (s .pre .2 .below) (c .before .before .if1 .left)
+
+cast-stop : tie.Need-cast-stop
+cast-stop c =
+    let s = c .before .before .before .before .before .before .before .before .before .before in
+    omega (arith, c .shared-slice-known9 .given (getD (s .args .index .now) (2 + 3 * s .args .line + 1) 0))
+
+add-stop : tie.Need-add-stop
+add-stop c =
+    let s = c .before .before .before .before .before .before .before .before .before .before in
+    omega (arith, s .pre .0 .few-chars, word-room (s .args .chars .now) (s .args .lengths .now) (s .args .index .now) (s .pre .0) (s .args .line) (s .pre .2 .below) (c .before .before .if1 .left) (s .args .word-starts .now) (s .pre .1))
+
+mul-stands-at-each : tie.Need-mul-stands-at-each
+mul-stands-at-each c =
+    let s = c .before .before .before .before .before .before .before .before .before .before in
+    omega (arith, s .pre .0 .few-chars, word-room (s .args .chars .now) (s .args .lengths .now) (s .args .index .now) (s .pre .0) (s .args .line) (s .pre .2 .below) (c .before .before .if1 .left) (s .args .word-starts .now) (s .pre .1))
+
+sub-stands-at-each : tie.Need-sub-stands-at-each
+sub-stands-at-each c = search needs
+
+part-stands-at-each-start : tie.Need-part-stands-at-each-start
+part-stands-at-each-start c = search needs
+
+part-stands-at-each-end : tie.Need-part-stands-at-each-end
+part-stands-at-each-end c =
+    let s = c .before .before .before .before .before .before .before .before .before .before in
+    word-room (s .args .chars .now) (s .args .lengths .now) (s .args .index .now) (s .pre .0) (s .args .line) (s .pre .2 .below) (c .before .before .if1 .left) (s .args .word-starts .now) (s .pre .1)
+
+mul-stands-at-each-2 : tie.Need-mul-stands-at-each-2
+mul-stands-at-each-2 c =
+    let s = c .before .before .before .before .before .before .before .before .before .before .before in
+    omega (arith, s .good, s .pre .2 .end-is, lies-room (s .args .index .now) (s .args .line) (s .args .begin) (s .args .end) (s .pre .2) (s .pre .0 .fits))
+
+sub-stands-at-each-2 : tie.Need-sub-stands-at-each-2
+sub-stands-at-each-2 c = search needs
+
+part-stands-at-each-start-2 : tie.Need-part-stands-at-each-start-2
+part-stands-at-each-start-2 c = search needs
+
+part-stands-at-each-end-2 : tie.Need-part-stands-at-each-end-2
+part-stands-at-each-end-2 c =
+    let s = c .before .before .before .before .before .before .before .before .before .before .before in
+    lies-room (s .args .index .now) (s .args .line) (s .args .begin) (s .args .end) (s .pre .2) (s .pre .0 .fits)
+
+stands-at-each-requires : tie.Need-stands-at-each-requires
+stands-at-each-requires c κs =
+    let s = c .before .before .before .before .before .before .before .before .before .before .before .before in
+    let a = s .args in (
+      word-reconstructs (a .chars .now) (a .lengths .now) (a .index .now) (s .pre .0) (a .line) (a .begin) (a .end) (s .pre .2) (a .text .now) (s .pre .3) (c .before .before .before .before .if1 .left) (a .word-starts .now) (s .pre .1),
+      positions-some (a .chars .now) (a .lengths .now) (a .index .now) (s .pre .0) (a .line) (a .begin) (a .end) (s .pre .2) (a .text .now) (s .pre .3),
+      positions-rise (a .chars .now) (a .lengths .now) (a .index .now) (s .pre .0) (a .line) (a .begin) (a .end) (s .pre .2) (a .text .now) (s .pre .3),
+    )
+
+returns-2 : tie.Need-returns-2
+returns-2 c =
+    let s = c .before .before .before .before .before .before .before .before .before .before .before .before .before in
+    let a = s .args in
+    word-stood (a .chars .now) (a .lengths .now) (a .index .now) (s .pre .0) (a .line) (a .begin) (a .end) (s .pre .2) (a .text .now) (s .pre .3) (c .before .before .before .before .before .if1 .left) (a .word-starts .now) (s .pre .1) (a .text .now) (c .stands-at-each .result) (c .stands-at-each .ensures)
+
+pub line-stands-spec : {M : Type 1} → statement M
+line-stands-spec =
+    tie.close
+    (tie.spec
+    mul-value
+    add-value
+    add-value-2
+    mul-value-2
+    shared-slice-read-value
+    mul-if1
+    add-if1
+    mul-if1-2
+    shared-slice-read-if1
+    mul-holds-at-each
+    sub-holds-at-each
+    part-holds-at-each-start
+    part-holds-at-each-end
+    holds-at-each-requires
+    returns
+    cast-word
+    mul-start
+    shared-slice-read-start
+    cast-start
+    mul-stop
+    shared-slice-read-stop
+    cast-stop
+    add-stop
+    mul-stands-at-each
+    sub-stands-at-each
+    part-stands-at-each-start
+    part-stands-at-each-end
+    mul-stands-at-each-2
+    sub-stands-at-each-2
+    part-stands-at-each-start-2
+    part-stands-at-each-end-2
+    stands-at-each-requires
+    returns-2)

@@ -1,0 +1,31 @@
+// The text that the entries of an index show: painted over one ground character, and looked at again.
+//
+// Where two entries contradict one another, one of them does not stand in what was painted.
+ghost use mathlib.Core.Path.{_≡_};
+ghost use lib.ListN.{length};
+ghost use Rattle.basics.specs.Bools.{Reflects};
+ghost use Rattle.spec.specs.Dictionary.{lexicon};
+ghost use Rattle.spec.specs.Index.{n-of, lines-in};
+ghost use Rattle.laws.specs.Text.Facts.{All-stand};
+ghost use Rattle.laws.specs.Directory.Tables.{Can-read, Word-starts};
+ghost use Rattle.laws.specs.TextScan.ReconstructedSearch.{reconstructed-over};
+use crate::entries::reconstruct_entries;
+use crate::matches::entries_match;
+use copying::slices::fill;
+
+// Paints every entry of a readable index over a ground. Answers whether every entry stands in what was painted.
+pub fn reconstruct_checked(
+    chars: &[u16],
+    lengths: &[u16],
+    word_starts: &[u16],
+    index: &[u16],
+    sentinel: u16,
+    text: &mut [u16],
+) -> bool
+    requires { ⌜ Can-read (now chars) (now lengths) (now index) × Word-starts (now lengths) (length (now lengths)) (now «word_starts») × (length (now text) ≡ n-of (now index)) ⌝ }
+    ensures { λ r. ⌜ (now (text .exit) ≡ reconstructed-over (lexicon (now (chars .entry)) (now (lengths .entry))) (lines-in (now (index .entry))) (n-of (now (index .entry))) sentinel) × Reflects r (All-stand (lexicon (now (chars .entry)) (now (lengths .entry))) (lines-in (now (index .entry))) (now (text .exit))) ⌝ }
+{
+    fill(text, sentinel);
+    reconstruct_entries(chars, lengths, word_starts, index, text);
+    entries_match(chars, lengths, word_starts, index, text)
+}

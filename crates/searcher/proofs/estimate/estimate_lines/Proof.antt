@@ -1,0 +1,50 @@
+-- `weigh_lines` meets its contract. The invariant bounds the sum by the number of the line. The measure is how many lines are left.
+-- Assumes nothing.
+use Prim.Native.Nat.{_*_, _-_, _≤_}
+use native.Mathlib.Omega.{arith}
+use Rattle.searcher.proofs.estimate.estimate_lines.Statement.{statement}
+use Rattle.searcher.proofs.estimate.estimate_lines.Tie as tie
+
+abbrev Inv-loop : tie.InvT-loop
+Inv-loop lengths index from to whole sum₀ line₀ sum line = (line ≤ to) × (sum ≤ 4294836225 * line)
+
+abbrev μ-loop : tie.MeasureT-loop
+μ-loop lengths index from to whole sum₀ line₀ sum line = to - line
+
+loop-holds : tie.Need-loop-holds Inv-loop μ-loop
+loop-holds c = (c .before .before .pre .0, omega arith)
+
+estimate-line-requires : tie.Need-estimate-line-requires Inv-loop μ-loop
+estimate-line-requires c κs =
+    let s = c .before .before .before .before in
+    let below = c .loop-test .taken in
+    (omega (arith, s .pre .1), s .pre .3 (c .before .loop .line) below, omega (arith, s .pre .2))
+
+add-sum : tie.Need-add-sum Inv-loop μ-loop
+add-sum c = omega (arith, c .estimate-line .ensures, c .before .before .loop .inv .1, c .before .before .loop .inv .0, c .before .before .before .before .before .pre .2)
+
+add-line : tie.Need-add-line Inv-loop μ-loop
+add-line c = omega (arith, c .before .before .loop .inv .0, c .before .before .before .before .before .pre .2)
+
+loop-less : tie.Need-loop-less Inv-loop μ-loop
+loop-less c = omega (arith, c .before .loop-test .taken)
+
+loop-again : tie.Need-loop-again Inv-loop μ-loop
+loop-again c = (omega (arith, c .before .loop-test .taken), omega (arith, c .estimate-line .ensures, c .before .before .loop .inv .1))
+
+returns : tie.Need-returns Inv-loop μ-loop
+returns c = omega (arith, c .before .loop .inv .1, c .before .loop .inv .0, c .before .before .before .before .pre .2)
+
+pub estimate-lines-spec : {M : Type 1} → statement M
+estimate-lines-spec =
+    tie.close
+    (tie.spec
+    Inv-loop
+    μ-loop
+    loop-holds
+    estimate-line-requires
+    add-sum
+    add-line
+    loop-less
+    loop-again
+    returns)

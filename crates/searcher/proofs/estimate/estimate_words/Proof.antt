@@ -1,0 +1,156 @@
+-- `weigh_words` meets its contract. The invariant: the lines from `low` to `high` - 1 are left, and share `depth` characters with the
+-- string from the offset on; the sum is bounded by the number of lines passed. The measure is how many lines and characters are left.
+-- Assumes nothing.
+use mathlib.Core.Path.{refl, _∙_}
+use Prim.Native.Nat.{_+_, _*_, _-_, _≤_}
+use native.Mathlib.Omega.{arith}
+use lib.ListN.{getD}
+use Rattle.laws.specs.Window.WordLines.{Shared-prefix, shared-prefix-start, shared-prefix-next, shared-word, shared-deep, shared-prefix-column, shared-prefix-deeper, words-at}
+use Rattle.searcher.proofs.estimate.estimate_words.Statement.{statement}
+use Rattle.searcher.proofs.estimate.estimate_words.Tie as tie
+
+abbrev Inv-loop : tie.InvT-loop
+Inv-loop chars lengths index word-starts string key-start word-lines whole left sum₀ low₀ high₀ depth₀ sum low high depth = (sum ≤ 4294836225 * low) × Shared-prefix chars lengths index string key-start word-lines low high depth
+
+abbrev μ-loop : tie.MeasureT-loop
+μ-loop chars lengths index word-starts string key-start word-lines whole left sum₀ low₀ high₀ depth₀ sum low high depth = (high - low) + (32 - depth)
+
+sub-left : tie.Need-sub-left Inv-loop μ-loop
+sub-left c = omega (arith, c .before .before .before .before .before .pre .4)
+
+loop-holds : tie.Need-loop-holds Inv-loop μ-loop
+loop-holds c =
+    let a = c .before .before .before .before .before .args in
+    (omega arith, shared-prefix-start (a .chars .now) (a .lengths .now) (a .index .now) (a .string .now) (a .key-start) (a .word-lines))
+
+estimate-lines-requires : tie.Need-estimate-lines-requires Inv-loop μ-loop
+estimate-lines-requires c κs =
+    let s = c .before .before .before .before .before .before .before .before in
+    let a = s .args in
+    let l = c .before .before .loop in (
+      l .inv .1 .order,
+      omega (arith, l .inv .1 .within, s .pre .2 .within, s .pre .0 .fits .has-directory),
+      omega (arith, l .inv .1 .within, s .pre .2 .within, s .pre .0 .keys-small),
+      λ i below. words-at (a .chars .now) (a .lengths .now) (a .index .now) (s .pre .0) (a .word-lines) (s .pre .2) i (omega (arith, l .inv .1 .within)),
+    )
+
+add-result : tie.Need-add-result Inv-loop μ-loop
+add-result c =
+    let s = c .before .before .before .before .before .before .before .before .before in
+    let a = s .args in
+    let l = c .before .before .before .loop in omega (arith, c .estimate-lines .ensures, l .inv .0, l .inv .1 .order, l .inv .1 .within, s .pre .2 .within, s .pre .0 .keys-small)
+
+returns : tie.Need-returns Inv-loop μ-loop
+returns c =
+    let s = c .before .before .before .before .before .before .before .before .before in
+    let a = s .args in
+    let l = c .before .before .before .loop in omega (arith, c .estimate-lines .ensures, l .inv .0, l .inv .1 .order, l .inv .1 .within, s .pre .2 .within, s .pre .0 .keys-small)
+
+word-length-requires : tie.Need-word-length-requires Inv-loop μ-loop
+word-length-requires c κs =
+    let s = c .before .before .before .before .before .before .before .before in
+    let a = s .args in
+    let l = c .before .before .loop in
+    let below = c .before .loop-test .taken in
+    (omega (arith, below, l .inv .1 .within, s .pre .2 .within, s .pre .0 .fits .has-directory), shared-word (a .chars .now) (a .lengths .now) (a .index .now) (s .pre .0) (a .word-lines) (s .pre .2) (a .word-starts .now) (s .pre .1) (a .string .now) (a .key-start) (l .low) (l .high) (l .depth) (l .inv .1) (l .low) (omega arith) below)
+
+estimate-line-requires : tie.Need-estimate-line-requires Inv-loop μ-loop
+estimate-line-requires c κs =
+    let s = c .before .before .before .before .before .before .before .before .before .before in
+    let a = s .args in
+    let l = c .before .before .before .before .loop in
+    let below = c .before .before .before .loop-test .taken in (
+      omega (arith, below, l .inv .1 .within, s .pre .2 .within, s .pre .0 .fits .has-directory),
+      shared-word (a .chars .now) (a .lengths .now) (a .index .now) (s .pre .0) (a .word-lines) (s .pre .2) (a .word-starts .now) (s .pre .1) (a .string .now) (a .key-start) (l .low) (l .high) (l .depth) (l .inv .1) (l .low) (omega arith) below,
+      omega (arith, below, l .inv .1 .within, s .pre .2 .within, s .pre .0 .keys-small),
+    )
+
+add-sum : tie.Need-add-sum Inv-loop μ-loop
+add-sum c =
+    let s = c .before .before .before .before .before .before .before .before .before .before .before in
+    let a = s .args in
+    let l = c .before .before .before .before .before .loop in omega (arith, c .estimate-line .ensures, l .inv .0, l .inv .1 .order, l .inv .1 .within, s .pre .2 .within, s .pre .0 .keys-small)
+
+add-low : tie.Need-add-low Inv-loop μ-loop
+add-low c =
+    let s = c .before .before .before .before .before .before .before .before .before .before .before in
+    let a = s .args in
+    let l = c .before .before .before .before .before .loop in omega (arith, l .inv .1 .order, l .inv .1 .within, s .pre .2 .within, s .pre .0 .keys-small)
+
+loop-less : tie.Need-loop-less Inv-loop μ-loop
+loop-less c = omega (arith, c .before .before .before .before .loop-test .taken)
+
+loop-again : tie.Need-loop-again Inv-loop μ-loop
+loop-again c =
+    let s = c .before .before .before .before .before .before .before .before .before .before .before in
+    let a = s .args in
+    let l = c .before .before .before .before .before .loop in
+    (omega (arith, c .estimate-line .ensures, l .inv .0), shared-prefix-next (a .chars .now) (a .lengths .now) (a .index .now) (s .pre .0) (a .word-lines) (s .pre .2) (a .word-starts .now) (s .pre .1) (a .string .now) (a .key-start) (l .low) (l .high) (l .depth) (l .inv .1) (c .before .before .before .before .loop-test .taken))
+
+add-character : tie.Need-add-character Inv-loop μ-loop
+add-character c = omega (arith, c .before .before .if1 .left, c .before .before .before .before .before .before .before .before .before .before .pre .3 .short)
+
+mul-character : tie.Need-mul-character Inv-loop μ-loop
+mul-character c = omega (arith, c .before .before .if1 .left, c .before .before .before .before .before .before .before .before .before .before .pre .3 .short)
+
+shared-slice-read-character : tie.Need-shared-slice-read-character Inv-loop μ-loop
+shared-slice-read-character c = omega (arith, c .before .before .before .if1 .left)
+
+equal-range-requires : tie.Need-equal-range-requires Inv-loop μ-loop
+equal-range-requires c κs =
+    let s = c .before .before .before .before .before .before .before .before .before .before .before in
+    let a = s .args in
+    let l = c .before .before .before .before .before .loop in
+    shared-prefix-column (a .chars .now) (a .lengths .now) (a .index .now) (s .pre .0) (a .word-lines) (s .pre .2) (a .word-starts .now) (s .pre .1) (a .string .now) (a .key-start) (l .low) (l .high) (l .depth) (l .inv .1) (c .before .before .before .before .loop-test .taken) (λ e. c .before .if2 .left (c .before .before .word-length .ensures ∙ e))
+
+add-depth : tie.Need-add-depth Inv-loop μ-loop
+add-depth c = omega (arith, c .before .before .before .before .if1 .left, c .before .before .before .before .before .before .before .before .before .before .before .before .pre .3 .short)
+
+loop-less-2 : tie.Need-loop-less-2 Inv-loop μ-loop
+loop-less-2 c =
+    let s = c .before .before .before .before .before .before .before .before .before .before .before .before in
+    let a = s .args in
+    let l = c .before .before .before .before .before .before .loop in
+    omega (arith, shared-deep (a .chars .now) (a .lengths .now) (a .index .now) (s .pre .0) (a .word-lines) (s .pre .2) (a .word-starts .now) (s .pre .1) (a .string .now) (a .key-start) (l .low) (l .high) (l .depth) (l .inv .1) (c .before .before .before .before .before .loop-test .taken) (λ e. c .before .before .if2 .left (c .before .before .before .word-length .ensures ∙ e)), c .before .before .before .before .before .loop-test .taken, c .equal-range .ensures .0 .from, c .equal-range .ensures .1 .to)
+
+loop-again-2 : tie.Need-loop-again-2 Inv-loop μ-loop
+loop-again-2 c =
+    let s = c .before .before .before .before .before .before .before .before .before .before .before .before in
+    let a = s .args in
+    let l = c .before .before .before .before .before .before .loop in (
+      omega (arith, l .inv .0, c .equal-range .ensures .0 .from),
+      shared-prefix-deeper (a .chars .now) (a .lengths .now) (a .index .now) (s .pre .0) (a .word-lines) (s .pre .2) (a .word-starts .now) (s .pre .1) (a .string .now) (a .key-start) (l .low) (l .high) (l .depth) (l .inv .1) (c .before .before .before .before .before .loop-test .taken) (λ e. c .before .before .if2 .left (c .before .before .before .word-length .ensures ∙ e))
+          (getD (a .string .now) (a .key-start + l .depth) 0) (c .equal-range .result .from) (c .equal-range .result .to) refl (omega (arith, c .before .before .before .before .if1 .left)) (c .equal-range .ensures .0) (c .equal-range .ensures .1),
+    )
+
+returns-2 : tie.Need-returns-2 Inv-loop μ-loop
+returns-2 c =
+    let s = c .before .before .before .before .before .before .before in
+    let a = s .args in
+    let l = c .before .loop in omega (arith, l .inv .0, l .inv .1 .order, l .inv .1 .within, s .pre .2 .within, s .pre .0 .keys-small)
+
+pub estimate-words-spec : {M : Type 1} → statement M
+estimate-words-spec =
+    tie.close
+    (tie.spec
+    Inv-loop
+    μ-loop
+    sub-left
+    loop-holds
+    estimate-lines-requires
+    add-result
+    returns
+    word-length-requires
+    estimate-line-requires
+    add-sum
+    add-low
+    loop-less
+    loop-again
+    add-character
+    mul-character
+    shared-slice-read-character
+    equal-range-requires
+    add-depth
+    loop-less-2
+    loop-again-2
+    returns-2)

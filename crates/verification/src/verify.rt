@@ -1,0 +1,72 @@
+// Whether what the scan of a painted text registers is what an index has.
+//
+// The builder's own step runs over the text. Where it registers an entry, the line noted at that place has to have the entry's key;
+// and as many are registered as the index has positions. Each registered entry then has its own delivered one, and there are no
+// others: whatever the painting left uncovered, painted over or passed by fails of itself. The cost is that of the scan.
+ghost use mathlib.Core.Path.{_≡_};
+ghost use Prim.Native.Nat.{_≤_};
+ghost use lib.ListN.{length};
+ghost use Rattle.spec.specs.Dictionary.{lexicon};
+ghost use Rattle.spec.specs.Index.{keys-of};
+ghost use Rattle.laws.specs.Numbers.Slices.{Fits};
+ghost use Rattle.laws.specs.Match.MatchTable.{Tables};
+ghost use Rattle.laws.specs.Receive.LineMapFill.{mapped-at};
+ghost use Rattle.laws.specs.Receive.LineMap.{Line-map, verify};
+ghost use Rattle.laws.specs.Receive.Verify.{token-mapped};
+use scanning::scan::step;
+
+// Whether a note is that of a line with the key of a mark, where `character` stands.
+fn line_has_key(index: &[u16], mapped: u16, token: u16, character: u16) -> bool
+    requires { ⌜ Fits (now index) × (mapped ≤ keys-of (now index)) × (1 ≤ token) ⌝ }
+    ensures { λ r. ⌜ r ≡ token-mapped (now (index .entry)) mapped token character ⌝ }
+{
+    if mapped == 0 {
+        return false;
+    }
+    let line = mapped as usize - 1;
+    let kind = index[2 + 3 * line];
+    let value = index[2 + 3 * line + 1];
+    if token == 4097 {
+        if kind != 1 {
+            return false;
+        }
+        return value == character;
+    }
+    if kind != 0 {
+        return false;
+    }
+    value == token - 1
+}
+
+// Whether each entry that the scan of the text registers is noted where it starts, and there are as many as positions in the index.
+pub fn verify(
+    chars: &[u16],
+    lengths: &[u16],
+    heads: &[u16],
+    links: &[u16],
+    word_starts: &[u16],
+    index: &[u16],
+    text: &[u16],
+    line_map: &[u16],
+) -> bool
+    requires { ⌜ Tables (now chars) (now lengths) (now heads) (now links) (now «word_starts») × Fits (now index) × Line-map (now index) (mapped-at (now «line_map»)) × (length (now text) ≤ length (now «line_map»)) ⌝ }
+    ensures { λ r. ⌜ r ≡ verify (lexicon (now (chars .entry)) (now (lengths .entry))) (mapped-at (now («line_map» .entry))) (now (index .entry)) (now (text .entry)) ⌝ }
+{
+    let mut count = 0;
+    let mut end = 0;
+    let mut at = 0;
+    while at < text.len() {
+        let here = at;
+        let next = step(chars, lengths, heads, links, word_starts, text, here, end);
+        let token = next.token;
+        end = next.end;
+        at += 1;
+        if token != 0 {
+            if !line_has_key(index, line_map[here], token, text[here]) {
+                return false;
+            }
+            count += 1;
+        }
+    }
+    2 + 3 * index[1] as usize + count == index.len()
+}

@@ -1,0 +1,115 @@
+-- `fill_standing` meets its contract. The invariant: each start before `at` says how long a front lies there, and the text from `left`
+-- to `right` is a front of the string. The measure is how many starts are left. Assumes nothing.
+use Prim.Native.Nat.{_+_, _-_, _≤_}
+use native.Mathlib.Omega.{arith}
+use borrow.Author.Needs.{needs}
+use lib.ListN.{length}
+use Rattle.laws.specs.TextScan.ZSearch.{Prefix-at, Prefix-length, Filling, filling-start, filling-on, filling-new, zbox-short, known-lies}
+use Rattle.zsearch.proofs.prefix_lengths.fill_prefix_lengths.Statement.{statement}
+use Rattle.zsearch.proofs.prefix_lengths.fill_prefix_lengths.Tie as tie
+
+abbrev Inv-loop : tie.InvT-loop
+Inv-loop text string zarray reach₀ left₀ right₀ at₀ reach left right at = Filling 0 string text (Prefix-length string text) reach₀ reach at left right
+
+abbrev μ-loop : tie.MeasureT-loop
+μ-loop text string zarray reach₀ left₀ right₀ at₀ reach left right at = length reach₀ - at
+
+loop-holds : tie.Need-loop-holds Inv-loop μ-loop
+loop-holds c =
+    let a = c .before .before .before .before .args in
+    filling-start 0 (a .string .now) (a .text .now) (Prefix-length (a .string .now) (a .text .now)) (a .reach .now) (λ j b. absurd (omega arith))
+
+known-from-requires : tie.Need-known-from-requires Inv-loop μ-loop
+known-from-requires c κs =
+    let s = c .before .before .before .before .before .before in
+    let l = c .before .loop in
+    λ b.
+    let short = zbox-short 0 (s .args .string .now) (s .args .text .now) (l .at) (l .left) (l .right) (l .inv .zbox) b in
+    (omega (arith, l .inv .zbox .begun b .1), omega (arith, s .pre .2, short))
+
+extend-requires : tie.Need-extend-requires Inv-loop μ-loop
+extend-requires c κs =
+    let s = c .before .before .before .before .before .before .before in
+    let l = c .before .before .loop in
+    let fits : l .at + length (s .args .string .now) ≤ length (s .args .text .now) =
+    omega (arith, c .before .loop-test .taken, l .inv .len, s .pre .3) in
+    let lies : Prefix-at (s .args .string .now) (s .args .text .now) (l .at) (c .known-from .result) =
+    known-lies 0 (s .args .string .now) (s .args .text .now) (l .at) (l .left) (l .right) (l .inv .zbox)
+    (length (s .args .string .now)) (s .args .zarray .now) (c .known-from .result) (s .pre .0)
+    (zbox-short 0 (s .args .string .now) (s .args .text .now) (l .at) (l .left) (l .right) (l .inv .zbox)) (omega (arith, fits))
+    (c .known-from .ensures) in
+    (lies, lies .short, omega arith, fits)
+
+cast-reach : tie.Need-cast-reach Inv-loop μ-loop
+cast-reach c = search needs
+
+mul-reach : tie.Need-mul-reach Inv-loop μ-loop
+mul-reach c = search needs
+
+slice-write-reach : tie.Need-slice-write-reach Inv-loop μ-loop
+slice-write-reach c = search needs
+
+add-at : tie.Need-add-at Inv-loop μ-loop
+add-at c = search needs
+
+add-if1 : tie.Need-add-if1 Inv-loop μ-loop
+add-if1 c = search needs
+
+add-right : tie.Need-add-right Inv-loop μ-loop
+add-right c = search needs
+
+loop-less : tie.Need-loop-less Inv-loop μ-loop
+loop-less c = search needs
+
+loop-again : tie.Need-loop-again Inv-loop μ-loop
+loop-again c =
+    let s = c .before .before .before .before .before .before .before .before .before in
+    let l = c .before .before .before .before .loop in
+    let len = c .before .extend .result in
+    let end = c .before .extend .ensures in
+    let below = c .before .before .before .loop-test .taken in
+    filling-new 0 (s .args .string .now) (s .args .text .now) (Prefix-length (s .args .string .now) (s .args .text .now)) (s .args .reach .now) (l .reach)
+    (l .at) (l .left) (l .right) len (l .inv) (omega (arith, below, l .inv .len))
+    end (end .lies)
+
+loop-less-2 : tie.Need-loop-less-2 Inv-loop μ-loop
+loop-less-2 c = search needs
+
+loop-again-2 : tie.Need-loop-again-2 Inv-loop μ-loop
+loop-again-2 c =
+    let s = c .before .before .before .before .before .before .before .before .before in
+    let l = c .before .before .before .before .loop in
+    let len = c .before .extend .result in
+    let end = c .before .extend .ensures in
+    let below = c .before .before .before .loop-test .taken in
+    filling-on 0 (s .args .string .now) (s .args .text .now) (Prefix-length (s .args .string .now) (s .args .text .now)) (s .args .reach .now) (l .reach)
+    (l .at) (l .left) (l .right) len (l .inv) (omega (arith, below, l .inv .len))
+    end
+
+same-length : tie.Need-same-length Inv-loop μ-loop
+same-length c = c .before .loop .inv .len
+
+returns : tie.Need-returns Inv-loop μ-loop
+returns c = λ j b. c .before .loop .inv .told j (omega (arith, b, c .loop-test .left))
+
+pub fill-prefix-lengths-spec : {M : Type 1} → statement M
+fill-prefix-lengths-spec =
+    tie.close
+    (tie.spec
+    Inv-loop
+    μ-loop
+    loop-holds
+    known-from-requires
+    extend-requires
+    cast-reach
+    mul-reach
+    slice-write-reach
+    add-at
+    add-if1
+    add-right
+    loop-less
+    loop-again
+    loop-less-2
+    loop-again-2
+    same-length
+    returns)

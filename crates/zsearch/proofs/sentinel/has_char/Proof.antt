@@ -1,0 +1,68 @@
+-- `has_char` meets its contract. The invariant: the character is none of the first i. The measure is how many are left. Assumes
+-- nothing.
+use mathlib.Core.Path.{_≡_, subst}
+use Prim.Native.Nat.{ℕ, _-_, _≤_, _<_}
+use native.Mathlib.Omega.{arith}
+use borrow.Author.Count.{below-more}
+use borrow.Author.Needs.{needs}
+use lib.ListN.{length, getD}
+use Rattle.basics.specs.Bools.{reflects-yes, reflects-no}
+use Rattle.basics.specs.Member.{In, in-getD, in-place}
+use Rattle.zsearch.proofs.sentinel.has_char.Statement.{statement}
+use Rattle.zsearch.proofs.sentinel.has_char.Tie as tie
+
+abbrev Inv-loop : tie.InvT-loop
+Inv-loop string character i₀ i =
+    (i ≤ length string) × ((k : ℕ) → k < i → getD string k 0 ≡ character → ⊥)
+
+abbrev μ-loop : tie.MeasureT-loop
+μ-loop string character i₀ i = length string - i
+
+loop-holds : tie.Need-loop-holds Inv-loop μ-loop
+loop-holds c = (omega arith, λ k h. absurd (omega arith))
+
+mul-if1 : tie.Need-mul-if1 Inv-loop μ-loop
+mul-if1 c = search needs
+
+shared-slice-read-if1 : tie.Need-shared-slice-read-if1 Inv-loop μ-loop
+shared-slice-read-if1 c = search needs
+
+returns : tie.Need-returns Inv-loop μ-loop
+returns c =
+    let s = c .before .before .before .before in
+    let l = c .before .before .before .loop in
+    reflects-yes
+    (subst (λ (x : ℕ). In x (s .args .string .now)) (c .if1 .taken)
+    (in-getD (s .args .string .now) (l .i) 0 (c .before .before .loop-test .taken)))
+
+add-i : tie.Need-add-i Inv-loop μ-loop
+add-i c = search needs
+
+loop-less : tie.Need-loop-less Inv-loop μ-loop
+loop-less c = search needs
+
+loop-again : tie.Need-loop-again Inv-loop μ-loop
+loop-again c = (omega arith, below-more _ _ (c .before .before .before .loop .inv .1) (c .if1 .left))
+
+returns-2 : tie.Need-returns-2 Inv-loop μ-loop
+returns-2 c =
+    let a = c .before .before .args in
+    reflects-no
+    (λ m.
+    let place = in-place (a .character) (a .string .now) 0 m in
+    c .before .loop .inv .1 (place .0) (omega (arith, place .1, c .loop-test .left)) (place .2))
+
+pub has-char-spec : {M : Type 1} → statement M
+has-char-spec =
+    tie.close
+    (tie.spec
+    Inv-loop
+    μ-loop
+    loop-holds
+    mul-if1
+    shared-slice-read-if1
+    returns
+    add-i
+    loop-less
+    loop-again
+    returns-2)

@@ -1,0 +1,58 @@
+-- `ground_of` meets its contract. The invariant: every lower number is a character of the string, so there are at most as many as
+-- characters. The measure is how many characters are left. Assumes nothing.
+use Prim.Native.Nat.{suc, _+_, _-_}
+use native.Mathlib.Omega.{arith}
+use borrow.Author.Needs.{needs}
+use lib.ListN.{length}
+use Rattle.basics.specs.Absent.{Lower-in, lower-none, lower-next, lower-few}
+use Rattle.zsearch.proofs.sentinel.sentinel_of.Statement.{statement}
+use Rattle.zsearch.proofs.sentinel.sentinel_of.Tie as tie
+
+abbrev Inv-loop : tie.InvT-loop
+Inv-loop string ground₀ ground = Lower-in string ground
+
+abbrev μ-loop : tie.MeasureT-loop
+μ-loop string ground₀ ground = suc (length string) - ground
+
+loop-holds : tie.Need-loop-holds Inv-loop μ-loop
+loop-holds c = lower-none (c .before .args .string .now)
+
+has-char-requires : tie.Need-has-char-requires Inv-loop μ-loop
+has-char-requires c κs = search needs
+
+-- a number that is a character counts to the lower ones
+more :
+    (c : tie.Then1 Inv-loop μ-loop) → Lower-in (c .before .before .before .before .args .string .now) (c .before .before .loop .ground + 1)
+more c =
+    lower-next (c .before .before .before .before .args .string .now) (c .before .before .loop .ground) (c .before .before .loop .inv)
+    (c .before .has-char .ensures .holds (c .if1 .taken))
+
+add-ground : tie.Need-add-ground Inv-loop μ-loop
+add-ground c =
+    let s = c .before .before .before .before in
+    omega (arith, s .pre, lower-few (s .args .string .now) (c .before .before .loop .ground + 1) (more c))
+
+loop-less : tie.Need-loop-less Inv-loop μ-loop
+loop-less c =
+    let s = c .before .before .before .before in
+    omega (arith, lower-few (s .args .string .now) (c .before .before .loop .ground + 1) (more c))
+
+loop-again : tie.Need-loop-again Inv-loop μ-loop
+loop-again c = more c
+
+returns : tie.Need-returns Inv-loop μ-loop
+returns c =
+    record { absent = c .before .has-char .ensures .fails (c .if1 .left); lower = c .before .before .loop .inv }
+
+pub sentinel-of-spec : {M : Type 1} → statement M
+sentinel-of-spec =
+    tie.close
+    (tie.spec
+    Inv-loop
+    μ-loop
+    loop-holds
+    has-char-requires
+    add-ground
+    loop-less
+    loop-again
+    returns)

@@ -1,0 +1,130 @@
+-- `fill_repeats` meets its contract. The invariant: each place before `at` says how long a front lies there, the others are as they
+-- were, and the string from `left` to `right` is a front of it. The measure is how many places are left. Assumes nothing.
+use Prim.Native.Nat.{_-_, _≤_, _<_}
+use native.Mathlib.Omega.{arith}
+use borrow.Author.Needs.{needs}
+use lib.ListN.{length}
+use Rattle.laws.specs.TextScan.ZSearch.{Prefix-at, Z-value, Filling, filling-start, filling-on, filling-new, filled-rest, zbox-short, known-lies}
+use Rattle.zsearch.proofs.zarray.fill_zarray.Statement.{statement}
+use Rattle.zsearch.proofs.zarray.fill_zarray.Tie as tie
+
+abbrev Inv-loop : tie.InvT-loop
+Inv-loop string zarray₀ left₀ right₀ at₀ zarray left right at =
+    Filling 1 string string (Z-value string) zarray₀ zarray at left right × (1 < at → at ≤ length string)
+
+abbrev μ-loop : tie.MeasureT-loop
+μ-loop string zarray₀ left₀ right₀ at₀ zarray left right at = length string - at
+
+loop-holds : tie.Need-loop-holds Inv-loop μ-loop
+loop-holds c =
+    let a = c .before .before .args in (
+      filling-start 1 (a .string .now) (a .string .now) (Z-value (a .string .now)) (a .zarray .now) (λ j b from. absurd (omega arith)),
+      λ more. omega arith,
+    )
+
+known-from-requires : tie.Need-known-from-requires Inv-loop μ-loop
+known-from-requires c κs =
+    let s = c .before .before .before .before .before in
+    let l = c .before .before .loop in
+    λ b.
+    let short = zbox-short 1 (s .args .string .now) (s .args .string .now) (l .at) (l .left) (l .right) (l .inv .0 .zbox) b in
+    (omega (arith, l .inv .0 .zbox .begun b .1), omega (arith, s .pre .1, l .inv .0 .len, short))
+
+sub-extend : tie.Need-sub-extend Inv-loop μ-loop
+sub-extend c = search needs
+
+extend-requires : tie.Need-extend-requires Inv-loop μ-loop
+extend-requires c κs =
+    let s = c .before .before .before .before .before .before in
+    let l = c .before .before .before .loop in
+    let below = c .before .before .loop-test .taken in
+    let lies : Prefix-at (s .args .string .now) (s .args .string .now) (l .at) (c .known-from .result) =
+    known-lies 1 (s .args .string .now) (s .args .string .now) (l .at) (l .left) (l .right) (l .inv .0 .zbox) (l .at) (l .zarray)
+    (c .known-from .result) (l .inv .0 .told) (λ b. omega (arith, l .inv .0 .zbox .begun b .0, l .inv .0 .zbox .begun b .1))
+    (omega (arith, below)) (c .known-from .ensures) in
+    (lies, omega (arith, lies .within), omega arith, omega (arith, below))
+
+cast-zarray : tie.Need-cast-zarray Inv-loop μ-loop
+cast-zarray c = search needs
+
+mul-zarray : tie.Need-mul-zarray Inv-loop μ-loop
+mul-zarray c = search needs
+
+slice-write-zarray : tie.Need-slice-write-zarray Inv-loop μ-loop
+slice-write-zarray c = search needs
+
+add-at : tie.Need-add-at Inv-loop μ-loop
+add-at c = search needs
+
+add-if1 : tie.Need-add-if1 Inv-loop μ-loop
+add-if1 c = search needs
+
+add-right : tie.Need-add-right Inv-loop μ-loop
+add-right c = search needs
+
+loop-less : tie.Need-loop-less Inv-loop μ-loop
+loop-less c = search needs
+
+loop-again : tie.Need-loop-again Inv-loop μ-loop
+loop-again c =
+    let a = c .before .before .before .before .before .before .before .before .args in
+    let l = c .before .before .before .before .before .loop in
+    let end = c .before .extend .ensures in
+    let below = c .before .before .before .before .loop-test .taken in (
+      filling-new 1 (a .string .now) (a .string .now) (Z-value (a .string .now)) (a .zarray .now) (l .zarray) (l .at) (l .left) (l .right)
+          (c .before .extend .result) (l .inv .0)
+          (omega (arith, below, c .before .before .before .before .before .before .before .before .pre .1))
+          (λ from. end) (end .lies),
+      λ more. omega (arith, below),
+    )
+
+loop-less-2 : tie.Need-loop-less-2 Inv-loop μ-loop
+loop-less-2 c = search needs
+
+loop-again-2 : tie.Need-loop-again-2 Inv-loop μ-loop
+loop-again-2 c =
+    let a = c .before .before .before .before .before .before .before .before .args in
+    let l = c .before .before .before .before .before .loop in
+    let end = c .before .extend .ensures in
+    let below = c .before .before .before .before .loop-test .taken in (
+      filling-on 1 (a .string .now) (a .string .now) (Z-value (a .string .now)) (a .zarray .now) (l .zarray) (l .at) (l .left) (l .right)
+          (c .before .extend .result) (l .inv .0)
+          (omega (arith, below, c .before .before .before .before .before .before .before .before .pre .1))
+          (λ from. end),
+      λ more. omega (arith, below),
+    )
+
+same-length : tie.Need-same-length Inv-loop μ-loop
+same-length c = c .before .loop .inv .0 .len
+
+returns : tie.Need-returns Inv-loop μ-loop
+returns c =
+    let a = c .before .before .before .before .args in
+    let l = c .before .loop in (
+      λ j b. l .inv .0 .told j (omega (arith, c .loop-test .left)),
+      filled-rest (a .string .now) (a .string .now) (Z-value (a .string .now)) (a .zarray .now) (l .zarray) (l .at) (l .left) (l .right)
+          (l .inv .0) (l .inv .1),
+    )
+
+pub fill-zarray-spec : {M : Type 1} → statement M
+fill-zarray-spec =
+    tie.close
+    (tie.spec
+    Inv-loop
+    μ-loop
+    loop-holds
+    known-from-requires
+    sub-extend
+    extend-requires
+    cast-zarray
+    mul-zarray
+    slice-write-zarray
+    add-at
+    add-if1
+    add-right
+    loop-less
+    loop-again
+    loop-less-2
+    loop-again-2
+    same-length
+    returns)

@@ -1,0 +1,76 @@
+-- `extend` meets its contract. The invariant: the first `long` characters are those of the string. The measure is how many are left.
+-- Assumes nothing.
+use Prim.Native.Nat.{_-_, _≤_}
+use native.Mathlib.Omega.{arith}
+use borrow.Author.Needs.{needs}
+use Rattle.laws.specs.TextScan.ZSearch.{Prefix-at, prefix-more}
+use Rattle.zsearch.proofs.zbox.extend.Statement.{statement}
+use Rattle.zsearch.proofs.zbox.extend.Tie as tie
+
+abbrev Inv-loop : tie.InvT-loop
+Inv-loop text string at known limit len₀ len = Prefix-at string text at len × (len ≤ limit)
+
+abbrev μ-loop : tie.MeasureT-loop
+μ-loop text string at known limit len₀ len = limit - len
+
+loop-holds : tie.Need-loop-holds Inv-loop μ-loop
+loop-holds c = (c .pre .0, c .pre .1)
+
+add-if1 : tie.Need-add-if1 Inv-loop μ-loop
+add-if1 c = search needs
+
+mul-if1 : tie.Need-mul-if1 Inv-loop μ-loop
+mul-if1 c = search needs
+
+shared-slice-read-if1 : tie.Need-shared-slice-read-if1 Inv-loop μ-loop
+shared-slice-read-if1 c = search needs
+
+mul-if1-2 : tie.Need-mul-if1-2 Inv-loop μ-loop
+mul-if1-2 c = search needs
+
+shared-slice-read-if1-2 : tie.Need-shared-slice-read-if1-2 Inv-loop μ-loop
+shared-slice-read-if1-2 c = search needs
+
+returns : tie.Need-returns Inv-loop μ-loop
+returns c =
+    let l = c .before .before .before .before .loop in
+    record { lies = l .inv .0; bound = l .inv .1; longest = λ b. c .if1 .taken }
+
+add-len : tie.Need-add-len Inv-loop μ-loop
+add-len c = search needs
+
+loop-less : tie.Need-loop-less Inv-loop μ-loop
+loop-less c = search needs
+
+loop-again : tie.Need-loop-again Inv-loop μ-loop
+loop-again c =
+    let s = c .before .before .before .before .before in
+    let l = c .before .before .before .before .loop in
+    let below = c .before .before .before .loop-test .taken in (
+      prefix-more (s .args .string .now) (s .args .text .now) (s .args .at) (l .len) (l .inv .0) (omega (arith, s .pre .2, below))
+          (omega (arith, s .pre .3, below)) (c .if1 .left),
+      omega (arith, below),
+    )
+
+returns-2 : tie.Need-returns-2 Inv-loop μ-loop
+returns-2 c =
+    let l = c .before .loop in
+    record { lies = l .inv .0; bound = l .inv .1; longest = λ b. absurd (omega (arith, c .loop-test .left)) }
+
+pub extend-spec : {M : Type 1} → statement M
+extend-spec =
+    tie.close
+    (tie.spec
+    Inv-loop
+    μ-loop
+    loop-holds
+    add-if1
+    mul-if1
+    shared-slice-read-if1
+    mul-if1-2
+    shared-slice-read-if1-2
+    returns
+    add-len
+    loop-less
+    loop-again
+    returns-2)

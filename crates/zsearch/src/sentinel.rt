@@ -1,0 +1,34 @@
+// The least number that is no character of a string.
+//
+// The numbers from 0 on are tried, each against the whole string. A string of n characters leaves one of the first n + 1 free.
+ghost use Prim.Native.Nat.{_≤_};
+ghost use lib.ListN.{length};
+ghost use Rattle.basics.specs.Bools.{Reflects};
+ghost use Rattle.basics.specs.Member.{In};
+ghost use Rattle.basics.specs.Absent.{Least-absent};
+
+// Whether a string has a character.
+fn has_char(string: &[u16], character: u16) -> bool
+    ensures { λ r. ⌜ Reflects r (In character (now (string .entry))) ⌝ }
+{
+    let mut i = 0;
+    while i < string.len() {
+        if string[i] == character {
+            return true;
+        }
+        i += 1;
+    }
+    false
+}
+
+// The least number that is no character of the string.
+pub fn sentinel_of(string: &[u16]) -> u16
+    requires { ⌜ length (now string) ≤ 256 ⌝ }
+    ensures { λ r. ⌜ Least-absent (now (string .entry)) r ⌝ }
+{
+    let mut ground = 0u16;
+    while has_char(string, ground) {
+        ground += 1;
+    }
+    ground
+}
