@@ -54,7 +54,7 @@ fuzz: lib
 ARCHIVE := target/staticlib/libmopekihua.a
 
 ## lib: prove the library and write target/staticlib/libmopekihua.a
-# Functions are to begin at boundaries of 64 bytes, so that their speed does not hang on where a linker puts them.
+# Functions are to begin at boundaries of 64 bytes, so that their speed does not depend on where a linker puts them.
 lib: need-rt
 	rt staticlib mopekihua
 	@objcopy --set-section-alignment '.text*=64' $(ARCHIVE) 2>/dev/null || \

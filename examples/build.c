@@ -89,7 +89,7 @@ static void print_keys(const uint16_t *index)
     }
 }
 
-/* Whether all elements of a slice from a place on hold one number. */
+/* Whether all elements of a slice from an index on hold one number. */
 static int all(const uint16_t *slice, size_t from, size_t len, uint16_t number)
 {
     for (size_t i = from; i < len; i++)

@@ -1,5 +1,5 @@
 /*
- * A Japanese sentence, from its words to the places of a string in it: admits a
+ * A Japanese sentence, from its words to the positions of a string: admits a
  * small dictionary, builds the sentence's index, hands the numbers on as if they
  * came from elsewhere, receives them, recovers the sentence, and searches.
  * Exits with 1 if a call is refused.

@@ -1,4 +1,4 @@
-//! A safe face over Mopekihua, a full-text index whose functions are proved
+//! A safe API over Mopekihua, a full-text index whose functions are proved
 //! to answer what their definitions say.
 //!
 //! ```

@@ -136,7 +136,7 @@ impl ReadableIndex {
 
     /// The positions at which the string is found, ascending, each once.
     ///
-    /// A position is found if each place of the
+    /// A position is found if each character of the
     /// [replaced](crate#full-width-forms) string laid there is covered by an
     /// entry that agrees with it wherever the two overlap. If a text has this
     /// index, these are exactly the positions at which the replaced string stands

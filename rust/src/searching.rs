@@ -61,7 +61,7 @@ pub fn search_into(
 /// # Examples
 ///
 /// ```
-/// // The words a, aa and aaa: aa stands at three places of aaaa.
+/// // The words a, aa and aaa: aa stands at three positions of aaaa.
 /// let a = [0x61; 6];
 /// let index = mopekihua::build(&a, &[1, 2, 3], &a[..4])?;
 /// assert_eq!(mopekihua::search(&a, &[1, 2, 3], &index, &a[..2])?, [1, 2, 3]);

@@ -6,7 +6,7 @@ use crate::{Refusal, ffi};
 /// has length 1.
 #[derive(Clone, Copy, Debug, PartialEq, Eq, Hash)]
 pub struct Tally {
-    /// The entries of `l` characters at place `l - 1`, for 1 to 32.
+    /// The entries of `l` characters at index `l - 1`, for 1 to 32.
     pub by_length: [u64; 32],
     /// All entries: the sum of `by_length`.
     pub count: usize,

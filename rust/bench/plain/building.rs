@@ -1,11 +1,11 @@
-//! Building: the replaced text written once, one mark a position, positions of equal
-//! keys linked to chains, and the chains written out in the order of the keys.
+//! Building: the replaced text written once, one token a position, positions of equal
+//! keys chained, and the chains written out in the order of the keys.
 
 use super::admission::admit;
 use super::matching::MatchTable;
 use super::width::copy_replaced;
 
-/// The mark of a lone character; other marks are 0 or the number of a word + 1.
+/// The token of a lone character; other tokens are 0 or the number of a word + 1.
 pub const LONE: u16 = 4_097;
 
 /// A key as one number, its word number or 4,096 + its character: codes in order
@@ -38,7 +38,7 @@ pub fn build(
     answer
 }
 
-/// Writes the index that the marks stand for. They become links.
+/// Writes the index that the tokens stand for. They become links.
 fn write_marked(text: &[u16], marks: &mut [u16], output: &mut [u16]) -> Result<usize, u32> {
     let chains = Chains::link(text, marks);
     let size = 2 + 3 * chains.keys + chains.entries;
@@ -53,7 +53,7 @@ fn write_marked(text: &[u16], marks: &mut [u16], output: &mut [u16]) -> Result<u
     Ok(size)
 }
 
-/// Marks each position with what is registered there.
+/// Writes one token a position: what is registered there.
 fn scan(table: &MatchTable, text: &[u16], marks: &mut [u16]) {
     let mut last = 0;
     for (at, mark) in marks.iter_mut().enumerate() {
@@ -61,7 +61,7 @@ fn scan(table: &MatchTable, text: &[u16], marks: &mut [u16]) {
     }
 }
 
-/// The mark at a place, and the last registered end after it.
+/// The token at an index of the text, and the last registered end after it.
 pub fn step(table: &MatchTable, text: &[u16], at: usize, last: usize) -> (u16, usize) {
     let found = table.longest(text, at, last);
     if found != 0 {
@@ -73,7 +73,7 @@ pub fn step(table: &MatchTable, text: &[u16], at: usize, last: usize) -> (u16, u
     }
 }
 
-/// The first position of each key; the marks have become links to the next.
+/// The first position of each key; the tokens have become links to the next.
 struct Chains {
     heads: [u16; CODES],
     pages: [bool; CODES / PAGE],

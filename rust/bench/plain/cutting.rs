@@ -1,5 +1,5 @@
 //! The cut-down index: words that begin before the string are laid over its
-//! front, keys that begin within it are found in the directory; then the
+//! start, keys that begin within it are found in the directory; then the
 //! directory and the positions of those that bear.
 
 use super::Query;

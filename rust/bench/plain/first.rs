@@ -20,7 +20,7 @@ pub fn first(query: Query) -> Result<usize, u32> {
     Ok(found.unwrap_or_else(|| by_windows(&directory, string, starts)))
 }
 
-/// By the painted text, if the entries paint one.
+/// By a scan of the reconstructed text, if no two entries contradict one another.
 fn by_text(directory: &Directory, string: &[u16], n: usize, starts: usize) -> Option<usize> {
     let mut reach = [0; 65_535];
     let reach = &mut reach[..starts];

@@ -1,5 +1,5 @@
-//! The gap form and back. One walk tests; then the front is copied, and the lists
-//! are written as one. Most are short, and a loop over each would end with a
+//! The gap form and back. One walk tests; then header and directory are copied, and
+//! the lists are written as one. Most are short, and a loop over each would end with a
 //! mispredicted branch.
 
 use super::reading::{admit_gaps, admit_index};

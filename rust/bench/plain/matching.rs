@@ -1,16 +1,16 @@
-//! The longest word at a place: a hash on the first two characters, a chain of
-//! few words, and where that is not enough a search that narrows a range of the
-//! dictionary character by character.
+//! The longest word at an index of a text: a hash on the first two characters, a
+//! chain of few words, and where that is not enough binary search for the prefix
+//! range of the dictionary, character by character.
 
 /// Buckets for pairs of first characters, then buckets for words of one.
 const PAIRS: usize = 8_192;
 const SINGLES: usize = 2_048;
 
-/// How many words of a chain are looked at before the range is narrowed.
+/// How many words of a chain are looked at before the binary search.
 const BUDGET: usize = 4;
 
-/// An admitted dictionary, and where its words start and hang. A link is 0 or
-/// the number of a word + 1; a chain runs through falling numbers.
+/// An admitted dictionary, where its words start, and hash chains of them. A link
+/// is 0 or the number of a word + 1; the numbers of a chain descend.
 pub struct MatchTable<'a> {
     chars: &'a [u16],
     lengths: &'a [u16],

@@ -1,16 +1,18 @@
-//! Search by the painted text: where no two entries of an index contradict one
-//! another they paint a text, and one pass over it finds where the string
-//! stands, whatever its characters are.
+//! Search by a text scan: where no two entries of an index contradict one
+//! another, a text is reconstructed from them, and Z-search finds in one pass
+//! where the string stands, whatever its characters are.
 
 use super::directory::Directory;
 
-/// Whether raising reaches would visit many positions: an estimate, from the
-/// keys that agree with the string at every so many of its offsets.
+/// Whether extending reaches would visit many positions, so that a text scan
+/// costs less: an estimate, from the keys that agree with the string at every so
+/// many of its offsets.
 pub fn is_dense(directory: &Directory, n: usize, string: &[u16]) -> bool {
     let lines = &directory.lines;
     let stride = 1 + string.len() / 32;
     let mut visits = 0;
-    // At the front a word may agree at as many offsets as it has characters.
+    // At the string's start a word may agree at as many offsets as it has
+    // characters.
     lines.each_that_starts(string, |line, long| {
         visits += directory.count(line) * long;
     });
@@ -25,9 +27,10 @@ pub fn is_dense(directory: &Directory, n: usize, string: &[u16]) -> bool {
     6 * n < visits
 }
 
-/// Fills `reach` with how many characters of the string stand at each start of
-/// the painted text of `n` characters, or answers that entries contradict one
-/// another.
+/// Fills `reach` with the length of the longest prefix of the string that matches
+/// at each start of the reconstructed text of `n` characters, or answers that
+/// entries contradict one another. The text is reconstructed over a sentinel, a
+/// character absent from the string.
 pub fn reach_painted(directory: &Directory, n: usize, string: &[u16], reach: &mut [u16]) -> bool {
     let Some(ground) = (0..=256).find(|ground| !string.contains(ground)) else {
         return false;
@@ -45,7 +48,7 @@ pub fn reach_painted(directory: &Directory, n: usize, string: &[u16], reach: &mu
     true
 }
 
-/// Each entry's characters at its place.
+/// Reconstructs the text: each entry's characters at its position.
 fn paint(directory: &Directory, text: &mut [u16]) {
     let mut rest = directory.positions;
     for (spelt, count) in directory.lines.keys() {
@@ -70,8 +73,8 @@ fn shows(directory: &Directory, text: &[u16]) -> bool {
     })
 }
 
-/// Where the key repeats itself after as many characters as its next place is
-/// away, only these are compared there.
+/// Where the distance to the next position is a period of the key, only the
+/// characters beyond the overlap are compared there.
 fn stands_at_all(spelt: &[u16], places: &[u16], text: &[u16]) -> bool {
     let long = spelt.len();
     let mut gap = long;
@@ -88,9 +91,10 @@ fn stands_at_all(spelt: &[u16], places: &[u16], text: &[u16]) -> bool {
     })
 }
 
-/// For each start of the text from `from` on, how many characters of the string
-/// stand there. What stood before tells of a start within it, by how the string
-/// repeats itself: an empty `repeats` is that of the text, which is the string.
+/// For each start of the text from `from` on, the length of the longest prefix
+/// of the string that matches there. Within the Z-box, the match that reaches
+/// furthest, the string's Z-array tells what is known: `repeats`, or if that is
+/// empty the one being filled, where the text is the string itself.
 fn fill_standing(text: &[u16], string: &[u16], from: usize, repeats: &[u16], reach: &mut [u16]) {
     let (mut left, mut right) = (0, 0);
     for at in from..reach.len() {

@@ -1,7 +1,8 @@
-//! Reception and recovery: the entries paint a text, and each notes at its start
-//! the number of its directory line. The step of building is then run over the
-//! painted text: what it registers must be what is noted, and as many. The text
-//! must hold no full-width form.
+//! Reception and recovery: the text is reconstructed from the entries, and the
+//! line map has at each start of an entry the number of its directory line. The
+//! step of building is then run over the reconstructed text: what it registers
+//! must be what the line map has, and as many. The text must hold no full-width
+//! form.
 
 use super::building::{LONE, step};
 use super::matching::MatchTable;
@@ -60,8 +61,8 @@ fn text_of<'a>(
     }
 }
 
-/// Writes each entry's characters to its place, and the number of its line + 1
-/// to its start.
+/// Reconstructs the text and fills the line map: each entry's characters at its
+/// position, and the number of its line + 1 at its start.
 fn paint(
     table: &MatchTable,
     directory: &[u16],
@@ -88,7 +89,8 @@ fn paint(
     }
 }
 
-/// How many entries the text has registered, if each is noted where it starts.
+/// How many entries the text has registered, if the line map has each where it
+/// starts.
 fn registered(table: &MatchTable, directory: &[u16], text: &[u16], notes: &[u16]) -> Option<usize> {
     let mut count = 0;
     let mut last = 0;

@@ -1,7 +1,7 @@
-//! Search: how much of the string is covered from its front, for each place
-//! where it may be laid. Keys that begin at its front or before it come first,
-//! then those that begin within it, from its front to its end. Where that would
-//! visit many positions, the text is painted and searched.
+//! Search: the reach, the length of the covered prefix of the string, for each
+//! start at which it may be laid. The leading keys, which begin at its start or
+//! before it, come first, then those that begin within it, by ascending offset.
+//! Where that would visit many positions, the text is reconstructed and scanned.
 
 use super::Query;
 use super::directory::Directory;
@@ -44,8 +44,8 @@ fn find(query: Query, reach: &mut [u16], output: &mut [u16]) -> Result<usize, u3
     Ok(count)
 }
 
-/// The lines of words that agree with the string and begin at its front or
-/// before it: the same for every window.
+/// The leading keys: the lines of words that agree with the string and begin at
+/// its start or before it. They are the same for every window.
 pub struct Fronts {
     lines: [u16; 4_096],
     count: usize,
@@ -75,9 +75,8 @@ fn agreeing(word: &[u16], string: &[u16]) -> impl Iterator<Item = usize> {
     (0..word.len()).filter(|&back| word[back] == string[0] && agree(&word[back..], string))
 }
 
-/// Raises the reach of each start of a window, whose first is `first`, by every
-/// key that agrees, from the string's front to its end. Answers how far any
-/// start reaches.
+/// Extends the reach of each start of a window, whose first is `first`, by every
+/// key that agrees, by ascending offset. Answers how far any start reaches.
 pub fn reach_laid(
     directory: &Directory,
     string: &[u16],
@@ -104,7 +103,7 @@ pub fn reach_laid(
     usize::from(cover.most)
 }
 
-/// Keys that agree with the string and begin at its front or before it.
+/// Keys that agree with the string and begin at its start or before it.
 fn cover_front(directory: &Directory, string: &[u16], fronts: &Fronts, cover: &mut Cover) {
     let lines = &directory.lines;
     for &line in &fronts.lines[..fronts.count] {
@@ -125,8 +124,8 @@ pub fn agree(one: &[u16], other: &[u16]) -> bool {
     one[..shared] == other[..shared]
 }
 
-/// How many characters of the string are covered from its front, for each start
-/// of a window.
+/// The reach of each start of a window: the length of the covered prefix of the
+/// string.
 struct Cover<'a> {
     reach: &'a mut [u16],
     first: usize,

@@ -9,7 +9,7 @@ use crate::support::searching::{assert_finds, search};
 use crate::support::text::{Subject, spelt};
 
 /// The index of `n` characters that repeat these, with a word for each of the
-/// lengths, cut from their front.
+/// lengths, a prefix of the text.
 fn repeated(period: &[u16], n: usize, word_lengths: &[usize]) -> (Vec<u16>, Delivery) {
     let text: Vec<u16> = period.iter().copied().cycle().take(n).collect();
     let words = word_lengths.iter().map(|&long| text[..long].to_vec());

@@ -7,7 +7,7 @@ use crate::support::sheet::form;
 /// The digits, each at its value.
 const DIGITS: [u8; 16] = *b"0123456789ABCDEF";
 
-/// Calls with every byte at every place of four zeros: the four bytes, the place,
+/// Calls with every byte at every index of four zeros: the four bytes, the index,
 /// and the digit's value, if the byte is one.
 #[track_caller]
 fn for_every_byte(test: impl Fn(&[u8; 4], usize, Option<usize>)) {
@@ -24,7 +24,8 @@ fn for_every_byte(test: impl Fn(&[u8; 4], usize, Option<usize>)) {
     }
 }
 
-/// The characters that have one digit at a place and zeros elsewhere, by its value.
+/// The characters that have one digit at an index and zeros elsewhere, by its
+/// value.
 fn sixteen(place: usize) -> [u16; 16] {
     std::array::from_fn(|value| (value as u16) << (12 - 4 * place))
 }

@@ -204,7 +204,8 @@ fn the_longest_text_and_string() {
     assert_eq!(long, Err(4));
 }
 
-/// A form at the first place of the longest text, in the middle, and at the last.
+/// A form at the first position of the longest text, in the middle, and at the
+/// last.
 #[test]
 fn one_form_in_the_longest_text() {
     let words = Dictionary::spelt("b");
@@ -220,7 +221,7 @@ fn one_form_in_the_longest_text() {
     }
 }
 
-/// A form at each place of the longest string.
+/// A form at each index of the longest string.
 #[test]
 fn one_form_in_the_longest_string() {
     let Delivery { dictionary, index } = delivery("ab", &"ab".repeat(150));

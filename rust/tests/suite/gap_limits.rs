@@ -130,7 +130,7 @@ fn sums_do_not_wrap() {
             refused(&a(), &lone(n, &[gaps, &[3, 6]]));
         }
     }
-    // Of a word, where the place of its last character wraps too.
+    // Of a word, where the position of its last character wraps too.
     let long = Dictionary::of([[7; 32]]);
     let of = |gaps: &[u16]| numbers(65_535, &[(Key::Word(0), gaps.to_vec())]);
     restores(&long, &of(&[4, 65_500]), &[4, 65_504]);

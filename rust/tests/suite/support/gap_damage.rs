@@ -100,7 +100,7 @@ fn change(number: &mut u16, by: i16) {
     *number = number.wrapping_add_signed(by);
 }
 
-/// Where the list begins whose count stands at this place, as far as there are
+/// Where the list begins whose count stands at this index, as far as there are
 /// numbers.
 fn start_of(gaps: &[u16], count: usize) -> usize {
     let header = 2 + 3 * usize::from(gaps[1]);

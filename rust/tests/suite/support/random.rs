@@ -20,7 +20,7 @@ impl Random {
         low + (self.next() % (high - low + 1) as u64) as usize
     }
 
-    /// A place in a list of `len` elements, at least one.
+    /// An index into a list of `len` elements, at least one.
     pub fn place(&mut self, len: usize) -> usize {
         self.within(0, len - 1)
     }

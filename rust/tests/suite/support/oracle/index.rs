@@ -99,9 +99,9 @@ fn complete(words: &[Vec<u16>], text: &[u16]) -> Vec<Vec<Standing>> {
     (0..text.len()).map(entries_at).collect()
 }
 
-/// Whether the entry of this place and length lies within another one. What
+/// Whether the entry of this start and length lies within another one. What
 /// contains it reaches as far as `at`, so it starts less than 32 before it. Two
-/// entries of one place and length are the same entry.
+/// entries of one start and length are the same entry.
 fn in_another(at: usize, long: usize, complete: &[Vec<Standing>]) -> bool {
     (at.saturating_sub(LONGEST_WORD - 1)..=at).any(|start| {
         complete[start].iter().any(|other| {

@@ -31,8 +31,8 @@ fn open_for(dictionary: &Dictionary, numbers: &[u16], string: &[u16]) -> Result<
     }
 }
 
-/// The positions of which each place of the replaced string laid there is covered
-/// by an entry that agrees.
+/// The positions at which each character of the replaced string laid there is
+/// covered by an entry that agrees.
 pub fn find(opened: &Opened, string: &[u16]) -> Vec<u16> {
     found(opened, string).collect()
 }
