@@ -20,11 +20,11 @@ pub record Least-absent (xs : List ℕ) (g : ℕ) : Type 0 where
   pub absent : In g xs → ⊥
   pub lower : Lower-in xs g
 
--- a number that is no element stands at no place
+-- a number that is no element is at no index
 pub absent-at : (xs : List ℕ) (g : ℕ) → (In g xs → ⊥) → (i : ℕ) → i < length xs → getD xs i 0 ≡ g → ⊥
 absent-at xs g absent i b e = absent (subst (λ (x : ℕ). In x xs) e (in-getD xs i 0 b))
 
--- one number is the least
+-- there is only one least absent number
 pub least-one : (xs : List ℕ) (g h : ℕ) → Least-absent xs g → Least-absent xs h → g ≡ h
 least-one xs g h p q =
     ⊎-elim
@@ -79,7 +79,7 @@ lower-counted (suc g) xs all =
 pub lower-few : (xs : List ℕ) (g : ℕ) → Lower-in xs g → g ≤ length xs
 lower-few xs g all = omega (arith, lower-counted g xs all, count-most g xs)
 
--- LOOKING FOR IT, from 0 on
+-- THE SEARCH, from 0 on
 
 pub lower-none : (xs : List ℕ) → Lower-in xs 0
 lower-none xs k h = absurd (omega arith)

@@ -22,7 +22,7 @@ reflects-yes h = record { holds = λ t. h; fails = λ f. clash refl f }
 pub reflects-no : {B : Type 0} → (B → ⊥) → Reflects false B
 reflects-no none = record { holds = λ t. clash t refl; fails = λ f. none }
 
--- tests and facts that come to the same
+-- a test of a fact also tests any equivalent fact
 pub reflects-same : {A B : Type 0} (t : Bool) → (A → B) → (B → A) → Reflects t A → Reflects t B
 reflects-same t there back r = record { holds = λ e. there (r .holds e); fails = λ f b. r .fails f (back b) }
 

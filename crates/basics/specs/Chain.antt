@@ -1,5 +1,5 @@
--- Chains of links: a head, and for each member p the next one at place p - 1, 0 at the end. Serves lists of positions and lists of
--- word numbers plus one alike. Assumes nothing.
+-- Linked chains: a head, and for each member p the next one at index p - 1, 0 at the end. They serve lists of positions and lists of word
+-- numbers plus one alike. Assumes nothing.
 use mathlib.Core.Path.{_≡_, refl, sym, ap, _∙_}
 use mathlib.Core.Bool.{true, false, cond}
 use mathlib.Core.Logic.{inl, inr}
@@ -20,7 +20,7 @@ Chained links h (p ∷ ps) = (h ≡ p) × (1 ≤ p) × Chained links (getD links
 
 -- A CHAIN GROWS AT ITS HEAD
 
--- links may change where no member of the chain has its own
+-- a store at an index that no member uses leaves the chain as it is
 pub chained-elsewhere :
     (links : List ℕ) (i v h : ℕ) (ps : List ℕ) → ((p : ℕ) → In p ps → p - 1 ≡ i → ⊥) → Chained links h ps →
     Chained (set links i v) h ps
@@ -32,7 +32,7 @@ chained-elsewhere links i v h (p ∷ ps) away c = (
       (chained-elsewhere links i v (getD links (p - 1) 0) ps (λ q m. away q (inr m)) (c .2)),
 )
 
--- a new head takes the old one as its link
+-- a new head links to the old one
 pub chained-more :
     (links : List ℕ) (i h : ℕ) (ps : List ℕ) → i < length links → ((p : ℕ) → In p ps → p - 1 ≡ i → ⊥) → Chained links h ps →
     Chained (set links i h) (i + 1) ((i + 1) ∷ ps)
@@ -40,7 +40,7 @@ chained-more links i h ps b away c =
     let at : i + 1 - 1 ≡ i = omega arith in
     (refl, omega arith, rw (at, getD-set-same links i h 0 b) (chained-elsewhere links i h h ps away c))
 
--- whether there is a member shows at the head
+-- the head is 0 exactly if there is no member
 pub chained-empty : (links : List ℕ) (h : ℕ) (ps : List ℕ) → Chained links h ps → h ≡ 0 → ps ≡ []
 chained-empty links h [] c e = refl
 chained-empty links h (p ∷ ps) c e = absurd (omega (arith, c .0, c .1))
@@ -102,7 +102,7 @@ pub record Walking (links all : List ℕ) (head i : ℕ) : Type 0 where
 pub walk-starts : (links : List ℕ) (h : ℕ) → Threaded links h → Walking links (chain links h) h 0
 walk-starts links h t = record { passed = omega arith; left = t .chained }
 
--- what a member in hand says
+-- what holds while a member is at hand
 pub record Member-in-hand (links all : List ℕ) (head i : ℕ) : Type 0 where
   pub below : i < length all
   pub cut : drop i all ≡ head ∷ drop (i + 1) all

@@ -1,4 +1,4 @@
--- Writing the members of a chain into a slice, one after the other. Assumes nothing.
+-- Copying the members of a chain into a slice, one after the other. Assumes nothing.
 use mathlib.Core.Path.{_≡_}
 use mathlib.Core.List.{List, [], _∷_, _++_}
 use Prim.Native.Nat.{ℕ, _+_, _-_, _≤_, _<_}
@@ -8,7 +8,7 @@ use Rattle.basics.specs.Member.{in-getD}
 use Rattle.basics.specs.Chain.{chain, Threaded, Walking, walk-starts, Member-in-hand, walk-member, walk-ends}
 use Rattle.basics.specs.Writing.{over, Writing, starts, has-room, writes, written}
 
--- the chain of `head` is written from `start` on; the members before `here` are, and `member` is the next one, or 0
+-- the chain of `head` is written from `start` on; the members before `here` are written, and `member` is the next one, or 0
 pub record Copying (links : List ℕ) (head : ℕ) (old now : List ℕ) (start here member : ℕ) : Type 0 where
   pub from : start ≤ here
   pub walking : Walking links (chain links head) member (here - start)
@@ -25,7 +25,7 @@ copy-start links head old start t room =
       writing = rw none (starts old (chain links head) start room);
     }
 
--- what a member in hand says
+-- what holds while a member is at hand
 pub record Copy-in-hand (links : List ℕ) (head : ℕ) (old now : List ℕ) (start here member : ℕ) : Type 0 where
   pub left : here - start < length (chain links head)
   pub room : here < length now

@@ -1,4 +1,4 @@
--- Laws on Booleans, numbers, membership and lists that speak of no index.
+-- Laws on Booleans, numbers, membership and lists that do not mention an index.
 pub mod Bools
 pub mod Member
 pub mod LowerBound

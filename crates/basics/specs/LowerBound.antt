@@ -1,20 +1,20 @@
--- Binary search: the first number from which on a function that does not fall is at least c. Assumes nothing.
+-- Lower bound by bisection: the first index at which a nondecreasing function is at least c. Assumes nothing.
 use Prim.Native.Nat.{ℕ, _+_, _-_, _≤_, _<_}
 use native.Mathlib.Omega.{arith}
 
--- f does not fall from lo to hi − 1
+-- f is nondecreasing from lo to hi − 1
 pub record Rising (f : ℕ → ℕ) (lo hi : ℕ) : Type 0 where
   pub order : lo ≤ hi
   pub rises : (i j : ℕ) → lo ≤ i → i ≤ j → j < hi → f i ≤ f j
 
--- r is the first of these at which f is not below c
+-- r is the lower bound: the first index at which f is at least c, or hi
 pub record Lower-bound (f : ℕ → ℕ) (lo hi c r : ℕ) : Type 0 where
   pub from : lo ≤ r
   pub to : r ≤ hi
   pub below : (i : ℕ) → lo ≤ i → i < r → f i < c
   pub above : (i : ℕ) → r ≤ i → i < hi → c ≤ f i
 
--- it is not before a and not after b
+-- the lower bound is not before a and not after b
 pub record Bisected (f : ℕ → ℕ) (lo hi c a b : ℕ) : Type 0 where
   pub from : lo ≤ a
   pub order : a ≤ b
@@ -27,7 +27,7 @@ module _ (f : ℕ → ℕ) (lo hi : ℕ) (h : Rising f lo hi) where
   rising-part a b l m r = record { order = m; rises = λ i j p q s. h .rises i j (omega arith) q (omega arith) }
 
   module _ (c : ℕ) where
-    -- the first is not below c already
+    -- f is at least c at the first index already
     pub bound-first : lo < hi → c ≤ f lo → Lower-bound f lo hi c lo
     bound-first some l =
         record {
@@ -37,7 +37,7 @@ module _ (f : ℕ → ℕ) (lo hi : ℕ) (h : Rising f lo hi) where
           above = λ i a b. omega (arith, h .rises lo i (omega arith) a b);
         }
 
-    -- the last is still below c
+    -- f is below c at the last index
     pub bound-last : lo < hi → f (hi - 1) < c → Lower-bound f lo hi c hi
     bound-last some l =
         record {

@@ -60,7 +60,7 @@ module _ {A : Type 0} where
   in-getD (x ∷ xs) zero z h = inl refl
   in-getD (x ∷ xs) (suc i) z h = inr (in-getD xs i z (omega arith))
 
-  -- a member has a place
+  -- a member has an index
   pub in-place : (a : A) (xs : List A) (z : A) → In a xs → (i : ℕ) × (i < length xs) × (getD xs i z ≡ a)
   in-place a [] z m = absurd m
   in-place a (x ∷ xs) z (inl e) = (0, omega arith, sym e)
@@ -68,7 +68,7 @@ module _ {A : Type 0} where
       let more : (i : ℕ) × (i < length xs) × (getD xs i z ≡ a) = in-place a xs z m in
       (suc (more .0), omega (arith, more .1), more .2)
 
-  -- what holds of the head and of the members of the tail holds of every member
+  -- what holds for the head and for the members of the tail holds for every member
   pub all-cons {ℓ} : (P : A → Type ℓ) (x : A) (xs : List A) → P x → ((a : A) → In a xs → P a) → (a : A) → In a (x ∷ xs) → P a
   all-cons P x xs p h a (inl e) = subst P (sym e) p
   all-cons P x xs p h a (inr m) = h a m

@@ -11,12 +11,12 @@ use borrow.Author.Tests.{lt-ltb, le-ltb, ltb-true, ltb-false}
 use Rattle.basics.specs.Bools.{clash}
 use Rattle.basics.specs.Member.{In, in-append-get, in-getD}
 
--- each element before all that follow it
+-- each element is before all that follow it
 abbrev pub Ascend : {A : Type 0} → (A → A → Bool) → List A → Type 0
 Ascend before [] = Unit
 Ascend {A} before (x ∷ xs) = ((y : A) → In y xs → before x y ≡ true) × Ascend before xs
 
--- of any two elements at different places of the list one is before the other
+-- of any two elements at different indexes one is before the other
 abbrev pub Apart : {A : Type 0} → (A → A → Bool) → List A → Type 0
 Apart before [] = Unit
 Apart {A} before (x ∷ xs) = ((y : A) → In y xs → (before x y ≡ true) ⊎ (before y x ≡ true)) × Apart before xs
@@ -114,7 +114,7 @@ module _ {A : Type 0} (before : A → A → Bool) (strict : Strict before) where
   not-itself {ℓ} : {X : Type ℓ} → (a b : A) → before a b ≡ true → a ≡ b → X
   not-itself a b t e = clash (rw (← e) at t) (strict .irreflexive a)
 
-  -- each of two lists' least elements is in the other list
+  -- if each list's least element is in the other list, the two are equal
   same-first :
       (x y : A) (xs ys : List A) → ((a : A) → In a xs → before x a ≡ true) → ((a : A) → In a ys → before y a ≡ true) →
       In x (y ∷ ys) → In y (x ∷ xs) → x ≡ y
@@ -140,7 +140,7 @@ module _ {A : Type 0} (before : A → A → Bool) (strict : Strict before) where
       (λ a m. other a y x xs (q .0 a m) (sym heads) (g a (inr m))) in
       rw (heads, tails)
 
-  -- one list's least element is not the other's: the first list lies in the rest of the other
+  -- if the first list's least element is in the tail of the second, all common elements are
   in-rest :
       (x y : A) (xs ys : List A) → ((a : A) → In a xs → before x a ≡ true) → ((a : A) → In a ys → before y a ≡ true) → In x ys →
       (a : A) → In a (x ∷ xs) → In a (y ∷ ys) → In a ys
@@ -148,7 +148,7 @@ module _ {A : Type 0} (before : A → A → Bool) (strict : Strict before) where
   in-rest x y xs ys p q k a (inl d) (inl e) = rw d k
   in-rest x y xs ys p q k a (inr m) (inl e) = not-itself x x (strict .transitive x a x (p a m) (rw e (q x k))) refl
 
-  -- a strictly ascending list whose members are all in another is no longer than it
+  -- a strictly ascending list whose members are all in another such list is no longer than it
   pub ascend-fits : (ys xs : List A) → Ascend before xs → Ascend before ys → ((a : A) → In a xs → In a ys) → length xs ≤ length ys
   ascend-fits ys [] p q f = omega arith
   ascend-fits [] (x ∷ xs) p q f = absurd (f x (inl refl))
@@ -175,7 +175,7 @@ module _ {A : Type 0} (before : A → A → Bool) (strict : Strict before) where
       absurd (omega (arith, ascend-fits ys (x ∷ xs) p (q .1) (λ a m. in-rest x y xs ys (p .0) (q .0) k a m (f a m)))))
       (f x (inl refl))
 
-  -- no element stands at two places
+  -- no element is at two indexes
   pub ascend-once :
       (xs : List A) (z : A) → Ascend before xs → (i j : ℕ) → i < length xs → j < length xs → getD xs i z ≡ getD xs j z → i ≡ j
   ascend-once [] z p i j hi hj e = absurd (omega arith)
@@ -186,7 +186,7 @@ module _ {A : Type 0} (before : A → A → Bool) (strict : Strict before) where
       not-itself x (getD xs i z) (p .0 (getD xs i z) (in-getD xs i z (omega arith))) (sym e)
   ascend-once (x ∷ xs) z p (suc i) (suc j) hi hj e = ap suc (ascend-once xs z (p .1) i j (omega arith) (omega arith) e)
 
-  -- an element comparable with every other one goes in
+  -- inserting an element that is comparable with every other one keeps the order
   pub insert-ascends :
       (a : A) (xs : List A) → Ascend before xs → ((x : A) → In x xs → (before a x ≡ true) ⊎ (before x a ≡ true)) →
       Ascend before (insert before a xs)

@@ -1,4 +1,4 @@
--- Writing into a slice from some place on: what it holds then, and a run of writes one after the other. Assumes nothing.
+-- Writing into a slice from an index on: the content afterwards, and a run of writes one after the other. Assumes nothing.
 use mathlib.Core.Path.{_≡_, refl, sym, ap, _∙_}
 use mathlib.Core.List.{List, [], _∷_, _++_, append-assoc}
 use Prim.Native.Nat.{ℕ, _+_, _≤_, _<_}
@@ -10,7 +10,7 @@ use lib.Seq.{length-take-le, take-at, drop-append-add, drop-drop, set-split}
 
 -- PLACED
 
--- a slice's content with other content at a place, and the rest unchanged
+-- a slice's content with other content at an index, and the rest unchanged
 unfoldable pub placed : (new : List ℕ) → (at : ℕ) → (old : List ℕ) → List ℕ
 placed ys at xs = take at xs ++ (ys ++ drop (at + length ys) xs)
 
@@ -46,7 +46,7 @@ placed-append ys zs at xs h =
     ∙ ap (λ (n : ℕ). drop n xs) (add-assoc at (length ys) (length zs)) in
     rw (whole, kept, rest, length-append ys zs, append-assoc (take at xs) ys (zs ++ drop (at + (length ys + length zs)) xs), append-assoc ys zs (drop (at + (length ys + length zs)) xs))
 
--- what a writer answers: the place after what it wrote, and the slice's content
+-- what a writer answers: the index after what it wrote, and the slice's content
 pub record Wrote (new : List ℕ) (at : ℕ) (old : List ℕ) (end : ℕ) (now : List ℕ) : Type 0 where
   pub ends : end ≡ at + length new
   pub content : now ≡ placed new at old
@@ -56,7 +56,7 @@ wrote-one b at old h = record { ends = refl; content = placed-one b at old h }
 
 -- A RUN OF WRITES
 
--- `all` is to be written from `start` on: what is left of it, and where, and what the slice holds so far
+-- `all` is to be written from `start` on: `left` is still to be written, from `at` on, and `now` is the slice so far
 pub record Writing (all : List ℕ) (start : ℕ) (old left : List ℕ) (at : ℕ) (now : List ℕ) : Type 0 where
   pub same-end : at + length left ≡ start + length all
   pub room : at + length left ≤ length now
@@ -86,7 +86,7 @@ module _ {all : List ℕ} {start : ℕ} {old : List ℕ} where
       } in
       rw (w .ends, w .content) next
 
-  -- the same facts of what is left, written otherwise
+  -- the same record, with what is left written as another list
   pub writing-as :
       {at : ℕ} {now left other : List ℕ} → left ≡ other → Writing all start old left at now → Writing all start old other at now
   writing-as e h = rw e at h

@@ -1,5 +1,5 @@
 -- Walks over the numbers p, p + 1, ..: a test that holds at each, at some, and the numbers at which it holds. Each recursion over
--- positions or offsets is one of these, so that its laws are these laws. Assumes nothing.
+-- positions or offsets is one of these, so these are its laws. Assumes nothing.
 use mathlib.Core.Path.{_≡_, refl, ap, _∙_}
 use mathlib.Core.Bool.{Bool, true, false, _&&_, _||_, cond}
 use mathlib.Core.Logic.{_⊎_, inl, inr, ⊎-elim}
@@ -9,12 +9,12 @@ use native.Mathlib.Omega.{arith}
 use Rattle.basics.specs.Bools.{clash, le-or-lt, and-put, and-left, and-right, or-left, or-right, or-get}
 use Rattle.basics.specs.Member.{In, in-cond-get, in-cond-here, in-cond-there}
 
--- x is p, or is passed after it
+-- x is p, or comes after it
 first-or-later : (p x : ℕ) → p ≤ x → (x ≡ p) ⊎ (suc p ≤ x)
 first-or-later p x lo =
     ⊎-elim (λ (h : x ≤ p). let e : x ≡ p = omega arith in inl e) (λ (h : p < x). inr h) (le-or-lt x p)
 
--- what holds from i on, up to n, and at the number before i
+-- what holds from i on, below n, and at i − 1 holds from i − 1 on
 pub from-less :
     (P : ℕ → Type 0) (n i : ℕ) → ((j : ℕ) → j < n → i ≤ j → P j) → P (i - 1) → (j : ℕ) → j < n → i - 1 ≤ j → P j
 from-less P n i rest here j b lo =
@@ -98,7 +98,7 @@ those-from-put (suc n) p f x lo hi t =
     in-cond-there x p (those-from n (suc p) f) (f p) (those-from-put n (suc p) f x h (omega arith) t))
     (first-or-later p x lo)
 
--- two tests that are alike give the same numbers
+-- two tests that agree give the same numbers
 pub those-from-alike :
     (n p : ℕ) (f g : ℕ → Bool) → ((x : ℕ) → p ≤ x → x < p + n → f x ≡ g x) → those-from n p f ≡ those-from n p g
 unfolding those-from

@@ -11,7 +11,7 @@ use Rattle.basics.specs.Bools.{le-or-lt}
 use Rattle.basics.specs.Order.{less-equal-more}
 
 module _ {A : Type 0} (z : A) where
-  -- a store is at its place, or leaves what was there
+  -- an element is unchanged, or is the one stored
   pub set-either :
       (l : List A) (k : ℕ) (v : A) (i : ℕ) → (getD (set l k v) i z ≡ getD l i z) ⊎ ((i ≡ k) × (getD (set l k v) i z ≡ v))
   set-either l k v i = go (less-equal-more i k)
@@ -23,13 +23,13 @@ module _ {A : Type 0} (z : A) where
           ⊎-elim (λ (b : length l ≤ k). inl (rw (set-out l k v b)))
           (λ (b : k < length l). inr (e, rw e (getD-set-same l k v z b))) (le-or-lt (length l) k)
 
-  -- what is right at i stays right if no store there is wrong
+  -- an element that is c stays c if a store to its index is c
   set-keeps : (l : List A) (k : ℕ) (v : A) (i : ℕ) (c : A) → getD l i z ≡ c → (i ≡ k → v ≡ c) → getD (set l k v) i z ≡ c
   set-keeps l k v i c h right =
       ⊎-elim (λ (e : getD (set l k v) i z ≡ getD l i z). e ∙ h)
       (λ (e : (i ≡ k) × (getD (set l k v) i z ≡ v)). e .1 ∙ right (e .0)) (set-either l k v i)
 
-  -- what holds of each element below i, and of the store at i, holds of each below i + 1
+  -- what holds for each element below i, and for the store at i, holds for each below i + 1
   pub set-more :
       (P : ℕ → A → Type 0) (l : List A) (i : ℕ) (v : A) → i < length l → ((k : ℕ) → k < i → P k (getD l k z)) → P i v →
       (k : ℕ) → k < i + 1 → P k (getD (set l i v) k z)
@@ -55,7 +55,7 @@ module _ {A : Type 0} (z : A) where
           let w : i - k ≡ suc (i - suc k) = omega arith in
           rw w at (right (omega arith) (omega arith))
 
-  -- a place is as it was, or is one of those stored
+  -- an element is unchanged, or is one of those stored
   pub sets-either :
       (l : List A) (k : ℕ) (vs : List A) (i : ℕ) → (getD (sets l k vs) i z ≡ getD l i z) ⊎ ((k ≤ i) × (i < k + length vs))
   sets-either l k vs i = go (le-or-lt k i) (le-or-lt (k + length vs) i)

@@ -1,5 +1,4 @@
--- Differences modulo 2 ^ 64: w is a less b, wrapped. One test of w against a small n tells whether a is from b up and below b + n.
--- Assumes nothing.
+-- Differences modulo 2 ^ 64: w is a − b, wrapped. One test of w against a small n tells whether b ≤ a < b + n. Assumes nothing.
 use mathlib.Core.Path.{_≡_, sym, ap, _∙_}
 use mathlib.Core.Logic.{⊎-elim}
 use Prim.Native.Nat.{ℕ, _+_, _-_, _%_, _^_, _≤_, _<_}
@@ -7,7 +6,7 @@ use native.Mathlib.Nat.{mod-eq-of-lt, add-mod-right}
 use native.Mathlib.Omega.{arith}
 use Rattle.basics.specs.Bools.{le-or-lt}
 
--- a sum below twice 2 ^ 64 wraps once at most
+-- a sum below twice 2 ^ 64 wraps at most once
 once : (s : ℕ) → 2 ^ 64 ≤ s → s < 2 ^ 64 + 2 ^ 64 → s % 2 ^ 64 ≡ s - 2 ^ 64
 once s past short =
     let back : s ≡ s - 2 ^ 64 + 2 ^ 64 = omega arith in

@@ -1,5 +1,5 @@
--- Writing a list into a slice, from a place on: one record for every writer, with a law for the start, for room, for one number,
--- for several, and for the end. Assumes nothing.
+-- Writing a list into a slice, from an index on: one record for every writer, with laws for the start, for room, for one number, for
+-- several, and for the end. Assumes nothing.
 use mathlib.Core.Path.{_≡_, refl, sym, ap, _∙_}
 use mathlib.Core.List.{List, [], _∷_, _++_, append-assoc, append-nil}
 use Prim.Native.Nat.{ℕ, _+_, _-_, _≤_, _<_}
@@ -8,11 +8,11 @@ use native.Mathlib.Omega.{arith}
 use lib.ListN.{length, take, drop, set, take-append-drop, length-append, length-drop, length-set, drop-of-length-le}
 use lib.Seq.{length-take-le, take-all, take-suc-set, drop-set-lt, drop-drop, take-at, drop-at}
 
--- `new` over the front of `old`, whose rest stays
+-- `new` over the start of `old`, whose rest stays
 abbrev pub over : (new old : List ℕ) → List ℕ
 over new old = new ++ drop (length new) old
 
--- before place `at`: what stands there followed by what is to come is all; from it on the slice is as it was, and there is room
+-- the slice before `at` followed by what is to come is `all`; from `at` on the slice is unchanged, and there is room
 pub record Writing (all old now todo : List ℕ) (at : ℕ) : Type 0 where
   pub so-far : take at now ++ todo ≡ all
   pub rest : drop at now ≡ drop at old
@@ -39,7 +39,7 @@ module _ (all old now : List ℕ) (x : ℕ) (todo : List ℕ) (at : ℕ) (w : Wr
         room = omega (arith, w .room);
       }
 
--- several numbers that another writer has put there
+-- several numbers that another writer wrote there
 pub appends :
     (all old now xs todo : List ℕ) (at : ℕ) → Writing all old now (xs ++ todo) at →
     Writing all old (over (take at now ++ xs) now) todo (at + length xs)
@@ -78,7 +78,7 @@ module _ (all old now : List ℕ) (at : ℕ) (w : Writing all old now [] at) whe
       ∙ ap (λ (l : List ℕ). all ++ l) (w .rest)
       ∙ ap (λ (n : ℕ). all ++ drop n old) (sym written-length)
 
--- the part from `at` on lent to a writer, which has put the rest over its front
+-- the part from `at` on is lent to a writer, which writes the rest over its start
 lent-on :
     (all old now todo part : List ℕ) (at : ℕ) → Writing all old now todo at → part ≡ over todo (drop at now) →
     take at now ++ part ≡ over all old
@@ -92,7 +92,7 @@ lent-on all old now todo part at w e =
         let here : length (take at now) ≡ at = length-take-le at now (omega (arith, w .room, w .len)) in
         omega (arith, ap length (w .so-far), length-append (take at now) todo)
 
--- `&mut now[at..]` is lent: what the callee is lent, and what stands after it has left `part` there
+-- `&mut now[at..]` is lent: what the callee receives, and what the slice is once the callee has left `part` there
 abbrev pub lent-tail : (at : ℕ) → (now : List ℕ) → List ℕ
 lent-tail at now = take (length now - at) (drop at now)
 

@@ -1,4 +1,4 @@
--- How an index lies as numbers, and back.
+-- The layout of an index as numbers, and reading it back.
 pub mod Flat
 pub mod KeyOrder
 pub mod FlatOrder

@@ -20,7 +20,7 @@ use Rattle.spec.specs.declared.Answer.{Answer}
 use Rattle.spec.specs.declared.FirstAnswer.{FirstAnswer}
 use Rattle.spec.specs.declared.TallyAnswer.{TallyAnswer}
 
--- THE LINES OF THE REFUSAL TABLE beside 1 to 3 and 12, which `dictionary-refusal` has
+-- THE LINES OF THE REFUSAL TABLE other than 1 to 3 and 12, which `dictionary-refusal` tests
 
 -- Line 4: "text longer than 65,535"
 unfoldable pub text-too-long : (text : List ℕ) → Bool
@@ -49,7 +49,7 @@ no-text lex xs = not (received longest-text lex xs)
 -- THE ORDER: "an operation tests only what it is handed", and the number of the first line met is returned. Document 01's order is that of
 -- the numbers; 12 is "tested right after 3".
 
--- the first number, or the second where the first is 0
+-- the first number, or the second if the first is 0
 unfoldable pub or-else : (a b : ℕ) → ℕ
 or-else a b = cond (eqb a 0) b a
 
@@ -82,17 +82,17 @@ string-refusal cs ls xs s = or-else (index-refusal cs ls xs) (cond (string-wrong
 unfoldable pub find-refusal : (chars lengths index string : List ℕ) → (result output : ℕ) → ℕ
 find-refusal cs ls xs s r o = or-else (string-refusal cs ls xs s) (cond (output-short r o) 8 0)
 
--- 1 to 3, 12, 5, 8: the gap form and its inverse, with the index that 5 asks about and the length of their result
+-- 1 to 3, 12, 5, 8: the gap form and its inverse, with the index that 5 is tested on and the length of the result
 unfoldable pub gaps-refusal : (chars lengths index : List ℕ) → (result output : ℕ) → ℕ
 gaps-refusal cs ls xs r o = or-else (index-refusal cs ls xs) (cond (output-short r o) 8 0)
 
 -- ANSWERS AND SLICES
 
--- a value where no line is met, and another on a refusal
+-- the first value if no line is met, the second on a refusal
 unfoldable pub accepted {ℓ} : {A : Type ℓ} → (refusal : ℕ) → A → A → A
 accepted r x y = cond (eqb r 0) x y
 
--- the number that the table fixes, and the count of an accepted call; beside a refusal the count is 0
+-- the number that the table fixes, and the count of an accepted call; on a refusal the count is 0
 unfoldable pub Answers : (refusal count : ℕ) → Answer → Type 0
 Answers n c r = (r .refusal ≡ n) × (r .count ≡ accepted n c 0)
 

@@ -1,7 +1,7 @@
--- The three demands, over what is lent to the public operations and to the program, and what comes back. `X-says` is the contract of
--- operation X (`Calls`, `JobAnswer`); a statement supposes only that a call says so. Each is a type; its proof stands in the crate
--- `laws`. That numbers are characters is asked for where lists need it: a slice of 16-bit numbers has no others, as the contracts of
--- the three operations concerned say of each call. Assumes nothing.
+-- The three demands, as statements about what the public operations and the program are lent and what comes back. `X-says` is the
+-- contract of operation X (`Calls`, `JobAnswer`); a statement supposes only that the call satisfies it. Each is a type; its proof is in
+-- the crate `laws`. Lists are required to be characters only where that matters: a slice of 16-bit numbers holds nothing else, and the
+-- contracts of the three operations concerned say so. Assumes nothing.
 use mathlib.Core.Path.{_≡_}
 use mathlib.Core.Bool.{true}
 use mathlib.Core.List.{List}
@@ -78,11 +78,11 @@ pub record First-demand : Type 0 where
 -- THE SECOND DEMAND: "The index built from a text and a dictionary is exactly the complete maximal word index of the published
 -- definition, and the same text is recovered from it." From request 2 on "text" is the replaced text.
 
--- a pair of a word and a position that the numbers hold
+-- the numbers hold this pair of a word and a position
 abbrev pub Holds : Lexicon → (numbers : List ℕ) → Item → Type 0
 Holds lex xs i = (k : Key) × (p : ℕ) × Under k p xs × (item (spells lex k) p ≡ i)
 
--- xs can be read, states the text's length and holds exactly the pairs of source 000's definition 7.
+-- xs is readable, states the text's length and holds exactly the pairs of source 000's definition 7.
 pub record Published-index (lex : Lexicon) (ts xs : List ℕ) : Type 0 where
   pub can-read : readable longest-text lex xs ≡ true
   pub n-is : n-of xs ≡ length ts
@@ -129,15 +129,14 @@ abbrev pub First-for : (chars lengths index text string : List ℕ) → Type 0
 First-for cs ls xs ts s =
     (r : FirstAnswer) → First-says cs ls xs s r → (r .refusal ≡ 0) × First-stands (replaced s) ts (r .position)
 
--- Every call of cut for s with enough output accepts, and writes the cut-down index, whose searches for s, and first, answer in the same
--- way.
+-- Every call of cut for s with enough output accepts and writes the cut-down index; on it, search and first for s answer as above.
 abbrev pub Cut-for : (chars lengths index text string : List ℕ) → Type 0
 Cut-for cs ls xs ts s =
     let kept = cut-down (lexicon cs ls) xs (replaced s) in
     (r : Answer) (o z : List ℕ) → length kept ≤ length o → Cut-says cs ls xs s r o z →
     (r .refusal ≡ 0) × Written kept r o z × Found-for cs ls (take (r .count) z) ts s × First-for cs ls (take (r .count) z) ts s
 
--- What is had of numbers xs that text ts has as its index. `accepted-cut` asks nothing of the output: that the call answered 0 is
+-- What holds for numbers xs that are the index of text ts. `accepted-cut` requires nothing of the output: a call that answers 0 is
 -- enough.
 pub record Delivered (cs ls xs ts : List ℕ) : Type 0 where
   pub text : Text-of longest-text (lexicon cs ls) xs ts
@@ -150,8 +149,8 @@ pub record Delivered (cs ls xs ts : List ℕ) : Type 0 where
       (s : List ℕ) → Query s → (r : Answer) (o z : List ℕ) → Cut-says cs ls xs s r o z → r .refusal ≡ 0 →
       Found-for cs ls (take (r .count) z) ts s × First-for cs ls (take (r .count) z) ts s
 
--- Reception, called with enough work space, accepts exactly if the dictionary is admitted and some text has the numbers; then they
--- are readable, and everything is had of them.
+-- Reception, called with enough work space, accepts exactly if the dictionary is admitted and some text has the numbers as its index.
+-- Then they are readable, and every guarantee of `Delivered` holds for them.
 unfoldable pub Third-demand : Type 0
 Third-demand =
     (cs ls xs : List ℕ) (r : Answer) (w v : List ℕ) → all-chars cs ≡ true → 8 * n-of xs ≤ length w → Receive-says cs ls xs r w v →

@@ -29,8 +29,8 @@ unfoldable pub words-from : (lengths chars : List ℕ) → List (List ℕ)
 words-from [] cs = []
 words-from (l ∷ ls) cs = take l cs ∷ words-from ls (drop l cs)
 
--- A dictionary (the field's word: lexicon). Which words there are, what a key spells and what is a word are asked of it
--- alone. "The first word has number 0."
+-- A dictionary (the field's word: lexicon). It alone decides which words there are, what a key spells and what is a word. "The first word
+-- has number 0."
 pub record Lexicon : Type 0 where
   pub words : List (List ℕ)
 
@@ -42,7 +42,7 @@ unfoldable pub total : List ℕ → ℕ
 total [] = 0
 total (x ∷ xs) = x + total xs
 
--- Line 1: "more than 4,096 words or 65,535 dictionary characters". It goes by the characters lent.
+-- Line 1: "more than 4,096 words or 65,535 dictionary characters". It counts the characters lent.
 unfoldable pub too-large : (chars lengths : List ℕ) → Bool
 too-large cs ls = ltb 4096 (length ls) || ltb 65535 (length cs)
 
@@ -50,7 +50,7 @@ too-large cs ls = ltb 4096 (length ls) || ltb 65535 (length cs)
 unfoldable pub length-good : ℕ → Bool
 length-good l = leb 1 l && leb l 32
 
--- every length is that of a word
+-- every length is from 1 to 32
 unfoldable pub lengths-good : List ℕ → Bool
 lengths-good [] = true
 lengths-good (l ∷ ls) = length-good l && lengths-good ls
@@ -65,7 +65,7 @@ word-before xs [] = false
 word-before [] (y ∷ ys) = true
 word-before (x ∷ xs) (y ∷ ys) = ltb x y || (eqb x y && word-before xs ys)
 
--- each word before the next
+-- each word is before the next
 unfoldable pub ascend : List (List ℕ) → Bool
 ascend [] = true
 ascend (w ∷ []) = true
@@ -75,7 +75,7 @@ ascend (w ∷ v ∷ ws) = word-before w v && ascend (v ∷ ws)
 unfoldable pub disordered : (chars lengths : List ℕ) → Bool
 disordered cs ls = not (ascend (words-from ls cs))
 
--- one of the words holds a full-width form
+-- one of the words contains a full-width form
 unfoldable pub some-full-width : (words : List (List ℕ)) → Bool
 some-full-width [] = false
 some-full-width (w ∷ ws) = holds-full-width w || some-full-width ws
@@ -84,11 +84,12 @@ some-full-width (w ∷ ws) = holds-full-width w || some-full-width ws
 unfoldable pub unreplaced : (chars lengths : List ℕ) → Bool
 unreplaced cs ls = some-full-width (words-from ls cs)
 
--- The lines about dictionaries, in their order; 0 if none is met. 12 is "tested right after 3".
+-- The number of the first line about dictionaries that is met; 0 if none is. 12 is "tested right after 3".
 unfoldable pub dictionary-refusal : (chars lengths : List ℕ) → ℕ
 dictionary-refusal cs ls =
     cond (too-large cs ls) 1 (cond (lengths-wrong cs ls) 2 (cond (disordered cs ls) 3 (cond (unreplaced cs ls) 12 0)))
 
+-- Admitted, document 01's term (the field's: validated).
 -- "A dictionary is admitted if it meets no line about dictionaries in the table below."
 unfoldable pub admitted : (chars lengths : List ℕ) → Bool
 admitted cs ls = all-chars cs && eqb (dictionary-refusal cs ls) 0

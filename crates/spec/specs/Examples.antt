@@ -77,7 +77,7 @@ one-lone = 2 ∷ 1 ∷ 1 ∷ a ∷ 1 ∷ 1 ∷ []
 abbrev pub lone-a-c : List ℕ
 lone-a-c = 3 ∷ 2 ∷ 1 ∷ a ∷ 1 ∷ 1 ∷ c ∷ 1 ∷ 1 ∷ 3 ∷ []
 
--- the longest entry at each place of abcd over A: abc, bcd, c, d
+-- the longest entry at each position of abcd over A: abc, bcd, c, d
 abbrev pub longest-in-abcd : ℕ → Entry
 longest-in-abcd p =
     cond (eqb p 1) (entry (key 0 1) 1 3) (cond (eqb p 2) (entry (key 0 2) 2 3) (cond (eqb p 3) (entry (key 1 c) 3 1) (entry (key 1 d) 4 1)))
@@ -147,7 +147,7 @@ pub record Examples : Type 0 where
   pub starred : Starred
   pub tried : Tried
 
--- in a text of no characters a string of at least one has no place to lie
+-- an empty text has no position at which a string of one or more characters fits
 pub no-place : (m : ℕ) → 1 - suc m ≡ 0
 no-place m = omega arith
 

@@ -28,7 +28,7 @@ unfoldable pub positions-to : (q : ℕ) → List ℕ → List ℕ
 positions-to q [] = []
 positions-to q (p ∷ ps) = cond (leb p q) (p ∷ positions-to q ps) (positions-to q ps)
 
--- a line before others; dropped where its key has no positions
+-- a line put before others, or dropped if its key has no positions
 unfoldable pub with-line : Line → List Line → List Line
 with-line l ls = cond (eqb (length (l .positions)) 0) ls (l ∷ ls)
 

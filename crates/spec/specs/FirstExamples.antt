@@ -58,7 +58,7 @@ pub record First-tried : Type 0 where
   -- WHERE A READER MAY STOP: ab in abcdab and ax in axa are found at 1, with m = 2: entries to 2 are enough
   pub stops : first-position A (index-to 2 (index-of A abcdab)) (a ∷ b ∷ []) ≡ 1
   pub stops-at-last : first-position A (index-to 2 (index-of A axa)) (a ∷ x ∷ []) ≡ 1
-  -- one less and nothing is found, or, in an index that no text has, a later position
+  -- with one less, nothing is found, or, in an index that no text has, a later position is
   pub one-less-none : first-position A (index-to 1 (index-of A axa)) (a ∷ x ∷ []) ≡ 0
   pub one-less-later :
       (readable longest-text A bcd-and-lone ≡ true)

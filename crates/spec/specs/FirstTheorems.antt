@@ -1,5 +1,5 @@
--- What is promised of the first found position, for any lexicon and numbers, and of the calls of first. Each statement is a type; its
--- proof stands in the crate `laws`. Assumes nothing.
+-- The theorems about the first found position, for any lexicon and numbers, and about the calls of first. Each statement is a type; its
+-- proof is in the crate `laws`. Assumes nothing.
 use mathlib.Core.Path.{_≡_}
 use mathlib.Core.Bool.{true}
 use mathlib.Core.Logic.{_⊎_}
@@ -32,7 +32,7 @@ First-heads = (lex : Lexicon) (xs s : List ℕ) → Is-first (find lex xs s) (fi
 
 -- THE INDEX UP TO A POSITION
 
--- ys can be read, and has the n of xs and exactly its entries that start at or before q.
+-- ys is readable, and has the n of xs and exactly its entries that start at or before q.
 pub record Kept-to (g : ℕ) (lex : Lexicon) (q : ℕ) (xs ys : List ℕ) : Type 0 where
   pub can-read : readable g lex ys ≡ true
   pub n-is : n-of ys ≡ n-of xs
@@ -75,7 +75,7 @@ pub record First-calls : Type 0 where
   pub heads-search :
       (cs ls xs s : List ℕ) (f : FirstAnswer) (r : Answer) (o z : List ℕ) → First-says cs ls xs s f → Search-says cs ls xs s r o z →
       r .refusal ≡ 0 → (f .refusal ≡ 0) × (f .position ≡ first-of (take (r .count) z))
-  -- "No output slice is lent, so 8 cannot occur": it answers the number of a search, but 0 where that is 8.
+  -- "No output slice is lent, so 8 cannot occur": first answers the number that a search answers, or 0 where that is 8.
   pub refuses-as-search :
       (cs ls xs s : List ℕ) (f : FirstAnswer) (r : Answer) (o z : List ℕ) → First-says cs ls xs s f → Search-says cs ls xs s r o z →
       (f .refusal ≡ r .refusal) ⊎ ((f .refusal ≡ 0) × (r .refusal ≡ 8))

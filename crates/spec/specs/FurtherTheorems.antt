@@ -1,5 +1,5 @@
--- Statements beyond those of Promise: the third demand as one statement over delivered numbers, and sentences of document 01 that
--- Promise does not put as a type. Each is a type; its proof stands in the crate `laws`. Assumes nothing.
+-- Statements beyond those of `Theorems`: the third demand as one statement over delivered numbers, and sentences of document 01 that
+-- `Theorems` does not state as a type. Each is a type; its proof is in the crate `laws`. Assumes nothing.
 use mathlib.Core.Path.{_≡_}
 use mathlib.Core.Bool.{true, false}
 use mathlib.Core.List.{List}
@@ -22,11 +22,11 @@ use Rattle.spec.specs.Theorems.{positions, Query}
 
 -- THE INDEX
 
--- the entry of key k at place p is in a list of entries
+-- the entry of key k at position p is in a list of entries
 unfoldable pub Among : Key → (p : ℕ) → List Entry → Type 0
 Among k p es = (e : Entry) × In e es × (e .key-of ≡ k) × (e .at ≡ p)
 
--- it is in a slice: p is a position under k
+-- the entry of key k at position p is in an index: p is a position under k
 unfoldable pub Under : Key → (p : ℕ) → (numbers : List ℕ) → Type 0
 Under k p xs = (l : Line) × In l (lines-in xs) × (l .key-of ≡ k) × In p (l .positions)
 
@@ -68,7 +68,7 @@ pub record First-stands (s ts : List ℕ) (p : ℕ) : Type 0 where
   pub at-it : 1 ≤ p → stands s ts p ≡ true
   pub least : (a : ℕ) → stands s ts a ≡ true → p ≤ a
 
--- What is had of numbers xs that text ts has as its index. A search string is replaced first.
+-- What holds for numbers xs that are the index of text ts. A search string is replaced first.
 pub record Serves (g : ℕ) (lex : Lexicon) (xs ts : List ℕ) : Type 0 where
   pub text : Text-of g lex xs ts
   pub only-text : (us : List ℕ) → Text-of g lex xs us → us ≡ ts
@@ -80,8 +80,8 @@ pub record Serves (g : ℕ) (lex : Lexicon) (xs ts : List ℕ) : Type 0 where
   pub cut-first-exact :
       (s : List ℕ) → Query s → First-stands (replaced s) ts (first-position lex (cut-down lex xs (replaced s)) (replaced s))
 
--- Whatever numbers are delivered, they are received exactly if some text of their stated length has them as its index. Then the
--- recovered text is that text, and everything of the demand is had of it.
+-- Whatever numbers are delivered, they are received exactly if some text of their stated length has them as its index. Then the recovered
+-- text is that text, and every guarantee of the demand holds for it.
 unfoldable pub Demand-three : (g : ℕ) → Type 0
 Demand-three g =
     (cs ls xs : List ℕ) → admitted cs ls ≡ true →
@@ -96,8 +96,8 @@ pub record Accounts (lex : Lexicon) (xs us : List ℕ) : Type 0 where
   pub each : (k : Key) (p : ℕ) → Among k p (entries lex us) → Under k p xs
   pub count : length (entries lex us) ≡ entries-of xs
 
--- Readable numbers are received if any characters of which none is a full-width form account for them, and these are the recovered text;
--- where numbers are received, the recovered text accounts for them.
+-- Readable numbers are received if some characters, none of them a full-width form, account for them, and these are then the recovered
+-- text. If numbers are received, the recovered text accounts for them.
 unfoldable pub Received-by-count : (g : ℕ) → Type 0
 Received-by-count g =
     (cs ls xs : List ℕ) → admitted cs ls ≡ true → readable g (lexicon cs ls) xs ≡ true →
@@ -113,7 +113,7 @@ Cut-any g =
     (lex : Lexicon) (xs s : List ℕ) → readable g lex xs ≡ true →
     (readable g lex (cut-down lex xs s) ≡ true) × (find lex (cut-down lex xs s) s ≡ find lex xs s)
 
--- Fewer entries find no more positions.
+-- An index with fewer entries finds no more positions.
 unfoldable pub Fewer-find-less : Type 0
 Fewer-find-less =
     (lex : Lexicon) (xs ys : List ℕ) → n-of xs ≤ n-of ys → ((k : Key) (p : ℕ) → Under k p xs → Under k p ys) → (s : List ℕ) (p : ℕ) →

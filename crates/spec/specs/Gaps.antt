@@ -26,12 +26,12 @@ prefix-sums ds = sums-after 0 ds
 
 -- THE LISTS OF AN INDEX
 
--- the positions of line i and of those after it, each line's list through f; numbers after the last list stay
+-- the positions of line i and the lines after it, with f applied to each line's list; numbers after the last list stay
 unfoldable pub lists-from : (f : List ℕ → List ℕ) → (left i : ℕ) → (numbers positions : List ℕ) → List ℕ
 lists-from f zero i xs ps = ps
 lists-from f (suc k) i xs ps = f (take (count-at xs i) ps) ++ lists-from f k (suc i) xs (drop (count-at xs i) ps)
 
--- any numbers, with n, K and the directory as they are and each key's list through f
+-- any numbers, with n, K and the directory unchanged and f applied to each key's list
 unfoldable pub with-lists : (f : List ℕ → List ℕ) → (numbers : List ℕ) → List ℕ
 with-lists f xs = take (header + 3 * keys-of xs) xs ++ lists-from f (keys-of xs) 0 xs (drop (header + 3 * keys-of xs) xs)
 
@@ -39,6 +39,6 @@ with-lists f xs = take (header + 3 * keys-of xs) xs ++ lists-from f (keys-of xs)
 unfoldable pub gap-form : (index : List ℕ) → List ℕ
 gap-form xs = with-lists gaps xs
 
--- "The inverse restores the index": the restored form of whatever numbers are delivered, as naturals, so that no sum wraps
+-- "The inverse restores the index": the restored form of any delivered numbers, as naturals, so that no sum wraps
 unfoldable pub restored : (gap-form : List ℕ) → List ℕ
 restored ds = with-lists prefix-sums ds

@@ -51,15 +51,15 @@ pub record Gaps-tried : Type 0 where
   pub three-positions : gaps (3 ∷ 4 ∷ 9 ∷ []) ≡ 3 ∷ 1 ∷ 5 ∷ []
   pub three-gaps : prefix-sums (3 ∷ 1 ∷ 5 ∷ []) ≡ 3 ∷ 4 ∷ 9 ∷ []
   pub one-position : gaps (7 ∷ []) ≡ 7 ∷ []
-  -- AN INDEX: the first position of each key stays, whatever stands under the key before
+  -- AN INDEX: the first position of each key stays, whatever the list of the key before
   pub is-index : index-of A xaxxa ≡ xaxxa-index
   pub rearranged : gap-form xaxxa-index ≡ xaxxa-gaps
   pub back : restored xaxxa-gaps ≡ xaxxa-index
   pub empty-text : gap-form (index-of A []) ≡ 0 ∷ 0 ∷ []
-  -- WHAT RESTORES TO NO READABLE INDEX. A gap of 0, at the front and later
+  -- WHAT RESTORES TO NO READABLE INDEX. A gap of 0, first and later
   pub zero-first : readable longest-text A (restored (lone-pair 9 0 4)) ≡ false
   pub zero-later : readable longest-text A (restored (lone-pair 9 4 0)) ≡ false
-  -- a last gap that meets n, and one that passes it by one
+  -- a last gap that reaches n, and one that exceeds it by one
   pub meets-n : readable longest-text A (restored (lone-pair 9 4 5)) ≡ true
   pub passes-n : readable longest-text A (restored (lone-pair 9 4 6)) ≡ false
   -- 3 and a gap of 65,534 come to 65,537, past any n, and not to 1
@@ -67,9 +67,9 @@ pub record Gaps-tried : Type 0 where
   pub no-wrap-read : readable longest-text A (restored (lone-pair 65535 3 65534)) ≡ false
   pub to-the-end : restored (lone-pair 65535 3 65532) ≡ lone-pair 65535 3 65535
   pub to-the-end-read : readable longest-text A (restored (lone-pair 65535 3 65532)) ≡ true
-  -- the lists of two keys do not run together: carried over, the second would pass n
+  -- each key's list starts anew: carried over, the second would exceed n
   pub anew : readable longest-text A (restored (5 ∷ 2 ∷ 1 ∷ a ∷ 1 ∷ 1 ∷ x ∷ 1 ∷ 4 ∷ 2 ∷ [])) ≡ true
-  -- numbers that no line has stay, and are not readable; neither is a list cut short
+  -- numbers that belong to no line stay, and are not readable; nor is a list cut short
   pub left-over : restored (5 ∷ 0 ∷ 7 ∷ []) ≡ 5 ∷ 0 ∷ 7 ∷ []
   pub left-over-read : readable longest-text A (restored (5 ∷ 0 ∷ 7 ∷ [])) ≡ false
   pub cut-short : restored (5 ∷ 1 ∷ 1 ∷ a ∷ 3 ∷ 2 ∷ 1 ∷ []) ≡ 5 ∷ 1 ∷ 1 ∷ a ∷ 3 ∷ 2 ∷ 3 ∷ []

@@ -10,7 +10,7 @@ use Rattle.spec.specs.Numbers.{key-before, Line, line}
 
 -- THE PARTS
 
--- how many numbers stand before the directory: n and K
+-- how many numbers precede the directory: n and K
 abbrev pub header : ℕ
 header = 2
 
@@ -35,7 +35,7 @@ count-at xs i = getD xs (header + 3 * i + 2) 0
 abbrev pub key-at : List ℕ → (i : ℕ) → Key
 key-at xs i = key (kind-at xs i) (value-at xs i)
 
--- the sum of the counts of line i and those after it
+-- the sum of the counts of line i and the lines after it
 unfoldable pub counts-from : (left i : ℕ) → List ℕ → ℕ
 counts-from zero i xs = 0
 counts-from (suc k) i xs = count-at xs i + counts-from k (suc i) xs
@@ -44,7 +44,7 @@ counts-from (suc k) i xs = count-at xs i + counts-from k (suc i) xs
 unfoldable pub entries-of : List ℕ → ℕ
 entries-of xs = counts-from (keys-of xs) 0 xs
 
--- line i and those after it, with their positions off the front of those left
+-- line i and the lines after it; each takes its positions from the head of those left
 unfoldable pub lines-from : (left i : ℕ) → (numbers positions : List ℕ) → List Line
 lines-from zero i xs ps = []
 lines-from (suc k) i xs ps = line (key-at xs i) (take (count-at xs i) ps) ∷ lines-from k (suc i) xs (drop (count-at xs i) ps)
@@ -71,7 +71,7 @@ keys-ascend [] = true
 keys-ascend (l ∷ []) = true
 keys-ascend (l ∷ m ∷ ls) = key-before (l .key-of) (m .key-of) && keys-ascend (m ∷ ls)
 
--- "positions ascend strictly, start at 1 or more": from the least that the next may be
+-- "positions ascend strictly, start at 1 or more": `least` is the least that the next may be
 unfoldable pub rise-from : (least : ℕ) → List ℕ → Bool
 rise-from a [] = true
 rise-from a (p ∷ ps) = leb a p && rise-from (suc p) ps
@@ -89,7 +89,7 @@ line-good lex n l =
     (key-good lex (l .key-of) && leb 1 (length (l .positions)))
     && (rise-from 1 (l .positions) && leb (last-of (l .positions) + length (spells lex (l .key-of))) (suc n))
 
--- so with every line
+-- every line is good
 unfoldable pub lines-good : Lexicon → (n : ℕ) → List Line → Bool
 lines-good lex n [] = true
 lines-good lex n (l ∷ ls) = line-good lex n l && lines-good lex n ls

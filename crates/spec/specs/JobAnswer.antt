@@ -17,7 +17,7 @@ use Rattle.spec.specs.JobSheet.{line-feed, space, closing, words-on, tex
 
 -- NUMBERS: "H below is one character as four upper-case hexadecimal digits; other numbers are decimal."
 
--- decimal digits, without leading zeros: those of the tenth part where there is one, then the last
+-- decimal digits, without leading zeros: those of n / 10 unless n is below 10, then the last
 unfoldable pub decimal-within : (steps n : ℕ) → List ℕ
 decimal-within zero n = []
 decimal-within (suc k) n = cond (ltb n 10) [] (decimal-within k (n / 10)) ++ (48 + n % 10) ∷ []
@@ -91,7 +91,7 @@ unfoldable pub key-lines : List Line → List ℕ
 key-lines [] = []
 key-lines (l ∷ ls) = key-line l ++ key-lines ls
 
--- the lines that show an index
+-- the lines that print an index
 unfoldable pub index-lines : (numbers : List ℕ) → List ℕ
 index-lines xs = index-line (n-of xs) (keys-of xs) (entries-of xs) ++ key-lines (lines-in xs)
 
@@ -114,7 +114,7 @@ refused-line r = refused-head ++ decimal r ++ ending
 unfoldable pub lexicon-on : (sheet : List ℕ) → Lexicon
 lexicon-on s = lexicon (run-together (words-on s)) (lengths-of (words-on s))
 
--- what is printed where nothing is refused, for a dictionary, a text, which is replaced, and finds
+-- what is printed if nothing is refused; the text is replaced first
 abbrev pub answer-lines : Lexicon → (text : List ℕ) → (finds : List (List ℕ)) → List ℕ
 answer-lines lex ts fs = let index = index-of lex (replaced ts) in index-lines index ++ found-lines lex index fs
 
@@ -125,7 +125,7 @@ printed s = answer-lines (lexicon-on s) (text-on s) (finds-on s)
 unfoldable pub job-answer : (sheet : List ℕ) → List ℕ
 job-answer s = accepted (sheet-refusal s) (printed s) (refused-line (sheet-refusal s))
 
--- THE CALL: the answer's bytes at the front of the output, or 8 where it is too short for them. The line of a refused sheet is an answer
+-- THE CALL: the answer's bytes at the start of the output, or 8 if it is too short for them. The line of a refused sheet is an answer
 -- like any other.
 unfoldable pub Job-says : (sheet : List ℕ) → Answer → (out out-now : List ℕ) → Type 0
 Job-says s r o z = Puts (cond (output-short (length (job-answer s)) (length o)) 8 0) (job-answer s) r o z

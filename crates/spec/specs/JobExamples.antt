@@ -70,12 +70,12 @@ Prints s t = job-answer (bytes s) ≡ bytes t
 abbrev finds : ℕ → List ℕ
 finds k = bytes "(text)\n" ++ run-together (replicate k (bytes "(find 0061)\n"))
 
--- the values of so many bytes, from one on
+-- the digit values of `count` bytes, from `byte` on
 abbrev values-from : (byte count : ℕ) → List ℕ
 values-from b zero = []
 values-from b (suc k) = digit b ∷ values-from (suc b) k
 
--- the values of all bytes: 48 come before `0`, seven between `9` and `A`, and 185 after `F`
+-- the digit values of all bytes: 48 come before `0`, seven between `9` and `A`, and 185 after `F`
 abbrev all-values : List ℕ
 all-values =
     replicate 48 16

@@ -35,7 +35,7 @@ head-length = 5
 
 -- ONE CHARACTER: "H below is one character as four upper-case hexadecimal digits"
 
--- what every byte that is no digit is given for its value
+-- the value of every byte that is no digit
 abbrev pub no-digit : ℕ
 no-digit = 16
 
@@ -93,13 +93,13 @@ unfoldable pub lines : (bytes : List ℕ) → List (List ℕ)
 lines [] = [] ∷ []
 lines (b ∷ bs) = cond (eqb b line-feed) ([] ∷ lines bs) (onto-first b (lines bs))
 
--- the strings of the forms with this head that the lines begin with; what follows the last LF is no line
+-- the strings of the leading lines that are forms with this head; what follows the last LF is no line
 unfoldable pub forms : (head : List ℕ) → (lines : List (List ℕ)) → List (List ℕ)
 forms h [] = []
 forms h (l ∷ []) = []
 forms h (l ∷ m ∷ ls) = cond (is-form h l) (string-in l ∷ forms h (m ∷ ls)) []
 
--- the lines after those forms
+-- the lines after those forms, and what follows the last LF
 unfoldable pub after : (head : List ℕ) → (lines : List (List ℕ)) → List (List ℕ)
 after h [] = []
 after h (l ∷ []) = l ∷ []
@@ -160,7 +160,7 @@ unfoldable pub some-string-wrong : (finds : List (List ℕ)) → Bool
 some-string-wrong [] = false
 some-string-wrong (s ∷ ss) = string-wrong s || some-string-wrong ss
 
--- the first line met over the dictionary and then every find
+-- the first line met by the dictionary and then by every find
 unfoldable pub contents-refusal : (words finds : List (List ℕ)) → ℕ
 contents-refusal ws fs = or-else (dictionary-refusal (run-together ws) (lengths-of ws)) (cond (some-string-wrong fs) 6 0)
 

@@ -1,5 +1,5 @@
--- How the numbers of an index lie: entries in order, a directory line for each key, then the positions. Assumes nothing: these
--- are definitions.
+-- The layout of an index as numbers: entries in order, a directory line for each key, then the positions. Assumes nothing: these are
+-- definitions.
 use mathlib.Core.Bool.{Bool, _&&_, _||_, not, cond}
 use mathlib.Core.List.{List, [], _∷_, _++_}
 use Prim.Native.Nat.{ℕ}
@@ -12,17 +12,17 @@ use Rattle.spec.specs.Words.{Key, Entry, entries}
 unfoldable pub key-before : Key → Key → Bool
 key-before a b = ltb (a .kind) (b .kind) || (eqb (a .kind) (b .kind) && ltb (a .value) (b .value))
 
--- by key, then by position
+-- entries compare by key, then by position
 unfoldable pub entry-before : Entry → Entry → Bool
 entry-before e f =
     key-before (e .key-of) (f .key-of) || (not (key-before (f .key-of) (e .key-of)) && ltb (e .at) (f .at))
 
--- an entry put into its place
+-- an entry inserted in order
 unfoldable pub into : Entry → List Entry → List Entry
 into e [] = e ∷ []
 into e (f ∷ fs) = cond (entry-before e f) (e ∷ f ∷ fs) (f ∷ into e fs)
 
--- entries in order
+-- entries in order, by insertion sort
 unfoldable pub sorted : List Entry → List Entry
 sorted [] = []
 sorted (e ∷ es) = into e (sorted es)
@@ -41,7 +41,7 @@ with-entry e [] = line (e .key-of) (e .at ∷ []) ∷ []
 with-entry e (l ∷ ls) =
     cond (key-before (e .key-of) (l .key-of)) (line (e .key-of) (e .at ∷ []) ∷ l ∷ ls) (line (l .key-of) (e .at ∷ l .positions) ∷ ls)
 
--- entries in order, put together under their keys
+-- entries in order, inverted: posting lists by key
 unfoldable pub lines-of : List Entry → List Line
 lines-of [] = []
 lines-of (e ∷ es) = with-entry e (lines-of es)

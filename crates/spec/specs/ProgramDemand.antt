@@ -1,4 +1,4 @@
--- What the program prints for a sheet: the lines of the refusal table about sheets, their order, and what a call on a sheet comes to.
+-- What the program prints for a sheet: the lines of the refusal table about sheets, their order, and the outcome of a call on a sheet.
 -- Assumes nothing: these are definitions.
 use mathlib.Core.Path.{_≡_}
 use mathlib.Core.Logic.{_⊎_}
@@ -58,7 +58,7 @@ pub record Tested-parts (sheet answer : List ℕ) : Type 0 where
 abbrev pub Prints : (sheet answer : List ℕ) → Type 0
 Prints s answer = Refused-long s answer ⊎ (Refused-broken s answer ⊎ Tested-parts s answer)
 
--- What a call on a sheet comes to: the sheet has one answer, which is written or meets 8. The line of a refused sheet is an answer.
+-- The outcome of a call on a sheet: the sheet has one answer, which is written or meets 8. The line of a refused sheet is an answer.
 pub record Answered (sheet : List ℕ) (r : Answer) (out out-now : List ℕ) : Type 0 where
   pub answer : List ℕ
   pub prints : Prints sheet answer

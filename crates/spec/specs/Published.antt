@@ -1,5 +1,5 @@
--- Source 000's definitions 1 to 7, its claims 1 and 2, and the algorithms of sources 000 and 001, over pairs of a word and a
--- position. Each statement is a type; its proof stands in the crate `laws`. Assumes nothing.
+-- Source 000's definitions 1 to 7, its claims 1 and 2, and the algorithms of sources 000 and 001, over pairs of a word and a position.
+-- Each statement is a type; its proof is in the crate `laws`. Assumes nothing.
 use mathlib.Core.Path.{_≡_}
 use mathlib.Core.Bool.{true, _&&_, cond}
 use mathlib.Core.Logic.{_⊎_}
@@ -33,8 +33,8 @@ pub record Is-item (lex : Lexicon) (doc : List ℕ) (i : Item) : Type 0 where
   pub is-word : Is-word lex (i .word)
   pub stand : stands (i .word) doc (i .position) ≡ true
 
--- Definition 3: "An index [..] is a finite set of index items": a set is what holds of its members. That it is finite is not
--- asked, so what is said of every such set says more.
+-- Definition 3: "An index [..] is a finite set of index items": here a set is a predicate on items. It need not be finite, so a statement
+-- about every such set says more.
 abbrev pub Items : Type 1
 Items = Item → Type 0
 
@@ -61,7 +61,7 @@ maximal-items lex doc i = Maximal-item (complete-items lex doc) i
 unfoldable pub item-of : Lexicon → Entry → Item
 item-of lex e = item (spells lex (e .key-of)) (e .at)
 
--- Definition 7's index is the complete maximal word index of document 01, which compares entries by their places alone.
+-- Definition 7's index is the complete maximal word index of document 01, which compares entries by their starts and ends alone.
 unfoldable pub Same-index : (g : ℕ) → Type 0
 Same-index g =
     (cs ls ts : List ℕ) → admitted cs ls ≡ true → is-text g ts ≡ true →
@@ -136,7 +136,7 @@ longest-word (w ∷ ws) ts p =
 unfoldable pub grown : (dict : List (List ℕ)) (text : List ℕ) (p : ℕ) → List (List ℕ)
 grown dict ts p = cond (eqb (length (longest-word dict ts p)) 0) ((getD ts (p - 1) 0 ∷ []) ∷ dict) dict
 
--- 001's loop, which is that of 000 but for the dictionary
+-- 001's loop, which is 000's but for the dictionary
 unfoldable pub growing-scan : (left p last : ℕ) (dict : List (List ℕ)) (text : List ℕ) → List Item
 growing-scan zero p last dict ts = []
 growing-scan (suc n) p last dict ts =
@@ -144,7 +144,7 @@ growing-scan (suc n) p last dict ts =
     let w = longest-word d ts p in
     cond (ltb last (p + length w)) (item w p ∷ growing-scan n (suc p) (p + length w) d ts) (growing-scan n (suc p) last d ts)
 
--- 001 starts with the dictionary alone, and registers the same.
+-- 001 starts with the dictionary alone, and registers the same items.
 unfoldable pub Growing-same : (g : ℕ) → Type 0
 Growing-same g =
     (cs ls ts : List ℕ) → admitted cs ls ≡ true → is-text g ts ≡ true → (i : Item) →

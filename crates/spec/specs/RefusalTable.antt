@@ -1,5 +1,5 @@
--- The lines of the refusal table as facts about what is lent, the lines that each operation tests, and what a call comes back with.
--- Assumes nothing: these are definitions.
+-- The lines of the refusal table as facts about what is lent, the lines that each operation tests, and what a call leaves. Assumes
+-- nothing: these are definitions.
 use mathlib.Core.Path.{_≡_}
 use mathlib.Core.Bool.{true, false}
 use mathlib.Core.Logic.{_⊎_}
@@ -16,7 +16,7 @@ use Rattle.spec.specs.declared.Answer.{Answer}
 
 -- WHAT COMES BACK
 
--- The result stands in front of the output, the count is its length, and "output past that count is unchanged".
+-- The result is at the start of the output, the count is its length, and "output past that count is unchanged".
 pub record Written (result : List ℕ) (r : Answer) (out out-now : List ℕ) : Type 0 where
   pub count : r .count ≡ length result
   pub front : take (r .count) out-now ≡ result
@@ -127,18 +127,18 @@ abbrev pub Meets : List Row → (n : ℕ) → Type 0
 Meets [] n = ⊥
 Meets (l ∷ ls) n = ((l .returned ≡ n) × l .when) ⊎ Meets ls n
 
--- no line is met: the answer is 0, and the call ends so
+-- no line is met: the answer is 0, and `ends` holds
 pub record Accepts (rows : List Row) (n : ℕ) (ends : Type 0) : Type 0 where
   pub none-met : (k : ℕ) → Meets rows k → ⊥
   pub number : n ≡ 0
   pub result : ends
 
--- the line with number n is met, and no line that stands before it is
+-- the line with number n is met, and no line before it is
 abbrev pub First-met : List Row → (n : ℕ) → Type 0
 First-met [] n = ⊥
 First-met (l ∷ ls) n = (l .when × (l .returned ≡ n)) ⊎ ((l .when → ⊥) × First-met ls n)
 
--- the number of the first line met is returned, and the call ends so
+-- the number of the first line met is returned, and `ends` holds
 pub record Refuses (rows : List Row) (n : ℕ) (ends : Type 0) : Type 0 where
   pub first : First-met rows n
   pub number : n ≡ 0 → ⊥

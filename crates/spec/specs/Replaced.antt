@@ -23,12 +23,12 @@ is-full-width c = leb first-form c && leb c last-form
 unfoldable pub replaced-char : (c : ℕ) → ℕ
 replaced-char c = cond (is-full-width c) (c - form-distance) c
 
--- so in a whole text or string
+-- a text or string with each character replaced
 unfoldable pub replaced : (text : List ℕ) → List ℕ
 replaced [] = []
 replaced (c ∷ cs) = replaced-char c ∷ replaced cs
 
--- a full-width form is one of the characters; a text that holds none is a replaced text
+-- one of the characters is a full-width form; a text that holds none is a replaced text
 unfoldable pub holds-full-width : (text : List ℕ) → Bool
 holds-full-width [] = false
 holds-full-width (c ∷ cs) = is-full-width c || holds-full-width cs

@@ -1,5 +1,5 @@
--- What is promised of full-width forms: the replacement itself, what stays as before where there are none, and an index that has one as a
--- lone key. Each statement is a type; its proof stands in the crate `laws`. Assumes nothing.
+-- The theorems about full-width forms: the replacement itself, what stays as before where there are none, and an index that has one as a
+-- lone key. Each statement is a type; its proof is in the crate `laws`. Assumes nothing.
 use mathlib.Core.Path.{_≡_}
 use mathlib.Core.Bool.{true, false, cond}
 use mathlib.Core.List.{List, [], _∷_, _++_}
@@ -33,14 +33,14 @@ pub record Replacement : Type 0 where
   pub length-kept : (ts : List ℕ) → length (replaced ts) ≡ length ts
   pub idempotent : (ts : List ℕ) → replaced (replaced ts) ≡ replaced ts
   pub none-left : (ts : List ℕ) → holds-full-width (replaced ts) ≡ false
-  -- what holds no full-width form is replaced by itself, and nothing else is
+  -- a text without full-width forms is replaced by itself, and no other is
   pub kept : (ts : List ℕ) → holds-full-width ts ≡ false → replaced ts ≡ ts
   pub kept-only : (ts : List ℕ) → replaced ts ≡ ts → holds-full-width ts ≡ false
-  -- a lent text that line 4 does not meet has a replaced text
+  -- a lent text that does not meet line 4 is a text once it is replaced
   pub is-a-text : (g : ℕ) (ts : List ℕ) → all-chars ts ≡ true → length ts ≤ g → is-text g (replaced ts) ≡ true
 
--- AS BEFORE where there are no full-width forms: a dictionary meets 1, 2, 3 or no line, the text and the string go in as they are lent, and
--- reception asks no more than that the numbers are the index of what they show.
+-- AS BEFORE where there are no full-width forms: a dictionary meets 1, 2, 3 or no line, the text and the string are taken as lent, and
+-- reception requires only that the numbers are the index of the text recovered from them.
 
 -- a lone key of the numbers is a full-width form
 abbrev pub Lone-form : (index : List ℕ) → (c : ℕ) → Type 0
@@ -67,7 +67,7 @@ pub record As-before : Type 0 where
 
 -- EITHER WIDTH
 
--- "No two texts have the same index" is said of replaced texts; two lent texts have the same index exactly if they are the same when
+-- "No two texts have the same index" is about replaced texts; two lent texts have the same index exactly if they are the same when
 -- replaced.
 unfoldable pub Same-lettering : Type 0
 Same-lettering =
@@ -94,12 +94,12 @@ pub record Either-width : Type 0 where
 pub record Form-as-key (g : ℕ) : Type 0 where
   pub never-word :
       (cs ls : List ℕ) (c : ℕ) → admitted cs ls ≡ true → is-full-width c ≡ true → is-word (lexicon cs ls) (c ∷ []) ≡ false
-  -- so it is no fault of an index
+  -- so such a key does not make an index unreadable
   pub is-key : (cs ls : List ℕ) (c : ℕ) → admitted cs ls ≡ true → is-full-width c ≡ true → key-good (lexicon cs ls) (key 1 c) ≡ true
   pub agrees-never : (s : List ℕ) (a c b : ℕ) → is-full-width c ≡ true → agrees (replaced s) a (c ∷ []) b ≡ false
-  -- on the empty string, which every key contains, all keys bear; line 6 refuses it
+  -- every key bears on the empty string, which it contains; line 6 refuses that string
   pub bears-never : (s : List ℕ) (c : ℕ) → 1 ≤ length s → is-full-width c ≡ true → bears (c ∷ []) (replaced s) ≡ false
-  -- it is cut out of every cut-down index, which finds what the index itself finds
+  -- no cut-down index has it, and the cut-down index finds what the index itself finds
   pub cut-out :
       (lex : Lexicon) (xs s : List ℕ) (c : ℕ) → 1 ≤ length s → Lone-form (cut-down lex xs (replaced s)) c → ⊥
   pub found-without :
@@ -110,7 +110,7 @@ pub record Form-as-key (g : ℕ) : Type 0 where
       (cs ls xs : List ℕ) (c : ℕ) → admitted cs ls ≡ true → readable g (lexicon cs ls) xs ≡ true → Lone-form xs c →
       received g (lexicon cs ls) xs ≡ false
 
--- Over the calls on such an index, readable and under an admitted dictionary: tallied, and 9.
+-- The calls on such an index, readable and under an admitted dictionary: the tally counts it; reception and recovery answer 9.
 pub record Form-calls : Type 0 where
   pub tallied :
       (cs ls xs : List ℕ) (r : TallyAnswer) → admitted cs ls ≡ true → readable longest-text (lexicon cs ls) xs ≡ true →

@@ -1,5 +1,5 @@
--- Search of an index without its text: which entries agree with a laid string, and which positions are found. Assumes nothing:
--- these are definitions.
+-- Search of an index without its text: which entries agree with a string laid at a position, and which positions are found. Assumes
+-- nothing: these are definitions.
 use mathlib.Core.Bool.{Bool, true, false, _&&_, _||_, not, cond}
 use mathlib.Core.List.{List, [], _∷_}
 use Prim.Native.Nat.{ℕ, zero, suc, _+_, _-_, min, max}
@@ -13,7 +13,7 @@ use Rattle.spec.specs.Numbers.{Line}
 use Rattle.spec.specs.Index.{n-of, lines-in}
 use Rattle.spec.specs.Reception.{lies-on}
 
--- AGREEMENT, document 01's term
+-- AGREEMENT, document 01's term (the field's: a match on the overlap)
 
 -- "overlap in at least one position": a string laid at a and an entry at b
 unfoldable pub overlaps : (string : List ℕ) → (a : ℕ) → (entry : List ℕ) → (b : ℕ) → Bool
@@ -54,7 +54,7 @@ agrees-at k s o = agrees s (string-start o) k (key-start o)
 
 -- SEARCH
 
--- an entry of this string, at one of the places, agrees and covers p
+-- an entry of this string, at one of the positions, agrees and covers p
 unfoldable pub covers : (string : List ℕ) → (a p : ℕ) → (entry positions : List ℕ) → Bool
 covers s a p e [] = false
 covers s a p e (b ∷ bs) = (lies-on b (length e) p && agrees s a e b) || covers s a p e bs

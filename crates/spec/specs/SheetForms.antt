@@ -1,4 +1,4 @@
--- A job sheet rendered from its parts, the form of a sheet as a relation, and the statement that it is the test `in-form`. Assumes
+-- A job sheet rendered from its parts, the form of a sheet as a relation, and the statement that the test `in-form` decides it. Assumes
 -- nothing.
 use mathlib.Core.Path.{_≡_, refl}
 use mathlib.Core.Bool.{true, false}
@@ -58,8 +58,8 @@ pub record Within-counts (words : List (List ℕ)) (text : List ℕ) (finds : Li
   pub short-text : length text ≤ 2000
   pub few-finds : length finds ≤ 50
 
--- THE STATEMENT: a sheet is in form exactly if it passes the test; a sheet that passes is rendered from what is read on it; what is
--- read on a rendered sheet is what it was rendered from. The dictionary lent for a sheet has its words and no others.
+-- THE STATEMENT: a sheet is in form exactly if it passes the test; a sheet that passes is rendered from what is read on it; what is read
+-- on a rendered sheet is what it was rendered from. The dictionary lent for a sheet has exactly its words.
 pub record Form-tested : Type 0 where
   pub passes : (s : List ℕ) → Is-sheet s → in-form s ≡ true
   pub rendered-again : (s : List ℕ) → in-form s ≡ true → Sheet-of (words-on s) (text-on s) (finds-on s) s

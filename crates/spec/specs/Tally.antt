@@ -9,12 +9,12 @@ use Rattle.spec.specs.Words.{spells}
 use Rattle.spec.specs.Numbers.{Line}
 use Rattle.spec.specs.Index.{lines-in}
 
--- the entries whose key spells l characters; "A lone character has length 1."
+-- how many entries have a key that spells l characters; "A lone character has length 1."
 unfoldable pub of-length : Lexicon → (l : ℕ) → List Line → ℕ
 of-length lex l [] = 0
 of-length lex l (k ∷ ks) = cond (eqb (length (spells lex (k .key-of))) l) (length (k .positions)) 0 + of-length lex l ks
 
--- the counts for length l and those after it
+-- the counts for length l and the lengths after it
 unfoldable pub tally-from : (left l : ℕ) → Lexicon → List Line → List ℕ
 tally-from zero l lex ks = []
 tally-from (suc n) l lex ks = of-length lex l ks ∷ tally-from n (suc l) lex ks

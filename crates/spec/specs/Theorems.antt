@@ -1,6 +1,6 @@
--- What is promised of indexes, reception and search. Each statement is a type; its proof stands in the crate `laws`. Each
--- speaks of replaced texts to any greatest length g, 65,535 for indexes of 16-bit numbers, and of any search string, which is replaced.
--- Assumes nothing.
+-- The theorems about indexes, reception and search. Each statement is a type; its proof is in the crate `laws`. Each is about replaced
+-- texts of up to any greatest length g, 65,535 for indexes of 16-bit numbers, and about any search string, which is replaced. Assumes
+-- nothing.
 use mathlib.Core.Path.{_≡_}
 use mathlib.Core.Bool.{Bool, true, false, _||_, cond}
 use mathlib.Core.List.{List, [], _∷_}
@@ -16,7 +16,7 @@ use Rattle.spec.specs.Search.{find}
 use Rattle.spec.specs.Cut.{cut-down}
 use Rattle.spec.specs.Tally.{tally}
 
--- those at p and after it
+-- the positions from p on at which a string stands in a text
 unfoldable pub positions-from : (left p : ℕ) → (string text : List ℕ) → List ℕ
 positions-from zero p s ts = []
 positions-from (suc n) p s ts = cond (stands s ts p) (p ∷ positions-from n (suc p) s ts) (positions-from n (suc p) s ts)
@@ -25,7 +25,7 @@ positions-from (suc n) p s ts = cond (stands s ts p) (p ∷ positions-from n (su
 unfoldable pub positions : (string text : List ℕ) → List ℕ
 positions s ts = positions-from (length ts) 1 s ts
 
--- A search string that line 6 does not meet.
+-- A search string that does not meet line 6.
 pub record Query (s : List ℕ) : Type 0 where
   pub chars : all-chars s ≡ true
   pub nonempty : 1 ≤ length s
@@ -48,7 +48,7 @@ One-text g =
     (cs ls ts us : List ℕ) → admitted cs ls ≡ true → is-text g ts ≡ true → is-text g us ≡ true →
     index-of (lexicon cs ls) ts ≡ index-of (lexicon cs ls) us → ts ≡ us
 
--- The search of an index gives exactly the places where the replaced string stands in the text.
+-- The search of an index gives exactly the positions where the replaced string stands in the text.
 unfoldable pub Search-exact : (g : ℕ) → Type 0
 Search-exact g =
     (cs ls ts s : List ℕ) → admitted cs ls ≡ true → is-text g ts ≡ true → Query s →

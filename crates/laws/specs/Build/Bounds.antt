@@ -32,7 +32,7 @@ lines-few lex n [] each = omega arith
 lines-few lex n (l ∷ ls) each =
     omega (arith, each l (inl refl) .some, lines-few lex n ls (λ m i. each m (inr i)), length-append (l .positions) (all-positions ls))
 
--- so n, K, three numbers a key and one an entry are at most 2 + 4n
+-- so n, K, three numbers for each key and one for each entry are at most 2 + 4n
 pub index-short : (lex : Lexicon) (ts : List ℕ) → Good-lexicon lex → Chars ts → length (index-of lex ts) ≤ 2 + 4 * length ts
 unfolding index-of
 index-short lex ts good chars =
@@ -110,7 +110,7 @@ index-below lex ts good chars bound wide short =
       entries-of-numbers (length ts) (lines-of (sorted (entries lex ts))),
     ))
 
--- of at most 65,535 characters: 16-bit numbers
+-- for a text of at most 65,535 characters: 16-bit numbers
 pub index-chars : (lex : Lexicon) (ts : List ℕ) → Good-lexicon lex → Chars ts → length ts ≤ 65535 → Chars (index-of lex ts)
 index-chars lex ts good chars short i h =
     index-below lex ts good chars 65536 (omega arith) (omega arith) (getD (index-of lex ts) i 0) (in-getD (index-of lex ts) i 0 h)

@@ -1,4 +1,4 @@
--- A build, from its tests to its answer: the order of the refusals, and the result from the marks. Assumes nothing.
+-- A build, from its tests to its answer: the order of the refusals, and the result from the tokens. Assumes nothing.
 use mathlib.Core.Path.{_≡_, refl, sym, ap, _∙_}
 use mathlib.Core.Logic.{⊎-elim}
 use mathlib.Core.Bool.{Bool, true, false, cond}
@@ -42,7 +42,7 @@ module _ (n : ℕ) (xs : List ℕ) (r : Answer) (o z : List ℕ) (number : r .re
 
 -- THE ORDER OF THE REFUSALS
 
--- 8 or none, once the result is known
+-- 8 or none, once the result's length is known
 unfoldable pub output-refusal : (result output : ℕ) → ℕ
 output-refusal r o = cond (output-short r o) 8 0
 
@@ -58,7 +58,7 @@ output-refused r o h = rw (lt-ltb o r h)
 unfoldable pub early-refusal : (chars lengths text : List ℕ) → (work : ℕ) → ℕ
 early-refusal cs ls ts w = or-else (dictionary-refusal cs ls) (cond (text-too-long ts) 4 (cond (work-short (length ts) w) 7 0))
 
--- what holds where none of them is met
+-- what holds if none of them is met
 pub record Reached (cs ls ts : List ℕ) (w : ℕ) : Type 0 where
   pub admits : dictionary-refusal cs ls ≡ 0
   pub short : length ts ≤ 65535
@@ -104,7 +104,7 @@ module _ (cs ls ts : List ℕ) (w : ℕ) where
           ⊎-elim (λ (h : 8 * length ts ≤ w). h) (λ (h : w < 8 * length ts). absurd (omega (arith, early-work admits short h)))
           (le-or-lt (8 * length ts) w)
 
-  -- an early refusal is the call's
+  -- an early refusal is the call's refusal
   pub build-early : (o : ℕ) → (early-refusal cs ls ts w ≡ 0 → ⊥) → build-refusal cs ls ts o w ≡ early-refusal cs ls ts w
   unfolding build-refusal early-refusal or-else text-too-long work-short
   build-early o some =
@@ -121,7 +121,7 @@ module _ (cs ls ts : List ℕ) (w : ℕ) where
       go true p false q true r = refl
       go true p false q false r = absurd (some (rw (p, q, r) refl))
 
-  -- without one it is 8 or none
+  -- without one the refusal is 8 or none
   pub build-late :
       (o : ℕ) → early-refusal cs ls ts w ≡ 0 →
       build-refusal cs ls ts o w ≡ output-refusal (length (index-of (lexicon cs ls) (replaced ts))) o
@@ -130,13 +130,13 @@ module _ (cs ls ts : List ℕ) (w : ℕ) where
       let r : Reached cs ls ts w = reached none in
       rw (eq-eqb (dictionary-refusal cs ls) 0 (r .admits), le-ltb 65535 (length ts) (r .short), le-ltb w (8 * length ts) (r .room))
 
--- THE RESULT FROM THE MARKS
+-- THE RESULT FROM THE TOKENS
 
--- the numbers that marks of a text stand for
+-- the index that the tokens of a text make, as numbers
 unfoldable pub token-numbers : (tokens text : List ℕ) → List ℕ
 token-numbers ms ts = numbers (length ts) (inverted ms ts)
 
--- what is answered and written for marks: these numbers, or 8
+-- what is answered and written for tokens: these numbers, or 8
 abbrev pub Tokens-say : (tokens text : List ℕ) → Answer → (out out-now : List ℕ) → Type 0
 Tokens-say ms ts r o z = Puts (output-refusal (length (token-numbers ms ts)) (length o)) (token-numbers ms ts) r o z
 
@@ -185,7 +185,7 @@ module _ (ts ms links heads pages : List ℕ) (keys entries : ℕ) (can : Linkab
   linked-size =
       omega (arith, length-numbers (length ts) (inverted ms ts), l .counted .keys-are, l .counted .entries-are)
 
-  -- the answer: 8 where the output is shorter than the size, else the numbers
+  -- the answer: 8 if the output is shorter than the size, else the numbers
   module _ (o : List ℕ) where
     pub linked-room : 2 + 3 * keys + entries ≤ length o → length (numbers (length links) (lines-at heads links 0)) ≤ length o
     linked-room h = rw (linked-numbers, ← linked-size) h
@@ -211,7 +211,7 @@ module _ (ts ms links heads pages : List ℕ) (keys entries : ℕ) (can : Linkab
 
 -- THE WHOLE CALL
 
--- a dictionary of characters that meets no line is admitted, and a good lexicon
+-- a dictionary of characters that meets no line is admitted, and its lexicon is good
 pub reached-admitted : (cs ls : List ℕ) → Chars cs → dictionary-refusal cs ls ≡ 0 → admitted cs ls ≡ true
 unfolding admitted
 reached-admitted cs ls chars none = and-put (all-chars-put cs chars) (eq-eqb (dictionary-refusal cs ls) 0 none)
@@ -240,7 +240,7 @@ module _ (cs ls ts : List ℕ) (w : ℕ) (o : List ℕ) where
       puts-refused (build-refusal cs ls ts (length o) w) (index-of (lexicon cs ls) (replaced ts)) r o o (number ∙ sym same)
       (λ (z : build-refusal cs ls ts (length o) w ≡ 0). some (sym same ∙ z)) count refl
 
-  -- what follows the scan answers for the call
+  -- what answers for the tokens answers for the call
   pub build-tokens :
       Chars cs → Chars ts → early-refusal cs ls ts w ≡ 0 → (ms : List ℕ) → Tokens (lexicon cs ls) (replaced ts) ms →
       (r : Answer) (z : List ℕ) →
@@ -254,7 +254,7 @@ module _ (cs ls ts : List ℕ) (w : ℕ) (o : List ℕ) where
       )
       puts
 
--- a match table's slices before the words are hung up
+-- a match table's slices before it is filled
 pub record Blank (heads links starts : List ℕ) : Type 0 where
   pub heads-clear : heads ≡ replicate 10240 0
   pub links-long : 4096 ≤ length links
@@ -281,7 +281,7 @@ blank-room cs ls ts w heads links starts chars none b =
       starts-long = omega (arith, b .starts-long);
     }
 
--- the marks at the front of the work slice can be linked
+-- the tokens at the start of the work slice can be chained
 pub front-linkable :
     (cs ls ts : List ℕ) (w : ℕ) (work : List ℕ) → Chars cs → early-refusal cs ls ts w ≡ 0 →
     Tokens (lexicon cs ls) (replaced ts) (take (length ts) work) → Linkable (replaced ts) (take (length ts) work)

@@ -1,4 +1,4 @@
--- The builder's walks over the key codes: unused codes and pages are passed over, and each code with a chain is a line. Assumes nothing.
+-- The builder's walks over the key codes: they skip unused codes and pages, and each code with a chain is a line. Assumes nothing.
 use mathlib.Core.Path.{_≡_, refl, ap, _∙_}
 use mathlib.Core.Logic.{⊎-elim}
 use mathlib.Core.List.{List, [], _∷_, _++_}
@@ -23,7 +23,7 @@ pub record Passed (heads : List ℕ) (from code : ℕ) : Type 0 where
   pub within : code ≤ length heads
   pub unused : (k : ℕ) → from ≤ k → k < code → getD heads k 0 ≡ 0
 
--- and `code` has one, or is past the last
+-- and `code` has a head, or is past the last
 pub record Next (heads : List ℕ) (from code : ℕ) : Type 0 where
   pub passed : Passed heads from code
   pub used : code < length heads → getD heads code 0 ≡ 0 → ⊥
@@ -89,7 +89,7 @@ module _ (heads links : List ℕ) where
 
 -- WRITING WHAT THE LINES GIVE
 
--- before `code`: what the lines from it on give is to come, and it has a chain or is past the last
+-- before `code`: the numbers of the lines from it on are to come, and it has a chain or is past the last
 pub record Listing (give : List Line → List ℕ) (heads links all old now : List ℕ) (code at : ℕ) : Type 0 where
   pub writing : Writing all old now (give (lines-at heads links code)) at
   pub within : code ≤ length heads
@@ -172,7 +172,7 @@ pub positions-by-line : Line-by-line all-positions line-positions
 unfolding all-positions
 positions-by-line = record { none = refl; more = λ l ls. refl }
 
--- what both walks ask
+-- what both walks need
 pub record Listable (heads pages links : List ℕ) : Type 0 where
   pub codes : length heads ≡ 69632
   pub paged : Paged heads pages

@@ -1,5 +1,5 @@
--- The model of the builder: the index is `numbers` of the registered entries, put together under their keys in any way that gives
--- readable lines. Assumes nothing.
+-- The model of the builder: the index is `numbers` of the registered entries, inverted in any way that gives readable lines. Assumes
+-- nothing.
 use mathlib.Core.Path.{_≡_, sym, ap, _∙_}
 use mathlib.Core.List.{List, [], _∷_}
 use Prim.Native.Nat.{ℕ, suc}
@@ -18,7 +18,7 @@ use Rattle.laws.specs.Numbers.Lines.{lines-unique}
 use Rattle.laws.specs.Numbers.Sorted.{differ-apart, in-sorted-get, in-sorted-put, length-sorted, sorted-ascends, sorted-entries-ascend}
 use Rattle.laws.specs.Readable.IndexOf.{lines-in-index, index-lines-good, in-index-get, in-index-put}
 
--- entries at different places are in order, one way or the other
+-- of two entries at different positions, one comes before the other
 pub positions-rise-apart : (a : ℕ) (es : List Entry) → Positions-rise a es → Apart entry-before es
 positions-rise-apart a [] r = tt
 positions-rise-apart a (e ∷ es) r = (
@@ -27,7 +27,7 @@ positions-rise-apart a (e ∷ es) r = (
 )
 
 module _ (lex : Lexicon) (good : Good-lexicon lex) (ts : List ℕ) (chars : Chars ts) where
-  -- Lines that are in order and have the text's entries are the lines of its index.
+  -- Lines that are in order and have exactly the text's entries are the lines of its index.
   pub inverted-index :
       (ls : List Line) → Good-lines lex (length ts) ls → ((e : Entry) → In e (flat lex ls) → In e (entries lex ts)) →
       ((e : Entry) → In e (entries lex ts) → In e (flat lex ls)) → numbers (length ts) ls ≡ index-of lex ts
@@ -39,7 +39,7 @@ module _ (lex : Lexicon) (good : Good-lexicon lex) (ts : List ℕ) (chars : Char
       (λ e m. rw lines-in-index at (in-index-put lex good ts chars e (only e m)))
       (λ e m. all e (in-index-get lex good ts chars e (rw lines-in-index m))))
 
-  -- so are those that have what the scan registers
+  -- so are lines that have exactly the entries that the scan registers
   pub inverted-scan :
       (ls : List Line) → Good-lines lex (length ts) ls → ((e : Entry) → In e (flat lex ls) → In e (make-index lex ts)) →
       ((e : Entry) → In e (make-index lex ts) → In e (flat lex ls)) → numbers (length ts) ls ≡ index-of lex ts
@@ -63,6 +63,6 @@ module _ (lex : Lexicon) (good : Good-lexicon lex) (ts : List ℕ) (chars : Char
   unfolding index-of
   scan-index = rw sorted-scan
 
-  -- the scan registers as many entries as there are
+  -- the scan registers as many entries as the index has
   pub scan-count : length (make-index lex ts) ≡ length (entries lex ts)
   scan-count = sym (length-sorted (make-index lex ts)) ∙ ap length sorted-scan ∙ length-sorted (entries lex ts)

@@ -11,9 +11,9 @@ use Rattle.spec.specs.Words.{Key, key}
 use Rattle.spec.specs.Numbers.{key-before}
 use Rattle.laws.specs.Numbers.KeyOrder.{key-before-put}
 
--- FROM A MARK TO ITS CODE
+-- FROM A TOKEN TO ITS CODE
 
--- one more than the key code of a mark, c being the character there; 0 where nothing is marked
+-- one more than the key code of a token, c being the character there; 0 if the token is 0
 unfoldable pub coded : (token c : ℕ) → ℕ
 coded m c = cond (eqb m 0) 0 (cond (eqb m 4097) (4097 + c) m)
 

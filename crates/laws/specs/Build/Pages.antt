@@ -12,7 +12,7 @@ use Rattle.basics.specs.Order.{less-equal-more}
 abbrev pub No-heads : (heads : List ℕ) → Type 0
 No-heads heads = (k : ℕ) → k < length heads → getD heads k 0 ≡ 0
 
--- codes by pages of 64: where a page has no flag, none of its codes has a head
+-- codes by pages of 64: if a page has no flag, none of its codes has a head
 pub record Paged (heads pages : List ℕ) : Type 0 where
   pub whole : length heads ≡ 64 * length pages
   pub unused : (k : ℕ) → k < length heads → getD pages (k / 64) 0 ≡ 0 → getD heads k 0 ≡ 0

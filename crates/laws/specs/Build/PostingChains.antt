@@ -1,4 +1,4 @@
--- The builder's linking pass: from the last position to the first, each mark gives way to a link, so that the positions of each key
+-- The builder's chaining pass: from the last position to the first, each token is replaced by a link, so that the positions of each key
 -- code form a chain. Assumes nothing.
 use mathlib.Core.Path.{_≡_, refl, sym, ap, _∙_}
 use mathlib.Core.Logic.{_⊎_, inl, inr, ⊎-elim}
@@ -18,7 +18,7 @@ use Rattle.laws.specs.Build.Pages.{No-heads, Paged, paged-start, paged-c
 
 -- THE STATE BETWEEN TWO POSITIONS
 
--- After the positions above p: `links` has marks below place p and links from it on, and the chain of each code has its positions.
+-- After the positions above p: `links` has tokens below index p and links from it on, and the chain of each code has its positions.
 pub record Linked (ms ts heads links : List ℕ) (p : ℕ) : Type 0 where
   pub within : p ≤ length ms
   pub len : length links ≡ length ms
@@ -41,7 +41,7 @@ module _ (ms ts heads links : List ℕ) (q p : ℕ) (s : q ≡ suc p) (l : Linke
   pub token-here : getD links p 0 ≡ getD ms p 0
   token-here = l .tokens-left p (omega arith)
 
-  -- nothing is marked
+  -- the token is 0
   pub linked-passed : coded (getD ms p 0) (getD ts p 0) ≡ 0 → Linked ms ts heads links p
   linked-passed none =
       record {
@@ -102,7 +102,7 @@ module _ (ms ts heads links : List ℕ) (q p : ℕ) (s : q ≡ suc p) (l : Linke
 
 -- THE END
 
--- each code's chain, and the lines they make
+-- each code's chain, and the lines that the chains make
 abbrev pub Threads : (heads links : List ℕ) → Type 0
 Threads heads links = (k : ℕ) → k < length heads → Threaded links (getD heads k 0)
 
@@ -129,7 +129,7 @@ module _ (ms ts heads links : List ℕ) (l : Linked ms ts heads links 0) where
 
 -- THE WHOLE STATE
 
--- marks of a text of at most 65,535 characters, as the linking pass takes them
+-- tokens of a text of at most 65,535 characters, as the chaining pass takes them
 pub record Linkable (ts ms : List ℕ) : Type 0 where
   pub len : length ms ≡ length ts
   pub short : length ts ≤ 65535
@@ -194,7 +194,7 @@ module _ (ts ms links heads pages : List ℕ) (keys entries q p : ℕ) (s : q �
           counted = c;
         }
 
-    -- the first position of its key that is met, and a further one
+    -- the key's first position in the pass, and a further one
     pub links-new :
         getD heads code 0 ≡ 0 →
         Links ts ms (set links p (getD heads code 0)) (set heads code (p + 1)) (set pages (code / 64) 1) (keys + 1) (entries + 1) p

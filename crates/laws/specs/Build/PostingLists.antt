@@ -1,4 +1,4 @@
--- Positions put together under key codes: a directory line for each code that has any, in the order of the codes. Assumes nothing.
+-- Positions inverted by key code: a directory line for each code that has any, in the order of the codes. Assumes nothing.
 use mathlib.Core.Path.{_≡_, refl, sym, ap, _∙_}
 use mathlib.Core.Bool.{true}
 use mathlib.Core.Logic.{inl, inr, ⊎-elim}
@@ -41,7 +41,7 @@ lines-alike zero k f g h = refl
 lines-alike (suc n) k f g h =
     rw (h k (omega arith) (omega arith), lines-alike n (suc k) f g (λ x lo hi. h x (omega arith) (omega arith)))
 
--- codes without positions may be passed over
+-- codes without positions may be skipped
 pub lines-skip :
     (m n k : ℕ) (f : ℕ → List ℕ) → ((x : ℕ) → k ≤ x → x < k + m → f x ≡ []) → lines-from (m + n) k f ≡ lines-from n (k + m) f
 lines-skip zero n k f h =

@@ -1,4 +1,4 @@
--- The positions that marks have under each key code, and how many lines and entries they make. Assumes nothing.
+-- The positions that tokens have under each key code, and how many lines and entries they make. Assumes nothing.
 use mathlib.Core.Path.{_≡_, sym, ap}
 use mathlib.Core.Bool.{Bool, true, false, cond}
 use mathlib.Core.List.{List, [], _∷_}
@@ -15,15 +15,15 @@ use Rattle.laws.specs.Build.PostingLists.{lines-from, lines-empty, lines
 
 -- THE POSITIONS OF A CODE
 
--- whether the mark at position x has the code k
+-- whether the token at position x has the code k
 abbrev pub holds : (tokens text : List ℕ) → (k x : ℕ) → Bool
 holds ms ts k x = eqb (coded (getD ms (x - 1) 0) (getD ts (x - 1) 0)) (suc k)
 
--- the positions after p of the marks with the code k
+-- the posting list of code k: the positions after p of the tokens with that code
 unfoldable pub postings : (tokens text : List ℕ) → (p k : ℕ) → List ℕ
 postings ms ts p k = those-from (length ms - p) (suc p) (holds ms ts k)
 
--- the lines of the marks after p, for codes below `codes`
+-- the lines of the tokens after p, for codes below `codes`
 abbrev pub inverted-after : (codes : ℕ) → (tokens text : List ℕ) → (p : ℕ) → List Line
 inverted-after codes ms ts p = lines-from codes 0 (postings ms ts p)
 
@@ -47,7 +47,7 @@ module _ (ms ts : List ℕ) where
       let none : length ms - p ≡ 0 = omega arith in
       rw none
 
-  -- position p + 1, at place p
+  -- position p + 1, at index p
   module _ (p k : ℕ) (below : p < length ms) where
     pub postings-here : coded (getD ms p 0) (getD ts p 0) ≡ suc k → postings ms ts p k ≡ suc p ∷ postings ms ts (suc p) k
     unfolding postings those-from
@@ -71,7 +71,7 @@ module _ (ms ts : List ℕ) where
 
 -- THE COUNTS
 
--- the lines of the marks after p, of which each has at least one position
+-- the lines of the tokens after p, each of which has at least one position
 pub record Counted (codes : ℕ) (ms ts : List ℕ) (p keys entries : ℕ) : Type 0 where
   pub keys-are : keys ≡ length (inverted-after codes ms ts p)
   pub entries-are : entries ≡ length (all-positions (inverted-after codes ms ts p))

@@ -1,5 +1,5 @@
--- The scan that leaves marks: one step at each place, from what was found there, and the marks written so far. Places are q + 1 and
--- ends are e + 1, with q and e counted from 0 as in code. Assumes nothing.
+-- The scan that writes tokens: one step at each position, from the longest word found there, and the tokens written so far. Positions are
+-- q + 1 and ends are e + 1, with q and e counted from 0 as in code. Assumes nothing.
 use mathlib.Core.Path.{_≡_, refl, sym, ap, _∙_}
 use mathlib.Core.Logic.{_⊎_, inl, inr, ⊎-elim}
 use mathlib.Core.List.{List, [], _∷_, _++_, append-assoc, append-nil}
@@ -23,7 +23,7 @@ use Rattle.laws.specs.Match.LongestWord.{Found, Found-word}
 
 -- ONE STEP
 
--- At p, after an end `last`: the longest entry there is registered if it ends after it, and then its end is the next; else the mark
+-- At p, with the last end `last`: if the longest entry there ends after it, it is registered and its end is the next one; else the token
 -- is 0.
 pub record Stepped (lex : Lexicon) (ts : List ℕ) (p last token next : ℕ) : Type 0 where
   pub known : (i : ℕ) → token ≡ suc i → (i < length (lex .words)) ⊎ (i ≡ 4096)
@@ -33,7 +33,7 @@ pub record Stepped (lex : Lexicon) (ts : List ℕ) (p last token next : ℕ) : T
       (token-entry lex p token (getD ts (p - 1) 0) ≡ longest-at lex ts p ∷ []) × (next ≡ p + longest-at lex ts p .len)
   pub passed : p + longest-at lex ts p .len ≤ last → (token ≡ 0) × (next ≡ last)
 
--- a word's mark, and that of a lone character
+-- the entry of a word's token, and that of a lone character's
 token-entry-word :
     (lex : Lexicon) (p i c : ℕ) → i < 4096 → token-entry lex p (suc i) c ≡ entry (key 0 i) p (length (getD (lex .words) i [])) ∷ []
 unfolding token-entry
@@ -52,12 +52,12 @@ unfolding entry
 entry-long k p l = refl
 
 module _ (lex : Lexicon) (good : Good-lexicon lex) (ts : List ℕ) (chars : Chars ts) (q e : ℕ) (below : q < length ts) where
-  -- whatever is the longest entry there is the one that the definition computes
+  -- any longest entry there is the one that the definition computes
   longest-is : (x : Entry) → Longest-at lex ts (q + 1) x → x ≡ longest-at lex ts (q + 1)
   longest-is x l = longest-at-unique lex good ts chars (q + 1) x (omega arith) (omega arith) l
 
   module _ (number len : ℕ) (f : Found lex ts (q + 1) (e + 1) number len) where
-    -- a word was found: its mark is a number of 16 bits, and it ends within the text
+    -- a word was found: its token is a 16-bit number, and it ends within the text
     pub step-small : (number ≡ 0 → ⊥) → number ≤ 4096
     step-small some = omega (arith, f .some (number - 1) (omega (arith, some)) .is-word .below, good .few)
 
@@ -93,7 +93,7 @@ module _ (lex : Lexicon) (good : Good-lexicon lex) (ts : List ℕ) (chars : Char
             ∙ token-entry-word lex (q + 1) (number - 1) (getD ts (q + 1 - 1) 0) (omega (arith, w .is-word .below, good .few))
             ∙ ap (λ (x : Entry). x ∷ []) same
 
-    -- none was, and the character is not covered: it stands alone
+    -- no word was found, and the character is not covered: it is a lone character
     pub step-lone : number ≡ 0 → e ≤ q → Stepped lex ts (q + 1) (e + 1) 4097 (q + 1 + 1)
     step-lone none uncovered =
         record {
@@ -111,7 +111,7 @@ module _ (lex : Lexicon) (good : Good-lexicon lex) (ts : List ℕ) (chars : Char
         size : longest-at lex ts (q + 1) .len ≡ 1
         size = sym (ap (λ (x : Entry). x .len) same) ∙ entry-long (key 1 (getD ts (q + 1 - 1) 0)) (q + 1) 1
 
-    -- none was, and the character is covered
+    -- no word was found, and the character is covered
     pub step-none : number ≡ 0 → q < e → e ≤ length ts → Stepped lex ts (q + 1) (e + 1) 0 (e + 1)
     step-none none covered room =
         record {
@@ -142,7 +142,7 @@ stepped-scans lex ts p last token next n s =
     scan-registers (longest-at lex ts) n p last h ∙ rw (s .registered h .0, s .registered h .1))
     (le-or-lt (p + longest-at lex ts p .len) last)
 
--- one mark more
+-- one more token
 token-entry-more :
     (lex : Lexicon) (p : ℕ) (ms ts : List ℕ) (m : ℕ) → length ms < length ts →
     entries-of-tokens lex p (ms ++ (m ∷ [])) ts ≡ entries-of-tokens lex p ms ts ++ token-entry lex (p + length ms) m (getD ts (length ms) 0)
@@ -157,8 +157,8 @@ token-entry-more lex p (x ∷ ms) (t ∷ ts) m h =
     rw (token-entry-more lex (suc p) ms ts m (omega arith), there)
     (sym (append-assoc (token-entry lex p x t) (entries-of-tokens lex (suc p) ms ts) (token-entry lex (p + suc (length ms)) m (getD ts (length ms) 0))))
 
--- The first i marks stand in the work slice, whose rest is as it was; they and what the scan will register from there on make up
--- the index.
+-- The first i tokens are in the work slice, whose rest is unchanged; their entries and those that the scan will register from there on
+-- make up the index.
 pub record Scanning (lex : Lexicon) (ts old work : List ℕ) (i e : ℕ) : Type 0 where
   pub within : i ≤ length ts
   pub end : e ≤ length ts
@@ -210,7 +210,7 @@ module _ (lex : Lexicon) (ts old : List ℕ) (room : length ts ≤ length old) w
         front : length (take i work) ≡ i
         front = length-take-le i work (omega (arith, inside))
 
-        -- what is marked now: what was, and the new mark
+        -- the entries of the tokens now: those before, and that of the new token
         more :
             entries-of-tokens lex 1 (take (i + 1) (set work i token)) ts
             ≡ entries-of-tokens lex 1 (take i work) ts ++ token-entry lex (i + 1) token (getD ts (i + 1 - 1) 0)

@@ -1,4 +1,4 @@
--- The scan of a text that stands behind its marks: in the n numbers of the work slice after those that take the marks, from where it is
+-- The scan of a text that lies behind its tokens: in the n numbers of the work slice after those that take the tokens, from where it is
 -- lent to each step. Assumes nothing.
 use mathlib.Core.Path.{_≡_, sym, ap, _∙_}
 use mathlib.Core.List.{List}

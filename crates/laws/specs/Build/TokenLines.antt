@@ -1,4 +1,4 @@
--- The marks of a text, put together under their key codes, are the lines of its index. Assumes nothing.
+-- The tokens of a text, inverted by key code, are the lines of its index. Assumes nothing.
 use mathlib.Core.Path.{_≡_, refl, sym, ap, _∙_, subst}
 use mathlib.Core.Logic.{_⊎_, inl, inr, ⊎-elim}
 use mathlib.Core.List.{List, [], _∷_}
@@ -23,9 +23,9 @@ use Rattle.laws.specs.Build.KeyCode.{coded, coded-none, coded-lone, code
 use Rattle.laws.specs.Build.PostingLists.{Line-of, lines-get, lines-put, lines-order}
 use Rattle.laws.specs.Build.PostingsByKey.{holds, postings, inverted}
 
--- A MARK AND ITS ENTRY
+-- A TOKEN AND ITS ENTRY
 
--- position p of a text, at place p - 1, has the entry e
+-- position p of a text, at index p - 1, has the entry e
 pub record Token-at (lex : Lexicon) (ms ts : List ℕ) (p : ℕ) (e : Entry) : Type 0 where
   pub code : ℕ
   pub coded-so : coded (getD ms (p - 1) 0) (getD ts (p - 1) 0) ≡ suc code
@@ -33,7 +33,7 @@ pub record Token-at (lex : Lexicon) (ms ts : List ℕ) (p : ℕ) (e : Entry) : T
   pub is : e ≡ posting lex (code-key code) p
 
 module _ (lex : Lexicon) (few : length (lex .words) ≤ 4096) where
-  -- the entry of a mark is its code's key at that place
+  -- the entry of a token is its code's key at that position
   token-entry-is :
       (p m c i : ℕ) → m ≡ suc i → (i < length (lex .words)) ⊎ (i ≡ 4096) → c < 65536 →
       (k : ℕ) × (coded m c ≡ suc k) × (k < 69632) × (token-entry lex p m c ≡ posting lex (code-key k) p ∷ [])
@@ -145,7 +145,7 @@ module _ (lex : Lexicon) (good : Good-lexicon lex) (ts : List ℕ) (chars : Char
       rw (← tokens .exact, code)
       (entries-of-tokens-put lex 1 ms ts (posting lex (code-key c) p) (p - 1) a b (rw (position, is) (inl (refl {a = posting lex (code-key c) p}))))
 
-  -- a position of a code's line has its entry in the text
+  -- a position in a code's posting list is an entry of the text
   inverted-entry : (k p : ℕ) → In p (postings ms ts 0 k) → In (posting lex (code-key k) p) (make-index lex ts)
   unfolding postings
   inverted-entry k p m =

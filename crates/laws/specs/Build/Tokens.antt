@@ -1,4 +1,4 @@
--- One number for each position of a text, as the builder's scan leaves them: 0 where nothing is registered, i + 1 for word i, 4,097 for
+-- The tokens that the builder's scan writes, one number for each position: 0 if nothing is registered there, i + 1 for word i, 4,097 for
 -- the lone character. Assumes nothing.
 use mathlib.Core.Path.{_≡_}
 use mathlib.Core.Bool.{cond}
@@ -11,7 +11,7 @@ use Rattle.spec.specs.Dictionary.{Lexicon}
 use Rattle.spec.specs.Words.{key, Entry, entry}
 use Rattle.laws.specs.Entries.Longest.{make-index}
 
--- the entry that a mark at p stands for, c being the character there
+-- the entry of a token at p, c being the character there
 unfoldable pub token-entry : Lexicon → (p token c : ℕ) → List Entry
 token-entry lex p zero c = []
 token-entry lex p (suc i) c = cond (eqb i 4096) (entry (key 1 c) p 1) (entry (key 0 i) p (length (getD (lex .words) i []))) ∷ []
@@ -21,7 +21,7 @@ entries-of-tokens lex p [] ts = []
 entries-of-tokens lex p (m ∷ ms) [] = []
 entries-of-tokens lex p (m ∷ ms) (c ∷ cs) = token-entry lex p m c ++ entries-of-tokens lex (suc p) ms cs
 
--- the marks of a text: they stand for its maximal entries, in the order of their places
+-- the tokens of a text: their entries are its maximal entries, in the order of their positions
 pub record Tokens (lex : Lexicon) (ts ms : List ℕ) : Type 0 where
   pub len : length ms ≡ length ts
   pub known : (q i : ℕ) → q < length ms → getD ms q 0 ≡ suc i → (i < length (lex .words)) ⊎ (i ≡ 4096)

@@ -29,7 +29,7 @@ module _ (k s : List ℕ) where
       (or-get (joins k s) (joins s k) u))
       (or-get (lies-in s k || lies-in k s) (joins k s || joins s k) t)
 
-  -- four cases: which starts first, and which ends first
+  -- four cases: which of the two starts first, and which ends first
   pub bears-put : (a b : ℕ) → Agree s a k b → bears k s ≡ true
   unfolding bears
   bears-put a b h =

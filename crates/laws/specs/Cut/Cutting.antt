@@ -204,7 +204,7 @@ module _ (lex : Lexicon) (xs s : List ℕ) where
 
 -- THE WHOLE
 
--- how long the cut-down index is
+-- the length of the cut-down index
 pub cut-long :
     (lex : Lexicon) (xs s : List ℕ) (keys entries : ℕ) → Is-size lex xs s keys entries →
     header + 3 * keys + entries ≡ length (cut-down lex xs s)
@@ -212,7 +212,7 @@ unfolding cut-down
 cut-long lex xs s keys entries size =
     omega (arith, size .keys-are, size .entries-are, length-numbers (n-of xs) (bearing lex s (lines-in xs)))
 
--- it is the numbers of the bearing lines
+-- the cut-down index is the numbers of the bearing lines
 module _ (lex : Lexicon) (xs s old : List ℕ) where
   pub cut-room :
       length (cut-down lex xs s) ≤ length old → length (numbers (n-of xs) (bearing lex s (lines-in xs))) ≤ length old

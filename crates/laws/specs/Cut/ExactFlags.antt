@@ -1,4 +1,4 @@
--- The lines whose keys bear on a string, judged by flags, and the walk that sizes the cut-down index. Assumes nothing.
+-- The lines whose keys bear on a string, by exact flags, and the walk that sizes the cut-down index. Assumes nothing.
 use mathlib.Core.Path.{_≡_, refl, ap, _∙_}
 use mathlib.Core.Bool.{Bool, true, false, cond}
 use mathlib.Core.List.{List, [], _∷_}
@@ -19,7 +19,7 @@ module _ (lex : Lexicon) (xs s : List ℕ) where
   abbrev pub bearing-from : (i : ℕ) → List Line
   bearing-from i = bearing lex s (drop i (lines-in xs))
 
-  -- the verdict on line i
+  -- whether line i bears on the string
   abbrev pub bears-at : (i : ℕ) → Bool
   bears-at i = bears (spells lex (key-at xs i)) s
 
@@ -44,9 +44,9 @@ module _ (lex : Lexicon) (xs s : List ℕ) where
       length-take-le (count-at xs i) (drop (list-start xs i) xs)
       (omega (arith, length-drop (list-start xs i) xs, list-room xs i below fits))
 
-  -- VERDICTS
+  -- EXACT FLAGS
 
-  -- the first n lines are judged
+  -- the first n flags are exact: 1 if the line bears, else 0
   pub record Exact-flags (n : ℕ) (fs : List ℕ) : Type 0 where
     pub room : keys-of xs ≤ length fs
     pub at : (i : ℕ) → i < n → getD fs i 0 ≡ cond (bears-at i) 1 0
@@ -67,7 +67,7 @@ module _ (lex : Lexicon) (xs s : List ℕ) where
 
   -- THE SIZE
 
-  -- of the first i lines so many bear, with so many entries
+  -- `keys` of the first i lines bear, with `entries` entries
   pub record Counting (keys entries i : ℕ) : Type 0 where
     pub within : i ≤ keys-of xs
     pub keys-left : keys + length (bearing-from i) ≡ length (bearing-from 0)
@@ -118,7 +118,7 @@ module _ (lex : Lexicon) (xs s : List ℕ) where
           entries-few = omega (arith, h .entries-few);
         }
 
--- the keys that bear and their positions
+-- the number of bearing keys and of their positions
 pub record Is-size (lex : Lexicon) (xs s : List ℕ) (keys entries : ℕ) : Type 0 where
   pub keys-are : keys ≡ length (bearing lex s (lines-in xs))
   pub entries-are : entries ≡ length (all-positions (bearing lex s (lines-in xs)))

@@ -1,5 +1,5 @@
--- The walks that set the flags of the lines whose keys bear on a string: the offsets from 0 up, and those below 0. Then no flag is
--- missing. Assumes nothing.
+-- The walks that set the flags of the lines whose keys bear on a string: the offsets from 0 up, and those below 0. After both, the flags
+-- are exact. Assumes nothing.
 use mathlib.Core.Path.{_≡_, refl, ap, _∙_}
 use mathlib.Core.Bool.{Bool, true, false, cond}
 use mathlib.Core.Logic.{⊎-elim}
@@ -22,7 +22,7 @@ use Rattle.laws.specs.Cut.Flagging.{Ones, ones-one, Flags, Flagging, Fla
 
 -- ONE KEY AT THE OFFSETS BELOW 0
 
--- it does not agree where the string starts at one of its places 1 to n − 1
+-- the key does not agree where the string starts at one of its indexes 1 to n − 1
 pub record Apart-before (k s : List ℕ) (n : ℕ) : Type 0 where
   pub some : 1 ≤ n
   pub apart : (p : ℕ) → 1 ≤ p → p < n → agrees s p k 0 ≡ false
@@ -49,7 +49,7 @@ module _ (k s : List ℕ) where
 module _ (lex : Lexicon) (xs s : List ℕ) where
   -- ALL OFFSETS FROM 0 UP
 
-  -- the offsets before o are done
+  -- the offsets below o are done
   pub record Offsets (old fs : List ℕ) (o : ℕ) : Type 0 where
     pub way : Flagging lex xs s old fs
     pub done : (q : ℕ) → q < o → Flagged lex xs s 0 q 0 (keys-of xs) fs
@@ -142,7 +142,7 @@ module _
     by-test true t = omega (arith, found t, rw t at (offsets .way .flags .sound i below))
     by-test false t = omega (arith, rw t at (offsets .way .flags .sound i below))
 
-  -- no line is missing
+  -- the flags are exact
   pub flags-exact-flags : Exact-flags (lexicon cs ls) xs s (keys-of xs) fs
   flags-exact-flags =
       record { room = offsets .way .flags .room; at = λ i b. by-test i b (bears-at (lexicon cs ls) xs s i) refl }

@@ -1,4 +1,4 @@
--- Flags for the lines whose keys bear on a string, and those that one offset from 0 up sets. Assumes nothing.
+-- Flags for the lines whose keys bear on a string, and the flags that one offset of 0 or above sets. Assumes nothing.
 use mathlib.Core.Path.{_≡_, refl, ap, _∙_}
 use mathlib.Core.Bool.{Bool, true, false, cond}
 use mathlib.Core.Logic.{_⊎_, inl, inr, ⊎-elim}
@@ -20,7 +20,7 @@ use Rattle.laws.specs.Cut.ExactFlags.{bears-at}
 
 -- A RUN OF FLAGS
 
--- those from `from` to `to` - 1 are 1, the others as they were
+-- flags `from` to `to` - 1 are 1, the others unchanged
 pub record Ones (from to : ℕ) (old fs : List ℕ) : Type 0 where
   pub order : from ≤ to
   pub len : length fs ≡ length old
@@ -51,18 +51,18 @@ pub ones-one : (i : ℕ) (fs : List ℕ) → i < length fs → Ones i (i + 1) fs
 ones-one i fs room = ones-next i i fs fs (ones-none i fs) room
 
 module _ (lex : Lexicon) (xs s : List ℕ) where
-  -- a flag is 0 or 1, and 1 only where the key bears on the string
+  -- a flag is 0 or 1, and is 1 only if the key bears on the string
   pub record Flags (fs : List ℕ) : Type 0 where
     pub room : keys-of xs ≤ length fs
     pub sound : (i : ℕ) → i < keys-of xs → getD fs i 0 ≤ cond (bears-at lex xs s i) 1 0
 
-  -- `fs` stands where `old` stood, and no flag was taken back
+  -- `fs` is a later state of `old`: no flag is cleared
   pub record Flagging (old fs : List ℕ) : Type 0 where
     pub flags : Flags fs
     pub len : length fs ≡ length old
     pub kept : (i : ℕ) → i < keys-of xs → getD old i 0 ≤ getD fs i 0
 
-  -- flagged are those of the lines a to b − 1 whose keys, laid at q, agree with the string laid at p
+  -- of the lines a to b − 1, those whose keys, laid at q, agree with the string laid at p are flagged
   abbrev pub Flagged : (p q a b : ℕ) (fs : List ℕ) → Type 0
   Flagged p q a b fs = (i : ℕ) → a ≤ i → i < b → agrees s p (spells lex (key-at xs i)) q ≡ true → 1 ≤ getD fs i 0
 
@@ -83,11 +83,11 @@ module _ (lex : Lexicon) (xs s : List ℕ) where
   pub flagged-kept : (p q a b : ℕ) (old fs : List ℕ) → Flagging old fs → b ≤ keys-of xs → Flagged p q a b old → Flagged p q a b fs
   flagged-kept p q a b old fs h within done i l r t = omega (arith, done i l r t, h .kept i (omega arith))
 
-  -- a key that agrees somewhere bears
+  -- a key that agrees at some offset bears
   pub agrees-bears-at : (p q i : ℕ) → agrees s p (spells lex (key-at xs i)) q ≡ true → bears-at lex xs s i ≡ true
   agrees-bears-at p q i t = bears-put (spells lex (key-at xs i)) s p q (agrees-get s p (spells lex (key-at xs i)) q t)
 
-  -- a run of lines whose keys bear
+  -- setting the flags of a run of bearing lines
   pub flagging-ones :
       (from to : ℕ) (fs now : List ℕ) → Flags fs → Ones from to fs now → ((i : ℕ) → from ≤ i → i < to → bears-at lex xs s i ≡ true) →
       Flagging fs now
@@ -124,7 +124,7 @@ module _ (lex : Lexicon) (xs s : List ℕ) where
 
   -- ONE OFFSET
 
-  -- of the first w lines those from lo to hi − 1 are left to flag at the offset o
+  -- of the first w lines only lo to hi − 1 are still to be flagged at the offset o
   pub record Left (o w : ℕ) (old fs : List ℕ) (lo hi : ℕ) : Type 0 where
     pub way : Flagging old fs
     pub within : w ≤ keys-of xs
@@ -141,7 +141,7 @@ module _ (lex : Lexicon) (xs s : List ℕ) where
       }
 
   module _ (o w : ℕ) (old fs : List ℕ) (lo hi : ℕ) (h : Left o w old fs lo hi) where
-    -- lines at both ends do not agree
+    -- lines at both ends that do not agree are left out
     pub left-narrow :
         (from to : ℕ) → ((i : ℕ) → lo ≤ i → i < from → agrees s 0 (spells lex (key-at xs i)) o ≡ false) →
         ((i : ℕ) → to ≤ i → i < hi → agrees s 0 (spells lex (key-at xs i)) o ≡ false) → Left o w old fs from to
@@ -157,7 +157,7 @@ module _ (lex : Lexicon) (xs s : List ℕ) where
               ⊎-elim (λ (p : hi ≤ i). h .back i p b t) (λ (p : i < hi). clash t (after i a p)) (le-or-lt hi i);
         }
 
-    -- a run of them is flagged
+    -- a run of agreeing lines is flagged
     pub left-ones :
         (to : ℕ) (now : List ℕ) → to ≤ hi → hi ≤ w → Ones lo to fs now →
         ((i : ℕ) → lo ≤ i → i < to → agrees s 0 (spells lex (key-at xs i)) o ≡ true) → Left o w old now to hi
@@ -204,7 +204,7 @@ module _ (lex : Lexicon) (xs s : List ℕ) where
         ((i : ℕ) → a ≤ i → i < b → agrees s 0 (spells lex (key-at xs i)) o ≡ false) → Flagging fs fs × Flagged 0 o a b fs
     flagged-none none = (flagging-start fs h, λ i x y t. clash t (none i x y))
 
-  -- words, then lone characters
+  -- the words' lines, then the lone characters'
   pub flagged-both :
       (o w : ℕ) → w ≤ keys-of xs → (old mid fs : List ℕ) → Flagging old mid × Flagged 0 o 0 w mid →
       Flagging mid fs × Flagged 0 o w (keys-of xs) fs → Flagging old fs × Flagged 0 o 0 (keys-of xs) fs

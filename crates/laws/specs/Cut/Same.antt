@@ -61,7 +61,7 @@ module _ (lex : Lexicon) (s : List ℕ) where
       let key : e .key-of ≡ l .0 .key-of = ap (λ (f : Entry). f .key-of) (l .3) in
       rw (l .3) (flat-put lex (bearing lex s ls) (l .0) (e .at) (bearing-put ls (l .0) (l .1) (rw key at t)) (l .2))
 
-  -- an entry that agrees at any placement belongs to a key that bears
+  -- an entry that agrees at any position belongs to a key that bears
   pub covered-bearing : (ls : List Line) (a p : ℕ) → covered lex (bearing lex s ls) s a p ≡ covered lex ls s a p
   covered-bearing ls a p =
       iff-eq (covered lex (bearing lex s ls) s a p) (covered lex ls s a p)
@@ -85,7 +85,7 @@ module _ (lex : Lexicon) (s : List ℕ) where
   found-bearing ls zero p = refl
   found-bearing ls (suc n) p = rw (all-covered-bearing ls (length s) p p, found-bearing ls n (suc p))
 
--- Numbers whose lines are the bearing ones, with the same n, are searched alike.
+-- Numbers with the same n whose lines are the bearing ones give the same search result.
 pub find-bearing :
     (lex : Lexicon) (xs ys s : List ℕ) → n-of ys ≡ n-of xs → lines-in ys ≡ bearing lex s (lines-in xs) →
     find lex ys s ≡ find lex xs s

@@ -1,5 +1,5 @@
--- What the calls say of numbers that a text has as its index, under an admitted dictionary: reception and recovery accept, and so do
--- searches, first and cuts, and searches and first of what was cut down. Assumes nothing.
+-- What the calls say about numbers that are the index of a text, under an admitted dictionary: reception and recovery accept, and so do
+-- search, first and cut, and search and first on what cut wrote. Assumes nothing.
 use mathlib.Core.Path.{_≡_, refl, sym, ap, _∙_, subst}
 use mathlib.Core.Bool.{Bool, true, false}
 use mathlib.Core.Logic.{inl, inr, ⊎-elim}
@@ -99,7 +99,7 @@ module _ (cs ls : List ℕ) (adm : admitted cs ls ≡ true) where
       (none-row 6 (String-wrong s) []
       (⊎-elim (λ (e : length s ≡ 0). omega (arith, q .nonempty)) (λ (l : 256 < length s). omega (arith, q .short))) none-nil)
 
-  -- with output enough they meet no line of a search or cut-down
+  -- with enough output they meet no line of search or cut
   none-find :
       (xs s result o : List ℕ) → readable longest-text (lexicon cs ls) xs ≡ true → Query s → length result ≤ length o →
       None-met (find-rows cs ls xs s result o)
@@ -107,7 +107,7 @@ module _ (cs ls : List ℕ) (adm : admitted cs ls ≡ true) where
       none-both (string-rows cs ls xs s) (row 8 (Output-short result o) ∷ []) (none-string xs s can q)
       (none-row 8 (Output-short result o) [] (λ l. omega (arith, room)) none-nil)
 
-  -- any readable numbers whose search gives the places of a text
+  -- any readable numbers whose search gives the string's positions in a text
   found-for :
       (xs ts s : List ℕ) → readable longest-text (lexicon cs ls) xs ≡ true → Query s →
       Exactly-positions (replaced s) ts (find (lexicon cs ls) xs (replaced s)) → Found-for cs ls xs ts s
@@ -122,7 +122,7 @@ module _ (cs ls : List ℕ) (adm : admitted cs ls ≡ true) where
         subst (Exactly-positions (replaced s) ts) (sym (h .result .front)) exactly,
       )
 
-  -- any readable numbers whose first position is where the string stands first
+  -- any readable numbers whose first position is the first at which the string stands
   first-for :
       (xs ts s : List ℕ) → readable longest-text (lexicon cs ls) xs ≡ true → Query s →
       First-stands (replaced s) ts (first-position (lexicon cs ls) xs (replaced s)) → First-for cs ls xs ts s
@@ -174,7 +174,7 @@ module _ (cs ls : List ℕ) (adm : admitted cs ls ≡ true) where
         (none-row 8 (Recovery-short (lexicon cs ls) xs o) [] (λ l. omega (arith, l .0, fits, text .length-is)) none-nil)) in
         (h .number, subst (λ (us : List ℕ). Written us r o z) is-recovered (h .result))
 
-    -- numbers equal to the cut-down index serve for it
+    -- numbers equal to the cut-down index give its answers
     cut-found :
         (s ys : List ℕ) → Query s → ys ≡ cut-down (lexicon cs ls) xs (replaced s) → Found-for cs ls ys ts s × First-for cs ls ys ts s
     cut-found s ys q e =

@@ -1,5 +1,5 @@
--- The first demand: each operation accepts exactly what meets no row of the refusal table, and ends as stated; all else is refused
--- with the number of the first row met in the operation's list, and nothing but the work space is changed. Assumes nothing.
+-- The first demand: each operation accepts exactly what meets no row of the refusal table, with the stated result; everything else is
+-- refused with the number of the first row met in the operation's list, and only the work space changes. Assumes nothing.
 use mathlib.Core.Path.{_≡_, refl, _∙_}
 use mathlib.Core.Bool.{true, false, cond}
 use mathlib.Core.Logic.{inl, inr, ⊎-elim}
@@ -118,7 +118,7 @@ module _ (cs ls xs : List ℕ) where
     says .1,
   )
 
-  -- where the output is shorter than n a line is met: 8 if a text has the index, 5 or 9 if none has
+  -- if the output is shorter than n a line is met: 8 if a text has the index, 5 or 9 if none has
   recover-room :
       (o w : List ℕ) → ((k : ℕ) → Meets (recovery-rows cs ls xs o w) k → ⊥) → length o < length (recovered (lexicon cs ls) xs) → ⊥
   recover-room o w none h =

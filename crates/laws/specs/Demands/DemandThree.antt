@@ -1,5 +1,5 @@
--- The third demand: reception accepts exactly the numbers that some text has as its index, and then searches answer as if the text
--- were there. Assumes nothing.
+-- The third demand: reception accepts exactly the numbers that some text has as its index, and then searches answer as a search of that
+-- text would. Assumes nothing.
 use mathlib.Core.Path.{_≡_, refl}
 use mathlib.Core.Bool.{true}
 use mathlib.Core.Logic.{inl, inr}

@@ -1,6 +1,5 @@
--- The second demand: what an accepted build wrote is exactly the published index of its replaced text, which comes
--- back from it.
--- Assumes nothing.
+-- The second demand: what an accepted build wrote is exactly the published index of its replaced text, and that text is recovered from
+-- it. Assumes nothing.
 use mathlib.Core.Path.{_≡_, refl, sym, subst}
 use mathlib.Core.Bool.{true}
 use mathlib.Core.Logic.{inl, inr}

@@ -1,4 +1,4 @@
--- The calls of first beside those of search and cut, and on slices with the same entries up to where it stops. Assumes nothing.
+-- The calls of first against those of search and cut, and on slices with the same entries up to where it stops. Assumes nothing.
 use mathlib.Core.Path.{_≡_, refl, sym, ap, _∙_, subst}
 use mathlib.Core.Bool.{Bool, true, false, cond}
 use mathlib.Core.Logic.{_⊎_, inl, inr, ⊎-elim}
@@ -30,7 +30,7 @@ use Rattle.laws.specs.Demands.RefusalRows.{first-meets}
 use Rattle.laws.specs.Demands.DemandOne.{first-demand}
 use Rattle.laws.specs.Demands.Delivery.{true-put, None-met, accepts-zero, accepts-none, none-nil, none-row, none-left, none-both}
 
--- what a call of first comes to where no line is met
+-- the outcome of a call of first if no line is met
 module _ (cs ls xs s : List ℕ) (f : FirstAnswer) (says : First-says cs ls xs s f) where
   accepts-first :
       None-met (string-rows cs ls xs s) →
@@ -39,7 +39,7 @@ module _ (cs ls xs s : List ℕ) (f : FirstAnswer) (says : First-says cs ls xs s
       accepts-none (string-rows cs ls xs s) (f .refusal) (f .position ≡ first-position (lexicon cs ls) xs (replaced s)) (f .position ≡ 0)
       (first-demand .firsts cs ls xs s f says)
 
-  -- a position comes from an accepted call
+  -- only an accepted call answers a position
   position-accepted :
       1 ≤ f .position → Accepts (string-rows cs ls xs s) (f .refusal) (f .position ≡ first-position (lexicon cs ls) xs (replaced s))
   position-accepted some =
@@ -66,7 +66,7 @@ module _ (cs ls xs s : List ℕ) (f : FirstAnswer) (says : First-says cs ls xs s
       among (inr (inr (inr (inr (inr (inl m)))))) = omega (arith, m .0)
       among (inr (inr (inr (inr (inr (inr m)))))) = m
 
--- BESIDE A SEARCH
+-- AGAINST A SEARCH
 
 module _ (cs ls xs s : List ℕ) (f : FirstAnswer) (r : Answer) (o z : List ℕ) (first : First-says cs ls xs s f)
     (search : Search-says cs ls xs s r o z) where
@@ -105,7 +105,7 @@ module _ (cs ls xs s : List ℕ) (f : FirstAnswer) (r : Answer) (o z : List ℕ)
 
 -- ANOTHER SLICE
 
--- a dictionary and a string that are accepted with one slice are so with any readable one
+-- a dictionary and a string that are accepted with one slice are accepted with any readable one
 other-none :
     (cs ls xs ys s : List ℕ) → None-met (string-rows cs ls xs s) → readable longest-text (lexicon cs ls) ys ≡ true →
     None-met (string-rows cs ls ys s)
@@ -119,7 +119,7 @@ other-none cs ls xs ys s none can =
 can-read : (cs ls xs s : List ℕ) → None-met (string-rows cs ls xs s) → readable longest-text (lexicon cs ls) xs ≡ true
 can-read cs ls xs s none = true-put (readable longest-text (lexicon cs ls) xs) (λ f. none 5 (inr (inr (inr (inr (inl (refl, f)))))))
 
--- it then answers its own first position
+-- that call answers its own first position
 other-first :
     (cs ls xs ys s : List ℕ) → None-met (string-rows cs ls xs s) → readable longest-text (lexicon cs ls) ys ≡ true →
     (h : FirstAnswer) → First-says cs ls ys s h → (h .refusal ≡ 0) × (h .position ≡ first-position (lexicon cs ls) ys (replaced s))

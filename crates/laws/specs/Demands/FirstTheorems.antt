@@ -1,4 +1,4 @@
--- The statements of FirstPromise, proved. Assumes nothing.
+-- The statements of `spec`'s FirstTheorems, proved. Assumes nothing.
 use mathlib.Core.Path.{_≡_, refl, sym, _∙_}
 use mathlib.Core.Bool.{true}
 use mathlib.Core.List.{List}

@@ -1,5 +1,4 @@
--- The calls of to_gaps and from_gaps, one after the other, and what meets 5; from the tests on the way to what a call says. Assumes
--- nothing.
+-- The calls of to_gaps and from_gaps: from the tests to the contract, one call after the other, and what meets 5. Assumes nothing.
 use mathlib.Core.Path.{_≡_, refl, sym, ap, _∙_}
 use mathlib.Core.Bool.{Bool, true, false, cond}
 use mathlib.Core.Logic.{inl, inr, ⊎-elim}
@@ -30,7 +29,7 @@ use Rattle.laws.specs.Gaps.GapForms.{gaps-restored, restored-gaps, count
 use Rattle.laws.specs.Demands.DemandOne.{first-demand}
 use Rattle.laws.specs.Demands.Delivery.{true-put, None-met, accepts-zero, accepts-none, none-nil, none-row, none-left, none-both}
 
--- FROM THE TESTS TO WHAT A CALL SAYS
+-- FROM THE TESTS TO THE CONTRACT
 
 module _ (cs ls xs ys : List ℕ) (r : Answer) (o : List ℕ) where
   pub gaps-refused :
@@ -45,7 +44,7 @@ module _ (cs ls xs ys : List ℕ) (r : Answer) (o : List ℕ) where
   unfolding gaps-refusal or-else Sized
   gaps-sized accepts z h = rw accepts h
 
--- what the writer builds on, once no line is met
+-- what the writer relies on once no line is met
 pub writable :
     (cs ls xs : List ℕ) (b : Bool) → Small cs → index-refusal cs ls (with-lists (read-as b) xs) ≡ 0 → Writable b xs
 writable cs ls xs true small none =
@@ -68,19 +67,19 @@ writable cs ls xs false small none =
       sums = λ (e : _≡_ {A = Bool} false true). clash e refl;
     }
 
--- what is written is as long as what was lent
+-- the form is as long as the numbers lent
 pub form-length : (b : Bool) (xs : List ℕ) → length (with-lists (write-as b) xs) ≡ length xs
 form-length true xs = length-with prefix-sums (length-sums 0) xs
 form-length false xs = length-with gaps (length-gaps 0) xs
 
--- the form in front of the output that it was lent the front of
+-- the form at the start of the output, whose first part was lent to the writer
 pub form-front :
     (b : Bool) (xs o part : List ℕ) → part ≡ with-lists (write-as b) xs →
     part ++ drop (length xs) o ≡ in-front (with-lists (write-as b) xs) o
 unfolding in-front
 form-front b xs o part is = rw (is, form-length b xs)
 
--- what both directions say, as what each says
+-- the contract of both directions, as the contract of each
 abbrev pub Form-says : (restore : Bool) → (chars lengths numbers : List ℕ) → Answer → (out out-now : List ℕ) → Type 0
 Form-says b cs ls xs r o z =
     let form = with-lists (write-as b) xs in
@@ -97,7 +96,7 @@ module _ (cs ls xs : List ℕ) (r : Answer) (o z : List ℕ) where
 
 -- ONE CALL AFTER THE OTHER
 
--- a dictionary that is accepted with one index is so with any readable one, if the output is long enough
+-- a dictionary that is accepted with one index is accepted with any readable one, if the output is long enough
 other-none :
     (cs ls xs ys us vs o p : List ℕ) → None-met (gaps-rows cs ls xs us o) → readable longest-text (lexicon cs ls) ys ≡ true →
     length vs ≤ length p → None-met (gaps-rows cs ls ys vs p)

@@ -1,4 +1,5 @@
--- The statements of ReplacedPromise on a full-width form as a lone key, and on the calls over such an index, proved. Assumes nothing.
+-- The statements of `spec`'s ReplacedTheorems on a full-width form as a lone key, and on the calls on such an index, proved. Assumes
+-- nothing.
 use mathlib.Core.Path.{_≡_, refl, sym, ap, _∙_}
 use mathlib.Core.Bool.{true, false}
 use mathlib.Core.List.{List, [], _∷_}
@@ -58,7 +59,7 @@ module _ (cs ls : List ℕ) (c : ℕ) (adm : admitted cs ls ≡ true) (form : is
 -- AGREES WITH NO STRING
 
 module _ (s : List ℕ) (c : ℕ) (form : is-full-width c ≡ true) where
-  -- at the shared place the string would have it
+  -- at the shared position the replaced string would have a full-width form
   agree-never : (a b : ℕ) → Agree (replaced s) a (c ∷ []) b → ⊥
   agree-never a b h =
       let here : h .shared - b ≡ 0 = omega (arith, h .entry-from, h .entry-to) in
@@ -91,7 +92,7 @@ cut-out lex xs s c some (form, (l, m, e)) =
 -- NO TEXT HAS IT
 
 module _ (lex : Lexicon) (good : Good-lexicon lex) (g : ℕ) (xs : List ℕ) (can : readable g lex xs ≡ true) where
-  -- the entries of numbers that are the index of what they show stand in it
+  -- if the numbers are the index of the text recovered from them, their entries stand in it
   line-stands :
       is-index g lex xs ≡ true → (l : Line) → In l (lines-in xs) → (p : ℕ) → In p (l .positions) →
       Stand (spells lex (l .key-of)) (recovered lex xs) p
@@ -99,7 +100,7 @@ module _ (lex : Lexicon) (good : Good-lexicon lex) (g : ℕ) (xs : List ℕ) (ca
       entries-get lex good (recovered lex xs) (readable-chars lex good g xs can) (posting lex (l .key-of) p)
       (is-index-only lex good g xs own (posting lex (l .key-of) p) (flat-put lex (lines-in xs) l p m n)) .is-entry .stand
 
-  -- so the form stands at the first of its positions, in a text without any
+  -- so the form stands at the first of its positions, in a text that has no full-width form
   unreceived : (c : ℕ) → Lone-form xs c → received g lex xs ≡ false
   unreceived c (form, (l, m, e)) = false-put (received g lex xs) (λ t. shown (received-get g lex xs t))
     where

@@ -1,4 +1,5 @@
--- The statements of `Models`: the scan builds the index, and the reach is the cover. Assumes nothing.
+-- The statements of `Models`: the scan builds the index, and the reach comes to the string's end exactly if it is covered. Assumes
+-- nothing.
 use mathlib.Core.Path.{_≡_, refl, _∙_}
 use mathlib.Core.List.{List}
 use Prim.Native.Nat.{ℕ, zero, suc, _+_, _≤_}
@@ -16,7 +17,7 @@ use Rattle.laws.specs.Entries.Longest.{longest-at, longest-at-unique, ma
 use Rattle.laws.specs.Build.Inverted.{scan-index}
 use Rattle.laws.specs.Search.ReachExact.{reach-exact}
 
--- scans that find the same at each place are the same
+-- two scans whose longest entries are equal at each position are equal
 scan-alike :
     (f g : ℕ → Entry) (n p last m : ℕ) → 1 ≤ p → p + n ≡ suc m → ((q : ℕ) → 1 ≤ q → q ≤ m → f q ≡ g q) →
     scan f n p last ≡ scan g n p last

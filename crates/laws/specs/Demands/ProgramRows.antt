@@ -1,4 +1,4 @@
--- What the program prints, by the rows of the refusal table: 10, then 11, then those on the sheet's parts. Assumes nothing.
+-- What the program prints, by the rows of the refusal table: 10, then 11, then the rows on the sheet's parts. Assumes nothing.
 use mathlib.Core.Path.{_≡_, refl, sym, ap, _∙_}
 use mathlib.Core.Bool.{true, false, _&&_}
 use mathlib.Core.Logic.{inl, inr, ⊎-elim}
@@ -177,7 +177,7 @@ module _ (s : List ℕ) where
       h .printed ∙ sym (answer-refused 11 (number-broken short wrong) (λ (e : 11 ≡ 0). omega arith))
   prints-only answer (inr (inr h)) = parts-only answer h
 
-  -- line 1 is met by no sheet of the length and the counts allowed
+  -- no sheet of the length and the counts allowed meets line 1
   pub never-too-large :
       (ws : List (List ℕ)) (t : List ℕ) (fs : List (List ℕ)) → Sheet-of ws t fs s → Within-counts ws t fs → (Sheet-too-long s → ⊥) →
       Too-large (run-together ws) (lengths-of ws) → ⊥

@@ -54,7 +54,7 @@ module _ (cs ls ts : List ℕ) (adm : admitted cs ls ≡ true) (text : is-text l
           let (e, m, s) = from i h in
           (e .key-of, e .at, tells .all (e .key-of) (e .at) (e, m, refl, refl), s)
 
-  -- keys that spell the same in a readable slice and in the text's entries
+  -- a readable slice that is the published index has the keys of the text's entries: keys that spell the same are the same
   module _ (ys : List ℕ) (h : Published-index lex ts ys) where
     key-under : (k : Key) (p : ℕ) → Under k p ys → Is-key lex k
     unfolding Under

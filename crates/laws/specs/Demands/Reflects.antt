@@ -102,7 +102,7 @@ reflects-lengths (l ∷ ls) =
     reflects-some Wrong l ls _
     (reflects-nand (length-good l) (lengths-good ls) (Wrong l) ((k : ℕ) × In k ls × Wrong k) (reflects-length l) (reflects-lengths ls))
 
--- a word that holds a full-width form
+-- a word that contains a full-width form
 
 abbrev Form : ℕ → Type 0
 Form c = (first-form ≤ c) × (c ≤ last-form)

@@ -1,5 +1,4 @@
--- The refusal number of each operation is that of the first row of its list that the call meets, and 0 where it meets none. Assumes
--- nothing.
+-- The refusal number of each operation is that of the first row of its list that the call meets, and 0 if it meets none. Assumes nothing.
 use mathlib.Core.Path.{_≡_, refl, sym, _∙_, subst}
 use mathlib.Core.Bool.{Bool, true, false, cond}
 use mathlib.Core.Logic.{_⊎_, inl, inr}
@@ -80,7 +79,7 @@ one-number rows m n A B h k = one-first rows m n (h .first) (k .first)
 pub not-both : (rows : List Row) (m n : ℕ) (A B : Type 0) → Accepts rows m A → Refuses rows n B → ⊥
 not-both rows m n A B h k = h .none-met n (first-meets rows n (k .first))
 
--- with what an accepted and a refused call end with
+-- the decision, with what holds after an accepted call (A) and after a refused one (B)
 pub decides :
     (rows : List Row) (n m : ℕ) → First rows n → Numbered rows → m ≡ n → (A B : Type 0) →
     (((k : ℕ) → Meets rows k → ⊥) → n ≡ 0 → A) → ((n ≡ 0 → ⊥) → B) → Decides rows m A B

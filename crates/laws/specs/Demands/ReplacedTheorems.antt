@@ -1,4 +1,4 @@
--- The statements of ReplacedPromise on the replacement, on what stays as before, and on either width, proved. Assumes nothing.
+-- The statements of `spec`'s ReplacedTheorems on the replacement, on what stays as before, and on either width, proved. Assumes nothing.
 use mathlib.Core.Path.{_≡_, refl, sym, ap, _∙_}
 use mathlib.Core.Bool.{Bool, true, false, _&&_, not, cond}
 use mathlib.Core.Logic.{⊎-elim}
@@ -52,7 +52,7 @@ replacement =
 
 -- AS BEFORE
 
--- 12 is tested where the lengths add up, and is then met by the characters lent
+-- 12 is tested only if the lengths add up, and then the words hold exactly the characters lent
 dictionary-before :
     (cs ls : List ℕ) → holds-full-width cs ≡ false →
     dictionary-refusal cs ls ≡ cond (too-large cs ls) 1 (cond (lengths-wrong cs ls) 2 (cond (disordered cs ls) 3 0))
@@ -69,7 +69,7 @@ dictionary-before cs ls none = by-test (lengths-good ls && eqb (total ls) (lengt
         let plain : some-full-width (words-from ls cs) ≡ false = words-hold ls cs sum ∙ none in
         rw plain
 
--- a key spells a full-width form only if it is one
+-- a key whose string has a full-width form is that form, lone
 spells-plain :
     (lex : Lexicon) → Good-lexicon lex → (k : Key) → Is-key lex k → ((c : ℕ) → is-full-width c ≡ true → k ≡ key 1 c → ⊥) →
     Plain (spells lex k)
@@ -85,7 +85,7 @@ spells-plain lex good k h none =
     one f zero b = f
     one f (suc i) b = absurd (omega arith)
 
--- what readable numbers without such a key show
+-- the text recovered from readable numbers without such a key has no full-width form
 pub readable-plain :
     (g : ℕ) (lex : Lexicon) → Good-lexicon lex → (xs : List ℕ) → readable g lex xs ≡ true → ((c : ℕ) → Lone-form xs c → ⊥) →
     Plain (recovered lex xs)

@@ -1,4 +1,4 @@
--- The statements of Promise and of Beyond, proved for every greatest length of a text. Assumes nothing.
+-- The statements of `spec`'s Theorems and FurtherTheorems, proved for every greatest length of a text. Assumes nothing.
 use mathlib.Core.Path.{_≡_, refl, sym, ap, _∙_}
 use mathlib.Core.Bool.{true, false}
 use mathlib.Core.List.{List}
@@ -56,7 +56,7 @@ only-readable g cs ls ts a t =
 
 -- THE THIRD DEMAND
 
--- what is received is the index of the recovered text
+-- received numbers are the index of the recovered text
 received-text :
     (g : ℕ) (lex : Lexicon) → Good-lexicon lex → (xs : List ℕ) → received g lex xs ≡ true → Text-of g lex xs (recovered lex xs)
 received-text g lex good xs r =

@@ -1,4 +1,4 @@
--- The model of admission: the passes over lengths and over neighbours, and the refusal. Assumes nothing.
+-- The model of admission: the passes over lengths and over neighbouring words, and the refusal. Assumes nothing.
 use mathlib.Core.Path.{_≡_, refl, sym, ap, _∙_}
 use mathlib.Core.Bool.{Bool, true, false, _&&_, and-true}
 use mathlib.Core.List.{List, [], _∷_}
@@ -69,12 +69,12 @@ module _ (ls : List ℕ) (sum : ℕ) (good : Bool) (i : ℕ) (h : Lengths-read l
 
 -- THE NEIGHBOURS
 
--- what line 2 leaves: lengths of 1 to 32 that add up to the characters
+-- what holds if line 2 is not met: lengths of 1 to 32 that add up to the characters
 pub record Fitting (cs ls : List ℕ) : Type 0 where
   pub good : lengths-good ls ≡ true
   pub sum : total ls ≡ length cs
 
--- the word from `at` to `next` is the one before word i, and the words up to it ascend
+-- word i − 1 lies from `at` to `next`, and the words up to it ascend
 pub record Words-read (cs ls : List ℕ) (at next i : ℕ) : Type 0 where
   pub within : i ≤ length ls
   pub some : at < next

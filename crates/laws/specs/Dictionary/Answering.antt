@@ -1,4 +1,4 @@
--- From the refusal number to what a call says: one law for an accepted call, one for a refusal. Assumes nothing.
+-- From the refusal number to the contract of a call: one law for an accepted call, one for a refusal. Assumes nothing.
 use mathlib.Core.Path.{_≡_, sym, _∙_}
 use mathlib.Core.List.{List}
 use Prim.Native.Nat.{ℕ}

@@ -1,4 +1,4 @@
--- Keys of a good lexicon: each spells 1 to 32 characters, no two spell the same, every character is spelt by one. Assumes nothing.
+-- Keys of a good lexicon: each spells 1 to 32 characters, no two spell the same, and each character is spelt by one. Assumes nothing.
 use mathlib.Core.Path.{_≡_, refl, sym, ap, _∙_}
 use mathlib.Core.Bool.{Bool, true, false, _&&_, not}
 use mathlib.Core.Logic.{_⊎_, inl, inr, ⊎-elim}

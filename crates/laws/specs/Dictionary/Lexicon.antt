@@ -1,5 +1,5 @@
--- Admission, as facts: an admitted dictionary has distinct ascending words of 1 to 32 characters, none of them a full-width form. Assumes
--- nothing.
+-- Admission, as facts: an admitted dictionary has distinct ascending words of 1 to 32 characters, none of which has a full-width form.
+-- Assumes nothing.
 use mathlib.Core.Path.{_≡_, refl, ap, _∙_}
 use mathlib.Core.Bool.{Bool, true, false, _&&_, _||_, cond}
 use mathlib.Core.Logic.{inl, inr}
@@ -42,7 +42,7 @@ pub lengths-good-tail : (l : ℕ) (ls : List ℕ) → lengths-good (l ∷ ls) �
 unfolding lengths-good
 lengths-good-tail l ls t = and-right (length-good l) (lengths-good ls) t
 
--- what admission comes to
+-- admission, as facts
 pub record Is-admitted (cs ls : List ℕ) : Type 0 where
   pub chars : Chars cs
   pub few : length ls ≤ 4096
@@ -52,7 +52,7 @@ pub record Is-admitted (cs ls : List ℕ) : Type 0 where
   pub order : ascend (words-from ls cs) ≡ true
   pub plain : some-full-width (words-from ls cs) ≡ false
 
--- no line met
+-- no line is met
 none-met :
     (a b c d : Bool) → eqb (cond a 1 (cond b 2 (cond c 3 (cond d 12 0)))) 0 ≡ true →
     (a ≡ false) × (b ≡ false) × (c ≡ false) × (d ≡ false)
@@ -109,7 +109,7 @@ unfolding words-from
 length-words [] cs = refl
 length-words (l ∷ ls) cs = ap suc (length-words ls (drop l cs))
 
--- where the characters suffice, each word has its full length
+-- if there are enough characters, each word has its full length
 pub word-lengths :
     (ls cs : List ℕ) → lengths-good ls ≡ true → total ls ≤ length cs → (w : List ℕ) → In w (words-from ls cs) →
     (1 ≤ length w) × (length w ≤ 32)

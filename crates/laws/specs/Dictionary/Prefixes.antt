@@ -1,4 +1,4 @@
--- Words that stand at one place are prefixes of each other, so ascending words ascend by length there. Assumes nothing.
+-- Words that stand at the same position are prefixes of each other, so ascending words ascend by length there. Assumes nothing.
 use mathlib.Core.Path.{_≡_, refl, sym, _∙_}
 use mathlib.Core.Bool.{true}
 use mathlib.Core.Logic.{⊎-elim}
@@ -21,7 +21,7 @@ prefix-before [] (y ∷ ys) l same = refl
 prefix-before (x ∷ xs) (y ∷ ys) l same =
     word-before-rest x y xs ys (same 0 (omega arith)) (prefix-before xs ys (omega arith) (λ i b. same (suc i) (omega arith)))
 
--- two strings at one place agree as far as both reach
+-- two strings at the same position are equal up to the end of the shorter
 pub standing-agree :
     (v w ts : List ℕ) (p i : ℕ) → Stand v ts p → Stand w ts p → i < length v → i < length w → getD v i 0 ≡ getD w i 0
 standing-agree v w ts p i h k b c = stand-at v ts p i h b ∙ sym (stand-at w ts p i k c)
@@ -30,7 +30,7 @@ pub standing-before :
     (v w ts : List ℕ) (p : ℕ) → Stand v ts p → Stand w ts p → length v < length w → word-before v w ≡ true
 standing-before v w ts p h k l = prefix-before v w l (λ i b. standing-agree v w ts p i h k b (omega arith))
 
--- of two words at one place the later in the dictionary is the longer
+-- of two words at the same position the later in the dictionary is the longer
 pub standing-ascend :
     (ws : List (List ℕ)) → ascend ws ≡ true → (ts : List ℕ) (p i j : ℕ) → i < j → j < length ws → Stand (getD ws i []) ts p →
     Stand (getD ws j []) ts p → length (getD ws i []) < length (getD ws j [])

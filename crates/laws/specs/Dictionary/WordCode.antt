@@ -1,5 +1,5 @@
--- One word before another: the loop over characters, and the packed start of a word that decides most comparisons. Assumes
--- nothing.
+-- The test that one word is before another: the loop over characters, and the packed first three characters, which decide most
+-- comparisons. Assumes nothing.
 use mathlib.Core.Path.{_≡_, refl, sym, ap, _∙_}
 use mathlib.Core.Bool.{Bool, true, false, _&&_, _||_, cond}
 use mathlib.Core.List.{List, [], _∷_}
@@ -14,7 +14,7 @@ use borrow.Author.Tests.{lt-ltb, le-ltb, eq-eqb, ne-eqb}
 use Rattle.basics.specs.Bools.{or-left, or-false, le-or-lt}
 use Rattle.spec.specs.Dictionary.{word-before}
 
--- THE LOOP OVER CHARACTERS: what is left of both words from i on
+-- THE LOOP OVER CHARACTERS: both words from i on
 
 module _ (w v : List ℕ) (i : ℕ) where
   heads :
@@ -39,7 +39,7 @@ module _ (w v : List ℕ) (i : ℕ) where
   unfolding word-before
   before-end b = rw (drop-of-length-le v b)
 
-  -- all of one is read, and the other agrees with it so far
+  -- one word is read to its end, and the other is equal to it so far
   pub before-read :
       min (length w) (length v) ≤ i → i ≤ length w → i ≤ length v → word-before (drop i w) (drop i v) ≡ ltb (length w) (length v)
   unfolding word-before
@@ -51,11 +51,11 @@ module _ (w v : List ℕ) (i : ℕ) where
       rw (drop-of-length-le w read, drop-cons v i 0) (sym (lt-ltb (length w) (length v) (omega arith))))
       (le-or-lt (length v) i)
 
--- the words from i on compare as the words do
+-- the words' rests from i on compare as the words do
 abbrev pub Equal-front : (w v : List ℕ) → (i : ℕ) → Type 0
 Equal-front w v i = (i ≤ length w) × (i ≤ length v) × (word-before (drop i w) (drop i v) ≡ word-before w v)
 
--- one equal character more, and four
+-- one more equal character, and four more
 equal-one :
     (w v : List ℕ) (i j : ℕ) → j ≡ i + 1 → i < length w → i < length v → getD w i 0 ≡ getD v i 0 → Equal-front w v i → Equal-front w v j
 equal-one w v i j next a b same h =
@@ -72,7 +72,7 @@ equal-four w v i a b first second third fourth h =
 
 -- THE PACKED START OF A WORD
 
--- one more than the first character, 0 where there is none
+-- one more than the first character, or 0 if there is none
 unfoldable pub first-digit : List ℕ → ℕ
 first-digit [] = 0
 first-digit (x ∷ xs) = x + 1
@@ -111,7 +111,7 @@ digit-same (x ∷ xs) [] h = absurd (omega arith)
 digit-same [] (y ∷ ys) h = absurd (omega arith)
 digit-same (x ∷ xs) (y ∷ ys) h = rw (le-ltb x y (omega arith), eq-eqb x y (omega arith))
 
--- where the first digits decide nothing, the second do, and then the third
+-- if the first digits are equal, the second decide, and then the third
 below-first :
     (w v : List ℕ) → first-digit w ≡ first-digit v → first-digit (drop 1 w) ≡ first-digit (drop 1 v) →
     word-before w v ≡ word-before (drop 2 w) (drop 2 v)
@@ -121,7 +121,7 @@ below-first w v d e =
     ∙ ap (λ (l : List ℕ). word-before l (drop 1 (drop 1 v))) (drop-drop 1 1 w)
     ∙ ap (λ (l : List ℕ). word-before (drop 2 w) l) (drop-drop 1 1 v)
 
--- three digits in order, one number below another: the first that differs is below
+-- if one number of three digits is below another, the first digit that differs is below
 lower :
     (a b c x y z : ℕ) → b ≤ 65536 → c ≤ 65536 → y ≤ 65536 → z ≤ 65536 →
     (a * 131072 + b) * 131072 + c < (x * 131072 + y) * 131072 + z →
@@ -183,7 +183,7 @@ part cs at end = take (end - at) (drop at cs)
 pub length-part : (cs : List ℕ) (at end : ℕ) → at ≤ end → end ≤ length cs → length (part cs at end) ≡ end - at
 length-part cs at end order room = length-take-le (end - at) (drop at cs) (simp length-drop (omega arith))
 
--- its digits, read where they stand
+-- its digits, read from the run of characters
 digit-read :
     (cs : List ℕ) (at end i s : ℕ) → at ≤ end → end ≤ length cs → (i < end - at → s ≡ at + i) →
     cond (ltb i (end - at)) (getD cs s 0 + 1) 0 ≡ first-digit (drop i (part cs at end))
@@ -200,7 +200,8 @@ digit-read cs at end i s order room here =
     rw (lt-ltb i (end - at) inside, drop-cons (part cs at end) i 0 some, read))
     (le-or-lt (end - at) i)
 
--- where the word's first three characters are read: the second and the third only if it has them, and within the slice
+-- the indexes at which the word's first three characters are read: the second and the third only if it has them, and always within the
+-- slice
 pub record Reads-three (cs : List ℕ) (at end s t : ℕ) : Type 0 where
   pub some : at < end
   pub room : end ≤ length cs
@@ -209,7 +210,7 @@ pub record Reads-three (cs : List ℕ) (at end s t : ℕ) : Type 0 where
   pub second : 1 < end - at → s ≡ at + 1
   pub third : 2 < end - at → t ≡ at + 2
 
--- three digits so read make the code of the word
+-- three digits read this way make the code of the word
 pub code-read :
     (cs : List ℕ) (at end s t a b c : ℕ) → at < end → end ≤ length cs → (1 < end - at → s ≡ at + 1) → (2 < end - at → t ≡ at + 2) →
     a ≡ getD cs at 0 + 1 → b ≡ cond (ltb 1 (end - at)) (getD cs s 0 + 1) 0 → c ≡ cond (ltb 2 (end - at)) (getD cs t 0 + 1) 0 →
@@ -225,7 +226,7 @@ code-read cs at end s t a b c some room second third ea eb ec =
     let three : c ≡ first-digit (drop 2 (part cs at end)) = ec ∙ digit-read cs at end 2 t order room third in
     rw (one, two, three)
 
--- two words in a row, and their codes
+-- two neighbouring words and their codes
 pub record Neighbours (cs : List ℕ) (at next end a b : ℕ) : Type 0 where
   pub first : at ≤ next
   pub second : next ≤ end

@@ -57,7 +57,7 @@ unfolding ascend
 ascend-tail w [] t = refl
 ascend-tail w (v ∷ ws) t = and-right (word-before w v) (ascend (v ∷ ws)) t
 
--- the first of ascending words is before each other
+-- the first of ascending words is before every other
 pub ascend-first : (w v : List ℕ) (ws : List (List ℕ)) → ascend (w ∷ ws) ≡ true → In v ws → word-before w v ≡ true
 unfolding ascend
 ascend-first w v [] t m = absurd m

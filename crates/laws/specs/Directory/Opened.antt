@@ -13,7 +13,7 @@ use Rattle.laws.specs.Numbers.Slices.{length-lines-from, Fits}
 
 -- WORDS
 
--- where word w's characters start
+-- the index at which word w's characters start
 abbrev pub word-start : (lengths : List ℕ) → (w : ℕ) → ℕ
 word-start ls w = total (take w ls)
 
@@ -42,7 +42,7 @@ word-there (l ∷ ls) cs (suc w) h =
 
 -- LINES
 
--- where the positions of line i start
+-- the index at which the positions of line i start
 abbrev pub list-start : (numbers : List ℕ) → (i : ℕ) → ℕ
 list-start xs i = header + 3 * keys-of xs + counts-from i 0 xs
 
@@ -101,7 +101,7 @@ module _ (xs : List ℕ) (i : ℕ) (below : i < keys-of xs) where
       rw (add-one i, ← drop-drop (counts-from i 0 xs) (header + 3 * keys-of xs) xs)
       (rw z at (lines-cut (keys-of xs) 0 i xs (drop (header + 3 * keys-of xs) xs) below))
 
-  -- and its positions are there
+  -- and its positions lie within the slice
   pub list-room : Fits xs → list-start xs i + count-at xs i ≤ length xs
   unfolding entries-of
   list-room fits =

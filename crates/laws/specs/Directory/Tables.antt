@@ -1,4 +1,4 @@
--- An accepted index with its tables of starts: what a directory line's key spells and where its positions lie. Assumes nothing.
+-- An accepted index with its tables of starts: what a directory line's key spells and where its positions are. Assumes nothing.
 use mathlib.Core.Path.{_≡_, refl, sym, ap, _∙_}
 use mathlib.Core.Bool.{true, _&&_}
 use mathlib.Core.Logic.{inl, inr, ⊎-elim}
@@ -26,7 +26,7 @@ use Rattle.laws.specs.Readable.Readable.{readable-get}
 use Rattle.laws.specs.Numbers.Slices.{Fits, lengths-fit-get}
 use Rattle.laws.specs.Directory.Opened.{word-start, word-there, word-start-room, list-start, line-of, lines-next, list-room}
 
--- what no refusal of 1, 2, 3 and 5 comes to
+-- what holds if 1, 2, 3 and 5 are not met
 pub record Can-read (cs ls xs : List ℕ) : Type 0 where
   pub few-words : length ls ≤ 4096
   pub few-chars : length cs ≤ 65535
@@ -38,13 +38,13 @@ pub record Can-read (cs ls xs : List ℕ) : Type 0 where
   pub n-small : n-of xs ≤ 65535
   pub keys-small : keys-of xs ≤ 65535
 
--- the first n words' starts are in the table
+-- the table has the starts of the first n words
 pub record Word-starts (ls : List ℕ) (n : ℕ) (ws : List ℕ) : Type 0 where
   pub within : n ≤ length ls
   pub room : length ls ≤ length ws
   pub at : (w : ℕ) → w < n → getD ws w 0 ≡ word-start ls w
 
--- the first n lines' starts are in the table, from the end of the directory
+-- the table has the starts of the first n lists, counted from the end of the directory
 pub record List-starts (xs : List ℕ) (n : ℕ) (ts : List ℕ) : Type 0 where
   pub within : n ≤ keys-of xs
   pub room : keys-of xs ≤ length ts
@@ -56,7 +56,7 @@ in-front-of (x ∷ xs) zero l more e = inl (sym (ap (λ (ys : List Line). getD y
 in-front-of (x ∷ xs) (suc i) l more e = inr (in-front-of xs i l more e)
 
 module _ (cs ls xs : List ℕ) (can : Can-read cs ls xs) (i : ℕ) (below : i < keys-of xs) where
-  -- the numbers of line i are there
+  -- the numbers of line i lie within the slice
   pub line-room : header + 3 * i + 2 < length xs
   line-room = omega (arith, can .fits .has-directory)
 
@@ -186,7 +186,7 @@ pub record Opened (cs ls xs ws ts : List ℕ) : Type 0 where
   pub word-starts : Word-starts ls (length ls) ws
   pub list-starts : List-starts xs (keys-of xs) ts
 
--- what an accepted index comes to
+-- what holds for an accepted index
 pub can-read : (cs ls xs : List ℕ) → Small cs → Small xs → index-refusal cs ls xs ≡ 0 → Can-read cs ls xs
 unfolding readable
 can-read cs ls xs small-chars small none =

@@ -1,4 +1,4 @@
--- Membership in the complete index: a key, its length, it stands there. Assumes nothing.
+-- Membership in the complete index: an entry has a key and its length, and stands in the text. Assumes nothing.
 use mathlib.Core.Path.{_≡_, sym, ap, _∙_}
 use mathlib.Core.Bool.{true, false}
 use mathlib.Core.Logic.{_⊎_, inl, inr, ⊎-elim}

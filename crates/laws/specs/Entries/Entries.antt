@@ -1,4 +1,4 @@
--- Membership in the complete maximal word index, as facts; entries are told apart by place and length. Assumes nothing.
+-- Membership in the complete maximal word index, as facts; position and length determine an entry. Assumes nothing.
 use mathlib.Core.Path.{_≡_, refl, sym, ap, _∙_}
 use mathlib.Core.Bool.{true, false, _&&_, not}
 use mathlib.Core.Logic.{inl, inr, ⊎-elim}
@@ -59,9 +59,9 @@ same-entry-put e f p =
     and-put (same-key-put (e .key-of) (f .key-of) (ap (λ (x : Entry). x .key-of) p))
     (eq-eqb (e .at) (f .at) (ap (λ (x : Entry). x .at) p))
 
--- PLACE AND LENGTH
+-- POSITION AND LENGTH
 
--- entries of one text with the same place and length are the same
+-- entries of one text with the same position and length are the same
 pub entry-unique :
     (lex : Lexicon) → Good-lexicon lex → (ts : List ℕ) (e f : Entry) → Is-entry lex ts e → Is-entry lex ts f →
     e .at ≡ f .at → e .len ≡ f .len → e ≡ f

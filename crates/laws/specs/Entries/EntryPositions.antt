@@ -1,4 +1,4 @@
--- Lists of entries with strictly ascending places. Assumes nothing.
+-- Lists of entries with strictly ascending positions. Assumes nothing.
 use mathlib.Core.Logic.{inl, inr}
 use mathlib.Core.List.{List, [], _∷_}
 use Prim.Native.Nat.{ℕ, suc, _≤_}
@@ -6,7 +6,7 @@ use native.Mathlib.Omega.{arith}
 use Rattle.basics.specs.Member.{In}
 use Rattle.spec.specs.Words.{Entry}
 
--- strictly ascending places from `least` on
+-- strictly ascending positions from `least` on
 abbrev pub Positions-rise : (least : ℕ) → List Entry → Type 0
 Positions-rise a [] = Unit
 Positions-rise a (e ∷ es) = (a ≤ e .at) × Positions-rise (suc (e .at)) es

@@ -1,4 +1,4 @@
--- The longest entry at a place, computed from the complete index, and the scan as a closed function. Assumes nothing.
+-- The longest entry at a position, computed from the complete index, and the scan as a closed function. Assumes nothing.
 use mathlib.Core.Path.{_≡_, refl, sym, ap, _∙_}
 use mathlib.Core.Bool.{Bool, true, false, _&&_, cond}
 use mathlib.Core.Logic.{_⊎_, inl, inr, ⊎-elim}
@@ -24,7 +24,7 @@ unfoldable pub longest-of : (p : ℕ) (best : Entry) → List Entry → Entry
 longest-of p best [] = best
 longest-of p best (e ∷ es) = longest-of p (cond (eqb (e .at) p && ltb (best .len) (e .len)) e best) es
 
--- it is one of the list that starts at p, or `best`, and none of these is longer
+-- r is an entry of the list that starts at p, or `best`, and none of these is longer
 pub record Longest-of (p : ℕ) (best : Entry) (es : List Entry) (r : Entry) : Type 0 where
   pub source : (In r es × (r .at ≡ p)) ⊎ (r ≡ best)
   pub over-best : best .len ≤ r .len
@@ -79,7 +79,7 @@ longest-of-is p best (e ∷ es) =
         (le-or-lt (e .len) (best .len)))
         k
 
--- where no entry starts, which is at no place of a text, it has length 0
+-- the longest entry at p; of length 0 if none starts there, which happens at no position of a text
 unfoldable pub longest-at : Lexicon → (text : List ℕ) → (p : ℕ) → Entry
 longest-at lex ts p = longest-of p (entry (key 1 0) p 0) (complete lex ts)
 
@@ -110,7 +110,7 @@ module _ (lex : Lexicon) (good : Good-lexicon lex) (ts : List ℕ) (chars : Char
             here = q .1;
           }
 
-  -- whatever is the longest entry at a place is this one
+  -- any longest entry at a position is this one
   pub longest-at-unique : (p : ℕ) (e : Entry) → 1 ≤ p → p ≤ length ts → Longest-at lex ts p e → e ≡ longest-at lex ts p
   longest-at-unique p e lo hi l =
       let k : Longest-at lex ts p (longest-at lex ts p) = longest-at-is p lo hi in

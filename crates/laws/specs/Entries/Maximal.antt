@@ -1,4 +1,4 @@
--- Maximal entries: the longest at their place, ending after all that start earlier; every entry lies in one. Assumes nothing.
+-- Maximal entries: each is the longest at its position and ends after all that start earlier; every entry lies in one. Assumes nothing.
 use mathlib.Core.Path.{_≡_, refl, sym, ap}
 use mathlib.Core.Bool.{true, false}
 use mathlib.Core.Logic.{_⊎_, inl, inr, ⊎-elim}
@@ -16,12 +16,12 @@ use Rattle.laws.specs.Dictionary.Keys.{char-key}
 use Rattle.laws.specs.Entries.Complete.{complete-get, complete-put}
 use Rattle.laws.specs.Entries.Entries.{same-entry-put, entry-unique, in-text, in-another-get, maximal-put, entries-get}
 
--- an entry at a place than which none at that place is longer
+-- no entry at its position is longer
 pub record Is-longest (lex : Lexicon) (ts : List ℕ) (e : Entry) : Type 0 where
   pub is-entry : Is-entry lex ts e
   pub longest : (f : Entry) → Is-entry lex ts f → f .at ≡ e .at → f .len ≤ e .len
 
--- and that ends after every entry that starts earlier
+-- and it ends after every entry that starts earlier
 pub record Is-leading (lex : Lexicon) (ts : List ℕ) (e : Entry) : Type 0 where
   pub is-longest : Is-longest lex ts e
   pub after : (f : Entry) → Is-entry lex ts f → f .at < e .at → f .at + f .len < e .at + e .len
@@ -63,7 +63,7 @@ module _ (lex : Lexicon) (good : Good-lexicon lex) (ts : List ℕ) where
       entry-unique lex good ts e f (he .is-entry) (hf .is-entry) a
       (omega (arith, he .longest f (hf .is-entry) (sym a), hf .longest e (he .is-entry) a))
 
-  -- two maximal entries at one place are the same
+  -- two maximal entries at one position are the same
   pub maximal-unique : (e f : Entry) → Is-maximal lex ts e → Is-maximal lex ts f → e .at ≡ f .at → e ≡ f
   maximal-unique e f he hf a =
       longest-unique e f (maximal-leading lex ts e he .is-longest) (maximal-leading lex ts f hf .is-longest) a
@@ -99,7 +99,7 @@ module _ (lex : Lexicon) (good : Good-lexicon lex) (ts : List ℕ) (chars : Char
           clash (same-entry-put e f (entry-unique lex good ts e f h hf a l)) d)
           (λ (q : e .len < f .len). inr (f, hf, c, q)) (le-or-lt (f .len) (e .len))
 
-  -- by what is left to the length of the text: each step goes to a longer entry
+  -- by recursion on the difference to the length of the text: each step goes to a longer entry
   in-maximal-from :
       (fuel : ℕ) (e : Entry) → Is-entry lex ts e → length ts < e .len + fuel → (f : Entry) × Is-maximal lex ts f × Contains f e
   in-maximal-from zero e h b = absurd (omega (arith, in-text lex good ts e h))
@@ -114,7 +114,7 @@ module _ (lex : Lexicon) (good : Good-lexicon lex) (ts : List ℕ) (chars : Char
   pub in-maximal : (e : Entry) → Is-entry lex ts e → (f : Entry) × Is-maximal lex ts f × Contains f e
   in-maximal e h = in-maximal-from (suc (length ts)) e h (omega arith)
 
-  -- at each position of the text stands the entry of its character
+  -- each position of the text has the entry of its character
   pub char-entry : (p : ℕ) → 1 ≤ p → p ≤ length ts → (e : Entry) × Is-entry lex ts e × (e .at ≡ p) × (e .len ≡ 1)
   unfolding entry
   char-entry p lo hi =

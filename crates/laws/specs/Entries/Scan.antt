@@ -1,5 +1,5 @@
--- The one-pass scan of source 000's figure 1, the model of the builder: it registers exactly the maximal entries, in the order of
--- their places. Assumes nothing.
+-- The one-pass scan of source 000's figure 1, the model of the builder: it registers exactly the maximal entries, in the order of their
+-- positions. Assumes nothing.
 use mathlib.Core.Path.{_≡_, ap}
 use mathlib.Core.Bool.{Bool, true, false, cond}
 use mathlib.Core.Logic.{_⊎_, inl, inr, ⊎-elim}
@@ -38,7 +38,7 @@ scan-passes longest n p last h =
     cond b (longest p ∷ scan longest n (suc p) (p + longest p .len)) (scan longest n (suc p) last))
     (le-ltb last _ (omega arith))
 
--- at most one entry a place
+-- at most one entry for each position
 pub length-scan : (longest : ℕ → Entry) (n p last : ℕ) → length (scan longest n p last) ≤ n
 unfolding scan
 length-scan longest zero p last = omega arith
@@ -51,9 +51,9 @@ length-scan longest (suc n) p last =
     go true h k = omega arith
     go false h k = omega arith
 
--- WHAT HOLDS BETWEEN TWO PLACES
+-- WHAT HOLDS BETWEEN TWO POSITIONS
 
--- Before place p: no entry passed ends after `last`, and each maximal entry to come does.
+-- Before position p: no entry that starts before p ends after `last`, and each maximal entry to come does.
 pub record Scanned (lex : Lexicon) (ts : List ℕ) (p last : ℕ) : Type 0 where
   pub behind : (f : Entry) → Is-entry lex ts f → f .at < p → f .at + f .len ≤ last
   pub ahead : (e : Entry) → Is-maximal lex ts e → p ≤ e .at → last < e .at + e .len
@@ -95,7 +95,7 @@ module _ (lex : Lexicon) (good : Good-lexicon lex) (ts : List ℕ) where
       behind f hf b (inl q) = omega (arith, l .is-longest .longest f hf (omega (arith, l .here)))
       behind f hf b (inr q) = omega (arith, s .behind f hf q)
 
-  -- any other place has no maximal entry, and `last` stays
+  -- otherwise p has no maximal entry, and `last` stays
   pub scanned-none :
       (p last : ℕ) (e f : Entry) → Scanned lex ts p last → Longest-at lex ts p e → p + e .len ≤ last → Is-maximal lex ts f →
       f .at ≡ p → ⊥
@@ -116,7 +116,7 @@ module _ (lex : Lexicon) (good : Good-lexicon lex) (ts : List ℕ) where
 
 -- THE WHOLE SCAN
 
--- es are the maximal entries from place p on, in the order of their places
+-- es are the maximal entries from position p on, in the order of their positions
 pub record Maximal-from (lex : Lexicon) (ts : List ℕ) (p : ℕ) (es : List Entry) : Type 0 where
   pub get : (e : Entry) → In e es → Is-maximal lex ts e
   pub put : (e : Entry) → Is-maximal lex ts e → p ≤ e .at → In e es
@@ -182,6 +182,6 @@ module _ (lex : Lexicon) (good : Good-lexicon lex) (ts : List ℕ) where
             (scanned-maximal lex good ts p last (longest p) s l h)
             (more (p + longest p .len) (scanned-registered lex good ts p last (longest p) s l h) (omega arith) (omega arith)))
 
-    -- figure 1 starts with tail 1, and registers all maximal entries and no others, each once, by ascending places
+    -- figure 1 starts with tail 1, and registers all maximal entries and no others, each once, by ascending positions
     pub scan-exact : Maximal-from lex ts 1 (scan longest (length ts) 1 1)
     scan-exact = scan-from (length ts) 1 1 (scanned-start lex good ts) (omega arith) (omega arith)

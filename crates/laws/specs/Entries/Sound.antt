@@ -1,4 +1,4 @@
--- The entries of a text over an admitted lexicon are those that a readable index may have, and start at different places. Assumes
+-- The entries of a text over an admitted lexicon are such as a readable index may have, and start at different positions. Assumes
 -- nothing.
 use mathlib.Core.List.{List}
 use Prim.Native.Nat.{ℕ}

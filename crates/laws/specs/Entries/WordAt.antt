@@ -1,4 +1,4 @@
--- The longest entry at a place, from the words of the lexicon that stand there: what a scan has to find. Assumes nothing.
+-- The longest entry at a position, from the words of the lexicon that stand there: what a scan has to find. Assumes nothing.
 use mathlib.Core.Path.{_≡_, refl, sym, ap}
 use mathlib.Core.Logic.{⊎-elim}
 use mathlib.Core.List.{List, [], _∷_}
@@ -65,7 +65,7 @@ module _ (lex : Lexicon) (good : Good-lexicon lex) (ts : List ℕ) (chars : Char
       spelt : spells lex (key 0 i) ≡ getD (lex .words) i []
       spelt = spells-word lex (key 0 i) refl
 
-  -- where no word ends after `last` and `last` is not after p, no word stands at p at all: the character is alone
+  -- if no word there ends after `last` and `last` is not after p, no word stands at p at all: the character is lone
   pub none-after-lone :
       (p last : ℕ) → 1 ≤ p → p ≤ length ts → last ≤ p → None-after lex ts p last →
       Longest-at lex ts p (entry (key 1 (getD ts (p - 1) 0)) p 1)
@@ -104,7 +104,7 @@ module _ (lex : Lexicon) (good : Good-lexicon lex) (ts : List ℕ) (chars : Char
           let (j, b, q) = in-place (getD ts (p - 1) 0 ∷ []) (lex .words) [] m in
           no-word-stands j b (rw q stand)
 
-  -- where `last` is after p, nothing is registered
+  -- if `last` is after p, nothing is registered
   pub none-after-passes :
       (p last : ℕ) (e : Entry) → p < last → None-after lex ts p last → Longest-at lex ts p e → p + e .len ≤ last
   none-after-passes p last e big n l =

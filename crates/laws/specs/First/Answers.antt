@@ -1,4 +1,4 @@
--- What a call of first says: from the tests on the way to its refusal to the whole contract. Assumes nothing.
+-- The contract of a call of first, from the tests that lead to its refusal. Assumes nothing.
 use mathlib.Core.Path.{_≡_, sym, _∙_}
 use mathlib.Core.List.{List}
 use Prim.Native.Nat.{ℕ, _<_}

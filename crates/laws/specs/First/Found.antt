@@ -23,9 +23,9 @@ use Rattle.laws.specs.TextScan.ReconstructedSearch.{Finds}
 unfoldable pub First-in : Lexicon → (index string : List ℕ) → (n q r : ℕ) → Type 0
 First-in lex xs s n q r = r ≡ first-of (found-from n q lex (lines-in xs) s)
 
--- A WINDOW, PASSED OVER
+-- A WINDOW WITHOUT A HIT, SO FAR
 
--- none of its first i starts reaches m
+-- none of its first i starts has a reach of m or more
 pub record None-before (m q : ℕ) (rs : List ℕ) (i : ℕ) : Type 0 where
   pub within : i ≤ length rs
   pub passed : found-in m q rs ≡ found-in m (q + i) (drop i rs)
@@ -52,25 +52,25 @@ module _ (m q : ℕ) (rs : List ℕ) where
 -- THE STARTS OF A WINDOW
 
 module _ (lex : Lexicon) (xs s : List ℕ) (n q : ℕ) where
-  -- found by what was done to a cleared window
+  -- by what was done to a cleared window
   module _ (rs : List ℕ) (max-reach : ℕ) (old : List ℕ) (clear : old ≡ replicate n 0)
       (done : Reaches (offsets-all (length s - 1) 1 lex (lines-in xs) s q (leading-all lex (lines-in xs) s q old)) rs max-reach) where
     pub first-in-window : (r : ℕ) → r ≡ first-of (found-in (length s) q rs) → First-in lex xs s n q r
     unfolding First-in
     first-in-window r e = e ∙ ap first-of (in-window lex xs s n q [] rs max-reach old clear done)
 
-    -- no start passes the string
+    -- no reach comes to the string's end
     pub first-in-none : max-reach < length s → First-in lex xs s n q 0
     unfolding First-in first-of
     first-in-none early =
         sym
         (ap first-of (sym (in-window lex xs s n q [] rs max-reach old clear done) ∙ none-found (length s) max-reach q rs (done .bounded) early))
 
-  -- the number of starts, as the code has it
+  -- the same, with the number of starts as the code has it
   pub first-in-count : (k r : ℕ) → n ≡ k → First-in lex xs s n q r → First-in lex xs s k q r
   first-in-count k r e h = rw e at h
 
--- found by a window that tells what the index has
+-- by a window whose reaches are right for the index
 pub first-in-told :
     (lex : Lexicon) (xs s : List ℕ) (n : ℕ) (rs : List ℕ) → Finds lex xs s rs → length rs ≡ n → (r : ℕ) →
     r ≡ first-of (found-in (length s) 1 rs) → First-in lex xs s n 1 r
@@ -86,7 +86,7 @@ first-append [] qs r e some = absurd (some e)
 first-append (p ∷ ps) qs r e some = e
 
 module _ (lex : Lexicon) (ls : List Line) (s : List ℕ) where
-  -- positions are from 1, so that none is found where the first is 0
+  -- positions are from 1, so nothing is found if the first is 0
   none-first : (n q : ℕ) → 1 ≤ q → first-of (found-from n q lex ls s) ≡ 0 → found-from n q lex ls s ≡ []
   unfolding found-from first-of
   none-first zero q from e = refl
@@ -100,7 +100,7 @@ module _ (lex : Lexicon) (ls : List Line) (s : List ℕ) where
       go true ih z = absurd (omega arith)
       go false ih z = ih z
 
-  -- it is none of the starts, or one of them
+  -- the first position is at most the end of the starts
   first-bound : (n q : ℕ) → first-of (found-from n q lex ls s) ≤ q + n
   unfolding found-from first-of
   first-bound zero q = omega arith
@@ -120,7 +120,7 @@ module _ (lex : Lexicon) (xs s : List ℕ) (n a b q : ℕ) (all : n ≡ a + b) (
       rw (all, found-from-append lex (lines-in xs) s a b q)
       (first-append (found-from a q lex (lines-in xs) s) (found-from b (q + a) lex (lines-in xs) s) r near some)
 
-  -- not found there
+  -- not found in the first
   pub first-in-second : 1 ≤ q → r ≡ 0 → (t : ℕ) → First-in lex xs s b (q + a) t → First-in lex xs s n q t
   unfolding First-in
   first-in-second from none t far =
@@ -134,7 +134,7 @@ pub first-in-all :
 unfolding First-in first-position find
 first-in-all lex xs s starts r e h = rw e at h
 
--- the answer is at most the number of positions, and one more where nothing is searched for
+-- the answer is at most n + 2, even for an empty string
 pub first-position-small : (lex : Lexicon) (xs s : List ℕ) → first-position lex xs s ≤ n-of xs + 2
 unfolding first-position find
 first-position-small lex xs s = omega (arith, first-bound lex (lines-in xs) s (suc (n-of xs) - length s) 1)

@@ -56,7 +56,7 @@ module _ (q : ℕ) where
 
   -- LINES UP TO q
 
-  -- what is left of a line
+  -- a line without its positions after q
   abbrev pub line-to : Line → Line
   line-to l = record { key-of = l .key-of; positions = positions-to q (l .positions) }
 
@@ -87,7 +87,7 @@ module _ (q : ℕ) where
   lines-to-put (k ∷ ls) l p (inr i) m early =
       in-skip-there (line-to l) (line-to k) (lines-to q ls) (eqb (length (positions-to q (k .positions))) 0) (lines-to-put ls l p i m early)
 
-  -- the lines of a readable index are so up to q
+  -- the lines of a readable index stay in order and good up to q
   lines-to-rises : (ls : List Line) → Keys-rise ls → Keys-rise (lines-to q ls)
   unfolding lines-to with-line line
   lines-to-rises [] r = tt
@@ -156,7 +156,7 @@ module _ (q : ℕ) (xs : List ℕ) where
       readable-put g lex (n-of xs) (lines-to q (lines-in xs)) (lines-to-good q lex (n-of xs) (lines-in xs) (can .lines))
       (can .length-allowed)
 
-  -- it has the n and the entries of the index up to q
+  -- it has the n and the entries, up to q, of the index
   pub index-to-same : Same-to q xs (index-to q xs)
   index-to-same =
       record {

@@ -1,5 +1,5 @@
--- The first found position: the head of the ascending list, where the string stands first, and which entries it depends on. Assumes
--- nothing.
+-- The first found position: it is the head of the ascending list, the first at which the string stands, and depends on few entries.
+-- Assumes nothing.
 use mathlib.Core.Path.{_≡_, refl, ap}
 use mathlib.Core.Bool.{false}
 use mathlib.Core.Logic.{inl, inr, ⊎-elim}
@@ -70,9 +70,9 @@ first-stands s ts ps p exactly first =
         (λ (few : p < 1). omega arith)
         (le-or-lt 1 p)
 
--- WHICH ENTRIES COUNT
+-- THE ENTRIES IT DEPENDS ON
 
--- A start is covered by entries that begin under the string: those at or before its last character are enough.
+-- Only entries that start at or before the string's last character cover a start, so those are enough.
 module _ (lex : Lexicon) (xs ys s : List ℕ) (q : ℕ) (n : n-of xs ≡ n-of ys)
     (there : (k : Key) (b : ℕ) → b ≤ q → Under k b xs → Under k b ys) where
   pub found-there : (a : ℕ) → a + length s ≤ suc q → In a (find lex xs s) → In a (find lex ys s)
@@ -96,7 +96,7 @@ module _ (lex : Lexicon) (xs ys s : List ℕ) (q : ℕ) (n : n-of xs ≡ n-of ys
       })
 
 module _ (lex : Lexicon) (xs ys s : List ℕ) (p : ℕ) (some : 1 ≤ p) (same : Same-to (p + length s - 1) xs ys) where
-  -- what is found first with the one slice is found first with the other
+  -- what is found first in one slice is found first in the other
   pub first-there : p ≡ first-position lex xs s → first-position lex ys s ≡ p
   first-there is =
       first-only (find lex ys s) (first-position lex ys s) p (first-heads-find lex ys s)

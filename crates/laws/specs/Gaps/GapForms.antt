@@ -1,4 +1,5 @@
--- The statements of GapsPromise about numbers, proved: the gap form of an index, its inverse, and that no sum wraps. Assumes nothing.
+-- The statements of `spec`'s GapsTheorems about numbers, proved: the gap form of an index, its inverse, and that no sum wraps. Assumes
+-- nothing.
 use mathlib.Core.Path.{_≡_, refl, sym, ap, _∙_}
 use mathlib.Core.Bool.{true}
 use mathlib.Core.Logic.{⊎-elim}
@@ -109,7 +110,7 @@ module _ (e : ℕ) (cs ls ds : List ℕ) (good : admitted cs ls ≡ true) (can :
   unfolding restored
   restored-positions = positions-with prefix-sums (length-sums 0) ds (restored-fits .has-directory)
 
-  -- each restored position is that of an entry, and so at most n
+  -- each restored position is that of an entry, so at most n
   restored-below : Below (suc e) (all-positions (lines-in (restored ds)))
   restored-below =
       let r = readable-get e lex (restored ds) can in

@@ -1,4 +1,4 @@
--- A list of positions and its gaps: there and back, how long they are, and the loop that tells from gaps whether the positions ascend.
+-- A list of positions and its gaps: there and back, their lengths, and the loop that tests on the gaps whether the positions ascend.
 -- Assumes nothing.
 use mathlib.Core.Path.{_≡_, refl, sym, ap, _∙_}
 use mathlib.Core.Bool.{Bool, true, false, _&&_, and-true, and-assoc}
@@ -38,7 +38,7 @@ unfolding gaps-after sums-after
 sums-of-gaps b [] r = refl
 sums-of-gaps b (p ∷ ps) r = let e : b + (p - b) ≡ p = omega (arith, r .0) in rw (e, sums-of-gaps p ps (r .1))
 
--- a position that is not the first, as its distance from the one before
+-- a position other than the first becomes its distance from the one before
 pub gaps-later : (b : ℕ) (ps : List ℕ) (i : ℕ) → suc i < length ps → getD (gaps-after b ps) (suc i) 0 ≡ getD ps (suc i) 0 - getD ps i 0
 unfolding gaps-after
 gaps-later b [] i h = absurd (omega arith)
@@ -60,7 +60,7 @@ last-prefix-sums (d ∷ ds) some = last-sums 0 d ds ∙ omega arith
 
 -- THE LOOP OVER THE GAPS OF ONE LINE
 
--- the sums ascend as far as place i, and add up to `sum`
+-- `good` tells whether the sums before index i ascend; `sum` is the last of them
 pub record Summed (ds : List ℕ) (good : Bool) (sum i : ℕ) : Type 0 where
   pub within : i ≤ length ds
   pub added : sum + total (drop i ds) ≡ total ds
@@ -70,7 +70,7 @@ pub record Summed (ds : List ℕ) (good : Bool) (sum i : ℕ) : Type 0 where
 pub summed-start : (ds : List ℕ) → Summed ds true 0 0
 summed-start ds = record { within = omega arith; added = omega arith; tested = refl; small = omega arith }
 
--- one gap more ascends if it is not 0
+-- the next sum ascends exactly if its gap is not 0
 some-gap : (sum d : ℕ) → leb (suc sum) (sum + d) ≡ ltb 0 d
 some-gap sum zero = lt-leb (suc sum) (sum + 0) (omega arith)
 some-gap sum (suc d) = le-leb (suc sum) (sum + suc d) (omega arith) ∙ sym (lt-ltb 0 (suc d) (omega arith))

@@ -1,5 +1,5 @@
--- The parts of an index that are lent for writing its gap form, or the index from it: what each writer is handed, what it leaves, and that
--- together they are the form. Assumes nothing.
+-- The parts of an index that are lent for writing its gap form, or of a gap form for writing the index: what each writer is lent, what it
+-- leaves, and that together they are the form. Assumes nothing.
 use mathlib.Core.Path.{_≡_, refl, sym, ap, _∙_}
 use mathlib.Core.Bool.{Bool, true, false}
 use mathlib.Core.List.{List, [], _∷_, _++_, append-nil}
@@ -21,12 +21,12 @@ use Rattle.laws.specs.Gaps.GapSums.{carry, masks, masked-sums, masked-li
 
 -- WHAT IS WRITTEN, by the direction: gaps of positions, or positions of gaps
 
--- a list's numbers as they are written
+-- a list's numbers as written
 abbrev pub write-as : (restore : Bool) → List ℕ → List ℕ
 write-as true ps = prefix-sums ps
 write-as false ps = gaps ps
 
--- all numbers as they are written at once, and the first of a list: masks, or distances
+-- all numbers as the pass over all lists writes them, and the first of a list: masks, or distances
 abbrev pub pair-as : (restore : Bool) → (before number : ℕ) → ℕ
 pair-as true b p = carry
 pair-as false b p = p - b
@@ -35,14 +35,14 @@ abbrev pub first-as : (restore : Bool) → ℕ → ℕ
 first-as true p = 0
 first-as false p = p
 
--- what the numbers have to be for it
+-- what this requires of the numbers
 pub record Writable (restore : Bool) (xs : List ℕ) : Type 0 where
   pub fits : Fits xs
   pub some : (i : ℕ) → i < keys-of xs → 1 ≤ count-at xs i
   pub totals : restore ≡ true → (l : Line) → In l (lines-in xs) → total (l .positions) ≤ carry
   pub sums : restore ≡ true → (j : ℕ) → getD (lists-from prefix-sums (keys-of xs) 0 xs (drop (header + 3 * keys-of xs) xs)) j 0 ≤ carry
 
--- the counts are as many as the positions
+-- the counts add up to the number of positions
 pub counts-all : (xs : List ℕ) → Fits xs → counts-from (keys-of xs) 0 xs ≡ length (drop (header + 3 * keys-of xs) xs)
 unfolding entries-of
 counts-all xs fits = omega (arith, fits .is-long, length-drop (header + 3 * keys-of xs) xs)
@@ -77,7 +77,7 @@ module _ (xs : List ℕ) (fits : Fits xs) (keys : ℕ) (is : keys ≡ keys-of xs
       let first : 2 + 3 * keys ≡ header + 3 * keys-of xs = omega (arith, is) in
       lent-tail-is (2 + 3 * keys) xs ∙ ap (λ (j : ℕ). drop j xs) first
 
-  -- DISTANCES, and then the firsts, are the gaps
+  -- DISTANCES, with the first of each list put in after, are the gaps
   pub distances-ready :
       (part : List ℕ) → part ≡ gaps-after (getD run 0 0) (drop 1 run) → (b : ℕ) × (part ≡ by-pairs (pair-as false) b positions)
   distances-ready part e =
@@ -162,7 +162,7 @@ module _ (f : List ℕ → List ℕ) (keeps : Keeps-length f) (xs : List ℕ) (f
         ∙ ap (λ (l : List ℕ). with-lists f xs ++ l) (drop-of-length-le old all)
         ∙ append-nil (with-lists f xs)
 
--- what is read and written for line i is there
+-- what is read and written for line i lies within the slices
 pub record Line-there (xs part : List ℕ) (i at : ℕ) : Type 0 where
   pub read : header + 3 * keys-of xs + at < length xs
   pub write : at < length part

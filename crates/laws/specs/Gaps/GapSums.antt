@@ -1,4 +1,4 @@
--- Gaps added up at once: sums that begin anew where a mask is 0 are the prefix sums of each list. Assumes nothing.
+-- All gaps summed in one pass: sums that restart where a mask is 0 are the prefix sums of each list. Assumes nothing.
 use mathlib.Core.Path.{_≡_, refl, sym, ap, _∙_}
 use mathlib.Core.Logic.{inl, inr}
 use mathlib.Core.List.{List, [], _∷_, _++_, append-assoc, append-nil}
@@ -16,13 +16,13 @@ use Rattle.spec.specs.Index.{count-at, key-at, counts-from, lines-from}
 use Rattle.spec.specs.Gaps.{sums-after, gaps, prefix-sums, lists-from}
 use Rattle.laws.specs.Gaps.GapWriting.{by-pairs, first-apart}
 
--- SUMS THAT START ANEW
+-- SUMS THAT RESTART
 
--- all ones: a sum is carried on
+-- all ones: the sum is carried on
 abbrev pub carry : ℕ
 carry = 65535
 
--- each gap added to the sum before it, where the mask lets that sum through
+-- each gap added to the sum before it, masked
 unfoldable pub masked-sums : (sum : ℕ) → (masks gaps : List ℕ) → List ℕ
 masked-sums s [] ds = []
 masked-sums s (m ∷ ms) [] = []
@@ -68,7 +68,7 @@ masked-lists s (suc k) i xs ds counts small =
     ∙ ap (λ (l : List ℕ). prefix-sums (take c ds) ++ l)
     (masked-lists (one .0) k (suc i) xs (drop c ds) (omega (arith, counts, length-drop c ds)) (λ l m. small l (inr m)))
 
--- before place i: the sums before it stand, the masks from it on are as they were
+-- before index i: the sums before it are written, the masks from it on are unchanged
 pub record Adding (ms ds now : List ℕ) (sum i : ℕ) : Type 0 where
   pub so-far : take i now ++ masked-sums sum (drop i ms) (drop i ds) ≡ masked-sums 0 ms ds
   pub rest : drop i now ≡ drop i ms
@@ -130,7 +130,7 @@ module _ (ms ds : List ℕ) (even : length ms ≡ length ds) where
             within = omega arith;
           }
 
--- a fill of all ones
+-- a fill with all ones
 pub carry-pairs : (b : ℕ) (ps : List ℕ) → replicate (length ps) carry ≡ by-pairs (λ b p. carry) b ps
 unfolding by-pairs
 carry-pairs b [] = refl

@@ -1,4 +1,4 @@
--- Lists written at once: a pass over all of them as if they were one, and the first of each list put there after it. Assumes nothing.
+-- All lists written in one pass, as if they were one list, and the first number of each list put in after it. Assumes nothing.
 use mathlib.Core.Path.{_≡_, refl, sym, ap, _∙_}
 use mathlib.Core.List.{List, [], _∷_, _++_, append-assoc, append-nil}
 use Prim.Native.Nat.{ℕ, zero, suc, _+_, _-_, _≤_, _<_}
@@ -18,7 +18,7 @@ unfoldable pub by-pairs : (x : ℕ → ℕ → ℕ) → (before : ℕ) → List 
 by-pairs x b [] = []
 by-pairs x b (p ∷ ps) = x b p ∷ by-pairs x p ps
 
--- and the first of it apart
+-- and its first number made by another function
 unfoldable pub first-apart : (first : ℕ → ℕ) → (x : ℕ → ℕ → ℕ) → List ℕ → List ℕ
 first-apart y x [] = []
 first-apart y x (p ∷ ps) = y p ∷ by-pairs x p ps
@@ -41,9 +41,9 @@ drop-pairs x b zero ps = refl
 drop-pairs x b (suc c) [] = refl
 drop-pairs x b (suc c) (p ∷ ps) = drop-pairs x p c ps
 
--- THE FIRST OF EACH LIST, after all were written as one
+-- THE FIRST NUMBER OF EACH LIST, after all were written as one
 
--- the first of a list put there: with the m after it the list stands, and the rest is as it was
+-- the first number of a list is put in: with the m numbers after it the list is complete, and the rest is unchanged
 first-put :
     (y : ℕ → ℕ) (x : ℕ → ℕ → ℕ) (at : ℕ) (now : List ℕ) (b p : ℕ) (qs : List ℕ) (m : ℕ) → at < length now →
     drop at now ≡ by-pairs x b (p ∷ qs) →
@@ -72,7 +72,7 @@ first-put y x at now b p qs m room is = (
     front = rw (take-suc-set now at (y p) room, after, take-pairs x p m qs)
 
 module _ (y : ℕ → ℕ) (x : ℕ → ℕ → ℕ) (xs ps : List ℕ) where
-  -- before line i, whose list starts at `at`: the lists before it stand, and all from it on is one
+  -- before line i, whose list starts at `at`: the lists before it are complete, and everything from it on is written as one list
   pub record Firsts (now : List ℕ) (i at : ℕ) : Type 0 where
     pub within : i ≤ keys-of xs
     pub before : ℕ
@@ -163,7 +163,7 @@ module _ (y : ℕ → ℕ) (x : ℕ → ℕ → ℕ) (xs ps : List ℕ) where
 
 -- EACH DISTANCE FROM THE NUMBER BEFORE, all lists as one
 
--- before place i of a run of numbers and the distances between them
+-- before index i of a run of numbers and the distances between them
 pub record Distances (run old now : List ℕ) (i : ℕ) : Type 0 where
   pub within : i < length run
   pub way : Writing (gaps-after (getD run 0 0) (drop 1 run)) old now (gaps-after (getD run i 0) (drop (i + 1) run)) i

@@ -1,5 +1,5 @@
--- Readability of numbers whose lists are read through a function: the walk over the numbers themselves tells it of the numbers that they
--- come to. Assumes nothing.
+-- Readability of numbers whose lists are read through a function: the walk over the numbers themselves decides the readability of the
+-- numbers with the function applied. Assumes nothing.
 use mathlib.Core.Path.{_≡_, refl, sym, ap, _∙_}
 use mathlib.Core.Bool.{Bool, true, false, _&&_, and-true, cond}
 use mathlib.Core.List.{List, [], _∷_}
@@ -22,7 +22,7 @@ use Rattle.laws.specs.Readable.LineWalk.{unreadable-header, unreadable-d
 use Rattle.laws.specs.Readable.LineSteps.{positions-there}
 
 module _ (read : List ℕ → List ℕ) (keeps : Keeps-length read) where
-  -- a line's numbers, and the list that they come to
+  -- a line's numbers, and the list that they are read as
   line-read :
       (lex : Lexicon) (n a : ℕ) (l : Key) (k i : ℕ) (xs ps : List ℕ) →
       line-fits read lex n a l (count-at xs i) ps ≡ line-fits as-is lex n a l (count-at xs i) (lists-from read (suc k) i xs ps)
@@ -102,7 +102,7 @@ pub read-gaps : (ds : List ℕ) → with-lists (read-as true) ds ≡ restored ds
 unfolding read-as restored
 read-gaps ds = refl
 
--- a line by the way in which its list is read
+-- a line, by how its list is read
 module _ (b : Bool) (n l : ℕ) (ps : List ℕ) where
   pub good-gaps : b ≡ true → list-good prefix-sums n l ps ≡ list-good (read-as b) n l ps
   unfolding read-as list-good

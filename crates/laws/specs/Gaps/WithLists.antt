@@ -1,4 +1,4 @@
--- Numbers whose lists go through a function that keeps lengths: the directory stays, and the lines have the function's lists. Assumes
+-- Numbers with a length-preserving function applied to each list: the directory stays, and the lines have the function's lists. Assumes
 -- nothing.
 use mathlib.Core.Path.{_≡_, refl, sym, ap, _∙_}
 use mathlib.Core.Logic.{inl, inr, ⊎-elim}
@@ -46,7 +46,7 @@ module _ (f : List ℕ → List ℕ) (keeps : Keeps-length f) where
         length-append (take c ps) (drop c ps),
       )
 
-  -- a list that went through, and what follows it: together with `c` numbers in front, or all there are
+  -- f applied to the first c numbers, or to all if there are fewer: taking and dropping c splits the result from what follows
   seam :
       (c : ℕ) (ps more : List ℕ) → length more ≡ length (drop c ps) →
       (take c (f (take c ps) ++ more) ≡ f (take c ps)) × (drop c (f (take c ps) ++ more) ≡ more)
@@ -137,7 +137,7 @@ module _ (f : List ℕ → List ℕ) (keeps : Keeps-length f) where
             counts = λ j below. directory-with (header + 3 * j + 2) (omega arith);
           }
 
-    -- without its directory it is as it was
+    -- numbers shorter than their directory are unchanged
     without : length xs < first → ys ≡ xs
     unfolding with-lists
     without short =
@@ -197,12 +197,12 @@ module _ (f : List ℕ → List ℕ) (keeps : Keeps-length f) where
           is-long = omega (arith, length-with xs, keys-with xs, entries-with dir, fits .is-long);
         }
 
-    -- the same n and keys, and each list through f
+    -- the same n and keys, and f applied to each list
     pub numbers-with : Fits xs → with-lists f xs ≡ numbers (n-of xs) (lines-with f (lines-in xs))
     numbers-with fits =
         sym (numbers-lines-in (with-lists f xs) (fits-with fits)) ∙ rw (n-with xs, lines-in-with xs (fits .has-directory))
 
--- a line whose list went through
+-- a line with f applied to its list
 pub in-lines-with : (f : List ℕ → List ℕ) (l : Line) (ls : List Line) → In l ls → In (line (l .key-of) (f (l .positions))) (lines-with f ls)
 unfolding lines-with
 in-lines-with f l [] m = absurd m
@@ -229,7 +229,7 @@ module _ (f g : List ℕ → List ℕ) (keeps : Keeps-length f) (keeps-too : Kee
       (lists-back k (suc i) xs ys (drop (count-at xs i) ps) (rw next at same) (λ l m. each l (inr m)))
       ∙ take-append-drop (count-at xs i) ps)
 
-  -- where g undoes f on each list, it undoes it on the whole
+  -- if g undoes f on each list, it undoes it on the whole
   pub with-back :
       (xs : List ℕ) → ((l : Line) → In l (lines-in xs) → g (f (l .positions)) ≡ l .positions) → with-lists g (with-lists f xs) ≡ xs
   unfolding with-lists lines-in

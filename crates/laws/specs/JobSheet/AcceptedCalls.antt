@@ -1,4 +1,4 @@
--- Calls that have to be accepted: a text's index and a string's positions, in hand at the front of what was lent. Assumes nothing.
+-- Calls that cannot be refused: a text's index and a string's positions are at the start of the slice lent for them. Assumes nothing.
 use mathlib.Core.Path.{_≡_, refl, sym, ap, _∙_}
 use mathlib.Core.List.{List, _++_}
 use Prim.Native.Nat.{ℕ, _≤_}
@@ -26,7 +26,7 @@ use Rattle.laws.specs.Build.Building.{early-none, output-fits, build-lat
 use Rattle.laws.specs.Build.Bounds.{index-short}
 use Rattle.laws.specs.JobSheet.PrintedBounds.{find-few}
 
--- the result of a call is the front of the slice lent for it
+-- the result of a call is at the start of the slice lent for it
 pub record In-hand (ys : List ℕ) (count : ℕ) (z : List ℕ) : Type 0 where
   pub room : count ≤ length z
   pub is : take count z ≡ ys

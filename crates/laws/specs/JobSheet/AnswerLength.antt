@@ -59,7 +59,7 @@ module _ (s : List ℕ) where
       rw (← refused-answer s (sheet-refusal s) refl some) (omega (arith, refused-fits s (sheet-refusal s) refl some)))
       (true-or-false (eqb (sheet-refusal s) 0))
 
--- a call with an output that holds any answer has it in hand
+-- a call with an output that holds any answer puts it at the start
 pub answered : (s : List ℕ) (r : Answer) (o z : List ℕ) → 700000 ≤ length o → Job-says s r o z → In-hand (job-answer s) (r .count) z
 unfolding Job-says output-refusal
 answered s r o z room says =

@@ -48,19 +48,19 @@ module _ (b : ℕ) {v : ℕ} where
   unfolding is-digit
   digit-not is none = rw (sym is ∙ none) refl
 
-  -- what `value_of` answers, and that it was tested
+  -- the value that `value_of` answers, and the test that it is a digit's
   digit-put : (v ≡ digit b) × (v ≤ no-digit) → (v ≡ no-digit → ⊥) → is-digit b ≡ true
   unfolding is-digit
   digit-put (is, small) some = rw (sym is) (lt-ltb v no-digit (omega arith))
 
--- THE CHARACTER AT A PLACE
+-- THE CHARACTER AT AN INDEX
 
--- 65,536, which no character is, where no space and four digits stand
+-- 65,536, which is no character, unless a space and four digits are there
 unfoldable pub spaced-character : List ℕ → (at : ℕ) → ℕ
 spaced-character l at = cond (spaced-at l at) (character-at l at) 65536
 
 module _ (l : List ℕ) (at : ℕ) where
-  -- the byte so many places further
+  -- the byte at the index k bytes on
   abbrev byte : ℕ → ℕ
   byte k = getD l (at + k) 0
 
@@ -71,7 +71,7 @@ module _ (l : List ℕ) (at : ℕ) where
   unfolding spaced-at
   there-get t = spaced-get (getD l at 0) (byte 1) (byte 2) (byte 3) (byte 4) t
 
-  -- WHERE IT STANDS
+  -- IF IT IS THERE
 
   small : spaced-at l at ≡ true → character-at l at < 65536
   unfolding character-at

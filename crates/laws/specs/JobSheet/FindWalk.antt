@@ -17,7 +17,7 @@ use Rattle.spec.specs.JobAnswer.{found-line, found-lines}
 use Rattle.laws.specs.JobSheet.JobReading.{some-length-wrong, length-none, length-many, length-right}
 use Rattle.laws.specs.Search.Sizing.{Is-string}
 
--- i finds are printed; `from` is where the string of find i begins
+-- i finds are printed; `from` is the index at which the string of find i starts
 pub record Finds-printed (lex : Lexicon) (xs fs ls : List ℕ) (start : ℕ) (old : List ℕ) (from end i : ℕ) (now : List ℕ) : Type 0 where
   pub within : i ≤ length ls
   pub tested : some-length-wrong (drop i ls) ≡ false

@@ -37,7 +37,7 @@ same-length [] (y ∷ ys) t = clash t refl
 same-length (x ∷ xs) [] t = clash t refl
 same-length (x ∷ xs) (y ∷ ys) t = ap suc (same-length xs ys (and-right (eqb x y) (same xs ys) t))
 
--- a line is compared with a head: the first i bytes are the same
+-- a line is compared with a head: the first i bytes are equal
 pub record Head-read (l h : List ℕ) (i : ℕ) : Type 0 where
   pub within : i ≤ length h
   pub room : length h ≤ length l
@@ -77,7 +77,7 @@ module _ (l h : List ℕ) (i : ℕ) (r : Head-read l h i) where
 
 -- THE CHARACTERS
 
--- the five bytes at a place: a space and four digits
+-- the five bytes at an index are a space and four digits
 unfoldable pub spaced-at : List ℕ → (at : ℕ) → Bool
 spaced-at l at = is-spaced (getD l at 0) (getD l (at + 1) 0) (getD l (at + 2) 0) (getD l (at + 3) 0) (getD l (at + 4) 0)
 
@@ -188,7 +188,7 @@ long-end (x ∷ a ∷ b ∷ []) t = clash t refl
 long-end (x ∷ a ∷ b ∷ c ∷ []) t = clash t refl
 long-end (x ∷ a ∷ b ∷ c ∷ d ∷ bs) t = omega (arith, long-end bs (and-right (is-spaced x a b c d) (ends-well bs) t))
 
--- a form takes five bytes for each character, and six
+-- a form has five bytes for each character, and six more
 pub form-ends : (h l : List ℕ) → is-form h l ≡ true → ends-well (drop 5 l) ≡ true
 unfolding is-form
 form-ends h l t = and-right (same (take head-length l) h) (ends-well (drop head-length l)) t

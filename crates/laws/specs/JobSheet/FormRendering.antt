@@ -107,7 +107,7 @@ module _ (g cs : List ℕ) (five : length g ≡ head-length) where
   unfolding is-form
   form-not h other = rw (take-at g (tail-of cs) head-length five, other)
 
--- LINES: LF stands at their ends alone
+-- LINES: LF is at their ends alone
 
 abbrev pub Plain : List ℕ → Type 0
 Plain l = (b : ℕ) → In b l → b ≡ line-feed → ⊥
@@ -155,7 +155,7 @@ module _ (g cs rest : List ℕ) (head : Head g) where
   first-line : lines (form g cs ++ rest) ≡ line-of g cs ∷ lines rest
   first-line = ap lines (form-then g cs rest) ∙ lines-line (line-of g cs) rest (line-plain g cs (head .plain))
 
-  -- a form with the head sought
+  -- a form with the head looked for
   pub form-first :
       Characters cs →
       (forms g (lines (form g cs ++ rest)) ≡ cs ∷ forms g (lines rest)) × (after g (lines (form g cs ++ rest)) ≡ after g (lines rest))
@@ -166,7 +166,7 @@ module _ (g cs rest : List ℕ) (head : Head g) where
         ap (after g) first-line ∙ some .1,
       )
 
-  -- a form with another
+  -- a form with another head
   pub other-first :
       (h : List ℕ) → same g h ≡ false →
       (forms h (lines (form g cs ++ rest)) ≡ []) × (after h (lines (form g cs ++ rest)) ≡ lines (form g cs ++ rest))

@@ -18,7 +18,7 @@ use Rattle.laws.specs.JobSheet.Printing.{digit-byte-decimal, digit-byte-
 abbrev Digit : ℕ → Type 0
 Digit b = ((48 ≤ b) × (b ≤ 57)) ⊎ ((65 ≤ b) × (b ≤ 70))
 
--- what a test of both bounds says
+-- what a test of both bounds shows
 pub between-get : {low high : ℕ} (b : ℕ) → (leb low b && leb b high) ≡ true → (low ≤ b) × (b ≤ high)
 between-get {low} {high} b t = (
   leb-true low b (and-left (leb low b) (leb b high) t),
@@ -49,7 +49,7 @@ digit-get b t =
     (true-or-false (leb 65 b && leb b 70)))
     (true-or-false (leb 48 b && leb b 57))
 
--- the value of the byte of a value
+-- the byte of a value has that value
 pub digit-written : (v : ℕ) → v < 16 → digit (digit-byte v) ≡ v
 digit-written v small =
     ⊎-elim
@@ -61,7 +61,7 @@ pub written-is-digit : (v : ℕ) → v < 16 → is-digit (digit-byte v) ≡ true
 unfolding is-digit
 written-is-digit v small = rw (digit-written v small) (lt-ltb v 16 small)
 
--- the byte of the value of a byte
+-- a digit is the byte of its value
 pub digit-read : (b : ℕ) → is-digit b ≡ true → digit-byte (digit b) ≡ b
 digit-read b t = back (digit-get b t)
   where

@@ -12,20 +12,20 @@ use Rattle.spec.specs.Numbers.{line}
 use Rattle.spec.specs.Index.{header, n-of, keys-of, count-at, key-at, counts-from, entries-of, lines-from, lines-in}
 use Rattle.spec.specs.JobAnswer.{index-line, key-line, key-lines, index-lines}
 
--- the numbers are header, directory and positions, as those of every readable index
+-- the numbers are header, directory and positions, as in every readable index
 pub record Whole (xs : List ℕ) : Type 0 where
   pub headed : header ≤ length xs
   pub exact : length xs ≡ header + 3 * keys-of xs + entries-of xs
 
--- the part of an index's positions that line i has, `place` being where they begin
+-- the positions of line i, which start at index `position`
 abbrev pub positions-at : List ℕ → (position i : ℕ) → List ℕ
 positions-at xs position i = take (position + count-at xs i - position) (drop position xs)
 
--- the lines from line i on
+-- what is printed for the lines from line i on
 unfoldable pub left-from : List ℕ → (position i : ℕ) → List ℕ
 left-from xs position i = key-lines (lines-from (keys-of xs - i) i xs (drop position xs))
 
--- i lines are printed; `place` is where the positions of line i begin
+-- i lines are printed; `position` is the index at which the positions of line i start
 pub record Keys-printed (xs : List ℕ) (start : ℕ) (old : List ℕ) (position end i : ℕ) (now : List ℕ) : Type 0 where
   pub within : i ≤ keys-of xs
   pub room : position + counts-from (keys-of xs - i) i xs ≡ length xs

@@ -1,4 +1,4 @@
--- What is answered to a job: the line of a refused one, the lines of its index and finds, and room for them. Assumes nothing.
+-- The answer to a job: the line of a refused one, or the lines of its index and finds, and room for them. Assumes nothing.
 use mathlib.Core.Path.{_≡_, sym, ap, _∙_}
 use mathlib.Core.Bool.{Bool, true, false, cond}
 use mathlib.Core.List.{List, _++_}
@@ -60,7 +60,7 @@ module _ (s : List ℕ) (r : ℕ) (is : r ≡ sheet-refusal s) (some : r ≡ 0 �
 
 -- THE PARTS OF A JOB
 
--- strings, run together, of which every one may be searched for
+-- strings, run together, each of which may be searched for
 pub record Strings-good (fs ns : List ℕ) : Type 0 where
   pub few : length ns ≤ 50
   pub tested : some-length-wrong ns ≡ false
@@ -115,15 +115,15 @@ pub index-shown :
 unfolding printed-of
 index-shown cs ls ts fs ns xs e = rw e
 
--- HANDED OVER
+-- THE OUTPUT
 
--- what was written to the front of a buffer is in hand
+-- what was written to the start of a buffer is there
 pub written-in-hand : (ys old : List ℕ) (end : ℕ) (now : List ℕ) → Wrote ys 0 old end now → In-hand ys end now
 unfolding placed
 written-in-hand ys old end now w =
     in-hand ys end now (drop (0 + length ys) old) (omega (arith, w .ends)) (w .content)
 
--- bytes at the front of an output that holds them
+-- bytes at the start of an output that holds them
 pub handed-over :
     (ys : List ℕ) (r : Answer) (o z : List ℕ) (end : ℕ) → length ys ≤ length o → r .refusal ≡ 0 → r .count ≡ length ys →
     Wrote ys 0 o end z → Sized ys r o z

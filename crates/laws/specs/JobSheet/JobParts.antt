@@ -1,4 +1,5 @@
--- The parts of a sheet that is not refused, where they stand, and that what is printed for them is its answer. Assumes nothing.
+-- The parts of a sheet that is not refused, where they are in the slices, and that what is printed for them is its answer. Assumes
+-- nothing.
 use mathlib.Core.Path.{_≡_, refl, sym, ap, _∙_}
 use mathlib.Core.Bool.{Bool, true, false, _&&_, not, cond}
 use mathlib.Core.List.{List, [], _∷_, _++_, append-assoc}
@@ -58,7 +59,7 @@ unfolding total lengths-of run-together
 total-lengths [] = refl
 total-lengths (w ∷ ws) = omega (arith, length-append w (run-together ws), total-lengths ws)
 
--- the strings, read off the front of a longer list
+-- the strings, read from the start of a longer list
 pub strings-in-front : (ws : List (List ℕ)) (rest : List ℕ) → words-from (lengths-of ws) (run-together ws ++ rest) ≡ ws
 unfolding words-from lengths-of run-together
 strings-in-front [] rest = refl
@@ -76,7 +77,7 @@ strings-part d t chars = take (length chars - (d + t)) (drop (d + t) chars)
 abbrev pub counts-part : (words finds : ℕ) → (lengths : List ℕ) → List ℕ
 counts-part w f lengths = take (w + 1 + f - (w + 1)) (drop (w + 1) lengths)
 
--- the parts of a job stand where these numbers say
+-- the parts of a job are where these numbers say
 pub record Parts-there (words dictionary text finds : ℕ) (chars lengths : List ℕ) : Type 0 where
   pub good :
       Parts-good (take dictionary chars) (take words lengths) (text-part dictionary text chars) (strings-part dictionary text chars)

@@ -1,4 +1,4 @@
--- The refusal of a sheet, and where the parts of one that is not refused stand in the slices. Assumes nothing.
+-- The refusal of a sheet, and where in the slices the parts of one that is not refused are. Assumes nothing.
 use mathlib.Core.Path.{_≡_, refl, sym, ap, _∙_}
 use mathlib.Core.Bool.{Bool, true, false, _&&_, _||_, cond}
 use mathlib.Core.List.{List, [], _∷_, _++_, append-assoc}
@@ -49,7 +49,7 @@ module _ (ls : List ℕ) (i : ℕ) where
 
 -- THE REFUSAL
 
--- the first line met over a dictionary and then the lengths of the finds
+-- the first line met by a dictionary and then by the lengths of the finds
 unfoldable pub parts-refusal : (chars words finds : List ℕ) → ℕ
 parts-refusal cs ws fs = or-else (dictionary-refusal cs ws) (cond (some-length-wrong fs) 6 0)
 
@@ -86,14 +86,14 @@ module _ (a b c r xs : List ℕ) (whole : xs ≡ ((a ++ b) ++ c) ++ r) where
   parts-fit =
       omega (arith, ap length whole, length-append ((a ++ b) ++ c) r, length-append (a ++ b) c, length-append a b)
 
--- a placed list begins the slice
+-- a list placed at 0 is the start of the slice
 at-front : (ys old : List ℕ) → placed ys 0 old ≡ ys ++ drop (length ys) old
 unfolding placed
 at-front ys old = rw (zero-add (length ys))
 
 -- THE PARTS
 
--- where the parts of a sheet that is in form and counts stand
+-- where the parts of a sheet that is in form and counts are
 pub record Job-parts (s : List ℕ) (words dictionary text finds : ℕ) (chars lengths : List ℕ) : Type 0 where
   pub words-counted : words ≡ length (words-on s)
   pub text-counted : text ≡ length (text-on s)
@@ -196,7 +196,7 @@ module _ (s : List ℕ) (short : length s ≤ 32768) where
       rw (le-ltb 32768 (length s) short, t)
       (ap (λ (b : Bool). or-else (dictionary-refusal (run-together (words-on s)) (lengths-of (words-on s))) (cond b 6 0)) (strings-by-length (finds-on s)))
 
--- the parts where they stand are the parts of the sheet
+-- the parts in the slices are the parts of the sheet
 pub parts-tested :
     (s : List ℕ) (words dictionary text finds : ℕ) (chars lengths : List ℕ) → Job-parts s words dictionary text finds chars lengths →
     parts-refusal (take dictionary chars) (take words lengths) (take finds (drop (words + 1) lengths))

@@ -1,4 +1,4 @@
--- Reading the sheet line by line: where a line ends, and whether the form with a head stands there. Assumes nothing.
+-- Reading the sheet line by line: where a line ends, and whether it is a form with a given head. Assumes nothing.
 use mathlib.Core.Path.{_≡_, refl, sym, ap, _∙_}
 use mathlib.Core.Bool.{Bool, true, false, cond}
 use mathlib.Core.List.{List, [], _∷_, _++_, append-assoc, append-nil}
@@ -145,7 +145,7 @@ pub forms-none :
 unfolding forms after
 forms-none h l bs f = let some = lines-some bs in rw (some .2, f) (refl, refl)
 
--- the form with head h stands at `at`, and its LF at r; or none does, and r is the sheet's end
+-- the form with head h is at `at`, and its LF at r; or there is none, and r is the sheet's end
 pub record Form-end (h s : List ℕ) (at r : ℕ) : Type 0 where
   pub from : at ≤ r
   pub within : r ≤ length s
@@ -198,7 +198,7 @@ module _ (h s : List ℕ) (at r : ℕ) (e : Line-end s at r) where
 
 -- HOW MANY FORMS AND CHARACTERS THERE CAN BE
 
--- the bytes of lines, each with its LF
+-- the number of bytes of lines, each with its LF
 unfoldable pub size : List (List ℕ) → ℕ
 size [] = 0
 size (l ∷ ls) = suc (length l) + size ls

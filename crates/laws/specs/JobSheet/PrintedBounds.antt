@@ -1,4 +1,4 @@
--- How many bytes a printed number, line and answer can have, where every number has 16 bits. Assumes nothing.
+-- How many bytes a printed number, line and answer can have if every number has 16 bits. Assumes nothing.
 use mathlib.Core.Path.{ap}
 use mathlib.Core.Bool.{Bool, true, false, cond}
 use mathlib.Core.List.{List, [], _∷_, _++_}

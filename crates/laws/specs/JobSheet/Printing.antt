@@ -1,4 +1,4 @@
--- What the printing functions go by: each printed thing in the parts in which it is written. Assumes nothing.
+-- What the printing functions rely on: each printed thing in the parts in which it is written. Assumes nothing.
 use mathlib.Core.Path.{_≡_, refl, sym, ap}
 use mathlib.Core.List.{List, [], _∷_, _++_, append-assoc, append-nil}
 use mathlib.Core.Logic.{⊎-elim}
@@ -58,7 +58,7 @@ length-hexadecimal c = refl
 
 -- LISTS OF POSITIONS
 
--- each after a space
+-- each number after a space
 unfoldable pub each-spaced : List ℕ → List ℕ
 each-spaced [] = []
 each-spaced (p ∷ ps) = (gap ++ decimal p) ++ each-spaced ps

@@ -15,7 +15,7 @@ use Rattle.laws.specs.JobSheet.LineReading.{Form-end}
 abbrev pub strings-at : (h s : List ℕ) → (at : ℕ) → List (List ℕ)
 strings-at h s at = forms h (lines (drop at s))
 
--- where the slices have room for them
+-- the slices have room for them
 pub record Room (h s : List ℕ) (at used count : ℕ) (chars lengths : List ℕ) : Type 0 where
   pub within : at ≤ length s
   pub short : length s ≤ 32768
@@ -29,7 +29,7 @@ pub record Forms-read (h s : List ℕ) (start used₀ count₀ : ℕ) (chars₀ 
   pub chars-left : Writing (run-together (strings-at h s start)) used₀ chars₀ (run-together (strings-at h s at)) used chars
   pub lengths-left : Writing (lengths-of (strings-at h s start)) count₀ lengths₀ (lengths-of (strings-at h s at)) count lengths
 
--- all of them are read, and `at` is where reading goes on
+-- all of them are read, and `at` is where reading continues
 pub record Forms-got (h s : List ℕ) (start used₀ count₀ : ℕ) (chars₀ lengths₀ : List ℕ) (at used count : ℕ) (chars lengths : List ℕ) : Type 0 where
   pub within : at ≤ length s
   pub rest : lines (drop at s) ≡ after h (lines (drop start s))

@@ -1,5 +1,5 @@
--- The form of a job sheet is its test: rendering what is read gives the sheet back, and reading what is rendered gives its parts.
--- Assumes nothing.
+-- The test `in-form` decides the form of a job sheet: rendering what is read gives the sheet back, and reading what is rendered gives its
+-- parts. Assumes nothing.
 use mathlib.Core.Path.{_≡_, refl, sym, ap, _∙_}
 use mathlib.Core.Bool.{Bool, true, false, cond}
 use mathlib.Core.Logic.{inl, inr}

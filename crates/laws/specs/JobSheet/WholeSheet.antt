@@ -14,7 +14,7 @@ use Rattle.spec.specs.JobSheet.{word-head, text-head, find-head, line-feed, ont
 use Rattle.laws.specs.JobSheet.LineReading.{size, size-lines, forms-size, lines-some}
 use Rattle.laws.specs.JobSheet.SheetReading.{Room, Forms-got}
 
--- ONE READING AFTER THE OTHER
+-- ONE READ AFTER THE OTHER
 
 pub length-lengths : (ws : List (List ℕ)) → length (lengths-of ws) ≡ length ws
 unfolding lengths-of
@@ -137,7 +137,7 @@ regroup true true c d e = refl
 regroup true false c d e = refl
 regroup false b c d e = refl
 
--- one text alone
+-- a single text
 pub one-text : (ts : List (List ℕ)) → length ts ≡ 1 → run-together ts ≡ getD ts 0 []
 unfolding run-together
 one-text [] e = absurd (omega arith)

@@ -1,5 +1,5 @@
--- The d-th characters of a run of words, read where they stand, and the search for the first that is not below a character. Assumes
--- nothing.
+-- The column of a run of words: their d-th characters, read from the dictionary's characters, and the lower bound of a character in it.
+-- Assumes nothing.
 use mathlib.Core.Path.{_≡_, sym, _∙_}
 use mathlib.Core.Bool.{true}
 use mathlib.Core.List.{List}
@@ -16,20 +16,20 @@ use Rattle.laws.specs.Match.PrefixRanges.{Last-standing, Narrowed, Lower
 abbrev pub column : (cs ss : List ℕ) (d i : ℕ) → ℕ
 column cs ss d i = getD cs (getD ss i 0 + d) 0
 
--- words lo to hi − 1 have a d-th character, and these do not fall
+-- words lo to hi − 1 have a d-th character, and these are nondecreasing
 pub record Column (cs ss : List ℕ) (lo hi d : ℕ) : Type 0 where
   pub order : lo ≤ hi
   pub known : hi ≤ length ss
   pub room : (i : ℕ) → lo ≤ i → i < hi → getD ss i 0 + d < length cs
   pub rises : (i j : ℕ) → lo ≤ i → i ≤ j → j < hi → column cs ss d i ≤ column cs ss d j
 
--- r is the first of them that is not below c
+-- r is the first of them whose d-th character is not below c
 abbrev pub Lower-bound : (cs ss : List ℕ) (lo hi d c r : ℕ) → Type 0
 Lower-bound cs ss lo hi d c r = halving.Lower-bound (column cs ss d) lo hi c r
 
 -- BINARY SEARCH
 
--- it is not before a and not after b
+-- the lower bound is not before a and not after b
 abbrev pub Bisected : (cs ss : List ℕ) (lo hi d c a b : ℕ) → Type 0
 Bisected cs ss lo hi d c a b = halving.Bisected (column cs ss d) lo hi c a b
 
@@ -40,11 +40,11 @@ module _ (cs ss : List ℕ) (lo hi d c : ℕ) (h : Column cs ss lo hi d) where
   pub bisected-start : Bisected cs ss lo hi d c lo hi
   bisected-start = halving.bisected-start (column cs ss d) lo hi rising c
 
-  -- the first is not below c already
+  -- the first character is not below c already
   pub bound-first : lo < hi → c ≤ column cs ss d lo → Lower-bound cs ss lo hi d c lo
   bound-first = halving.bound-first (column cs ss d) lo hi rising c
 
-  -- the last is still below c
+  -- the last character is below c
   pub bound-last : lo < hi → column cs ss d (hi - 1) < c → Lower-bound cs ss lo hi d c hi
   bound-last = halving.bound-last (column cs ss d) lo hi rising c
 
@@ -59,7 +59,7 @@ module _ (cs ss : List ℕ) (lo hi d c : ℕ) (h : Column cs ss lo hi d) where
       pub bisected-down : c ≤ column cs ss d m → Bisected cs ss lo hi d c a m
       bisected-down = halving.bisected-down (column cs ss d) lo hi rising c a b s m l r
 
--- a part of the run has its column
+-- the end of a run has its column too
 pub column-part : (cs ss : List ℕ) (lo hi d r : ℕ) → Column cs ss lo hi d → lo ≤ r → r ≤ hi → Column cs ss r hi d
 column-part cs ss lo hi d r h from to =
     record {
@@ -69,7 +69,7 @@ column-part cs ss lo hi d r h from to =
       rises = λ i j a b c. h .rises i j (omega arith) b c;
     }
 
--- THE COLUMN OF A NARROWED RUN OF WORDS
+-- THE COLUMN OF A PREFIX RANGE OF WORDS
 
 module _
     (cs ls ss : List ℕ) (t : Started cs ls ss) (ts : List ℕ) (p k lo hi d best : ℕ)
@@ -99,7 +99,7 @@ module _
           narrow-longer (lexicon cs ls .words) ts p k lo hi d best h some sorted other i a b,
         )
 
-    -- a word of at most 32 characters: narrowing ends
+    -- a word has at most 32 characters, so the refinement ends
     pub run-deep : d < 32
     run-deep = omega (arith, longer lo (omega arith) some, word-short cs ls (t .dictionary) lo (known lo some))
 

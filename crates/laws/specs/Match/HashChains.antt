@@ -1,5 +1,5 @@
--- Lists kept in a table of links: a head is 0 or one more than a number, and each number's link is the head of what comes after
--- it. Hanging a number up, the numbers of one bucket, and a walk along a chain. Assumes nothing.
+-- Hash chains in a table of links: a head is 0 or one more than a number, and each number's link is the head of what comes after it.
+-- Adding a number to a chain, the numbers of one bucket, and a walk along a chain. Assumes nothing.
 use mathlib.Core.Path.{_≡_, refl, sym, _∙_}
 use mathlib.Core.Bool.{Bool, true, false, cond}
 use mathlib.Core.Logic.{_⊎_, inl, inr, ⊎-elim}
@@ -15,7 +15,7 @@ use Rattle.basics.specs.Member.{In, in-cond-get, in-cond-here, in-cond-there}
 
 -- CHAINS
 
--- `head` leads through the links to exactly these numbers, in this order
+-- the links lead from `head` through exactly these numbers, in this order
 abbrev pub Chain : (links : List ℕ) (head : ℕ) → List ℕ → Type 0
 Chain links h [] = h ≡ 0
 Chain links h (x ∷ xs) = (h ≡ suc x) × (x < length links) × Chain links (getD links x 0) xs
@@ -31,7 +31,7 @@ chain-set links i v h (x ∷ xs) out c = (
       (chain-set links i v (getD links x 0) xs (λ (m : In i xs). out (inr m)) (c .2)),
 )
 
--- a number that is not on the chain becomes its first
+-- a number that is not in the chain becomes its first
 pub chain-chain :
     (links : List ℕ) (i h : ℕ) (xs : List ℕ) → i < length links → (In i xs → ⊥) → Chain links h xs →
     Chain (set links i h) (suc i) (i ∷ xs)
@@ -41,14 +41,14 @@ chain-chain links i h xs b out c = (
   rw (getD-set-same links i h 0 b) (chain-set links i h h xs out c),
 )
 
--- THE NUMBERS OF ONE BUCKET, hung up in ascending order: they fall
+-- THE NUMBERS OF ONE BUCKET, chained in ascending order, so the chain is descending
 
 -- the numbers below n whose bucket is b
 unfoldable pub chained : (bucket : ℕ → ℕ) (b n : ℕ) → List ℕ
 chained f b zero = []
 chained f b (suc n) = cond (eqb (f n) b) (n ∷ chained f b n) (chained f b n)
 
--- strictly falling numbers below k
+-- strictly descending numbers below k
 abbrev pub Descending : (k : ℕ) → List ℕ → Type 0
 Descending k [] = Unit
 Descending k (x ∷ xs) = (x < k) × Descending x xs
@@ -92,7 +92,7 @@ module _ (f : ℕ → ℕ) (b : ℕ) where
       in-cond-there j n (chained f b n) (eqb (f n) b) (chained-put n j (omega (arith, other)) e))
       (true-or-false (eqb j n))
 
-  -- the next number is hung into its own bucket: its link is the old head, and it is the new one
+  -- the next number joins the chain of its bucket: its link is the old head, and it is the new one
   module _ (links : List ℕ) (n h : ℕ) (room : n < length links) (c : Chain links h (chained f b n)) where
     new : In n (chained f b n) → ⊥
     new m = omega (arith, fall-below n (chained f b n) n (chained-falls n) m)
@@ -109,7 +109,7 @@ module _ (f : ℕ → ℕ) (b : ℕ) where
 
 -- A WALK ALONG THE CHAIN OF A BUCKET
 
--- `next` leads to numbers of bucket b, and every other number of the bucket that is below n has been passed, where Q was shown
+-- `next` leads to numbers of bucket b; for every other number of the bucket below n, already visited, Q holds
 pub record Walk (links : List ℕ) (f : ℕ → ℕ) (b n : ℕ) (Q : ℕ → Type 0) (next : ℕ) : Type 0 where
   pub ahead : List ℕ
   pub chain : Chain links next ahead
@@ -128,13 +128,13 @@ module _ (links : List ℕ) (f : ℕ → ℕ) (b n : ℕ) (Q : ℕ → Type 0) w
         rest = λ j l e. inl (chained-put f b n j l e);
       }
 
-  -- where it stands: at a number of the bucket
+  -- what holds at a number of the bucket
   pub record Stop (next : ℕ) : Type 0 where
     pub below : next ≤ n
     pub linked : next - 1 < length links
     pub mine : f (next - 1) ≡ b
     pub falls : getD links (next - 1) 0 < next
-    -- whatever was not passed is before it or there
+    -- a number not visited yet is before it or is it
     pub left : (j : ℕ) → j < n → f j ≡ b → (j < next) ⊎ Q j
     pub onward : Q (next - 1) → Walk links f b n Q (getD links (next - 1) 0)
 

@@ -1,4 +1,4 @@
--- The longest word at a place: found by the chain of the two characters there, else by that of the one. Places are q + 1 and ends
+-- The longest word at a position: found in the chain of the two characters there, else in that of the one. Positions are q + 1 and ends
 -- are e + 1, with q and e counted from 0 as in code. Assumes nothing.
 use mathlib.Core.Path.{_≡_, sym, ap}
 use mathlib.Core.Bool.{true}
@@ -18,7 +18,7 @@ use Rattle.laws.specs.Match.WordChains.{Pair-found, Single-found}
 
 -- WHAT IS FOUND
 
--- word i is the longest that stands at p, has `long` characters and ends after `last`
+-- word i is the longest that stands at p, has `len` characters and ends after `last`
 pub record Found-word (lex : Lexicon) (ts : List ℕ) (p last i len : ℕ) : Type 0 where
   pub is-word : Word-at lex ts p i
   pub len-is : len ≡ length (getD (lex .words) i [])
@@ -36,13 +36,13 @@ abbrev pub Pairless : (ws : List (List ℕ)) (ts : List ℕ) (p last : ℕ) → 
 Pairless ws ts p last =
     (j : ℕ) → j < length ws → 2 ≤ length (getD ws j []) → Stand (getD ws j []) ts p → p + length (getD ws j []) ≤ last
 
--- the longest word at p, if it has two characters or more and ends after `last`; or 0, where no such word does
+-- the longest word at p, if it has two characters or more and ends after `last`; 0 if there is no such word
 pub record Pair-longest (lex : Lexicon) (ts : List ℕ) (p last number len : ℕ) : Type 0 where
   pub none : number ≡ 0 → Pairless (lex .words) ts p last
   pub some : (i : ℕ) → number ≡ suc i → Found-word lex ts p last i len
 
 module _ (cs ls : List ℕ) (a : admitted cs ls ≡ true) (ts : List ℕ) (q e : ℕ) where
-  -- of two standing words the later one is the longer
+  -- of two words that stand there the later one is the longer
   no-longer :
       (i j : ℕ) → j < suc i → i < length (lexicon cs ls .words) → Stand (word cs ls i) ts (q + 1) → Stand (word cs ls j) ts (q + 1) →
       length (word cs ls j) ≤ length (word cs ls i)
@@ -83,7 +83,7 @@ module _ (cs ls : List ℕ) (a : admitted cs ls ≡ true) (ts : List ℕ) (q e :
       standing : Stand (word cs ls (number - 1)) ts (q + 1)
       standing = h .stand (number - 1) (omega (arith, some))
 
-      -- it ends too early, and so does every other
+      -- the word ends too early, and so does every other
       pub pair-early : (len : ℕ) → q + getD ls (number - 1) 0 ≤ e → Pair-longest (lexicon cs ls) ts (q + 1) (e + 1) 0 len
       pair-early len early =
           record {
@@ -125,7 +125,7 @@ module _ (cs ls : List ℕ) (a : admitted cs ls ≡ true) (ts : List ℕ) (q e :
     pub found-pair : (number ≡ 0 → ⊥) → Found (lexicon cs ls) ts (q + 1) (e + 1) number len
     found-pair some = record { none = λ z. absurd (some z); some = h .some }
 
-    -- a covered place: a word of one character ends too early
+    -- a covered position: a word of one character ends too early
     pub found-none : (zero-long : ℕ) → number ≡ 0 → q < e → Found (lexicon cs ls) ts (q + 1) (e + 1) 0 zero-long
     found-none zero-long z covered =
         record {
@@ -141,7 +141,7 @@ module _ (cs ls : List ℕ) (a : admitted cs ls ≡ true) (ts : List ℕ) (q e :
         }
 
     module _ (none : number ≡ 0) (uncovered : e ≤ q) where
-      -- only words of one character stand
+      -- only words of one character stand there
       short : (j : ℕ) → j < length (lexicon cs ls .words) → Stand (word cs ls j) ts (q + 1) → length (word cs ls j) ≡ 1
       short j b s =
           ⊎-elim (λ (l : 2 ≤ length (word cs ls j)). absurd (omega (arith, h .none none j b l s)))

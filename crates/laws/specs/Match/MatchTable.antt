@@ -1,4 +1,4 @@
--- The match table: where each word's characters start, and chains of the words by their first two characters, or by the only one.
+-- The match table: where each word's characters start, and hash chains of the words by their first two characters, or by the only one.
 -- Assumes nothing.
 use mathlib.Core.Path.{_≡_, refl, sym, ap, _∙_}
 use mathlib.Core.Bool.{true, false}
@@ -17,7 +17,7 @@ use Rattle.spec.specs.Dictionary.{words-from, total, lexicon, admitted}
 use Rattle.laws.specs.Dictionary.Lexicon.{Is-admitted, admitted-get, length-words}
 use Rattle.laws.specs.Match.HashChains.{Chain, chained, chained-here, chained-elsewhere}
 
--- THE WORDS, read where they stand
+-- THE WORDS, read from the dictionary's characters
 
 abbrev pub word : (cs ls : List ℕ) (i : ℕ) → List ℕ
 word cs ls i = getD (lexicon cs ls .words) i []
@@ -136,7 +136,7 @@ bucket-char [] h = absurd (omega arith)
 bucket-char (x ∷ []) h = refl
 bucket-char (x ∷ y ∷ zs) h = absurd (omega arith)
 
--- a high bucket is that of a word of one character
+-- a bucket of 8,192 or above is that of a word of one character
 pub bucket-single : (w : List ℕ) → 8192 ≤ bucket w → length w ≡ 1
 unfolding bucket
 bucket-single [] h = absurd (omega arith)
@@ -220,7 +220,7 @@ module _ (cs ls heads links starts : List ℕ) where
       }
 
   module _ (at n : ℕ) (h : Chained cs ls heads links starts at n) where
-    -- a start is written at its place
+    -- a start is stored at its index
     started-more : (i : ℕ) → i ≤ n → getD (set starts n at) i 0 ≡ start-of ls i
     started-more i b =
         ⊎-elim

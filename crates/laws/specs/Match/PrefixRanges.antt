@@ -1,5 +1,5 @@
--- A run of ascending words narrowed character by character to those that stand at one place: the last of them is the longest.
--- Assumes nothing.
+-- The prefix range of the words that share a text's next characters, refined character by character: the last word that stands there is
+-- the longest. Assumes nothing.
 use mathlib.Core.Path.{_≡_, refl, sym, ap, _∙_}
 use mathlib.Core.Bool.{true}
 use mathlib.Core.Logic.{_⊎_, inl, inr, ⊎-elim}
@@ -27,7 +27,7 @@ prefix-not-before (y ∷ ys) (x ∷ xs) t l same =
     prefix-not-before ys xs (q .1) (omega arith) (λ j b. same (suc j) (omega arith)))
     (word-before-get x y xs ys t)
 
--- the next characters of ascending words do not fall
+-- the next characters of ascending words are nondecreasing
 pub next-rises :
     (v w : List ℕ) (d : ℕ) → word-before v w ≡ true → d < length v → d < length w → ((j : ℕ) → j < d → getD v j 0 ≡ getD w j 0) →
     getD v d 0 ≤ getD w d 0
@@ -44,16 +44,16 @@ next-rises (x ∷ xs) (y ∷ ys) (suc d) t a b same =
 
 -- THE RESULT
 
--- `number` is 0 or one more than the number of the last of the first k words that stands at p
+-- `number` is 0, or one more than the number of the last of the first k words that stands at p
 pub record Last-standing (ws : List (List ℕ)) (ts : List ℕ) (p k number : ℕ) : Type 0 where
   pub below : number ≤ k
   pub stand : (i : ℕ) → number ≡ suc i → Stand (getD ws i []) ts p
   pub last : (i : ℕ) → i < k → Stand (getD ws i []) ts p → i < number
 
--- THE NARROWING
+-- THE PREFIX RANGE
 
--- Words lo to hi − 1 have at least d characters and share these with the text at p; of the other words that stand, `best` is the
--- last, as a number plus 1.
+-- Words lo to hi − 1 have at least d characters and share these with the text at p; `best` is the last of the other words that stand
+-- there, as a number plus 1.
 pub record Narrowed (ws : List (List ℕ)) (ts : List ℕ) (p k lo hi d best : ℕ) : Type 0 where
   pub order : lo ≤ hi
   pub within : hi ≤ k
@@ -66,7 +66,7 @@ pub record Narrowed (ws : List (List ℕ)) (ts : List ℕ) (p k lo hi d best : �
   pub agree : (i j : ℕ) → lo ≤ i → i < hi → j < d → getD (getD ws i []) j 0 ≡ getD ts (p + j - 1) 0
   pub rest : (i : ℕ) → i < k → Stand (getD ws i []) ts p → (i < best) ⊎ ((lo ≤ i) × (i < hi))
 
--- the d-th characters of words lo to hi − 1, cut at c: those before r are below, the others are not
+-- r is the lower bound of c in the d-th characters of words lo to hi − 1: those before r are below c, the others are not
 pub record Lower-bound-at (ws : List (List ℕ)) (lo hi d c r : ℕ) : Type 0 where
   pub from : lo ≤ r
   pub to : r ≤ hi
@@ -125,7 +125,7 @@ module _ (ws : List (List ℕ)) (ts : List ℕ) (p k : ℕ) where
           }
 
       module _ (sorted : ascend ws ≡ true) (more : length (getD ws lo []) ≡ d → ⊥) where
-        -- where the first has more than d characters, all have
+        -- if the first has more than d characters, all have
         pub narrow-longer : (i : ℕ) → lo ≤ i → i < hi → d < length (getD ws i [])
         narrow-longer i a b =
             ⊎-elim (λ (l : length (getD ws i []) ≤ d). absurd (no l)) (λ (l : d < length (getD ws i [])). l) (le-or-lt (length (getD ws i [])) d)
@@ -141,7 +141,7 @@ module _ (ws : List (List ℕ)) (ts : List ℕ) (p k : ℕ) where
                 (λ j c. h .agree lo j (omega arith) some (omega arith) ∙ sym (h .agree i j a b (omega arith))))
                 (le-or-lt i lo)
 
-        -- the d-th characters do not fall
+        -- the d-th characters are nondecreasing
         pub narrow-rises : (i j : ℕ) → lo ≤ i → i ≤ j → j < hi → getD (getD ws i []) d 0 ≤ getD (getD ws j []) d 0
         narrow-rises i j a b c =
             ⊎-elim (λ (q : j ≤ i). let here : i ≡ j = omega arith in omega (arith, ap (λ (x : ℕ). getD (getD ws x []) d 0) here))
@@ -151,7 +151,7 @@ module _ (ws : List (List ℕ)) (ts : List ℕ) (p k : ℕ) where
             (λ x l. h .agree i x a (omega arith) l ∙ sym (h .agree j x (omega arith) c l)))
             (le-or-lt j i)
 
-        -- where the text ends, none of them stands
+        -- if the text ends there, none of them stands
         pub narrow-stop : suc (length ts) ≤ p + d → Last-standing ws ts p k best
         narrow-stop past =
             record {
@@ -163,7 +163,7 @@ module _ (ws : List (List ℕ)) (ts : List ℕ) (p k : ℕ) where
                   (λ (q : (lo ≤ i) × (i < hi)). absurd (omega (arith, s .within, narrow-longer i (q .0) (q .1)))) (h .rest i b s);
             }
 
-        -- those with the text's next character are left
+        -- the equal range of the text's next character is left
         pub narrow-step :
             (c from to : ℕ) → c ≡ getD ts (p + d - 1) 0 → p + d ≤ length ts → Lower-bound-at ws lo hi d c from → Lower-bound-at ws from hi d (c + 1) to →
             Narrowed ws ts p k from to (d + 1) best

@@ -1,5 +1,5 @@
--- Walks along the two chains of the match table that belong to a place of a text: that of the two characters there, and that of the
--- one. Places are q + 1 and ends are e + 1, with q and e counted from 0 as in code. Assumes nothing.
+-- Walks along the two chains of the match table that belong to a position of a text: that of the two characters there, and that of the
+-- one. Positions are q + 1 and ends are e + 1, with q and e counted from 0 as in code. Assumes nothing.
 use mathlib.Core.Path.{_≡_, refl, sym, ap, _∙_}
 use mathlib.Core.Bool.{Bool, true, false}
 use mathlib.Core.Logic.{⊎-elim}
@@ -17,7 +17,7 @@ use Rattle.laws.specs.Match.PrefixRanges.{Last-standing}
 
 -- ONE WORD
 
--- two runs of n characters, one from `at` and one from q, are the same
+-- two runs of n characters, one from `at` and one from q, are equal
 pub record Same-run (cs : List ℕ) (at : ℕ) (ts : List ℕ) (q n : ℕ) (r : Bool) : Type 0 where
   pub yes : r ≡ true → (j : ℕ) → j < n → getD cs (at + j) 0 ≡ getD ts (q + j) 0
   pub no : r ≡ false → ((j : ℕ) → j < n → getD cs (at + j) 0 ≡ getD ts (q + j) 0) → ⊥
@@ -65,15 +65,15 @@ module _ (cs ls ss : List ℕ) (t : Started cs ls ss) (ts : List ℕ) (q e i : �
 
 -- THE CHAIN OF TWO CHARACTERS
 
--- `number` is 0 or one more than that of a standing word, and no standing word of two characters or more that ends after `last`
--- comes after it
+-- `number` is 0 or one more than the number of a word that stands at p; every word of two characters or more that stands there and ends
+-- after `last` has a number below it
 pub record Pair-found (ws : List (List ℕ)) (ts : List ℕ) (p last number : ℕ) : Type 0 where
   pub below : number ≤ length ws
   pub stand : (i : ℕ) → number ≡ suc i → Stand (getD ws i []) ts p
   pub over :
       (j : ℕ) → j < length ws → 2 ≤ length (getD ws j []) → Stand (getD ws j []) ts p → last < p + length (getD ws j []) → j < number
 
--- a word is passed if it does not stand, or ends too early
+-- a word may be skipped if it does not stand, or ends too early
 abbrev pub Passed : (cs ls ts : List ℕ) (p last j : ℕ) → Type 0
 Passed cs ls ts p last j = Stand (word cs ls j) ts p → p + length (word cs ls j) ≤ last
 
@@ -88,7 +88,7 @@ module _ (cs ls heads links ss : List ℕ) (t : Tables cs ls heads links ss) (ts
       (getD heads (pair-bucket (getD ts q 0) (getD ts (q + 1) 0)) 0)
       (t .chains (pair-bucket (getD ts q 0) (getD ts (q + 1) 0)) (omega (arith, pair-small (getD ts q 0) (getD ts (q + 1) 0))))
 
-  -- a standing word of two characters or more is in that bucket
+  -- a word of two characters or more that stands there is in that bucket
   pair-mine :
       (j : ℕ) → 2 ≤ length (word cs ls j) → Stand (word cs ls j) ts (q + 1) →
       bucket-of cs ls j ≡ pair-bucket (getD ts q 0) (getD ts (q + 1) 0)
@@ -130,7 +130,7 @@ module _ (cs ls heads links ss : List ℕ) (t : Tables cs ls heads links ss) (ts
     pub pair-below : next ≤ length (lexicon cs ls .words)
     pair-below = omega (arith, pair-stop .below, many-words cs ls (t .words .dictionary))
 
-    -- the words that come after it have been passed
+    -- the words after it have been skipped
     over :
         (number j : ℕ) → (j < next → j < number) → j < length (lexicon cs ls .words) → 2 ≤ length (word cs ls j) →
         Stand (word cs ls j) ts (q + 1) → e + 1 < q + 1 + length (word cs ls j) → j < number
@@ -164,7 +164,7 @@ module _ (cs ls heads links ss : List ℕ) (t : Tables cs ls heads links ss) (ts
 
 -- THE CHAIN OF ONE CHARACTER
 
--- `number` is 0 or one more than that of the word which is the one character at p
+-- `number` is 0 or one more than the number of the word that is the one character at p
 pub record Single-found (ws : List (List ℕ)) (ts : List ℕ) (p number : ℕ) : Type 0 where
   pub below : number ≤ length ws
   pub stand : (i : ℕ) → number ≡ suc i → Stand (getD ws i []) ts p

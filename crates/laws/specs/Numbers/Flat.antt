@@ -1,4 +1,4 @@
--- The entries that lines stand for: membership, and how long they are. Assumes nothing.
+-- The entries of directory lines: membership, and their lengths. Assumes nothing.
 use mathlib.Core.Path.{_≡_, refl, sym, ap, _∙_}
 use mathlib.Core.Logic.{inl, inr, ⊎-elim}
 use mathlib.Core.List.{List, [], _∷_}
@@ -10,7 +10,7 @@ use Rattle.spec.specs.Words.{Key, spells, Entry, entry}
 use Rattle.spec.specs.Numbers.{Line}
 use Rattle.laws.specs.Text.Facts.{entries-at, flat}
 
--- the entry that a key has at a place
+-- the entry of a key at a position
 abbrev pub posting : Lexicon → Key → ℕ → Entry
 posting lex k p = record { key-of = k; at = p; len = length (spells lex k) }
 
@@ -29,7 +29,7 @@ entries-at-put lex k [] p m = absurd m
 entries-at-put lex k (q ∷ ps) p (inl h) = inl (ap (λ (x : ℕ). posting lex k x) h)
 entries-at-put lex k (q ∷ ps) p (inr m) = inr (entries-at-put lex k ps p m)
 
--- an entry of lines is a place of one of them
+-- an entry of lines is a position of one of them
 pub flat-get :
     (lex : Lexicon) (ls : List Line) (e : Entry) → In e (flat lex ls) →
     (l : Line) × In l ls × In (e .at) (l .positions) × (e ≡ posting lex (l .key-of) (e .at))
@@ -55,14 +55,14 @@ flat-put lex (k ∷ ls) l p (inl h) n =
 flat-put lex (k ∷ ls) l p (inr m) n =
     in-append-right (posting lex (l .key-of) p) (entries-at lex (k .key-of) (k .positions)) (flat lex ls) (flat-put lex ls l p m n)
 
--- an entry is as long as what its key spells
+-- an entry is as long as the string that its key spells
 pub flat-long :
     (lex : Lexicon) (ls : List Line) (e : Entry) → In e (flat lex ls) → e .len ≡ length (spells lex (e .key-of))
 flat-long lex ls e m =
     let h = flat-get lex ls e m in
     ap (λ (f : Entry). f .len) (h .3) ∙ ap (λ (f : Entry). length (spells lex (f .key-of))) (sym (h .3))
 
--- an entry is what its key has at its place
+-- an entry is the posting of its key at its position
 pub flat-measured : (lex : Lexicon) (ls : List Line) (e : Entry) → In e (flat lex ls) → e ≡ posting lex (e .key-of) (e .at)
 flat-measured lex ls e m =
     let h = flat-get lex ls e m in

@@ -1,4 +1,4 @@
--- The entries that lines stand for ascend strictly. Assumes nothing.
+-- The entries of directory lines ascend strictly. Assumes nothing.
 use mathlib.Core.Path.{_≡_, refl}
 use mathlib.Core.Bool.{true}
 use mathlib.Core.Logic.{inl, inr}
@@ -25,7 +25,7 @@ pub rise-more : (a b : ℕ) (ps : List ℕ) → Rise a ps → ((p : ℕ) → In 
 rise-more a b [] r h = tt
 rise-more a b (p ∷ ps) r h = (h p (inl refl), r .1)
 
--- each place before all that follow it
+-- each position is before all that follow it
 pub rise-ascends : (a : ℕ) (ps : List ℕ) → Rise a ps → Ascend ltb ps
 rise-ascends a [] r = tt
 rise-ascends a (p ∷ ps) r = (λ q m. lt-ltb p q (rise-least (suc p) ps q (r .1) m), rise-ascends (suc p) ps (r .1))

@@ -1,4 +1,4 @@
--- A key as one number: keys in order are their numbers in order, so that strict ascent is one comparison a line. Assumes nothing.
+-- A key as one number: keys are ordered as their numbers, so strict ascent is one comparison for each line. Assumes nothing.
 use mathlib.Core.Path.{_≡_, refl, ap, _∙_}
 use mathlib.Core.Bool.{Bool, true, _&&_}
 use mathlib.Core.Logic.{_⊎_, inl, inr, ⊎-elim}
@@ -18,7 +18,7 @@ use Rattle.laws.specs.Numbers.KeyOrder.{key-before-get, key-before-put}
 abbrev pub key-code : Key → ℕ
 key-code k = k .kind * 65536 + k .value
 
--- keys in order are their numbers in order
+-- keys are ordered as their numbers
 before-code : (a b : Key) → a .value < 65536 → b .value < 65536 → leb (suc (key-code a)) (key-code b) ≡ key-before a b
 before-code a b sa sb =
     iff-eq (leb (suc (key-code a)) (key-code b)) (key-before a b)

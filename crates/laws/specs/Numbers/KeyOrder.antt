@@ -1,4 +1,4 @@
--- The order of keys, and of entries by key and place, is a strict total order. Assumes nothing.
+-- The order of keys, and of entries by key and position, is a strict total order. Assumes nothing.
 use mathlib.Core.Path.{_≡_, sym, _∙_}
 use mathlib.Core.Bool.{Bool, true, false, _&&_, not}
 use mathlib.Core.Logic.{_⊎_, inl, inr, ⊎-elim}
@@ -76,7 +76,7 @@ key-before-not-itself = key-before-strict .irreflexive
 
 -- ENTRIES
 
--- by key, then by place
+-- by key, then by position
 abbrev pub Entry-before : Entry → Entry → Type 0
 Entry-before e f = (key-before (e .key-of) (f .key-of) ≡ true) ⊎ ((e .key-of ≡ f .key-of) × (e .at < f .at))
 
@@ -125,7 +125,7 @@ entry-before-strict =
     through e f g (inr p) (inl q) = inl (rw (p .0) q)
     through e f g (inr p) (inr q) = inr (p .0 ∙ q .0, omega (arith, p .1, q .1))
 
--- one is before the other, or key and place are equal
+-- one is before the other, or key and position are equal
 pub entry-before-total :
     (e f : Entry) → (entry-before e f ≡ true) ⊎ ((entry-before f e ≡ true) ⊎ ((e .key-of ≡ f .key-of) × (e .at ≡ f .at)))
 entry-before-total e f = go (key-before-total (e .key-of) (f .key-of)) (less-equal-more (e .at) (f .at))

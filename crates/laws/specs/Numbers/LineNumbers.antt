@@ -1,4 +1,4 @@
--- The lines of a slice by their number. Assumes nothing.
+-- The lines of a slice by number. Assumes nothing.
 use mathlib.Core.Path.{_≡_, ap}
 use mathlib.Core.List.{List, []}
 use Prim.Native.Nat.{ℕ, zero, suc, _+_, _*_, _<_}
@@ -18,7 +18,7 @@ no-line = line (key 0 0) []
 unfoldable pub line-of : (numbers : List ℕ) → (i : ℕ) → Line
 line-of xs i = getD (lines-in xs) i no-line
 
--- the key of line i and its places, as they lie
+-- the key of line i and its positions, read from the slice
 line-from :
     (k i : ℕ) (xs ps : List ℕ) (j : ℕ) → j < k →
     getD (lines-from k i xs ps) j no-line ≡ line (key-at xs (i + j)) (take (count-at xs (i + j)) (drop (counts-from j i xs) ps))

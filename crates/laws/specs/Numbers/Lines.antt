@@ -1,4 +1,4 @@
--- Lines and entries: good lines come back from their flat list, and strictly ascending entries from their lines. Assumes nothing.
+-- Lines and entries: good lines are rebuilt from their entries, and strictly ascending entries from their lines. Assumes nothing.
 use mathlib.Core.Path.{_≡_, refl, sym, ap, _∙_}
 use mathlib.Core.Bool.{true, false}
 use mathlib.Core.Logic.{_⊎_, inl, inr, ⊎-elim}
@@ -60,18 +60,18 @@ lines-of-flat lex (l ∷ ls) some order =
 
 -- ENTRIES TO LINES AND BACK
 
--- lines made of a list of entries
+-- lines made from a list of entries
 pub record Lines-made (lex : Lexicon) (es : List Entry) (ls : List Line) : Type 0 where
   pub flat-is : flat lex ls ≡ es
   pub some : (l : Line) → In l ls → 1 ≤ length (l .positions)
   pub rise : (l : Line) → In l ls → Rise 0 (l .positions)
   pub order : Keys-rise ls
 
--- the entry's length is what its key spells
+-- an entry's length is that of the string its key spells
 abbrev pub Measured : Lexicon → List Entry → Type 0
 Measured lex es = (e : Entry) → In e es → e .len ≡ length (spells lex (e .key-of))
 
--- e stands before all of es
+-- e is before all of es
 module _ (lex : Lexicon) (e : Entry) (es : List Entry) (len : e .len ≡ length (spells lex (e .key-of)))
     (before : (f : Entry) → In f es → entry-before e f ≡ true) where
   made-new :

@@ -103,7 +103,7 @@ pub entries-of-numbers : (n : ℕ) (ls : List Line) → entries-of (numbers n ls
 unfolding entries-of
 entries-of-numbers n ls = rw keys-of-numbers (counts-from-directory ls 0 (numbers n ls) (all-positions ls) (directory-starts n ls))
 
--- M as the sum of the counts
+-- the length of the numbers: n, K, three for each line, one for each position
 pub length-numbers : (n : ℕ) (ls : List Line) → length (numbers n ls) ≡ header + 3 * length ls + length (all-positions ls)
 unfolding numbers
 length-numbers n ls = omega (arith, length-append (directory ls) (all-positions ls), length-directory ls)
@@ -184,7 +184,7 @@ positions-lines-from (suc k) i xs ps e =
     rw (positions-lines-from k (suc i) xs (drop (count-at xs i) ps) (simp length-drop (omega arith)))
     (take-append-drop (count-at xs i) ps)
 
--- the lengths of a slice that fits
+-- the lengths in a slice fit together
 pub record Fits (xs : List ℕ) : Type 0 where
   pub has-header : header ≤ length xs
   pub has-directory : header + 3 * keys-of xs ≤ length xs

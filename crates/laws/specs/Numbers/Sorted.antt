@@ -1,4 +1,4 @@
--- Sorting entries: the members stay, and the entries of a text, each of which is listed once, ascend strictly. Assumes nothing.
+-- Sorting entries: the members stay, and the entries of a text, each listed once, ascend strictly. Assumes nothing.
 use mathlib.Core.Path.{_≡_, refl, ap, _∙_}
 use mathlib.Core.Bool.{Bool, true, false, cond}
 use mathlib.Core.Logic.{_⊎_, inl, inr, ⊎-elim}
@@ -40,7 +40,7 @@ sorted-ascends es p = rw sorted-is (sort-ascends entry-before entry-before-stric
 
 -- A TEXT'S ENTRIES ARE EACH LISTED ONCE
 
--- entries that differ in key or place
+-- entries that differ in key or position
 pub differ-apart : (e f : Entry) → (e .key-of ≡ f .key-of → e .at ≡ f .at → ⊥) → (entry-before e f ≡ true) ⊎ (entry-before f e ≡ true)
 differ-apart e f differ = go (entry-before-total e f)
   where

@@ -1,4 +1,4 @@
--- Source 000's extension of index items comes to containment by place, and its claims 1 and 2 hold. Assumes nothing.
+-- Source 000's extension of index items is containment by position, and its claims 1 and 2 hold. Assumes nothing.
 use mathlib.Core.Path.{_≡_, refl, sym, ap, _∙_}
 use mathlib.Core.Logic.{_⊎_, inl, inr, ⊎-elim}
 use mathlib.Core.List.{List}
@@ -60,7 +60,7 @@ item-entry lex ts i h =
       item-path (item (spells lex k) (i .position)) i s refl,
     )
 
--- extension asks for no more than containment by place: what lies within in the text lies within in the word
+-- containment by position is enough for extension: an item that lies within another in the text has its word within the other's word
 pub nested-extends :
     (lex : Lexicon) (ts : List ℕ) (i j : Item) → Is-item lex ts i → Is-item lex ts j → i .position ≤ j .position →
     j .position + length (j .word) ≤ i .position + length (i .word) → Extends i j

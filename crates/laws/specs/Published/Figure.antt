@@ -21,7 +21,7 @@ use Rattle.laws.specs.Entries.Scan.{Longest-at}
 use Rattle.laws.specs.Entries.Longest.{longest-at, longest-at-is, make-index, make-index-exact}
 
 module _ (lex : Lexicon) (ts : List ℕ) where
-  -- what the longest entry at a place spells is the longest prefix word there
+  -- what the longest entry at a position spells is the longest prefix word there
   pub longest-prefix-put : (p : ℕ) (e : Entry) → Longest-at lex ts p e → Longest-prefix lex ts p (spells lex (e .key-of))
   unfolding item item-of
   longest-prefix-put p e l = record { is-item = rw (← l .here) (entry-item lex ts e he); longest = longest }

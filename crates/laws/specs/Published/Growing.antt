@@ -1,5 +1,5 @@
--- Source 001's algorithm, whose dictionary starts without the single characters and takes one in where no word stands, registers
--- the same as source 000's. Assumes nothing.
+-- Source 001's algorithm starts without the single characters and adds one where no word stands; it registers the same items as source
+-- 000's. Assumes nothing.
 use mathlib.Core.Path.{_≡_, refl, ap}
 use mathlib.Core.Bool.{Bool, true, false, _&&_, cond}
 use mathlib.Core.Logic.{_⊎_, inl, inr, ⊎-elim}
@@ -64,7 +64,7 @@ longest-word-is (w ∷ ws) ts p =
 
 -- THE GROWING DICTIONARY
 
--- the dictionary holds every word of the lexicon, and besides them single characters
+-- the dictionary holds every word of the lexicon, and otherwise only single characters
 record Grown (lex : Lexicon) (dict : List (List ℕ)) : Type 0 where
   has : (w : List ℕ) → In w (lex .words) → In w dict
   only : (w : List ℕ) → In w dict → Is-word lex w

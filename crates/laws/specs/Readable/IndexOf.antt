@@ -1,4 +1,5 @@
--- A text's index is readable, has the text's n and its maximal entries, is the only such slice, and shows the text. Assumes nothing.
+-- A text's index is readable, has the text's n and its maximal entries, is the only such slice, and its entries match the text. Assumes
+-- nothing.
 use mathlib.Core.Path.{_≡_, refl, sym, ap, _∙_}
 use mathlib.Core.Bool.{true}
 use mathlib.Core.List.{List, [], _∷_}
@@ -42,7 +43,7 @@ length-flat lex [] = refl
 length-flat lex (l ∷ ls) =
     simp length-append (omega (arith, length-entries-at lex (l .key-of) (l .positions), length-flat lex ls))
 
--- the entry of k at p is in a slice exactly if it is in its flat list
+-- the entry of k at p is in a slice exactly if it is one of the entries of its lines
 pub under-get : (lex : Lexicon) (xs : List ℕ) (k : Key) (p : ℕ) → Under k p xs → In (posting lex k p) (flat lex (lines-in xs))
 unfolding Under
 under-get lex xs k p u = rw (u .2) at (flat-put lex (lines-in xs) (u .0) p (u .1) (u .3))
@@ -57,7 +58,7 @@ under-put lex xs k p m =
       r .2,
     )
 
--- an entry of one slice is an entry of another where its position stands under its key there too
+-- an entry of one slice is an entry of another if its position is under its key there too
 pub under-flat :
     (lex : Lexicon) (xs ys : List ℕ) (e : Entry) → (Under (e .key-of) (e .at) xs → Under (e .key-of) (e .at) ys) →
     In e (flat lex (lines-in xs)) → In e (flat lex (lines-in ys))
@@ -120,7 +121,7 @@ module _ (lex : Lexicon) (good : Good-lexicon lex) (ts : List ℕ) (chars : Char
       (rw n at (readable-get g lex xs can .lines)) index-lines-good
       (λ e m. in-index-put e (only e m)) (λ e m. all e (in-index-get e m)))
 
-  -- an entry of the text is its key and place
+  -- an entry of the text is its key and position
   pub entry-whole : (e : Entry) → In e (entries lex ts) → posting lex (e .key-of) (e .at) ≡ e
   unfolding entry
   entry-whole e m = entry-eq (posting lex (e .key-of) (e .at)) e refl refl (sym (entries-sound lex good ts chars e m .len-is))
@@ -156,7 +157,7 @@ module _ (lex : Lexicon) (good : Good-lexicon lex) (ts : List ℕ) (chars : Char
       all e m =
           rw (entry-whole e m) at (under-get lex xs (e .key-of) (e .at) (tells .all (e .key-of) (e .at) (e, m, refl, refl)))
 
-  -- the index shows the text
+  -- the entries of the index match the text
   pub index-match : Lines-match lex (lines-in (index-of lex ts)) ts
   index-match =
       record {

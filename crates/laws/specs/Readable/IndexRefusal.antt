@@ -1,4 +1,4 @@
--- The refusal of every operation on an index, from the tests on the way to it and back. Assumes nothing.
+-- The refusal of every operation on an index, from its tests and back. Assumes nothing.
 use mathlib.Core.Path.{_≡_, refl}
 use mathlib.Core.Bool.{Bool, true, false, not, cond}
 use mathlib.Core.List.{List}
@@ -29,7 +29,7 @@ module _ (cs ls xs : List ℕ) where
     unfolding index-refusal or-else unreadable
     accepts-index t = rw (none, t)
 
-  -- what an accepted index comes to
+  -- what holds for an accepted index
   pub record Accepted : Type 0 where
     pub no-refusal : dictionary-refusal cs ls ≡ 0
     pub is-readable : readable longest-text (lexicon cs ls) xs ≡ true
@@ -45,7 +45,7 @@ module _ (cs ls xs : List ℕ) where
       by-tests true p false q e = absurd (omega arith)
       by-tests false p b q e = absurd (eqb-false (dictionary-refusal cs ls) 0 p e)
 
--- what an operation on an index builds on, once no line is met
+-- what an operation on an index relies on once no line is met
 pub record Index-read (cs ls xs : List ℕ) : Type 0 where
   pub is-admitted : Is-admitted cs ls
   pub is-readable : readable longest-text (lexicon cs ls) xs ≡ true

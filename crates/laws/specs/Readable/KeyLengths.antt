@@ -1,4 +1,4 @@
--- How many characters a key of an admitted dictionary spells, as a reader of the lengths finds it. Assumes nothing.
+-- How many characters a key of an admitted dictionary spells, as read from the list of lengths. Assumes nothing.
 use mathlib.Core.Path.{_≡_, sym, ap, _∙_}
 use mathlib.Core.Logic.{⊎-elim}
 use mathlib.Core.List.{List}
@@ -36,7 +36,7 @@ module _ (cs ls : List ℕ) (h : Is-admitted cs ls) (kind value : ℕ) (is : Is-
     word-length =
         sym (ap length (spells-word (lexicon cs ls) (key kind value) word) ∙ word-long cs ls h value word-below)
 
--- what a key spells: 1 to 32 characters
+-- a key spells 1 to 32 characters
 pub record Key-length (lex : Lexicon) (k : Key) : Type 0 where
   pub some : 1 ≤ length (spells lex k)
   pub short : length (spells lex k) ≤ 32

@@ -1,4 +1,4 @@
--- The tests that a directory line's key has to meet, one by one, as a reader of the numbers makes them. Assumes nothing.
+-- The tests that a directory line's key has to pass, one by one, as the reader of the numbers makes them. Assumes nothing.
 use mathlib.Core.Path.{_≡_, refl}
 use mathlib.Core.Bool.{true, false, and-false}
 use mathlib.Core.List.{List, [], _∷_}
@@ -19,7 +19,7 @@ use Rattle.laws.specs.Readable.LineWalk.{line-list-good, key-fits, line-
 
 -- THE DICTIONARY
 
--- the characters are 16-bit numbers, so no line met is admission
+-- the characters are 16-bit numbers, so a dictionary that meets no line is admitted
 pub no-refusal : (cs ls : List ℕ) → Small cs → dictionary-refusal cs ls ≡ 0 → admitted cs ls ≡ true
 unfolding admitted
 no-refusal cs ls small none =

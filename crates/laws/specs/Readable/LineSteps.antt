@@ -1,5 +1,5 @@
--- The walk over the directory as a loop sees it: its start, a step, where it stops, its end; and the loop over the positions of
--- one line. Assumes nothing.
+-- The walk over the directory as a loop runs it: its start, a step, an early stop, its end; and the loop over the positions of one line.
+-- Assumes nothing.
 use mathlib.Core.Path.{_≡_, refl, sym, ap, _∙_}
 use mathlib.Core.Bool.{Bool, true, false, _&&_, and-true, and-false, and-assoc}
 use mathlib.Core.List.{List, [], _∷_}
@@ -19,7 +19,7 @@ use Rattle.laws.specs.Readable.LineWalk.{fits-get, as-is, list-good, lin
 
 -- THE LINES
 
--- before line i: its positions start at `at`, its key's number is `least` or more, and what is left decides
+-- before line i: its positions start at `at`, its key's number has to be `least` or more, and the test of the rest decides the whole
 pub record Lines-read (read : List ℕ → List ℕ) (lex : Lexicon) (xs : List ℕ) (i at least : ℕ) : Type 0 where
   pub within : i ≤ keys-of xs
   pub room : at ≤ length xs
@@ -73,7 +73,7 @@ module _ (read : List ℕ → List ℕ) (lex : Lexicon) (xs : List ℕ) (i at le
           tested = rw (add-one (key-code (key-at xs i))) (rw t at cut);
         }
 
-    -- where no word key can stand, the least number may be that of a lone key
+    -- if the line has no word key, the least number may be that of a lone key
     pub lines-raise : 1 ≤ kind-at xs i → least ≤ 65536 → Lines-read read lex xs i at 65536
     unfolding rest-good line-fits key-fits key
     lines-raise lone small =
@@ -99,7 +99,7 @@ module _ (read : List ℕ → List ℕ) (lex : Lexicon) (xs : List ℕ) (i at le
 
 -- THE POSITIONS OF ONE LINE
 
--- the positions before place i ascend, the last of them is `last`
+-- `good` tells whether the positions before index i ascend; `last` is the last of them
 pub record Rises (ps : List ℕ) (good : Bool) (last i : ℕ) : Type 0 where
   pub within : i ≤ length ps
   pub tested : (good && rise-from (suc last) (drop i ps)) ≡ rise-from 1 ps
@@ -148,7 +148,7 @@ module _ (ps : List ℕ) (n l : ℕ) (some : 1 ≤ length ps) where
   unfolding list-good
   list-rises h = rw (le-leb (last-of ps + l) (suc n) (omega (arith, last-read)))
 
--- `count` numbers from `at` on
+-- c numbers from `at` on
 module _ (read : List ℕ → List ℕ) (xs : List ℕ) (at n l c : ℕ) where
   pub positions-missing : length xs - at < c → false ≡ line-list-good read n l c (drop at xs)
   unfolding line-list-good

@@ -19,15 +19,15 @@ use Rattle.laws.specs.Numbers.Slices.{Fits, lengths-fit-get}
 
 -- ONE LINE
 
--- a line's numbers come to positions that ascend from 1, and the key ends by n
+-- a line's numbers are read as positions that ascend from 1, and the key ends at or before n
 unfoldable pub list-good : (read : List ℕ → List ℕ) → (n len : ℕ) → (numbers : List ℕ) → Bool
 list-good read n l ps = leb (last-of (read ps) + l) (suc n) && rise-from 1 (read ps)
 
--- of `count` numbers in front of `places`: they are there, at least one, and their list is good
+-- the first `count` of `positions`: they are there, there is at least one, and their list is good
 unfoldable pub line-list-good : (read : List ℕ → List ℕ) → (n len count : ℕ) → (positions : List ℕ) → Bool
 line-list-good read n l c ps = (leb c (length ps) && leb 1 c) && list-good read n l (take c ps)
 
--- a key whose code may be `least` and up
+-- a good key whose code is `least` or more
 unfoldable pub key-fits : Lexicon → (least : ℕ) → Key → Bool
 key-fits lex a k = (leb (k .kind) 1 && leb a (key-code k)) && key-good lex k
 
@@ -42,14 +42,14 @@ rest-good read lex n (suc k) i a xs ps =
     line-fits read lex n a (key-at xs i) (count-at xs i) ps
     && rest-good read lex n k (suc i) (suc (key-code (key-at xs i))) xs (drop (count-at xs i) ps)
 
--- what the walk finds
+-- what the walk decides
 record Rest (lex : Lexicon) (n k i a : ℕ) (xs ps : List ℕ) : Type 0 where
   counts : counts-from k i xs ≡ length ps
   kinds : kinds-good k i xs ≡ true
   order : codes-ascend a (lines-from k i xs ps) ≡ true
   good : lines-good lex n (lines-from k i xs ps) ≡ true
 
--- the tests of one line, apart
+-- the tests of one line, one by one
 pub record Line-fits (read : List ℕ → List ℕ) (lex : Lexicon) (n a : ℕ) (k : Key) (c : ℕ) (ps : List ℕ) : Type 0 where
   pub kind-small : k .kind ≤ 1
   pub code-least : a ≤ key-code k
@@ -109,14 +109,14 @@ module _ (read : List ℕ → List ℕ) (lex : Lexicon) (n a : ℕ) (k : Key) (c
       (and-put (and-put (le-leb c (length ps) (h .present)) (le-leb 1 c (h .some)))
       (and-put (le-leb (last-of (read (take c ps)) + length (spells lex k)) (suc n) (h .ends)) (h .rises)))
 
--- A LINE AS IT LIES
+-- A LINE READ AS IT IS
 
 -- numbers that are the positions themselves
 abbrev pub as-is : List ℕ → List ℕ
 as-is ps = ps
 
 module _ (lex : Lexicon) (n a : ℕ) (k : Key) (c : ℕ) (ps : List ℕ) where
-  -- its line is good
+  -- the line is good
   fits-line : Line-fits as-is lex n a k c ps → line-good lex n (line k (take c ps)) ≡ true
   unfolding line-good line
   fits-line h =

@@ -1,4 +1,4 @@
--- The walk over the words beside ascending characters: which of the characters are words. Assumes nothing.
+-- The walk over the words alongside ascending characters: which of the characters are words. Assumes nothing.
 use mathlib.Core.Path.{_≡_, refl, sym, ap, _∙_}
 use mathlib.Core.Bool.{Bool, true, false, _||_}
 use mathlib.Core.Logic.{_⊎_, inl, inr}
@@ -33,7 +33,7 @@ pub record Reached (cs ls : List ℕ) (w at v : ℕ) : Type 0 where
   pub passed : Passed cs ls w at v
   pub first : w < length ls → v ≤ getD cs at 0
 
--- a part that has a first character
+-- a part with at least one character
 first-of :
     (l at : ℕ) (xs : List ℕ) → 1 ≤ l → at < length xs → take l (drop at xs) ≡ getD xs at 0 ∷ take (l - 1) (drop (at + 1) xs)
 first-of zero at xs some room = absurd (omega arith)
@@ -83,7 +83,7 @@ module _ (cs ls : List ℕ) (w at v : ℕ) (h : Passed cs ls w at v) where
     unfolding total
     sum = ap (λ (t : ℕ). at + t) (sym (ap total cut)) ∙ h .room
 
-    -- the word's characters are there
+    -- the word's characters lie within the slice
     pub word-room : at + getD ls w 0 ≤ length cs
     word-room = omega (arith, sum)
 
@@ -98,7 +98,7 @@ module _ (cs ls : List ℕ) (w at v : ℕ) (h : Passed cs ls w at v) where
     unfolding word
     word-length = length-take-le (getD ls w 0) (drop at cs) (omega (arith, length-drop at cs, sum))
 
-    -- THE STEP: a word that starts with a character below v is none of those from v on
+    -- THE STEP: a word that starts with a character below v is no character from v on
     pub passed-step : getD cs at 0 < v → Passed cs ls (w + 1) (at + getD ls w 0) v
     unfolding listed rest
     passed-step less =
@@ -145,7 +145,7 @@ module _ (cs ls : List ℕ) (w at v : ℕ) (h : Reached cs ls w at v) (below : w
   here-is : here ≡ getD cs at 0 ∷ beyond
   here-is = word-is cs ls w at v (h .passed) below
 
-  -- a word after the character is not it, and neither is any word after that
+  -- a word after the character is not that character, nor is any word after it
   later : word-before (v ∷ []) here ≡ true → false ≡ is-word (lexicon cs ls) (v ∷ [])
   later t = sym (false-put (listed (v ∷ []) (here ∷ others)) wrong) ∙ left-is
     where

@@ -1,4 +1,4 @@
--- What opening an index answers: the refusal, and the bounds of the directory where no line is met. Assumes nothing.
+-- What opening an index answers: the refusal, and the bounds of the directory if no line is met. Assumes nothing.
 use mathlib.Core.Path.{_≡_, sym, ap, _∙_}
 use mathlib.Core.List.{List}
 use Prim.Native.Nat.{ℕ, _+_, _*_}
@@ -6,7 +6,7 @@ use Rattle.spec.specs.Index.{header, keys-of}
 use Rattle.spec.specs.Calls.{index-refusal, accepted}
 use Rattle.laws.specs.Dictionary.Answering.{accepted-yes, accepted-no}
 
--- how many lines the directory has and where the positions start; beside a refusal both are 0
+-- the number of lines of the directory and the index at which the positions start; on a refusal both are 0
 pub record Bounded (cs ls xs : List ℕ) (refusal keys first : ℕ) : Type 0 where
   pub number : refusal ≡ index-refusal cs ls xs
   pub lines : keys ≡ accepted refusal (keys-of xs) 0
@@ -29,7 +29,7 @@ module _ (cs ls xs : List ℕ) (refusal : ℕ) (number : refusal ≡ index-refus
         positions = ap (λ (k : ℕ). 2 + 3 * k) e ∙ sym (accepted-yes refusal (header + 3 * keys-of xs) 0 none);
       }
 
--- what the record of an accepted index says: no line is met, and the bounds are those of the directory
+-- what holds if the index is accepted: no line is met, and the bounds are those of the directory
 module _ (cs ls xs : List ℕ) (refusal keys first : ℕ) (b : Bounded cs ls xs refusal keys first) (none : refusal ≡ 0) where
   pub opened-accepted : index-refusal cs ls xs ≡ 0
   opened-accepted = sym (b .number) ∙ none

@@ -1,4 +1,4 @@
--- Readable: what the test comes to in facts, and that a readable slice is the numbers of good lines. Assumes nothing.
+-- Readable: the test as facts, and that a readable slice is the numbers of good lines. Assumes nothing.
 use mathlib.Core.Path.{_≡_, refl, sym, ap, _∙_}
 use mathlib.Core.Bool.{Bool, true, _&&_}
 use mathlib.Core.Logic.{inl, inr}
@@ -77,7 +77,7 @@ rise-from-get a (p ∷ ps) t = (
   rise-from-get (suc p) ps (and-right (leb a p) (rise-from (suc p) ps) t),
 )
 
--- the last of ascending places is the greatest
+-- the last of ascending positions is the greatest
 rise-last : (a : ℕ) (ps : List ℕ) (p : ℕ) → Rise a ps → In p ps → p ≤ last-of ps
 unfolding last-of
 rise-last a [] p r m = absurd m
@@ -140,7 +140,7 @@ lines-good-get lex n (k ∷ ks) small t l (inl e) =
 lines-good-get lex n (k ∷ ks) small t l (inr m) =
     lines-good-get lex n ks (λ j i. small j (inr i)) (and-right (line-good lex n k) (lines-good lex n ks) t) l m
 
--- What readable comes to: good lines, a length that is allowed, and no other numbers than those of the lines.
+-- The facts of a readable slice: good lines, an allowed length, and no numbers besides those of the lines.
 pub record Readable (g : ℕ) (lex : Lexicon) (xs : List ℕ) : Type 0 where
   pub lines : Good-lines lex (n-of xs) (lines-in xs)
   pub length-allowed : n-of xs ≤ g

@@ -1,4 +1,4 @@
--- Recovery: lines that show a text give that text back, and recovered text is of characters. Assumes nothing.
+-- Recovery: lines that match a text give that text back, and a recovered text consists of characters. Assumes nothing.
 use mathlib.Core.Path.{_≡_, refl, sym, ap, _∙_}
 use mathlib.Core.Bool.{Bool, true, false, cond}
 use mathlib.Core.Logic.{inl, inr}
@@ -31,12 +31,12 @@ pub lies-on-put : (a l p : ℕ) → a ≤ p → p < a + l → lies-on a l p ≡ 
 unfolding lies-on
 lies-on-put a l p lo hi = and-put (le-leb a p lo) (lt-ltb p (a + l) hi)
 
--- WHAT IS SHOWN
+-- THE CHARACTER AT A POSITION
 
 none-some : (c : ℕ) → _≡_ {A = Option ℕ} none (some c) → ⊥
 none-some c t = let z : _≡_ {A = ℕ} 0 1 = cc in omega arith
 
--- an entry over p that shows c there
+-- an entry over p that has the character c there
 pub record Shown-there (lex : Lexicon) (ls : List Line) (p c : ℕ) (e : Entry) : Type 0 where
   pub among : In e (flat lex ls)
   pub from : e .at ≤ p
@@ -59,7 +59,7 @@ shown-by-get s (b ∷ ps) p c t = by-test (lies-on b (length s) p) refl t (shown
     by-test true on t later = let h = lies-on-get b (length s) p on in (b, inl refl, h .0, h .1, cc)
     by-test false on t later = let h = later t in (h .0, inr (h .1), h .2, h .3, h .4)
 
--- what is shown at p, an entry over p shows
+-- the character at p is that of an entry over p
 pub shown-get :
     (lex : Lexicon) (ls : List Line) (p c : ℕ) → shown lex ls p ≡ some c → (e : Entry) × Shown-there lex ls p c e
 unfolding shown or-shown flat
@@ -121,7 +121,7 @@ shown-line-put lex (k ∷ ls) l p b (inr m) n lo hi =
     first none later = later
     first (some d) later = (d, refl)
 
--- where an entry lies, something is shown
+-- if an entry lies over p, there is a character at p
 pub shown-put :
     (lex : Lexicon) (ls : List Line) (p : ℕ) (e : Entry) → In e (flat lex ls) → e .at ≤ p → p < e .at + e .len →
     (c : ℕ) × (shown lex ls p ≡ some c)
@@ -154,7 +154,8 @@ getD-recovered-from (suc n) p lex ls zero h = let z : p + 0 ≡ p = omega arith 
 getD-recovered-from (suc n) p lex ls (suc i) h =
     let z : p + suc i ≡ suc p + i = omega arith in rw z (getD-recovered-from n (suc p) lex ls i (omega arith))
 
--- what holds of 0 and of each character of a key's string holds of each recovered character: it is one of them, or 0 where nothing is shown
+-- what holds for 0 and for each character of a key's string holds for each recovered character: it is one of them, or 0 where no entry
+-- lies
 module _ (P : ℕ → Type 0) (zero-too : P 0) where
   recovered-from-each :
       (n p : ℕ) (lex : Lexicon) (ls : List Line) → ((l : Line) → In l ls → Each P (spells lex (l .key-of))) →
@@ -186,7 +187,7 @@ pub recovered-is-plain :
     (lex : Lexicon) (xs : List ℕ) → ((l : Line) → In l (lines-in xs) → Plain (spells lex (l .key-of))) → Plain (recovered lex xs)
 recovered-is-plain = recovered-each (λ (c : ℕ). is-full-width c ≡ false) (below-form 0 (omega arith))
 
--- what the first entry over p shows is the text's character
+-- the first entry over p has the text's character there
 pub shown-text :
     (lex : Lexicon) (ls : List Line) (ts : List ℕ) → Lines-match lex ls ts → (p : ℕ) → 1 ≤ p → p ≤ length ts →
     shown lex ls p ≡ some (getD ts (p - 1) 0)
@@ -200,7 +201,7 @@ shown-text lex ls ts show p lo hi =
         let e = shown-get lex ls p c t in
         t ∙ ap some (e .1 .char ∙ show .stand (e .0) (e .1 .among) .equal p (e .1 .from) (e .1 .to))
 
--- Lines that show a text give it back.
+-- Lines that match a text give it back.
 pub recovered-match : (lex : Lexicon) (ls : List Line) (ts : List ℕ) → Lines-match lex ls ts → recovered-from (length ts) 1 lex ls ≡ ts
 unfolding char-or
 recovered-match lex ls ts show =

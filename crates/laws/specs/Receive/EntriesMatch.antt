@@ -1,5 +1,5 @@
--- Whether the entries of an index stand in a text, as loops tell it: the characters at one place, a string at the places of a list,
--- and the lines one after the other. Assumes nothing.
+-- Whether the entries of an index stand in a text, as loops decide it: the characters at one position, a string at the positions of a
+-- list, and the lines one after the other. Assumes nothing.
 use mathlib.Core.Path.{_≡_, refl, sym, ap, _∙_, subst}
 use mathlib.Core.Logic.{_⊎_, inl, inr, ⊎-elim}
 use mathlib.Core.List.{List, [], _∷_}
@@ -22,9 +22,9 @@ use Rattle.laws.specs.Directory.Opened.{list-start, line-of, lines-next,
 use Rattle.laws.specs.Numbers.LineNumbers.{line-of-is, line-of-in}
 use Rattle.laws.specs.Receive.LinePass.{Line-lies, lies-positions}
 
--- ONE PLACE
+-- ONE POSITION
 
--- the characters of s from a to b − 1 are those of ts that stand `at` further on
+-- the characters of s from a to b − 1 equal those of ts that lie `at` further on
 abbrev pub Equal-part : (string : List ℕ) → (a b : ℕ) → (text : List ℕ) → (at : ℕ) → Type 0
 Equal-part s a b ts at = (x : ℕ) → a ≤ x → x < b → getD s x 0 ≡ getD ts (at + x) 0
 
@@ -39,7 +39,7 @@ module _ (s : List ℕ) (a : ℕ) (ts : List ℕ) (at : ℕ) where
   pub equal-part-end : (b : ℕ) → length s ≤ b → Equal-part s a b ts at → Equal-part s a (length s) ts at
   equal-part-end b past h x lo hi = h x lo (omega arith)
 
--- A PERIOD of a string: it is the same so many places further on, where both lie
+-- A PERIOD of a string: shifted by d, the string equals itself on the overlap
 pub record Period (s : List ℕ) (d : ℕ) : Type 0 where
   pub within : d ≤ length s
   pub equal : (x : ℕ) → d + x < length s → getD s (d + x) 0 ≡ getD s x 0
@@ -48,7 +48,7 @@ module _ (s : List ℕ) where
   pub period-whole : Period s (length s)
   period-whole = record { within = omega arith; equal = λ x b. absurd (omega arith) }
 
-  -- by comparing what is left after d characters, as it is lent, with the front
+  -- by comparing the suffix after d characters, as it is lent, with the string's start
   pub period-put :
       (d : ℕ) → d ≤ length s →
       Equal-part (take (length s - d) (drop d s)) 0 (length (take (length s - d) (drop d s))) s 0 → Period s d
@@ -63,12 +63,12 @@ module _ (s : List ℕ) where
       }
 
   module _ (ts : List ℕ) (p : ℕ) (some : 1 ≤ p) (room : p + length s ≤ suc (length ts)) where
-    -- all characters are right
+    -- all characters are equal
     pub stand-all : Equal-part s 0 (length s) ts (p - 1) → Stand s ts p
     stand-all h =
         stand-put s ts p some room (λ i b. let z : p - 1 + i ≡ p + i - 1 = omega arith in rw z at (h i (omega arith) b))
 
-    -- Where the string stands a period before, it is enough that the last characters are right, as many as the period.
+    -- If the string stands one period before, it is enough that the last characters are equal, as many as the period.
     pub stand-again :
         (d : ℕ) → Period s d → d ≤ p → Stand s ts (p - d) → Equal-part s (length s - d) (length s) ts (p - 1) → Stand s ts p
     stand-again d period back before h = stand-all (λ i lo b. each i b (le-or-lt (length s - d) i))
@@ -81,23 +81,23 @@ module _ (s : List ℕ) where
             ∙ stand-at s ts (p - d) (d + i) before (omega arith)
             ∙ ap (λ (j : ℕ). getD ts j 0) z
 
--- and where it stands, every part is right
+-- if the string stands, every part of it is equal
 pub stand-part : (s ts : List ℕ) (p : ℕ) → Stand s ts p → (a : ℕ) → Equal-part s a (length s) ts (p - 1)
 stand-part s ts p st a x lo hi =
     let z : p + x - 1 ≡ p - 1 + x = omega (arith, st .from) in
     stand-at s ts p x st hi ∙ ap (λ (j : ℕ). getD ts j 0) z
 
--- a step back from b to a
+-- from b back to a
 pub stand-back : (s ts : List ℕ) (a b : ℕ) → a ≤ b → Stand s ts a → Stand s ts (b - (b - a))
 stand-back s ts a b lo h = let z : b - (b - a) ≡ a = omega arith in rw z h
 
--- AT EACH PLACE OF A LIST
+-- AT EACH POSITION OF A LIST
 
--- a string stands at the first n places of a list
+-- a string stands at the first n positions of a list
 abbrev pub Stand-first : (string text positions : List ℕ) → (n : ℕ) → Type 0
 Stand-first s ts ps n = (j : ℕ) → j < n → Stand s ts (getD ps j 0)
 
--- and at each of them
+-- and at all of them
 abbrev pub Stand-each : (string text positions : List ℕ) → Type 0
 Stand-each s ts ps = Stand-first s ts ps (length ps)
 
@@ -122,7 +122,7 @@ character-stands m ts p st =
     let z : p + 0 - 1 ≡ p - 1 = omega arith in
     ap (λ (j : ℕ). getD ts j 0) (sym z) ∙ sym (stand-at (m ∷ []) ts p 0 st (omega arith))
 
--- places that rise
+-- ascending positions
 rise-next : (a : ℕ) (ps : List ℕ) → Rise a ps → (i : ℕ) → suc i < length ps → getD ps i 0 < getD ps (suc i) 0
 rise-next a [] r i b = absurd (omega arith)
 rise-next a (p ∷ []) r i b = absurd (omega arith)
@@ -136,7 +136,7 @@ rise-after a ps r i lo hi =
 
 -- LINE AFTER LINE
 
--- the lines before line i stand; the positions of line i start at `at`
+-- the entries of the lines before line i stand; the positions of line i start at `at`
 pub record Matching (lex : Lexicon) (xs ts : List ℕ) (at i : ℕ) : Type 0 where
   pub within : i ≤ keys-of xs
   pub at-is : at ≡ list-start xs i
@@ -183,7 +183,7 @@ module _ (lex : Lexicon) (xs ts : List ℕ) where
     unfolding flat
     matching-end past = h .left (rw (lines-none xs i past) (λ e m. absurd m))
 
--- the entries of one line, where all stand
+-- the entries of one line, if all stand
 pub line-matches :
     (lex : Lexicon) (xs ts : List ℕ) (at i end : ℕ) → Line-lies xs i at end → All-stand lex (lines-in xs) ts →
     Stand-each (spells lex (key-at xs i)) ts (take (end - at) (drop at xs))

@@ -1,5 +1,5 @@
--- Reception by lines noted at places: what the scan of a painted text registers is held to the line noted where it starts, and
--- the number registered to M. For every readable slice it accepts exactly if `is-index`. Assumes nothing.
+-- The reception test by a line map: each entry that the scan of a reconstructed text registers has to have the key of the line mapped to
+-- its position, and there have to be M of them. For every readable slice the test passes exactly if `is-index`. Assumes nothing.
 use mathlib.Core.Path.{_≡_, refl, sym, ap, _∙_, subst}
 use mathlib.Core.Bool.{Bool, true, false, _&&_}
 use mathlib.Core.Logic.{inl, inr}
@@ -28,14 +28,14 @@ use Rattle.laws.specs.Numbers.LineNumbers.{line-of, line-of-key, line-of
 use Rattle.laws.specs.Receive.Received.{readable-chars}
 use Rattle.laws.specs.Receive.ReceptionTest.{counted-index, index-taken, is-index-all, is-index-count, is-index-own-positions}
 
--- LINES NOTED AT PLACES
+-- THE LINE MAP
 
--- A number noted at each place: 0, or i + 1 for a line i that has the place. A place that some line has is noted.
+-- A number for each position: 0, or i + 1 for a line i that has the position. A position that some line has is mapped.
 pub record Line-map (xs : List ℕ) (line-for : ℕ → ℕ) : Type 0 where
   pub real : (p i : ℕ) → 1 ≤ p → line-for p ≡ suc i → (i < keys-of xs) × In p (line-of xs i .positions)
   pub each : (p i : ℕ) → i < keys-of xs → In p (line-of xs i .positions) → 1 ≤ line-for p
 
--- the line noted where an entry starts has the entry's key
+-- the line mapped to an entry's position has the entry's key
 unfoldable pub mapped-right : (line-for : ℕ → ℕ) → (numbers : List ℕ) → Entry → Bool
 mapped-right line-for xs e = ltb 0 (line-for (e .at)) && same-key (key-at xs (line-for (e .at) - 1)) (e .key-of)
 
@@ -43,7 +43,7 @@ unfoldable pub all-mapped : (line-for : ℕ → ℕ) → (numbers : List ℕ) �
 all-mapped line-for xs [] = true
 all-mapped line-for xs (e ∷ es) = mapped-right line-for xs e && all-mapped line-for xs es
 
--- every entry that the scan of us registers is noted, and there are M
+-- the reception test: every entry that the scan of us registers is mapped to its key, and there are M
 unfoldable pub verify : Lexicon → (line-for : ℕ → ℕ) → (numbers text : List ℕ) → Bool
 verify lex line-for xs us = all-mapped line-for xs (make-index lex us) && eqb (length (make-index lex us)) (entries-of xs)
 
@@ -63,7 +63,7 @@ all-mapped-put line-for xs [] h = refl
 all-mapped-put line-for xs (f ∷ es) h = and-put (h f (inl refl)) (all-mapped-put line-for xs es (λ e m. h e (inr m)))
 
 module _ (lex : Lexicon) (xs : List ℕ) (line-for : ℕ → ℕ) (mapped : Line-map xs line-for) where
-  -- a noted entry is one of the slice
+  -- an entry mapped to its key is an entry of the slice
   mapped-right-get :
       (e : Entry) → 1 ≤ e .at → e .len ≡ length (spells lex (e .key-of)) → mapped-right line-for xs e ≡ true →
       In e (flat lex (lines-in xs))
@@ -82,7 +82,7 @@ module _ (lex : Lexicon) (xs : List ℕ) (line-for : ℕ → ℕ) (mapped : Line
       rw is-e at
       (flat-put lex (lines-in xs) (line-of xs (line-for (e .at) - 1)) (e .at) (line-of-in xs (line-for (e .at) - 1) (here .0)) (here .1))
 
-  -- an entry of the slice is noted, if no other starts at its place
+  -- an entry of the slice is mapped to its key if no other starts at its position
   mapped-right-put :
       (e : Entry) → 1 ≤ e .at → In e (flat lex (lines-in xs)) →
       ((f : Entry) → In f (flat lex (lines-in xs)) → f .at ≡ e .at → f ≡ e) → mapped-right line-for xs e ≡ true
@@ -102,7 +102,7 @@ module _ (lex : Lexicon) (xs : List ℕ) (line-for : ℕ → ℕ) (mapped : Line
 
 module _ (lex : Lexicon) (good : Good-lexicon lex) (g : ℕ) (xs : List ℕ) (can : readable g lex xs ≡ true) (line-for : ℕ → ℕ)
     (mapped : Line-map xs line-for) where
-  -- What is accepted is the index of the list of characters that was scanned, whatever that list is.
+  -- If the test passes, the slice is the index of the characters scanned, whatever they are.
   pub verify-index : (us : List ℕ) → Chars us → length us ≡ n-of xs → verify lex line-for xs us ≡ true → index-of lex us ≡ xs
   unfolding verify
   verify-index us chars len t =
@@ -141,7 +141,8 @@ module _ (lex : Lexicon) (good : Good-lexicon lex) (g : ℕ) (xs : List ℕ) (ca
           mapped-right-put lex xs line-for mapped e (entries-sound lex good (recovered lex xs) chars e i .from) here
           (λ f n a. is-index-own-positions lex good g xs r f e n here a)
 
-  -- Accepted exactly if the numbers are the index of what they show, for any painting that is the recovered text where they are.
+  -- The test passes exactly if the numbers are the index of the text recovered from them, for any characters that are then the recovered
+  -- text.
   pub verify-exact :
       (us : List ℕ) → Chars us → length us ≡ n-of xs → (is-index g lex xs ≡ true → us ≡ recovered lex xs) →
       verify lex line-for xs us ≡ is-index g lex xs
@@ -151,7 +152,7 @@ module _ (lex : Lexicon) (good : Good-lexicon lex) (g : ℕ) (xs : List ℕ) (ca
 
 -- THE SCAN STEP BY STEP
 
--- what is left of the test at place p, with the last registered end and the number registered
+-- what is left of the test at position p, with the last registered end and the number of entries registered
 unfoldable pub verify-from : Lexicon → (line-for : ℕ → ℕ) → (numbers text : List ℕ) → (left p last count : ℕ) → Bool
 verify-from lex line-for xs us left p last count =
     all-mapped line-for xs (scan (longest-at lex us) left p last)

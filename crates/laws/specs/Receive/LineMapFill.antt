@@ -1,4 +1,4 @@
--- Noting the number of each line at its places, from a list of zeros: the notes that reception asks for. Assumes nothing.
+-- Filling the line map: the number of each line at its positions, from a list of zeros, as the reception test needs it. Assumes nothing.
 use mathlib.Core.Path.{_≡_, refl, _∙_}
 use mathlib.Core.Bool.{true}
 use mathlib.Core.Logic.{_⊎_, inl, inr, ⊎-elim}
@@ -19,17 +19,17 @@ use Rattle.laws.specs.Readable.Readable.{readable-get}
 use Rattle.laws.specs.Numbers.LineNumbers.{no-line, line-of, line-of-in, length-lines-in}
 use Rattle.laws.specs.Receive.LineMap.{Line-map}
 
--- a mark at each place of a list; place p is at p − 1
+-- a value stored at each position of a list; position p is at index p − 1
 unfoldable pub fill-positions : (value : ℕ) → (positions line-map : List ℕ) → List ℕ
 fill-positions m [] ns = ns
 fill-positions m (p ∷ ps) ns = fill-positions m ps (set ns (p - 1) m)
 
--- i + 1 at the places of line i, from line i on
+-- i + 1 at the positions of line i, from line i on
 unfoldable pub fill-line-map : (i : ℕ) → List Line → (line-map : List ℕ) → List ℕ
 fill-line-map i [] ns = ns
 fill-line-map i (l ∷ ls) ns = fill-line-map (suc i) ls (fill-positions (suc i) (l .positions) ns)
 
--- what is noted at p, from 1
+-- the number mapped to position p, from 1
 unfoldable pub mapped-at : (line-map : List ℕ) → (p : ℕ) → ℕ
 mapped-at ns p = getD ns (p - 1) 0
 
@@ -38,7 +38,7 @@ unfolding fill-positions
 length-fill-positions m [] ns = refl
 length-fill-positions m (p ∷ ps) ns = length-fill-positions m ps (set ns (p - 1) m) ∙ length-set ns (p - 1) m
 
--- a mark is the one that was there, or a new one whose place is in the list
+-- a number is unchanged, or is the value and its position is in the list
 fill-positions-get :
     (m : ℕ) (ps ns : List ℕ) (p : ℕ) → 1 ≤ p → ((q : ℕ) → In q ps → 1 ≤ q) →
     (mapped-at (fill-positions m ps ns) p ≡ mapped-at ns p) ⊎ (In p ps × (mapped-at (fill-positions m ps ns) p ≡ m))
@@ -59,7 +59,7 @@ fill-positions-get m (q ∷ ps) ns p lo from =
         let same : p ≡ q = omega (arith, h .0, from q (inl refl)) in inr (inl same, e ∙ h .1))
         (set-either 0 ns (q - 1) m (p - 1))
 
--- what is noted stays noted, and the places of the list are noted
+-- a mapped position stays mapped, and the positions of the list are mapped
 fill-positions-keeps : (m : ℕ) (ps ns : List ℕ) (p : ℕ) → 1 ≤ m → 1 ≤ mapped-at ns p → 1 ≤ mapped-at (fill-positions m ps ns) p
 unfolding fill-positions mapped-at
 fill-positions-keeps m [] ns p some h = h
@@ -123,7 +123,7 @@ fill-line-map-put i (l ∷ ls) ns p (suc j) lo hi b m =
     fill-line-map-put (suc i) ls (fill-positions (suc i) (l .positions) ns) p j lo
     (omega (arith, length-fill-positions (suc i) (l .positions) ns)) (omega arith) m
 
--- The notes of all lines of a readable slice, on a list where nothing was noted.
+-- The line map of all lines of a readable slice, on a list where no position was mapped.
 pub line-map-mapped :
     (lex : Lexicon) → Good-lexicon lex → (g : ℕ) (xs : List ℕ) → readable g lex xs ≡ true → (ns : List ℕ) → n-of xs ≤ length ns →
     ((p : ℕ) → 1 ≤ p → mapped-at ns p ≡ 0) → Line-map xs (mapped-at (fill-line-map 0 (lines-in xs) ns))

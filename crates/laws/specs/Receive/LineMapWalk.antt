@@ -1,4 +1,4 @@
--- Noting the lines of an index one after the other, as a loop does it. Assumes nothing.
+-- Filling the line map one line after the other, as a loop does it. Assumes nothing.
 use mathlib.Core.Path.{_≡_, refl, ap, _∙_, subst}
 use mathlib.Core.Bool.{true}
 use mathlib.Core.List.{List}
@@ -22,7 +22,7 @@ use Rattle.laws.specs.Receive.PositionWalk.{Lie-within}
 use Rattle.laws.specs.Receive.ReconstructionWalk.{good-lie}
 use Rattle.laws.specs.Receive.LinePass.{Line-lies, lies-positions, Passing, passing-start, passing-step, passing-end}
 
--- WHAT CAN BE NOTED
+-- WHAT CAN BE MAPPED
 
 -- numbers whose positions all lie from 1 to m
 pub record Can-map (xs : List ℕ) (m : ℕ) : Type 0 where
@@ -50,7 +50,7 @@ readable-line-map lex good g xs can m room =
 
 -- THE LINES
 
--- the lines before line i are noted; the positions of line i start at `at`
+-- the lines before line i are mapped; the positions of line i start at `at`
 abbrev pub Filling-lines : (xs old now : List ℕ) (at i : ℕ) → Type 0
 Filling-lines xs old now at i = Passing fill-line-map xs old now at i
 

@@ -1,5 +1,5 @@
--- A pass over the directory lines that changes a list line by line, with where each line's positions lie: its start, a step, its
--- end. Assumes nothing.
+-- A pass over the directory lines that changes a list line by line, given where each line's positions are: its start, a step, its end.
+-- Assumes nothing.
 use mathlib.Core.Path.{_≡_, refl, sym, ap, _∙_}
 use mathlib.Core.List.{List, [], _∷_}
 use Prim.Native.Nat.{ℕ, _+_, _*_, _-_, _≤_, _<_}
@@ -12,7 +12,7 @@ use Rattle.laws.specs.Directory.Opened.{list-start, line-of, lines-next,
 
 -- ONE LINE
 
--- the positions of line i lie from `begin` to `end`
+-- the positions of line i are at the indexes from `begin` to `end`
 pub record Line-lies (xs : List ℕ) (i begin end : ℕ) : Type 0 where
   pub below : i < keys-of xs
   pub begin-is : begin ≡ list-start xs i
@@ -22,7 +22,7 @@ module _ (xs : List ℕ) (i begin end : ℕ) (h : Line-lies xs i begin end) wher
   pub lies-room : Fits xs → end ≤ length xs
   lies-room fits = omega (arith, h .begin-is, h .end-is, list-room xs i (h .below) fits)
 
-  -- what is lent of the index
+  -- the part of the index that is lent
   pub lies-positions : take (end - begin) (drop begin xs) ≡ line-of xs i .positions
   unfolding line
   lies-positions =
@@ -31,7 +31,7 @@ module _ (xs : List ℕ) (i begin end : ℕ) (h : Line-lies xs i begin end) wher
 
 -- LINE AFTER LINE
 
--- Before line i, whose positions start at `at`: what the lines from i on make of `now` is what all make of `old`.
+-- Before line i, whose positions start at `at`: applying the lines from i on to `now` gives what applying all lines to `old` gives.
 pub record Passing (make : ℕ → List Line → List ℕ → List ℕ) (xs old now : List ℕ) (at i : ℕ) : Type 0 where
   pub within : i ≤ keys-of xs
   pub at-is : at ≡ list-start xs i

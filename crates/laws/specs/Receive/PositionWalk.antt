@@ -1,4 +1,5 @@
--- A string set at each place of a list, as loops do it: the copy at one place, and the walk over the places. Assumes nothing.
+-- A string written at each position of a list, as loops do it: the copy at one position, and the walk over the positions. Assumes
+-- nothing.
 use mathlib.Core.Path.{_≡_, refl, ap, _∙_}
 use mathlib.Core.List.{List, [], _∷_}
 use Prim.Native.Nat.{ℕ, suc, _+_, _-_, _≤_, _<_}
@@ -8,9 +9,9 @@ use lib.ListN.{length, getD, drop, set, length-set, drop-of-length-le}
 use lib.Seq.{sets, length-sets, drop-cons}
 use Rattle.laws.specs.Receive.LineMapFill.{fill-positions}
 
--- AT ONE PLACE
+-- AT ONE POSITION
 
--- the first j characters of s are set, from `at` on
+-- the first j characters of s are written, from `at` on
 pub record Setting (s : List ℕ) (at : ℕ) (old now : List ℕ) (j : ℕ) : Type 0 where
   pub within : j ≤ length s
   pub left : sets now (at + j) (drop j s) ≡ sets old at s
@@ -35,9 +36,9 @@ module _ (s : List ℕ) (at : ℕ) (old : List ℕ) where
     pub setting-end : length s ≤ j → now ≡ sets old at s
     setting-end past = rw (drop-of-length-le s past) at (h .left)
 
--- AT EACH PLACE OF A LIST
+-- AT EACH POSITION OF A LIST
 
--- a string at each place of a list; place p is at p − 1
+-- a string written at each position of a list; position p is at index p − 1
 unfoldable pub reconstruct-positions : (string positions text : List ℕ) → List ℕ
 reconstruct-positions s [] us = us
 reconstruct-positions s (p ∷ ps) us = reconstruct-positions s ps (sets us (p - 1) s)
@@ -47,18 +48,18 @@ unfolding reconstruct-positions
 length-reconstruct-positions s [] us = refl
 length-reconstruct-positions s (p ∷ ps) us = length-reconstruct-positions s ps (sets us (p - 1) s) ∙ length-sets us (p - 1) s
 
--- a string of one character is a mark
+-- a string of one character is one stored value
 pub reconstruct-character : (m : ℕ) (ps us : List ℕ) → reconstruct-positions (m ∷ []) ps us ≡ fill-positions m ps us
 unfolding reconstruct-positions fill-positions
 reconstruct-character m [] us = refl
 reconstruct-character m (p ∷ ps) us = reconstruct-character m ps (set us (p - 1) m)
 
--- a string of `long` characters lies within n characters at each of these places
+-- a string of `len` characters lies within n characters at each of these positions
 pub record Lie-within (len n : ℕ) (ps : List ℕ) : Type 0 where
   pub from : (j : ℕ) → j < length ps → 1 ≤ getD ps j 0
   pub to : (j : ℕ) → j < length ps → getD ps j 0 + len ≤ suc n
 
--- the string is set at the first j places
+-- the string is written at the first j positions
 pub record Reconstructed (s ps old now : List ℕ) (j : ℕ) : Type 0 where
   pub within : j ≤ length ps
   pub left : reconstruct-positions s (drop j ps) now ≡ reconstruct-positions s ps old
@@ -82,7 +83,7 @@ module _ (s ps old : List ℕ) where
     unfolding reconstruct-positions
     reconstructed-end past = rw (drop-of-length-le ps past) at (h .left)
 
--- the same with a mark
+-- the same with a single value
 module _ (m : ℕ) (ps old now : List ℕ) (j : ℕ) (h : Reconstructed (m ∷ []) ps old now j) where
   pub filled-step : j < length ps → Reconstructed (m ∷ []) ps old (set now (getD ps j 0 - 1) m) (j + 1)
   filled-step below = reconstructed-step (m ∷ []) ps old now j h below (set now (getD ps j 0 - 1) m) refl

@@ -63,7 +63,7 @@ pub received-reads : (g : ℕ) (lex : Lexicon) (xs : List ℕ) → received g le
 received-reads g lex xs t = is-index-get g lex xs (received-get g lex xs t .is-own) .can-read
 
 module _ (lex : Lexicon) (good : Good-lexicon lex) where
-  -- whatever readable numbers show is made of characters
+  -- the text recovered from readable numbers consists of characters
   pub readable-chars : (g : ℕ) (xs : List ℕ) → readable g lex xs ≡ true → Chars (recovered lex xs)
   readable-chars g xs t =
       recovered-is-chars lex xs (λ l m. spells-chars lex good (l .key-of) (readable-get g lex xs t .lines .each l m .is-key))
@@ -84,14 +84,14 @@ module _ (lex : Lexicon) (good : Good-lexicon lex) where
     own-index g small =
         is-index-put g lex (index-of lex ts) (record { can-read = index-can-read g small; index-is = ap (index-of lex) index-recovered })
 
-    -- if numbers are the index of these characters, they are that of what they show, and the characters are recovered
+    -- if numbers are the index of these characters, they are the index of the text recovered from them, and the characters are that text
     pub equal-own-index : (g : ℕ) (xs : List ℕ) → length ts ≤ g → index-of lex ts ≡ xs → is-index g lex xs ≡ true
     equal-own-index g xs small e = subst (λ (ys : List ℕ). is-index g lex ys ≡ true) e (own-index g small)
 
     pub is-index-recovered : (xs : List ℕ) → index-of lex ts ≡ xs → recovered lex xs ≡ ts
     is-index-recovered xs e = ap (recovered lex) (sym e) ∙ index-recovered
 
-    -- they are received where none of the characters is a full-width form
+    -- they are received if none of the characters is a full-width form
     pub is-index-received :
         (g : ℕ) (xs : List ℕ) → length ts ≤ g → Plain ts → index-of lex ts ≡ xs → received g lex xs ≡ true
     is-index-received g xs small plain e =
@@ -101,6 +101,6 @@ module _ (lex : Lexicon) (good : Good-lexicon lex) where
     pub index-find : (s : List ℕ) → 1 ≤ length s → find lex (index-of lex ts) s ≡ positions s ts
     index-find s some = find-positions lex (index-of lex ts) ts s (index-match lex good ts chars) (n-of-index lex ts) some
 
-  -- no two texts have one index
+  -- no two texts have the same index
   pub index-injective : (ts us : List ℕ) → Chars ts → Chars us → index-of lex ts ≡ index-of lex us → ts ≡ us
   index-injective ts us c d e = sym (index-recovered ts c) ∙ ap (recovered lex) e ∙ index-recovered us d

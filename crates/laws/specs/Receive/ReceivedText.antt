@@ -1,5 +1,5 @@
--- The text that reception paints into its work slice, and the notes behind it: the test of both accepts exactly where the index is that
--- of what it shows, and the painting is then the recovered text; without full-width forms in it, the index is received. Assumes nothing.
+-- The text that reception reconstructs in its work slice, and the line map behind it: the reception test passes exactly if the index is
+-- that of the recovered text, which the reconstruction then is; without full-width forms in it, the index is received. Assumes nothing.
 use mathlib.Core.Path.{_≡_, refl, sym, _∙_}
 use mathlib.Core.Bool.{Bool, true, false, not}
 use mathlib.Core.List.{List, []}
@@ -25,17 +25,17 @@ use Rattle.laws.specs.Receive.Receiving.{delivery-refusal, delivered}
 
 -- THE TEXT
 
--- whether an index is that of what it shows, and that at the front of the work slice where it is
+-- whether the numbers are the index of the text recovered from them; if so, that text is at the start of the work slice
 pub record Read-back (lex : Lexicon) (xs : List ℕ) (r : Bool) (work-now : List ℕ) : Type 0 where
   pub exact : r ≡ is-index longest-text lex xs
   pub text : r ≡ true → take (n-of xs) work-now ≡ recovered lex xs
 
--- whether an index is received, and its text at the front of the work slice where it is
+-- whether an index is received; if so, its text is at the start of the work slice
 pub record Tried (lex : Lexicon) (xs : List ℕ) (r : Bool) (work-now : List ℕ) : Type 0 where
   pub exact : r ≡ received longest-text lex xs
   pub text : r ≡ true → take (n-of xs) work-now ≡ recovered lex xs
 
--- a cleared slice has nothing noted
+-- a cleared slice maps no position
 cleared-line-map : (n p : ℕ) → mapped-at (replicate n 0) p ≡ 0
 unfolding mapped-at
 cleared-line-map n p =
@@ -52,7 +52,7 @@ module _ (cs ls xs : List ℕ) (w : ℕ) (chars : Chars cs) (none : delivery-ref
       blank-room cs ls [] 0 heads links starts chars
       (early-none cs ls [] 0 (delivered cs ls xs w none .admits) (omega arith) (omega arith)) b
 
--- w before the painting, u after it, v after the noting
+-- w is the work slice before the reconstruction, u after it, v after the line map is filled
 module _ (cs ls xs w : List ℕ) (chars : Chars cs) (work : Chars w) (none : delivery-refusal cs ls xs (length w) ≡ 0) (u v ns : List ℕ)
     (reconstructs : take (n-of xs) u ≡ reconstruct (lexicon cs ls) (flat (lexicon cs ls) (lines-in xs)) (take (n-of xs) w))
     (keeps : take (n-of xs) v ≡ take (n-of xs) u) (line-map : ns ≡ fill-line-map 0 (lines-in xs) (replicate (n-of xs) 0)) where
@@ -94,7 +94,7 @@ module _ (cs ls xs w : List ℕ) (chars : Chars cs) (work : Chars w) (none : del
           reception-recovers (lexicon cs ls) good longest-text xs can (take (n-of xs) w) (replicate (n-of xs) 0)
           (chars-take (n-of xs) w work) text-long line-map-long (λ p lo. cleared-line-map (n-of xs) p)
 
--- it is received where that holds no full-width form
+-- the index is received if that text has no full-width form
 module _ (lex : Lexicon) (xs v : List ℕ) (shown : Bool) (h : Read-back lex xs shown v) where
   pub not-tried : shown ≡ false → Tried lex xs false v
   unfolding received

@@ -1,4 +1,4 @@
--- Reception and recovery, from their tests to their answers: the order of the refusals, and what each call says. Assumes nothing.
+-- Reception and recovery, from their tests to their answers: the order of the refusals, and the contract of each call. Assumes nothing.
 use mathlib.Core.Path.{_≡_, refl, sym, _∙_}
 use mathlib.Core.Bool.{Bool, true, false, cond}
 use mathlib.Core.List.{List}
@@ -28,7 +28,7 @@ use Rattle.laws.specs.Build.Building.{puts-accepted, puts-refused, outpu
 unfoldable pub or-work-short : (refusal : ℕ) (index : List ℕ) (work : ℕ) → ℕ
 or-work-short refusal xs w = or-else refusal (cond (work-short (n-of xs) w) 7 0)
 
--- the refusals that need no painting: 1 to 3, 12, 5, 7
+-- the refusals that need no reconstruction: 1 to 3, 12, 5, 7
 abbrev pub delivery-refusal : (chars lengths index : List ℕ) → (work : ℕ) → ℕ
 delivery-refusal cs ls xs w = or-work-short (index-refusal cs ls xs) xs w
 
@@ -46,7 +46,7 @@ module _ (refusal : ℕ) (xs : List ℕ) (w : ℕ) where
     unfolding or-work-short or-else work-short
     short-none room = rw (eq-eqb refusal 0 none, le-ltb w (8 * n-of xs) room)
 
--- what holds where none of them is met
+-- what holds if none of them is met
 pub record Delivered (cs ls xs : List ℕ) (w : ℕ) : Type 0 where
   pub admits : dictionary-refusal cs ls ≡ 0
   pub can-read : readable longest-text (lexicon cs ls) xs ≡ true
@@ -63,7 +63,7 @@ module _ (cs ls xs : List ℕ) (w : ℕ) where
       (refusal early : ℕ) → refusal ≡ index-refusal cs ls xs → early ≡ or-work-short refusal xs w → early ≡ delivery-refusal cs ls xs w
   opened-delivery refusal early number e = rw number at e
 
-  -- an early refusal is the call's
+  -- an early refusal is the call's refusal
   pub reception-early :
       (number : ℕ) → number ≡ delivery-refusal cs ls xs w → (number ≡ 0 → ⊥) → reception-refusal cs ls xs w ≡ number
   unfolding reception-refusal or-work-short or-else work-short
@@ -96,7 +96,7 @@ module _ (cs ls xs : List ℕ) (w : ℕ) where
               (λ (h : w < 8 * n-of xs). absurd (omega (arith, short-work (index-refusal cs ls xs) xs w no-index-refusal h))) (le-or-lt (8 * n-of xs) w);
         }
 
-    -- without one it is 9 or none
+    -- without one the refusal is 9 or none
     pub reception-unreceived : received longest-text (lexicon cs ls) xs ≡ false → reception-refusal cs ls xs w ≡ 9
     unfolding reception-refusal or-else work-short no-text
     reception-unreceived f =
@@ -107,7 +107,7 @@ module _ (cs ls xs : List ℕ) (w : ℕ) where
     reception-received t =
         rw (eq-eqb (index-refusal cs ls xs) 0 no-index-refusal, le-ltb w (8 * n-of xs) (delivered .room), t)
 
-  -- a refusal of reception is recovery's; else it is 8 or none
+  -- a refusal of reception is recovery's; else recovery's is 8 or none
   module _ (o : ℕ) where
     pub recovery-early : (reception-refusal cs ls xs w ≡ 0 → ⊥) → recovery-refusal cs ls xs o w ≡ reception-refusal cs ls xs w
     unfolding recovery-refusal or-else
@@ -147,12 +147,12 @@ module _ (n : ℕ) (r : Answer) (o w v : List ℕ) where
         cleared = cleared;
       }
 
--- a text that was written from the first place on
+-- a text that was written from index 0 on
 pub text-put : (text old now : List ℕ) (end : ℕ) → Wrote text 0 old end now → now ≡ in-front text old
 unfolding in-front placed
 text-put text old now end h = let same : 0 + length text ≡ length text = omega arith in h .content ∙ rw same
 
--- a slice of the same length is cleared alike
+-- slices of the same length are the same once cleared
 pub zeros-alike : (w u : List ℕ) → length u ≡ length w → zeros u ≡ zeros w
 unfolding zeros
 zeros-alike w u e = rw e

@@ -1,5 +1,5 @@
--- Reception as it is done: paint the entries, note the lines, scan the painting. For every readable slice that accepts exactly if
--- `is-index`, and the painting is then the recovered text. Assumes nothing.
+-- Reception as it is done: reconstruct the text from the entries, fill the line map, scan the reconstructed text. For every readable
+-- slice the test passes exactly if `is-index`, and the reconstruction is then the recovered text. Assumes nothing.
 use mathlib.Core.Path.{_≡_, refl, _∙_}
 use mathlib.Core.Bool.{true}
 use mathlib.Core.Logic.{inl, inr, ⊎-elim}
@@ -22,7 +22,7 @@ use Rattle.laws.specs.Receive.LineMap.{Line-map, verify, verify-exact}
 use Rattle.laws.specs.Receive.Reconstruction.{reconstruct, length-reconstruct, reconstruct-recovered}
 use Rattle.laws.specs.Receive.LineMapFill.{mapped-at, fill-line-map, line-map-mapped}
 
--- A PAINTING IS MADE OF CHARACTERS, if what was there is
+-- A RECONSTRUCTION CONSISTS OF CHARACTERS, if what was there does
 
 set-chars : (us : List ℕ) (k c : ℕ) → Chars us → c < 65536 → Chars (set us k c)
 set-chars us k c chars small i b =

@@ -1,5 +1,5 @@
--- The model of reception, but for full-width forms. A list of characters is the text of a readable slice exactly if each entry registered
--- in it is one of the slice, and there are as many. Assumes nothing.
+-- The model of the reception test, except for full-width forms. A list of characters is the text of a readable slice exactly if each
+-- entry registered in it is one of the slice, and there are as many. Assumes nothing.
 use mathlib.Core.Path.{_≡_, sym, ap, _∙_, subst}
 use mathlib.Core.Bool.{true}
 use mathlib.Core.List.{List}
@@ -28,7 +28,7 @@ module _ (lex : Lexicon) (good : Good-lexicon lex) (g : ℕ) (xs : List ℕ) (ca
   flat-count : length (flat lex (lines-in xs)) ≡ entries-of xs
   flat-count = length-flat lex (lines-in xs) ∙ sym (entries-of-positions g lex xs can)
 
-  -- Each registered entry has its own delivered one, and there are as many.
+  -- If each registered entry is a delivered one, and there are as many, the slice is the index of these characters.
   pub counted-index :
       (us : List ℕ) → Chars us → length us ≡ n-of xs → ((e : Entry) → In e (entries lex us) → In e (flat lex (lines-in xs))) →
       length (entries lex us) ≡ entries-of xs → index-of lex us ≡ xs
@@ -45,7 +45,7 @@ module _ (lex : Lexicon) (good : Good-lexicon lex) (g : ℕ) (xs : List ℕ) (ca
           (λ e m. each e (in-sorted-get e (entries lex us) m))
           (omega (arith, flat-count, length-sorted (entries lex us)))
 
-  -- Numbers that are the index of such a list are that of what they show, and the list is recovered.
+  -- Numbers that are the index of such a list are the index of the text recovered from them, and the list is that text.
   pub index-taken :
       (us : List ℕ) → Chars us → length us ≡ n-of xs → index-of lex us ≡ xs → (is-index g lex xs ≡ true) × (recovered lex xs ≡ us)
   index-taken us chars len is = (
@@ -53,7 +53,7 @@ module _ (lex : Lexicon) (good : Good-lexicon lex) (g : ℕ) (xs : List ℕ) (ca
     is-index-recovered lex good us chars xs is,
   )
 
--- and so it is where numbers are the index of what they show
+-- conversely, if numbers are the index of the text recovered from them
 module _ (lex : Lexicon) (good : Good-lexicon lex) (g : ℕ) (xs : List ℕ) (taken : is-index g lex xs ≡ true) where
   text-chars : Chars (recovered lex xs)
   text-chars = readable-chars lex good g xs (is-index-get g lex xs taken .can-read)
@@ -76,7 +76,7 @@ module _ (lex : Lexicon) (good : Good-lexicon lex) (g : ℕ) (xs : List ℕ) (ta
       sym (entries-of-index lex good (recovered lex xs) text-chars)
       ∙ ap entries-of index-is
 
-  -- no two entries of such numbers start at one place
+  -- no two entries of such numbers start at the same position
   pub is-index-own-positions :
       (e f : Entry) → In e (flat lex (lines-in xs)) → In f (flat lex (lines-in xs)) → e .at ≡ f .at → e ≡ f
   is-index-own-positions e f m n a =

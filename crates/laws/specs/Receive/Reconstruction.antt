@@ -1,5 +1,5 @@
--- Painting a text from entries, in any order. Where the entries show a text, the
--- painting is that text, whatever was there before. Assumes nothing.
+-- Reconstructing a text from entries, in any order. If the entries match a text, the reconstruction is that text, whatever was there
+-- before. Assumes nothing.
 use mathlib.Core.Path.{_≡_, refl, sym, _∙_, subst}
 use mathlib.Core.Bool.{true}
 use mathlib.Core.Logic.{_⊎_, inl, inr}
@@ -21,9 +21,9 @@ use Rattle.laws.specs.Readable.Recover.{length-recovered}
 use Rattle.laws.specs.Readable.IndexOf.{index-match}
 use Rattle.laws.specs.Receive.Received.{is-index-get, readable-chars}
 
--- PAINTING
+-- RECONSTRUCTION
 
--- each entry's characters at its place
+-- each entry's characters written at its position
 unfoldable pub reconstruct : Lexicon → List Entry → (text : List ℕ) → List ℕ
 reconstruct lex [] us = us
 reconstruct lex (e ∷ es) us = reconstruct lex es (sets us (e .at - 1) (spells lex (e .key-of)))
@@ -34,7 +34,7 @@ length-reconstruct lex [] us = refl
 length-reconstruct lex (e ∷ es) us =
     length-reconstruct lex es (sets us (e .at - 1) (spells lex (e .key-of))) ∙ length-sets us (e .at - 1) (spells lex (e .key-of))
 
--- a place of a painted text is as it was, or an entry covers it
+-- a character of a reconstructed text is unchanged, or an entry covers it
 pub reconstruct-either :
     (lex : Lexicon) (es : List Entry) (us : List ℕ) (i : ℕ) →
     (getD (reconstruct lex es us) i 0 ≡ getD us i 0)
@@ -95,7 +95,7 @@ module _ (lex : Lexicon) (ts : List ℕ) where
       reconstruct-writes es (sets us (f .at - 1) (spells lex (f .key-of))) i
       (omega (arith, length-sets us (f .at - 1) (spells lex (f .key-of)))) (λ g n. stand g (inr n)) e m lo hi
 
-  -- Entries that stand in a text and cover it paint it, in any order.
+  -- Entries that stand in a text and cover it reconstruct it, in any order.
   pub reconstruct-covers :
       (es : List Entry) (us : List ℕ) → length us ≡ length ts →
       ((e : Entry) → In e es → Stand (spells lex (e .key-of)) ts (e .at)) →
@@ -110,10 +110,10 @@ module _ (lex : Lexicon) (ts : List ℕ) where
           let (e, m, lo, hi) = cover (suc i) (omega arith) (omega arith) in
           reconstruct-writes es us i within stand e m lo hi
 
--- WHERE NUMBERS ARE THE INDEX OF WHAT THEY SHOW
+-- IF NUMBERS ARE THE INDEX OF THE TEXT RECOVERED FROM THEM
 
 module _ (lex : Lexicon) (good : Good-lexicon lex) (g : ℕ) (xs : List ℕ) (taken : is-index g lex xs ≡ true) where
-  -- Their entries, painted in any order, give the recovered text.
+  -- Reconstruction from their entries, in any order, gives the recovered text.
   pub reconstruct-recovered :
       (es : List Entry) (us : List ℕ) → length us ≡ n-of xs → ((e : Entry) → In e es → In e (flat lex (lines-in xs))) →
       ((e : Entry) → In e (flat lex (lines-in xs)) → In e es) → reconstruct lex es us ≡ recovered lex xs

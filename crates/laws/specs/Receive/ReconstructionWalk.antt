@@ -1,4 +1,4 @@
--- Painting a readable index line by line, as a loop does it. Assumes nothing.
+-- Reconstructing the text of a readable index line by line, as a loop does it. Assumes nothing.
 use mathlib.Core.Path.{_≡_, refl, sym, ap, _∙_}
 use mathlib.Core.Bool.{Bool, true}
 use mathlib.Core.List.{List, [], _∷_, _++_}
@@ -54,7 +54,7 @@ module _ (cs ls starts : List ℕ) (started : Started cs ls starts) where
       facts : Is-admitted cs ls
       facts = admitted-get cs ls (started .dictionary)
 
--- the places of a good line have room for its key
+-- a good line's key fits at each of its positions
 pub good-lie :
     (lex : Lexicon) (n : ℕ) (l : Line) → Good-line lex n l → Lie-within (length (spells lex (l .key-of))) n (l .positions)
 good-lie lex n l good =
@@ -80,7 +80,7 @@ reconstruct-line lex l ls us = reconstruct-run lex (l .key-of) (l .positions) (f
 
 module _ (cs ls xs : List ℕ) (can : Can-read cs ls xs) (i begin end : ℕ) (lies : Line-lies xs i begin end) (us : List ℕ)
     (len : length us ≡ n-of xs) where
-  -- the key of line i has room at each of its positions
+  -- the key of line i fits at each of its positions
   key-room :
       Lie-within (length (spells (lexicon cs ls) (key-at xs i))) (length us) (take (end - begin) (drop begin xs))
   unfolding line
@@ -99,7 +99,7 @@ module _ (cs ls xs : List ℕ) (can : Can-read cs ls xs) (i begin end : ℕ) (li
   unfolding line
   positions-rise = rw (lies-positions xs i begin end lies) (line-good .rise)
 
-  -- a word, spelt by its part of the characters
+  -- a word, read from its part of the dictionary's characters
   module _ (word : kind-at xs i ≡ 0) (ws : List ℕ) (table : Word-starts ls (length ls) ws) where
     abbrev part : List ℕ
     part =
@@ -121,7 +121,7 @@ module _ (cs ls xs : List ℕ) (can : Can-read cs ls xs) (i begin end : ℕ) (li
         Reflects r (Stand-each (spells (lexicon cs ls) (key-at xs i)) ts (take (end - begin) (drop begin xs)))
     word-stood ts r h = rw spelt at h
 
-  -- a lone character, which is one mark
+  -- a lone character, which is a single value
   module _ (lone : kind-at xs i ≡ 0 → ⊥) where
     spelt-lone : spells (lexicon cs ls) (key-at xs i) ≡ value-at xs i ∷ []
     unfolding key
@@ -144,11 +144,11 @@ module _ (cs ls xs : List ℕ) (can : Can-read cs ls xs) (i begin end : ℕ) (li
 
 -- THE LINES
 
--- what a line paints does not depend on its number
+-- what a line writes does not depend on its number
 abbrev reconstruct-lines : Lexicon → ℕ → List Line → List ℕ → List ℕ
 reconstruct-lines lex i ls us = reconstruct lex (flat lex ls) us
 
--- the lines before line i are painted; the positions of line i start at `at`
+-- the lines before line i are written; the positions of line i start at `at`
 abbrev pub Reconstructing-lines : (lex : Lexicon) (xs old now : List ℕ) (at i : ℕ) → Type 0
 Reconstructing-lines lex xs old now at i = Passing (reconstruct-lines lex) xs old now at i
 

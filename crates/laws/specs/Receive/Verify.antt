@@ -1,5 +1,5 @@
--- Reception's test, mark by mark: the scan's mark at a place stands for a key, and the line noted there has to have it. Assumes
--- nothing.
+-- The reception test, token by token: the scan's token at a position has a key, and the line mapped to the position has to have that key.
+-- Assumes nothing.
 use mathlib.Core.Path.{_≡_, refl, sym, _∙_}
 use mathlib.Core.Bool.{Bool, true, false, _&&_, cond}
 use mathlib.Core.Logic.{_⊎_, inl, inr, ⊎-elim}
@@ -24,13 +24,13 @@ use Rattle.laws.specs.Build.ScanTokens.{Stepped}
 use Rattle.laws.specs.Receive.LineMapFill.{mapped-at}
 use Rattle.laws.specs.Receive.LineMap.{Line-map, mapped-right, verify, verify-from, verify-starts, verify-passes, verify-registers, verify-fails, verify-ends}
 
--- THE KEY OF A MARK
+-- THE KEY OF A TOKEN
 
--- the key that a mark stands for, c being the character there
+-- the key of a token, c being the character there
 unfoldable pub token-key : (token c : ℕ) → Key
 token-key m c = cond (eqb m 4097) (key 1 c) (key 0 (m - 1))
 
--- a note is that of a line with the key of a mark
+-- the mapped line has the token's key
 unfoldable pub token-mapped : (numbers : List ℕ) → (mapped token c : ℕ) → Bool
 token-mapped xs n m c = ltb 0 n && same-key (key-at xs (n - 1)) (token-key m c)
 
@@ -61,7 +61,7 @@ module _ (xs : List ℕ) (n m c : ℕ) where
       unfolding token-mapped token-key same-key key
       word-value same = rw (is-mapped, ne-eqb m 4097 word, eq-eqb (kind-at xs (n - 1)) 0 same)
 
--- a note is 0, or one more than a line's number
+-- a number of the line map is 0, or one more than a line's number
 pub map-small : (xs ns : List ℕ) → Line-map xs (mapped-at ns) → (q : ℕ) → getD ns q 0 ≤ keys-of xs
 unfolding mapped-at
 map-small xs ns right-line q = small (getD ns q 0) refl
@@ -72,7 +72,7 @@ map-small xs ns right-line q = small (getD ns q 0) refl
         let here : q + 1 - 1 ≡ q = omega arith in
         omega (arith, right-line .real (q + 1) i (omega arith) (rw here e) .0)
 
--- the line noted where a marked entry starts has the entry's key exactly if the note is right for the mark
+-- the line mapped to the position of a token's entry has the entry's key exactly if it has the token's
 token-entry-mapped :
     (lex : Lexicon) (mapped : ℕ → ℕ) (xs : List ℕ) (p token c : ℕ) (x : Entry) → token-entry lex p token c ≡ x ∷ [] →
     mapped-right mapped xs x ≡ token-mapped xs (mapped p) token c
@@ -94,15 +94,15 @@ token-entry-mapped lex mapped xs p (suc i) c x e = by-kind (true-or-false (eqb i
         let here : entry (key 0 i) p (length (getD (lex .words) i [])) ≡ x = rw f at is in
         rw (← here, ne-eqb (suc i) 4097 word, back)
 
--- nothing is marked by 0
+-- the token 0 has no entry
 unmarked : (lex : Lexicon) (p token c : ℕ) (x : Entry) → token-entry lex p token c ≡ x ∷ [] → token ≡ 0 → ⊥
 unfolding token-entry
 unmarked lex p zero c x e none = let z : _≡_ {A = ℕ} 0 1 = cc in omega arith
 unmarked lex p (suc i) c x e none = omega arith
 
--- THE SCAN, MARK BY MARK
+-- THE SCAN, TOKEN BY TOKEN
 
--- At q, after an end e, with `count` entries registered: what is left of the test is the whole of it.
+-- At q, with the last end e and `count` entries registered: the test of the rest decides the whole.
 pub record Testing (lex : Lexicon) (xs us ns : List ℕ) (q e count : ℕ) : Type 0 where
   pub within : q ≤ length us
   pub end : e ≤ length us
@@ -127,7 +127,7 @@ module _ (lex : Lexicon) (xs us ns : List ℕ) where
     more : verify-from lex (mapped-at ns) xs us (suc (length us - (q + 1))) (q + 1) (e + 1) count ≡ verify lex (mapped-at ns) xs us
     more = let left : length us - q ≡ suc (length us - (q + 1)) = omega arith in rw left at (t .exact)
 
-    -- a mark of 0 is that of an entry which ends by e, any other of one that ends after it
+    -- if the token is 0 the longest entry ends at or before e, else after it
     passed : token ≡ 0 → q + 1 + longest-at lex us (q + 1) .len ≤ e + 1
     passed none =
         ⊎-elim (λ (h : q + 1 + longest-at lex us (q + 1) .len ≤ e + 1). h)

@@ -1,4 +1,4 @@
--- A slice in parts: numbers put over its first n, and over the n after them. Assumes nothing.
+-- A slice in parts: numbers written over its first n, and over the n after them. Assumes nothing.
 use mathlib.Core.Path.{_≡_, _∙_}
 use mathlib.Core.List.{List, [], _++_, append-nil}
 use Prim.Native.Nat.{ℕ, _*_, _-_, _≤_}
@@ -28,12 +28,12 @@ module _ (n : ℕ) (w : List ℕ) (room : 2 * n ≤ length w) where
     behind-put =
         rw (drop-at (take n w) (ys ++ drop (2 * n - n) (drop n w)) n front-long) (take-at ys (drop (2 * n - n) (drop n w)) n len)
 
--- zeros of a slice of n numbers
+-- a slice of n numbers, cleared
 pub zeros-are : (n : ℕ) (xs : List ℕ) → length xs ≡ n → zeros xs ≡ replicate n 0
 unfolding zeros
 zeros-are n xs e = rw e
 
--- as many numbers as a slice has, put in front of it
+-- as many numbers as a slice has, written over its start, are the whole
 pub front-whole : (xs old : List ℕ) → length old ≡ length xs → in-front xs old ≡ xs
 unfolding in-front
 front-whole xs old e =
@@ -41,7 +41,7 @@ front-whole xs old e =
     let none : drop (length xs) old ≡ [] = drop-of-length-le old past in
     rw none (append-nil xs)
 
--- what was put in front of a slice, taken from it
+-- what was written over the start of a slice, taken from it
 pub front-taken : (n : ℕ) (xs old : List ℕ) → length xs ≡ n → take n (in-front xs old) ≡ xs
 unfolding in-front
 front-taken n xs old e = take-at xs (drop (length xs) old) n e

@@ -1,4 +1,4 @@
--- Agreement of an entry with a laid string, and the offset between them. Assumes nothing.
+-- Agreement of an entry with a string laid at a position, and the offset between them. Assumes nothing.
 use mathlib.Core.Path.{_≡_, refl, sym, ap, _∙_}
 use mathlib.Core.Bool.{Bool, true, false, _&&_, _||_, not}
 use mathlib.Core.List.{List}
@@ -15,7 +15,7 @@ use Rattle.laws.specs.Readable.Recover.{lies-on-get, lies-on-put}
 
 -- AGREEMENT AS A FACT
 
--- a string laid at a and an entry at b: some place is shared, and shared places carry equal characters
+-- a string laid at a and an entry at b share a position, and carry equal characters at all shared positions
 pub record Agree (s : List ℕ) (a : ℕ) (e : List ℕ) (b : ℕ) : Type 0 where
   pub shared : ℕ
   pub string-from : a ≤ shared
@@ -35,7 +35,7 @@ module _ (s : List ℕ) (a : ℕ) (e : List ℕ) (b : ℕ) where
   unfolding overlaps
   overlaps-put h i j k = lt-ltb (max a b) (min (a + length s) (b + length e)) (omega arith)
 
-  -- the test at one place
+  -- the test at one position
   equal-at : ℕ → Bool
   equal-at x = not (lies-on a (length s) x && lies-on b (length e) x) || eqb (getD s (x - a) 0) (getD e (x - b) 0)
 
@@ -105,9 +105,9 @@ agree-first s k o h =
     let w : o - o ≡ 0 = omega arith in
     rw (y, w) at (h .equal o (omega arith) (omega arith) (omega arith) (omega arith))
 
--- PLACES THAT DIFFER BY AS MUCH
+-- SHIFTED POSITIONS
 
--- agreement depends on the difference of the places alone
+-- agreement depends only on the difference of the positions
 pub agree-move :
     (s : List ℕ) (a : ℕ) (e : List ℕ) (b c d : ℕ) → a + d ≡ c + b → Agree s a e b → Agree s c e d
 agree-move s a e b c d z h =

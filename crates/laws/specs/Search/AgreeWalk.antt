@@ -1,5 +1,5 @@
--- The model of the agreement test: one string begins at 0, the other at a place in or after it, and the shared places are
--- compared in order. Assumes nothing.
+-- The model of the agreement test: one string starts at 0, the other at an index in or after it, and the shared positions are compared in
+-- order. Assumes nothing.
 use mathlib.Core.Path.{_≡_, refl, sym, ap, _∙_}
 use mathlib.Core.Bool.{true, false}
 use mathlib.Core.List.{List}
@@ -11,7 +11,7 @@ use Rattle.basics.specs.Bools.{false-put, iff-eq}
 use Rattle.spec.specs.Search.{agrees, string-start, key-start, agrees-at}
 use Rattle.laws.specs.Search.Agree.{agrees-get, agrees-put, agree-sym}
 
--- WHICH OF THE TWO BEGINS FIRST
+-- WHICH OF THE TWO STARTS FIRST
 
 pub agrees-swap : (s : List ℕ) (a : ℕ) (e : List ℕ) (b : ℕ) → agrees s a e b ≡ agrees e b s a
 agrees-swap s a e b =
@@ -19,7 +19,7 @@ agrees-swap s a e b =
     (λ t. agrees-put e b s a (agree-sym s a e b (agrees-get s a e b t)))
     (λ t. agrees-put s a e b (agree-sym e b s a (agrees-get e b s a t)))
 
--- a key that starts first, and has another character where the string starts
+-- a key that starts first, and has another character where the string starts, does not agree
 pub key-starts-apart : (i : ℕ) (s k : List ℕ) → i < length k → (getD k i 0 ≡ getD s 0 0 → ⊥) → agrees s i k 0 ≡ false
 key-starts-apart i s k some other =
     false-put (agrees s i k 0)
@@ -29,7 +29,7 @@ key-starts-apart i s k some other =
     let z : i - 0 ≡ i = omega arith in
     other (sym (rw (y, z) at (h .equal i (omega arith) (omega arith) (omega arith) (omega arith)))))
 
--- THE SHARED PLACES, the second string at `at` of the first
+-- THE SHARED POSITIONS, the second string at index `at` of the first
 
 module _ (s e : List ℕ) (at : ℕ) where
   pub apart-short : length s ≤ at → false ≡ agrees s 0 e at
@@ -38,7 +38,7 @@ module _ (s e : List ℕ) (at : ℕ) where
   pub apart-empty : length e ≡ 0 → false ≡ agrees s 0 e at
   apart-empty h = sym (false-put (agrees s 0 e at) (λ t. let m = agrees-get s 0 e at t in omega arith))
 
-  -- a shared place at which they differ
+  -- a shared position at which they differ
   pub apart-at :
       (j : ℕ) → at + j < length s → j < length e → (getD s (at + j) 0 ≡ getD e j 0 → ⊥) → false ≡ agrees s 0 e at
   apart-at j left right differ = sym (false-put (agrees s 0 e at) wrong)
@@ -50,7 +50,7 @@ module _ (s e : List ℕ) (at : ℕ) where
           let second : at + j - at ≡ j = omega arith in
           differ (rw (first, second) at (m .equal (at + j) (omega arith) (omega arith) (omega arith) (omega arith)))
 
-  -- all shared places are equal
+  -- all shared positions are equal
   pub together :
       (i : ℕ) → at < length s → (length e ≡ 0 → ⊥) → min (length s - at) (length e) ≤ i →
       ((k : ℕ) → k < i → getD s (at + k) 0 ≡ getD e k 0) → true ≡ agrees s 0 e at

@@ -1,5 +1,5 @@
--- The greedy cover of a string laid at p, in facts: how a reach is raised entry by entry in any order, and that a reach which no
--- entry can raise tells exactly whether all is covered. Assumes nothing.
+-- The greedy cover of a string laid at p, as facts: entries extend the reach one by one in any order, and a reach that no entry can
+-- extend decides whether all is covered. Assumes nothing.
 use mathlib.Core.Path.{_≡_, ap}
 use mathlib.Core.Bool.{true}
 use mathlib.Core.Logic.{_⊎_, inl, inr, ⊎-elim}
@@ -19,24 +19,24 @@ use Rattle.laws.specs.Text.Facts.{flat}
 use Rattle.laws.specs.Search.Agree.{Agree}
 use Rattle.laws.specs.Search.Search.{covered-get, covered-put, all-covered-get, all-covered-put}
 
--- the first r places under the string are covered
+-- the first r positions under the string are covered
 abbrev pub Covered-to : Lexicon → List Line → (string : List ℕ) → (p r : ℕ) → Type 0
 Covered-to lex ls s p r = (x : ℕ) → p ≤ x → x < p + r → x < p + length s → covered lex ls s p x ≡ true
 
--- what is reached is covered, and an entry that agrees and starts at or before what is reached ends by it
+-- the positions within the reach are covered, and an entry that agrees and starts at or before its end ends at or before it
 pub record Reached (lex : Lexicon) (ls : List Line) (s : List ℕ) (p r : ℕ) : Type 0 where
   pub covered-to : Covered-to lex ls s p r
   pub closed :
       (e : Entry) → In e (flat lex ls) → Agree s p (spells lex (e .key-of)) (e .at) → e .at ≤ p + r → e .at + e .len ≤ p + r
 
--- from r to t, by the entries that are taken: each that agrees and starts at or before what was reached ends by what now is
+-- the taken entries extend the reach from r to t: each that agrees and starts at or before the end of r ends at or before that of t
 pub record Extends (lex : Lexicon) (ls : List Line) (s : List ℕ) (p : ℕ) (Taken : Entry → Type 0) (r t : ℕ) : Type 0 where
   pub grows : r ≤ t
   pub keeps : Covered-to lex ls s p r → Covered-to lex ls s p t
   pub ends : (e : Entry) → Taken e → Agree s p (spells lex (e .key-of)) (e .at) → e .at ≤ p + r → e .at + e .len ≤ p + t
 
 module _ (lex : Lexicon) (ls : List Line) (s : List ℕ) (p : ℕ) where
-  -- A reach that no entry can raise passes the string exactly if all of it is covered.
+  -- A reach that no entry can extend comes to the string's end exactly if all of it is covered.
   pub reached-exact : (r : ℕ) → Reached lex ls s p r → leb (length s) r ≡ all-covered (length s) p lex ls s p
   reached-exact r h =
       iff-eq (leb (length s) r) (all-covered (length s) p lex ls s p)
@@ -56,7 +56,7 @@ module _ (lex : Lexicon) (ls : List Line) (s : List ℕ) (p : ℕ) where
   pub extends-none : (r : ℕ) → Extends lex ls s p (λ e. ⊥) r r
   extends-none r = record { grows = omega arith; keeps = λ h. h; ends = λ e taken agree start. absurd taken }
 
-  -- one step after another
+  -- one extension after another
   pub extends-then :
       {A B : Entry → Type 0} (C : Entry → Type 0) (r t u : ℕ) → ((e : Entry) → C e → A e ⊎ B e) →
       Extends lex ls s p A r t → Extends lex ls s p B t u → Extends lex ls s p C r u
@@ -72,7 +72,7 @@ module _ (lex : Lexicon) (ls : List Line) (s : List ℕ) (p : ℕ) where
       by-step e agree start (inl a) = let h : e .at + e .len ≤ p + t = one .ends e a agree start in omega (arith, two .grows)
       by-step e agree start (inr b) = two .ends e b agree (omega (arith, one .grows))
 
-  -- one entry that agrees and starts at or before what is reached
+  -- one entry that agrees and starts at or before the end of the reach
   pub extends-by :
       (f : Entry) → In f (flat lex ls) → Agree s p (spells lex (f .key-of)) (f .at) → (r : ℕ) → f .at ≤ p + r →
       Extends lex ls s p (λ e. e ≡ f) r (max r ((f .at + f .len) - p))
@@ -94,14 +94,14 @@ module _ (lex : Lexicon) (ls : List Line) (s : List ℕ) (p : ℕ) where
       on h x lo hi inside (inl new) =
           covered-put lex ls s p x f (record { among = m; from = omega arith; to = omega arith; agree = agree })
 
-  -- it is enough that the entries that agree were taken
+  -- it is enough to take the entries that agree
   pub extends-fewer :
       {A : Entry → Type 0} (B : Entry → Type 0) (r t : ℕ) →
       ((e : Entry) → B e → Agree s p (spells lex (e .key-of)) (e .at) → A e) → Extends lex ls s p A r t → Extends lex ls s p B r t
   extends-fewer B r t fewer h =
       record { grows = h .grows; keeps = h .keeps; ends = λ e taken agree start. h .ends e (fewer e taken agree) agree start }
 
-  -- entries that start after what is reached change nothing
+  -- entries that start after the end of the reach change nothing
   pub extends-later : (Taken : Entry → Type 0) (r : ℕ) → ((e : Entry) → Taken e → p + r < e .at) → Extends lex ls s p Taken r r
   extends-later Taken r late =
       record {
@@ -110,9 +110,9 @@ module _ (lex : Lexicon) (ls : List Line) (s : List ℕ) (p : ℕ) where
         ends = λ e taken agree start. let l : p + r < e .at = late e taken in absurd (omega arith);
       }
 
--- STAGES: the entries that start at p or before, then those at p + 1, at p + 2, ..
+-- OFFSETS: the entries that start at p or before, then those at p + 1, at p + 2, ..
 
--- n stages from o, from the reach r to t: an entry that starts there and within what is reached ends by it
+-- n offsets from o on extend the reach from r to t: an entry at one of them that agrees and starts within the reach ends within it
 pub record At-offsets (lex : Lexicon) (ls : List Line) (s : List ℕ) (p n o r t : ℕ) : Type 0 where
   pub grows : r ≤ t
   pub keeps : Covered-to lex ls s p r → Covered-to lex ls s p t
@@ -125,7 +125,7 @@ module _ (lex : Lexicon) (ls : List Line) (s : List ℕ) (p : ℕ) where
   at-offsets-none o r =
       record { grows = omega arith; keeps = λ h. h; closed = λ e m agree lo hi start. absurd (omega arith) }
 
-  -- the stage at o, and those after it; a reach below o stays as it is
+  -- the offset o, then those after it; a reach below o is unchanged
   pub at-offsets-then :
       (n o r t u : ℕ) → Extends lex ls s p (λ e. In e (flat lex ls) × (e .at ≡ p + o)) r t → At-offsets lex ls s p n (suc o) t u →
       (r < o → u ≡ r) → At-offsets lex ls s p (suc n) o r u
@@ -146,7 +146,7 @@ module _ (lex : Lexicon) (ls : List Line) (s : List ℕ) (p : ℕ) where
           omega (arith, later .grows)
       closed e m agree lo hi start (inl here) (inr far) = let still : u ≡ r = stop far in absurd (omega arith)
 
-  -- The first stage from nothing and the others after it leave a reach that no entry can raise.
+  -- The leading keys from a reach of 0, and the offsets above 0 after them, leave a reach that no entry can extend.
   pub at-offsets-reached :
       (t u : ℕ) → Extends lex ls s p (λ e. In e (flat lex ls) × (e .at ≤ p)) 0 t → At-offsets lex ls s p (length s - 1) 1 t u →
       Reached lex ls s p u

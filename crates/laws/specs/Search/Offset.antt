@@ -1,4 +1,4 @@
--- The offset of a key against a string: its two starts, agreement at it, and its range. Assumes nothing.
+-- The offset of a key from a string: its two starts, agreement at it, and its range. Assumes nothing.
 use mathlib.Core.Path.{_≡_, refl, sym, ap₂, _∙_}
 use mathlib.Core.Bool.{Bool, true, false, _&&_, cond}
 use mathlib.Core.List.{List, [], _∷_}
@@ -15,7 +15,7 @@ use Rattle.laws.specs.Search.Agree.{overlaps-get, overlaps-put, agrees-m
 
 -- THE STARTS
 
--- the first of the two begins at 0, the other after it by as much as their places differ
+-- the first of the two starts at 0, the other after it by the difference of their positions
 pub offset-starts : (b a : ℕ) → (string-start (offset b a) ≡ a - b) × (key-start (offset b a) ≡ b - a)
 unfolding offset string-start key-start
 offset-starts b zero = (omega arith, omega arith)
@@ -30,7 +30,7 @@ offset-starts b (suc a) = by-test (ltb b (suc a)) refl
 
 -- AGREEMENT AT AN OFFSET
 
--- an entry agrees where it lies exactly if its key agrees at its offset
+-- an entry agrees at its position exactly if its key agrees at its offset
 pub agrees-offset : (s : List ℕ) (a : ℕ) (e : List ℕ) (b : ℕ) → agrees s a e b ≡ agrees-at e s (offset b a)
 unfolding agrees-at
 agrees-offset s a e b =
@@ -60,7 +60,7 @@ in-offsets-starts [] s o h i = absurd (omega arith)
 in-offsets-starts (c ∷ k) [] o h i = absurd (omega arith)
 in-offsets-starts (c ∷ k) (d ∷ s) o h i = ap₂ _&&_ (from-least (length k) o) (to-greatest (length s) o)
 
--- the range is exactly that of the offsets at which the two overlap
+-- the range holds exactly the offsets at which the two overlap
 pub in-offsets-overlaps :
     (s : List ℕ) (a : ℕ) (k : List ℕ) (b : ℕ) → 1 ≤ length k → 1 ≤ length s → in-offsets k s (offset b a) ≡ overlaps s a k b
 in-offsets-overlaps s a k b h i =

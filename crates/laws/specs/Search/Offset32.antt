@@ -1,5 +1,5 @@
--- An offset held in 32 bits, and the two natural starts that it is turned into: the string's is one more than the negated successor
--- of an offset below zero, the key's is an offset above zero itself. Back from two starts to their offset. Assumes nothing.
+-- An offset in 32 bits, and the two natural starts it is converted to: the string's is one more than the negated successor of an offset
+-- below zero, the key's is an offset above zero itself. Also from two starts back to their offset. Assumes nothing.
 use mathlib.Core.Path.{_≡_, refl, sym, ap, subst, _∙_}
 use mathlib.Core.Bool.{Bool, true, false, cond}
 use Prim.Native.Nat.{ℕ, zero, suc, _+_, _-_, _≤_, _<_, _^_}
@@ -14,11 +14,11 @@ use borrow.Author.Tests.{lt-ltb, ltb-true, ltb-false}
 use Rattle.basics.specs.Bools.{clash}
 use Rattle.spec.specs.Search.{offset, string-start, key-start}
 
--- what the bits of z read as
+-- the number that the 32 bits of z represent
 abbrev pub held : ℤ → ℤ
 held z = toZ w32 (ofZ w32 z)
 
--- the negated successor of z, each step held in 32 bits
+-- the negated successor of z, each step in 32 bits
 abbrev pub turned : ℤ → ℤ
 turned z = held (pos 0 -ℤ held (held z +ℤ pos 1))
 
@@ -33,7 +33,7 @@ pub record Below (z : ℤ) : Type 0 where
   pub start-small : Fits w64 (natAbs (turned z) + 1)
   pub string-starts : natAbs (turned z) + 1 ≡ string-start z
 
--- z is above zero: it is where the key starts
+-- z is above zero: it is the key's start
 pub record Above (z : ℤ) : Type 0 where
   pub natural : T (nonNeg (held z))
   pub small : Fits w64 (natAbs (held z))
@@ -54,7 +54,7 @@ negated-fits : (o : ℕ) → o < 2 ^ 31 → SFits w32 (negℤ (pos o))
 negated-fits zero h = record { sfits = h }
 negated-fits (suc m) h = record { sfits = omega arith }
 
--- a number that reads as o is not below zero, and casts to o
+-- a number equal to o is not below zero, and casts to o
 reads-above : (z : ℤ) (o : ℕ) → z ≡ pos o → T (nonNeg z)
 reads-above z o e = subst (λ (k : ℤ). T (nonNeg k)) (sym e) tt
 
@@ -134,7 +134,7 @@ difference-fits b (suc a) small-b small-a = by-test (ltb b (suc a))
     by-test true = record { sfits = omega arith }
     by-test false = record { sfits = omega arith }
 
--- the difference of two starts, each held in 32 bits, is the offset
+-- the difference of two starts, each in 32 bits, is the offset
 module _ (b a : ℕ) (small-b : b < 2 ^ 31) (small-a : a < 2 ^ 31) where
   difference : toZ w32 b -ℤ toZ w32 a ≡ pos b -ℤ pos a
   difference =

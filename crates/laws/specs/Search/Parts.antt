@@ -1,4 +1,4 @@
--- One string that lies in another, and an end of one that is a start of the other, as agreement. Assumes nothing.
+-- A string contained in another, and a suffix of one that is a prefix of the other, as agreement. Assumes nothing.
 use mathlib.Core.Path.{_≡_, refl, sym, ap, _∙_}
 use mathlib.Core.Bool.{Bool, true, _&&_}
 use mathlib.Core.List.{List}
@@ -15,7 +15,7 @@ use Rattle.spec.specs.Cut.{lies-from, lies-in, joins-from, joins}
 use Rattle.laws.specs.Text.Strings.{same-get, same-put, Stand, stands-get, stands-put}
 use Rattle.laws.specs.Search.Agree.{Agree, agree-move}
 
--- ONE STRING LIES IN ANOTHER
+-- A STRING CONTAINED IN ANOTHER
 
 module _ (a b : List ℕ) where
   lies-at : ℕ → Bool
@@ -44,9 +44,9 @@ module _ (a b : List ℕ) where
       ∙ any-from-put (suc (length b) - length a) 0 lies-at (p - 1) (omega arith) (omega (arith, st .from, st .within))
       (and-right (leb 1 p && leb (p + length a) (suc (length b))) (same (take (length a) (drop (p - 1) b)) a) (stands-put a b p st))
 
--- AN END OF ONE IS A START OF THE OTHER
+-- A SUFFIX OF ONE IS A PREFIX OF THE OTHER
 
--- the last characters of a, from place d on, are the first of b
+-- the last characters of a, from index d on, are the first of b
 pub record Join (a b : List ℕ) (d : ℕ) : Type 0 where
   pub inside : d < length a
   pub room : length a ≤ d + length b
@@ -138,7 +138,7 @@ module _ (a b : List ℕ) where
         equal = λ x lo hi l h. st .equal x lo hi;
       }
 
-  -- a string that starts no earlier and ends no later lies in the other
+  -- a string that agrees, starts no earlier and ends no later is contained in the other
   pub agree-stand : (p q : ℕ) → Agree a p b q → q ≤ p → p + length a ≤ q + length b → Stand a b (suc (p - q))
   agree-stand p q h lo hi =
       let moved = agree-move a p b q (suc (p - q)) 1 (omega arith) h in
@@ -159,7 +159,7 @@ module _ (a b : List ℕ) where
         equal = λ x lo hi l u. let z : x - 0 ≡ x = omega arith in rw z (h .equal x l (omega arith));
       }
 
-  -- a string that starts no later and ends no later joins the other
+  -- a string that agrees, starts no later and ends no later has a suffix that is a prefix of the other
   pub agree-join : (p q : ℕ) → Agree a p b q → p ≤ q → p + length a ≤ q + length b → Join a b (q - p)
   agree-join p q h lo hi =
       let moved = agree-move a p b q 0 (q - p) (omega arith) h in

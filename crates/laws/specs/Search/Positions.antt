@@ -1,4 +1,4 @@
--- The places of a string and the positions found: ascending, each once, and which they are. Assumes nothing.
+-- The positions at which a string stands, and the positions found: ascending, each once, and which they are. Assumes nothing.
 use mathlib.Core.Path.{_≡_}
 use mathlib.Core.Bool.{Bool, true, false, cond}
 use mathlib.Core.List.{List, _∷_}
@@ -33,7 +33,7 @@ those-from-rise (suc n) p f = by-test (f p) (those-from-rise n (suc p) f)
     by-test false later = rise-more (suc p) p (those-from n (suc p) f) later
         (λ q m. omega (arith, rise-least (suc p) (those-from n (suc p) f) q later m))
 
--- PLACES
+-- WHERE THE STRING STANDS
 
 module _ (s ts : List ℕ) where
   positions-those : positions s ts ≡ those-from (length ts) 1 (stands s ts)
@@ -56,7 +56,7 @@ module _ (s ts : List ℕ) where
 
 -- FOUND
 
--- p is found: the string fits there, and each place under it is covered by an entry that agrees
+-- p is found: the string fits there, and each position under it is covered by an entry that agrees
 pub record Is-found (lex : Lexicon) (ls : List Line) (n : ℕ) (s : List ℕ) (p : ℕ) : Type 0 where
   pub from : 1 ≤ p
   pub within : p + length s ≤ suc n

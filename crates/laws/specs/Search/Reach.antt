@@ -1,5 +1,5 @@
--- The search algorithm for one start p, as a function: how many characters of the string are covered from its front, raised key by
--- key and offset by offset. `ReachExact` says what it tells. Assumes nothing.
+-- The search algorithm for one start p, as a function: the length of the string's covered prefix, extended key by key and offset by
+-- offset. `ReachExact` says what it decides. Assumes nothing.
 use mathlib.Core.Path.{_≡_, refl}
 use mathlib.Core.Bool.{Bool, true, false, cond}
 use mathlib.Core.List.{List, [], _∷_}
@@ -14,14 +14,14 @@ use Rattle.spec.specs.Numbers.{Line}
 use Rattle.spec.specs.Search.{agrees}
 use Rattle.spec.specs.Models.{extend, reach-positions, reach-key, reach-offset, reach-offsets}
 
--- WHERE NOTHING IS RAISED
+-- WHEN THE REACH IS UNCHANGED
 
 -- by a key that does not agree
 pub reach-key-apart : (i o : ℕ) (s k : List ℕ) (p : ℕ) (bs : List ℕ) (r : ℕ) → agrees s i k o ≡ false → reach-key i o s k p bs r ≡ r
 unfolding reach-key
 reach-key-apart i o s k p bs r f = rw f
 
--- below the offset
+-- if the reach is below the offset
 
 extend-stop : (i o l p b r : ℕ) → r < o → extend i o l p b r ≡ r
 unfolding extend

@@ -1,4 +1,4 @@
--- The reach of the search algorithm passes the string exactly if every place under it is covered. Assumes nothing.
+-- The reach of the search algorithm comes to the string's end exactly if every position under it is covered. Assumes nothing.
 use mathlib.Core.Path.{_≡_, sym, _∙_}
 use mathlib.Core.List.{List}
 use Prim.Native.Nat.{ℕ, zero, suc, _+_, _-_, _≤_, _<_}
@@ -36,11 +36,11 @@ module _ (lex : Lexicon) (ls : List Line) (s : List ℕ) (p : ℕ) where
       at-offsets-reached lex ls s p t (reach-offsets (length s - 1) 1 lex ls s p t) (reach-leading-extends lex ls s p ls 0 (λ e m. m))
       (reach-offsets-at-offsets (length s - 1) 1 t)
 
-  -- The reach passes the string exactly if every place under it is covered by an entry that agrees.
+  -- The reach comes to the string's end exactly if every position under it is covered by an entry that agrees.
   pub reach-exact : leb (length s) (reach lex ls s p) ≡ all-covered (length s) p lex ls s p
   reach-exact = reached-exact lex ls s p (reach lex ls s p) reach-reached
 
--- what is found is the starts whose reach passes the string, however it is come by
+-- the starts whose reach comes to the string's end are those found, however the reach is computed
 pub found-reached :
     (lex : Lexicon) (ls : List Line) (s : List ℕ) (n q : ℕ) (f : ℕ → ℕ) →
     ((p : ℕ) → q ≤ p → p < q + n → Reached lex ls s p (f p)) → found-from n q lex ls s ≡ those-from n q (λ p. leb (length s) (f p))

@@ -1,4 +1,4 @@
--- Each step of the search algorithm raises the reach by exactly the entries that it takes. Assumes nothing.
+-- Each step of the search algorithm extends the reach by exactly the entries that it takes. Assumes nothing.
 use mathlib.Core.Path.{_≡_, refl, ap}
 use mathlib.Core.Bool.{Bool, true, false, cond}
 use mathlib.Core.Logic.{_⊎_, inl, inr}
@@ -20,7 +20,7 @@ use Rattle.laws.specs.Search.Agree.{Agree, agrees-get, agrees-put, agree
 use Rattle.laws.specs.Search.Cover.{Extends, extends-none, extends-then, extends-by, extends-fewer, extends-later}
 use Rattle.spec.specs.Models.{extend, reach-positions, reach-key, reach-back, reach-leading, reach-offset}
 
--- the entries of a key's places at one offset
+-- the entries at a key's positions at one offset
 abbrev pub At-offset : Lexicon → (p i o : ℕ) → Key → (positions : List ℕ) → Entry → Type 0
 At-offset lex p i o k bs e = In e (entries-at lex k bs) × (e .at + i ≡ p + o)
 
@@ -120,7 +120,7 @@ module _ (lex : Lexicon) (ls : List Line) (s : List ℕ) (p : ℕ) where
       split e m lo hi (inl h) = inl (m, omega arith)
       split e m lo hi (inr h) = inr (m, omega arith, omega arith)
 
-  -- the first stage takes the entries that start at p or before
+  -- the leading keys take the entries that start at p or before
   pub reach-leading-extends :
       (ks : List Line) (r : ℕ) → Fewer lex ks ls →
       Extends lex ls s p (λ e. In e (flat lex ks) × (e .at ≤ p)) r (reach-leading lex ks s p r)
@@ -159,7 +159,7 @@ module _ (lex : Lexicon) (ls : List Line) (s : List ℕ) (p : ℕ) where
       split e at (inl m) = inl (m, at)
       split e at (inr m) = inr (m, at)
 
-  -- a later stage takes the entries at p + o
+  -- an offset o above 0 takes the entries at p + o
   pub reach-offset-extends :
       (ks : List Line) (o r : ℕ) → Fewer lex ks ls →
       Extends lex ls s p (λ e. In e (flat lex ks) × (e .at ≡ p + o)) r (reach-offset o lex ks s p r)

@@ -1,4 +1,4 @@
--- Search: what is covered, what is found, and that lines which show a text find exactly its places. Assumes nothing.
+-- Search: what is covered, what is found, and that lines which match a text find exactly the string's positions in it. Assumes nothing.
 use mathlib.Core.Path.{_≡_, refl, sym, ap, _∙_}
 use mathlib.Core.Bool.{Bool, true, false, _&&_}
 use mathlib.Core.Logic.{inl, inr, ⊎-elim}
@@ -94,7 +94,7 @@ module _ (lex : Lexicon) (ls : List Line) (s : List ℕ) (a p : ℕ) where
       covered-line-put lex ls s a p (l .0) (l .1)
       (covers-put s a p (spells lex (l .0 .key-of)) (l .0 .positions) (e .at) (l .2) (h .from) (omega arith) agree)
 
--- each of n places from p
+-- each of n positions from p on
 module _ (lex : Lexicon) (ls : List Line) (s : List ℕ) (a : ℕ) where
   all-covered-all : (n p : ℕ) → all-covered n p lex ls s a ≡ all-from n p (covered lex ls s a)
   unfolding all-covered all-from
@@ -121,7 +121,7 @@ unfolding found-from those-from
 found-from-those lex ls s zero p = refl
 found-from-those lex ls s (suc n) p = rw (found-from-those lex ls s n (suc p))
 
--- what two windows of starts find, one after the other, is what both find
+-- two windows of starts, one after the other, find what the joined window finds
 pub found-from-append :
     (lex : Lexicon) (ls : List Line) (s : List ℕ) (n k p : ℕ) →
     found-from (n + k) p lex ls s ≡ found-from n p lex ls s ++ found-from k (p + n) lex ls s
@@ -136,12 +136,12 @@ positions-from-those s ts (suc n) p = rw (positions-from-those s ts n (suc p))
 
 -- LINES WHOSE ENTRIES STAND IN A TEXT
 
--- a string that has no place in the text which no entry covers
+-- every position of an occurrence of the string in the text is covered by an entry
 module _ (lex : Lexicon) (ls : List Line) (ts : List ℕ) (all : All-stand lex ls ts) (s : List ℕ)
     (cover :
     (p : ℕ) → Stand s ts p → (x : ℕ) → p ≤ x → x < p + length s →
     (e : Entry) × In e (flat lex ls) × (e .at ≤ x) × (x < e .at + e .len)) where
-  -- covered everywhere is standing
+  -- the string is covered at p exactly if it stands there
   pub all-stand-stands : (p : ℕ) → 1 ≤ p → p + length s ≤ suc (length ts) → all-covered (length s) p lex ls s p ≡ stands s ts p
   all-stand-stands p lo hi = iff-eq (all-covered (length s) p lex ls s p) (stands s ts p) (λ t. stands-put s ts p (to t)) from
     where
@@ -182,14 +182,14 @@ module _ (lex : Lexicon) (ls : List Line) (ts : List ℕ) (all : All-stand lex l
       from : stands s ts p ≡ true → all-covered (length s) p lex ls s p ≡ true
       from t = all-covered-put lex ls s p (length s) p (covered-at (stands-get s ts p t))
 
-  -- what is found at starts where the string fits is where it stands
+  -- among starts at which the string fits, those found are those where it stands
   pub all-stand-found :
       (n : ℕ) → n ≤ suc (length ts) - length s → found-from n 1 lex ls s ≡ those-from n 1 (stands s ts)
   all-stand-found n few =
       found-from-those lex ls s n 1
       ∙ those-from-alike n 1 (found-at lex ls s) (stands s ts) (λ x lo hi. all-stand-stands x lo (omega arith))
 
--- LINES THAT SHOW A TEXT
+-- LINES THAT MATCH A TEXT
 
 module _ (lex : Lexicon) (ls : List Line) (ts : List ℕ) (show : Lines-match lex ls ts) (s : List ℕ) where
   cover-string :
@@ -197,7 +197,7 @@ module _ (lex : Lexicon) (ls : List Line) (ts : List ℕ) (show : Lines-match le
       (e : Entry) × In e (flat lex ls) × (e .at ≤ x) × (x < e .at + e .len)
   cover-string p st x lo hi = show .cover x (omega (arith, st .from)) (omega (arith, st .within))
 
-  -- what is found is where the string stands; `places` also passes the starts at which the string does not fit
+  -- the starts found are those where the string stands; `positions` also tests starts at which the string does not fit
   pub found-positions : 1 ≤ length s → found-from (suc (length ts) - length s) 1 lex ls s ≡ positions s ts
   unfolding positions
   found-positions some =
@@ -216,7 +216,7 @@ module _ (lex : Lexicon) (ls : List Line) (ts : List ℕ) (show : Lines-match le
           false-put (stands s ts x)
           (λ t. let st = stands-get s ts x t in let w : x + length s ≤ suc (length ts) = st .within in omega arith)
 
--- Lines that show a text find exactly its places.
+-- Lines that match a text find exactly the positions at which a string stands in it.
 pub find-positions :
     (lex : Lexicon) (xs ts s : List ℕ) → Lines-match lex (lines-in xs) ts → n-of xs ≡ length ts → 1 ≤ length s →
     find lex xs s ≡ positions s ts

@@ -19,7 +19,7 @@ pub record Is-string (s : List ℕ) : Type 0 where
   pub some : 1 ≤ length s
   pub short : length s ≤ 256
 
--- the replaced string, at the front of an array of the callee's own
+-- the replaced string is at the start of an array of the callee's own
 module _ (s own : List ℕ) (is : take (length s) own ≡ replaced s) where
   pub own-long : length s ≡ length (take (length s) own)
   own-long = sym (ap length is ∙ length-replaced s)
@@ -27,7 +27,7 @@ module _ (s own : List ℕ) (is : take (length s) own ≡ replaced s) where
   pub own-string : Is-string s → Is-string (take (length s) own)
   own-string string = record { some = omega (arith, own-long, string .some); short = omega (arith, own-long, string .short) }
 
--- 8 where the output is too short for the result, else the result in front of it
+-- 8 if the output is too short for the result, else the result at its start
 unfoldable pub Sized : (result : List ℕ) → Answer → (out out-now : List ℕ) → Type 0
 Sized ys r o z = Puts (cond (output-short (length ys) (length o)) 8 0) ys r o z
 

@@ -1,4 +1,4 @@
--- The shorter of two: the second where it is shorter, else the first. Assumes nothing.
+-- The shorter of two: the second if it is shorter, else the first. Assumes nothing.
 use mathlib.Core.Path.{_≡_}
 use Prim.Native.Nat.{ℕ, _≤_, _<_}
 use borrow.Author.Tests.{lt-ltb, le-ltb}

@@ -1,4 +1,4 @@
--- The model of the tally: one walk over the directory raises one place a line. Assumes nothing.
+-- The model of the tally: one walk over the directory adds each line's count to one of the 32 counts. Assumes nothing.
 use mathlib.Core.Path.{_≡_, refl, sym, ap, _∙_}
 use mathlib.Core.Bool.{true, false, cond}
 use mathlib.Core.Logic.{_⊎_, inl, inr, ⊎-elim}
@@ -45,7 +45,7 @@ line-key g lex xs t i below =
 
 -- THE COUNTS
 
--- the entries of length l under the lines from i on, by their counts
+-- the number of entries of length l under the lines from i on, by their counts
 unfoldable pub counted : Lexicon → (l left i : ℕ) → List ℕ → ℕ
 counted lex l zero i xs = 0
 counted lex l (suc k) i xs = cond (eqb (length (spells lex (key-at xs i))) l) (count-at xs i) 0 + counted lex l k (suc i) xs
@@ -70,7 +70,7 @@ unfolding tally-from
 length-tally zero l lex ks = refl
 length-tally (suc n) l lex ks = ap suc (length-tally n (suc l) lex ks)
 
--- two lists of counts added place by place
+-- two lists of counts added element by element
 unfoldable pub added : List ℕ → List ℕ → List ℕ
 added [] ys = []
 added (x ∷ xs) [] = x ∷ xs
@@ -107,7 +107,7 @@ zeros-read zero j = refl
 zeros-read (suc n) zero = refl
 zeros-read (suc n) (suc j) = zeros-read n j
 
--- zeros are counts that no tally makes wrap
+-- zeros are small enough that no tally makes them wrap
 pub small-zeros : (j : ℕ) → getD (replicate {A = ℕ} 32 0) j 0 ≤ 2 ^ 62
 small-zeros j = omega (arith, zeros-read 32 j)
 
@@ -210,6 +210,6 @@ module _ (lex : Lexicon) (xs given counts : List ℕ) (i : ℕ) (h : Tallied lex
             counted-lines lex (1 + j) (keys-of xs) 0 xs positions (omega (arith, fits .is-long, length-drop (header + 3 * keys-of xs) xs)),
           )
 
--- M is what follows the directory
+-- M is the number of numbers after the directory
 pub entries-left : (g : ℕ) (lex : Lexicon) (xs : List ℕ) → readable g lex xs ≡ true → length xs - (header + 3 * keys-of xs) ≡ entries-of xs
 entries-left g lex xs t = let fits = readable-fits g lex xs t in omega (arith, fits .is-long)

@@ -27,7 +27,7 @@ unfolding all-chars is-char
 all-chars-put [] h = refl
 all-chars-put (c ∷ cs) h = and-put (lt-ltb c 65536 (h 0 (omega arith))) (all-chars-put cs (λ i b. h (suc i) (omega arith)))
 
--- Every element of a lent `&[u16]` fits 16 bits, which a proof of code has as `.shared-slice-known .given`: the slice holds characters.
+-- Every element of a lent `&[u16]` fits 16 bits, as a proof of code knows by `.shared-slice-known .given`: the slice holds characters.
 pub lent-chars : (xs : List ℕ) → ((i : ℕ) → Fits w16 (getD xs i 0)) → all-chars xs ≡ true
 lent-chars xs fits = all-chars-put xs (λ i h. fits i .fits)
 
@@ -44,7 +44,7 @@ pub is-text-put : (g : ℕ) (ts : List ℕ) → Chars ts → length ts ≤ g →
 unfolding is-text
 is-text-put g ts cs h plain = and-put (and-put (all-chars-put ts cs) (le-leb (length ts) g h)) (not-put (plain-put ts plain))
 
--- the replaced text of a lent one
+-- a lent text, replaced, is a text
 pub replaced-is-text : (g : ℕ) (ts : List ℕ) → Chars ts → length ts ≤ g → is-text g (replaced ts) ≡ true
 replaced-is-text g ts chars small =
     is-text-put g (replaced ts) (replaced-chars ts chars) (omega (arith, length-replaced ts)) (replaced-plain ts)

@@ -1,5 +1,5 @@
--- What the Boolean definitions come to, as facts: lexicons, keys, entries, lines, and lines that show a text. The theorems are
--- stated over these records; each file of laws that has a `-get` and a `-put` ties one of them to its test. Assumes nothing.
+-- The Boolean definitions as facts: lexicons, keys, entries, lines, and lines that match a text. The theorems are stated over these
+-- records; each file of laws that has a `-get` and a `-put` ties one of them to its test. Assumes nothing.
 use mathlib.Core.Path.{_≡_}
 use mathlib.Core.Bool.{true, false}
 use mathlib.Core.List.{List, [], _∷_, _++_}
@@ -21,7 +21,7 @@ Chars xs = (i : ℕ) → i < length xs → getD xs i 0 < 65536
 abbrev pub Plain : List ℕ → Type 0
 Plain xs = (i : ℕ) → i < length xs → is-full-width (getD xs i 0) ≡ false
 
--- an admitted lexicon: words of 1 to 32 characters, none of them a full-width form, no word twice
+-- an admitted lexicon: words of 1 to 32 characters, none with a full-width form, no word twice
 pub record Good-lexicon (lex : Lexicon) : Type 0 where
   pub few : length (lex .words) ≤ 4096
   pub nonempty : (w : List ℕ) → In w (lex .words) → 1 ≤ length w
@@ -49,7 +49,7 @@ pub record Is-entry (lex : Lexicon) (ts : List ℕ) (e : Entry) : Type 0 where
   pub len-is : e .len ≡ length (spells lex (e .key-of))
   pub stand : Stand (spells lex (e .key-of)) ts (e .at)
 
--- entries that a readable index of n characters may have
+-- an entry that a readable index of n characters may have
 pub record Sound-entry (lex : Lexicon) (n : ℕ) (e : Entry) : Type 0 where
   pub is-key : Is-key lex (e .key-of)
   pub len-is : e .len ≡ length (spells lex (e .key-of))
@@ -59,7 +59,7 @@ pub record Sound-entry (lex : Lexicon) (n : ℕ) (e : Entry) : Type 0 where
 abbrev pub Sound : Lexicon → (n : ℕ) → List Entry → Type 0
 Sound lex n es = (e : Entry) → In e es → Sound-entry lex n e
 
--- no two entries start at one place
+-- no two entries start at the same position
 abbrev pub Own-positions : List Entry → Type 0
 Own-positions es = (e f : Entry) → In e es → In f es → e .at ≡ f .at → e ≡ f
 
@@ -73,7 +73,7 @@ pub record Is-maximal (lex : Lexicon) (ts : List ℕ) (e : Entry) : Type 0 where
   pub is-entry : Is-entry lex ts e
   pub alone : (f : Entry) → Is-entry lex ts f → Contains f e → f ≡ e
 
--- the entries that a line and a list of lines stand for
+-- the entries of a line and of a list of lines
 unfoldable pub entries-at : Lexicon → Key → (positions : List ℕ) → List Entry
 entries-at lex k [] = []
 entries-at lex k (p ∷ ps) = entry k p (length (spells lex k)) ∷ entries-at lex k ps
@@ -82,12 +82,12 @@ unfoldable pub flat : Lexicon → List Line → List Entry
 flat lex [] = []
 flat lex (l ∷ ls) = entries-at lex (l .key-of) (l .positions) ++ flat lex ls
 
--- a list of places, each at least `least`, strictly ascending
+-- a strictly ascending list of positions, each at least `least`
 abbrev pub Rise : (least : ℕ) → List ℕ → Type 0
 Rise a [] = Unit
 Rise a (p ∷ ps) = (a ≤ p) × Rise (suc p) ps
 
--- a directory line that readability allows, for a text of n characters
+-- a directory line that a readable index of a text of n characters may have
 pub record Good-line (lex : Lexicon) (n : ℕ) (l : Line) : Type 0 where
   pub is-key : Is-key lex (l .key-of)
   pub some : 1 ≤ length (l .positions)
@@ -104,11 +104,11 @@ pub record Good-lines (lex : Lexicon) (n : ℕ) (ls : List Line) : Type 0 where
   pub each : (l : Line) → In l ls → Good-line lex n l
   pub order : Keys-rise ls
 
--- every entry of the lines stands in a text
+-- every entry of the lines stands in the text
 abbrev pub All-stand : Lexicon → List Line → (text : List ℕ) → Type 0
 All-stand lex ls ts = (e : Entry) → In e (flat lex ls) → Stand (spells lex (e .key-of)) ts (e .at)
 
--- lines that show a text: each entry stands in it, each position is covered
+-- lines that match a text: each entry stands in it, and each position is covered
 pub record Lines-match (lex : Lexicon) (ls : List Line) (ts : List ℕ) : Type 0 where
   pub stand : All-stand lex ls ts
   pub cover : (p : ℕ) → 1 ≤ p → p ≤ length ts → (e : Entry) × In e (flat lex ls) × (e .at ≤ p) × (p < e .at + e .len)

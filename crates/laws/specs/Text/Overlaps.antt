@@ -1,4 +1,4 @@
--- Strings that stand in one text: what they share, and one within another. Assumes nothing.
+-- Strings that stand in one text: what two of them share, and one within another. Assumes nothing.
 use mathlib.Core.Path.{_≡_, sym, ap, _∙_}
 use mathlib.Core.List.{List, [], _∷_}
 use Prim.Native.Nat.{ℕ, zero, suc, _+_, _-_, _≤_, _<_}
@@ -7,13 +7,13 @@ use lib.ListN.{length, getD}
 use lib.Seq.{ext-getD}
 use Rattle.laws.specs.Text.Strings.{Stand}
 
--- the character of a standing string, by its place in the string
+-- the character of a string that stands in a text, by its index in the string
 pub stand-at : (s ts : List ℕ) (p i : ℕ) → Stand s ts p → i < length s → getD s i 0 ≡ getD ts (p + i - 1) 0
 stand-at s ts p i h b =
     let back : p + i - p ≡ i = omega arith in
     ap (λ (j : ℕ). getD s j 0) (sym back) ∙ h .equal (p + i) (omega arith) (omega arith)
 
--- from characters by their places in the string
+-- a string stands if its characters, by their index, are the text's
 pub stand-put :
     (s ts : List ℕ) (p : ℕ) → 1 ≤ p → p + length s ≤ suc (length ts) →
     ((i : ℕ) → i < length s → getD s i 0 ≡ getD ts (p + i - 1) 0) → Stand s ts p
@@ -37,12 +37,12 @@ stand-char ts i b = stand-put (getD ts i 0 ∷ []) ts (suc i) (omega arith) (ome
         ap (λ (k : ℕ). getD ts k 0) at
     same (suc j) c = absurd (omega arith)
 
--- equally long strings at one place are the same
+-- strings of equal length at the same position are equal
 pub stand-unique : (r s ts : List ℕ) (p : ℕ) → Stand r ts p → Stand s ts p → length r ≡ length s → r ≡ s
 stand-unique r s ts p h k e =
     ext-getD 0 r s e (λ i b. stand-at r ts p i h b ∙ sym (stand-at s ts p i k (omega arith)))
 
--- a string whose place lies within another's stands in that string
+-- a string that lies within another's occurrence stands in that string
 pub stand-within :
     (r s ts : List ℕ) (q p : ℕ) → Stand r ts q → Stand s ts p → p ≤ q → q + length r ≤ p + length s → Stand r s (suc (q - p))
 stand-within r s ts q p h k lo hi = stand-put r s (suc (q - p)) (omega arith) (omega arith) same

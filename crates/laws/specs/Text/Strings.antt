@@ -1,4 +1,4 @@
--- Strings: equality by test, and standing in a text by absolute positions. Assumes nothing.
+-- Strings: the equality test, and standing in a text by absolute positions. Assumes nothing.
 use mathlib.Core.Path.{_≡_, refl, sym, ap, _∙_}
 use mathlib.Core.Bool.{true, _&&_}
 use mathlib.Core.List.{List, [], _∷_}

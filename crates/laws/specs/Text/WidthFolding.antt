@@ -1,4 +1,4 @@
--- Full-width forms and the replaced text: what the tests come to, and what a loop over a text does with them. Assumes nothing.
+-- Full-width forms and the replaced text: the tests as facts, and the loops over a text. Assumes nothing.
 use mathlib.Core.Path.{_≡_, refl, sym, ap, _∙_}
 use mathlib.Core.Bool.{Bool, true, false, _||_}
 use mathlib.Core.Logic.{_⊎_, inl, inr, ⊎-elim}
@@ -106,7 +106,7 @@ or-assoc : (a b c : Bool) → ((a || b) || c) ≡ (a || (b || c))
 or-assoc true b c = refl
 or-assoc false b c = refl
 
--- the characters from i on: the one there, and those after it
+-- the characters from i on: the one at i, and those after it
 pub holds-step :
     (xs : List ℕ) (i : ℕ) → i < length xs →
     holds-full-width (drop i xs) ≡ (is-full-width (getD xs i 0) || holds-full-width (drop (i + 1) xs))
@@ -117,7 +117,7 @@ pub holds-end : (xs : List ℕ) (i : ℕ) → length xs ≤ i → holds-full-wid
 unfolding holds-full-width
 holds-end xs i h = rw (drop-of-length-le xs h)
 
--- where `all` is 0, no form stands before i: each excess over FF00 was put to it with a bitwise or
+-- if `all` is 0, no form lies before i: each excess over FF00 is combined into it with a bitwise or
 abbrev pub Exceeds : (text : List ℕ) → (all i : ℕ) → Type 0
 Exceeds xs all i = (i ≤ length xs) × (all ≡ 0 → holds-full-width (drop i xs) ≡ holds-full-width xs)
 
@@ -138,7 +138,7 @@ exceeds-step xs all i below h = (
 pub exceeds-end : (xs : List ℕ) (all i : ℕ) → length xs ≤ i → Exceeds xs all i → all ≡ 0 → holds-full-width xs ≡ false
 exceeds-end xs all i past h e = sym (h .1 e) ∙ holds-end xs i past
 
--- what was held before i, or what those from i on hold, is what all hold
+-- a form lies before i, as `held` says, or from i on, exactly if one lies in the text
 abbrev pub Held : (text : List ℕ) → (held : Bool) → (i : ℕ) → Type 0
 Held xs held i = (i ≤ length xs) × ((held || holds-full-width (drop i xs)) ≡ holds-full-width xs)
 
@@ -165,7 +165,7 @@ holds-parts (suc l) (c ∷ cs) =
     ap (λ (b : Bool). is-full-width c || b) (holds-parts l cs)
     ∙ sym (or-assoc (is-full-width c) (holds-full-width (take l cs)) (holds-full-width (drop l cs)))
 
--- where the lengths add up, the words hold what the characters lent hold
+-- if the lengths add up, the words have a full-width form exactly if the characters lent do
 pub words-hold : (ls cs : List ℕ) → total ls ≡ length cs → some-full-width (words-from ls cs) ≡ holds-full-width cs
 unfolding some-full-width words-from total
 words-hold [] cs sum = sym (holds-none cs (omega arith))
@@ -176,7 +176,7 @@ words-hold (l ∷ ls) cs sum =
     ap (λ (b : Bool). holds-full-width (take l cs) || b) (words-hold ls (drop l cs) (omega (arith, length-drop l cs)))
     ∙ sym (holds-parts l cs)
 
--- no word of a list holds a full-width form
+-- no word of a list has a full-width form
 pub words-plain-get :
     (ws : List (List ℕ)) → some-full-width ws ≡ false → (w : List ℕ) → In w ws → Plain w
 unfolding some-full-width

@@ -1,5 +1,5 @@
--- A string looked for in the text that entries paint over a ground character which the string has not: where every entry stands
--- in what was painted, the string is found exactly where it stands. Assumes nothing.
+-- Search in the text that entries reconstruct over a sentinel, a character absent from the string: if every entry stands in the
+-- reconstructed text, the string is found exactly where it stands there. Assumes nothing.
 use mathlib.Core.Path.{_≡_, sym, ap, _∙_, subst}
 use mathlib.Core.Bool.{Bool}
 use mathlib.Core.Logic.{_⊎_, inl, inr}
@@ -27,7 +27,7 @@ use Rattle.laws.specs.Window.Searching.{Window-says}
 use Rattle.laws.specs.TextScan.ZSearch.{Prefix-lengths, found-prefixes}
 use Rattle.laws.specs.Receive.Reconstruction.{reconstruct, length-reconstruct, reconstruct-either}
 
--- the text that lines paint over n ground characters
+-- the text that lines reconstruct over n sentinels
 abbrev pub reconstructed-over : Lexicon → List Line → (n sentinel : ℕ) → List ℕ
 reconstructed-over lex ls n g = reconstruct lex (flat lex ls) (replicate {A = ℕ} n g)
 
@@ -36,7 +36,7 @@ length-reconstructed lex ls n g = length-reconstruct lex (flat lex ls) (replicat
 
 module _ (lex : Lexicon) (ls : List Line) (n g : ℕ) (all : All-stand lex ls (reconstructed-over lex ls n g)) (s : List ℕ)
     (other : (i : ℕ) → i < length s → getD s i 0 ≡ g → ⊥) where
-  -- where the string stands no place has the ground
+  -- where the string stands, no position has the sentinel
   reconstructed-covers :
       (p : ℕ) → Stand s (reconstructed-over lex ls n g) p → (x : ℕ) → p ≤ x → x < p + length s →
       (e : Entry) × In e (flat lex ls) × (e .at ≤ x) × (x < e .at + e .len)
@@ -57,23 +57,23 @@ module _ (lex : Lexicon) (ls : List Line) (n g : ℕ) (all : All-stand lex ls (r
             omega (arith, st .from, on .3, flat-long lex ls (on .0) (on .1)),
           )
 
-  -- Where every entry stands in what was painted, the string is found exactly where it stands.
+  -- If every entry stands in the reconstructed text, the string is found exactly where it stands there.
   pub reconstructed-found :
       (k : ℕ) → k ≤ suc n - length s →
       found-from k 1 lex ls s ≡ those-from k 1 (stands s (reconstructed-over lex ls n g))
   reconstructed-found k few =
       all-stand-found lex ls (reconstructed-over lex ls n g) all s reconstructed-covers k (omega (arith, length-reconstructed lex ls n g))
 
--- a text that lines painted over a ground, and in which every entry of them stands
+-- a text that lines reconstruct over a sentinel, and in which every entry of theirs stands
 pub record Reconstructed-match (lex : Lexicon) (ls : List Line) (n g : ℕ) (ts : List ℕ) : Type 0 where
   pub is : ts ≡ reconstructed-over lex ls n g
   pub all : All-stand lex ls ts
 
--- what a window finds is what the index has there
+-- the window finds what the index has there
 abbrev pub Finds : Lexicon → (index string reaches : List ℕ) → Type 0
 Finds lex xs s rs = found-in (length s) 1 rs ≡ found-from (length rs) 1 lex (lines-in xs) s
 
--- The window that tells where the string stands in such a text.
+-- The prefix lengths of the string in such a text find what the index has.
 pub reconstructed-finds :
     (lex : Lexicon) (xs : List ℕ) (n g : ℕ) (ts s rs : List ℕ) → Reconstructed-match lex (lines-in xs) n g ts →
     ((i : ℕ) → i < length s → getD s i 0 ≡ g → ⊥) → length rs + length s ≤ suc n → Prefix-lengths s ts rs → Finds lex xs s rs
@@ -84,14 +84,14 @@ reconstructed-finds lex xs n g ts s rs shown other room told =
     (reconstructed-found lex (lines-in xs) n g (subst (All-stand lex (lines-in xs)) (shown .is) (shown .all)) s other (length rs)
     (omega arith))
 
--- What was painted over the ground that fills a text of n characters.
+-- A text of n characters filled with the sentinel and written over is the reconstruction over the sentinel.
 pub reconstructed-sentinel :
     (lex : Lexicon) (ls : List Line) (n g : ℕ) (old mid now : List ℕ) → mid ≡ replicate (length old) g → length old ≡ n →
     now ≡ reconstruct lex (flat lex ls) mid → now ≡ reconstructed-over lex ls n g
 reconstructed-sentinel lex ls n g old mid now filled len e =
     e ∙ ap (reconstruct lex (flat lex ls)) (filled ∙ ap (λ (k : ℕ). replicate {A = ℕ} k g) len)
 
--- The ground is the least number that the string has not, whichever way it is named.
+-- The sentinel is the least number absent from the string, and there is only one.
 pub reconstructed-once :
     (lex : Lexicon) (ls : List Line) (n : ℕ) (s ts : List ℕ) (h : ℕ) (t r : Bool) → Least-absent s h → ts ≡ reconstructed-over lex ls n h →
     Reflects t (All-stand lex ls ts) → t ≡ r → (g : ℕ) → Least-absent s g →
@@ -100,9 +100,9 @@ reconstructed-once lex ls n s ts h t r least is shown answer g also =
     let same : ts ≡ reconstructed-over lex ls n g = is ∙ ap (reconstructed-over lex ls n) (least-one s h g least also) in
     (same, subst (λ (us : List ℕ). Reflects r (All-stand lex ls us)) same (subst (λ (b : Bool). Reflects b (All-stand lex ls ts)) answer shown))
 
--- WHAT A SEARCH SAYS
+-- THE CONTRACT OF A SEARCH
 
--- the window that finds what the index has, answered
+-- the answer from a window that finds what the index has
 pub says-told :
     (lex : Lexicon) (xs s : List ℕ) (n : ℕ) (rs : List ℕ) (r : Answer) (o z : List ℕ) → Finds lex xs s rs → length rs ≡ n →
     Sized (found-in (length s) 1 rs) r o z → Window-says lex xs s n 1 r o z
@@ -110,6 +110,6 @@ unfolding Window-says
 says-told lex xs s n rs r o z finds len h =
     subst (λ (l : List ℕ). Sized l r o z) (finds ∙ ap (λ (k : ℕ). found-from k 1 lex (lines-in xs) s) len) h
 
--- a window left as it was is still clear
+-- an unchanged window is still clear
 pub still-clear : (old now : List ℕ) → now ≡ old → old ≡ replicate (length old) 0 → now ≡ replicate (length now) 0
 still-clear old now e clear = e ∙ clear ∙ ap (λ (l : List ℕ). replicate {A = ℕ} (length l) 0) (sym e)

@@ -1,5 +1,5 @@
--- The starts at which a string stands in a text, found in one pass: what is known of a start from a stretch of the text that is a front
--- of the string, what is compared beyond it, and what the table of all starts says. Assumes nothing.
+-- Z-search, the starts at which a string stands in a text, in one pass: what a Z-box of the text and the Z-array tell about a start, what
+-- is compared beyond the Z-box, and what the table of all starts holds. Assumes nothing.
 use mathlib.Core.Path.{_≡_, refl, sym, ap, _∙_, subst}
 use mathlib.Core.Bool.{true}
 use mathlib.Core.Logic.{_⊎_, inl, inr, ⊎-elim}
@@ -19,21 +19,21 @@ use Rattle.laws.specs.Text.Strings.{Stand, stands-get, stands-put}
 use Rattle.laws.specs.Text.Overlaps.{stand-at, stand-put}
 use Rattle.laws.specs.Window.Window.{found-in, found-in-those}
 
--- A FRONT OF THE STRING
+-- A PREFIX OF THE STRING
 
--- the first n characters of s lie in ts from `at` on, which counts from 0
+-- the first n characters of s lie in ts from `at` on, counted from 0
 pub record Prefix-at (s ts : List ℕ) (at n : ℕ) : Type 0 where
   pub short : n ≤ length s
   pub within : at + n ≤ length ts
   pub equal : (x : ℕ) → x < n → getD ts (at + x) 0 ≡ getD s x 0
 
--- and no more do, of at most `most`
+-- and n is the longest such prefix, of at most `limit` characters
 pub record Longest-prefix-at (s ts : List ℕ) (at limit n : ℕ) : Type 0 where
   pub lies : Prefix-at s ts at n
   pub bound : n ≤ limit
   pub longest : n < limit → getD ts (at + n) 0 ≡ getD s n 0 → ⊥
 
--- which n that is, is decided
+-- there is only one such n
 pub longest-one : (s ts : List ℕ) (at limit n k : ℕ) → Longest-prefix-at s ts at limit n → Longest-prefix-at s ts at limit k → n ≡ k
 longest-one s ts at limit n k p q =
     ⊎-elim
@@ -41,17 +41,17 @@ longest-one s ts at limit n k p q =
     ⊎-elim (λ (b : k ≤ n). omega arith) (λ (b : n < k). absurd (p .longest (omega (arith, q .bound)) (q .lies .equal n b))) (le-or-lt k n))
     (λ (a : k < n). absurd (q .longest (omega (arith, p .bound)) (p .lies .equal k a))) (le-or-lt n k)
 
--- WHAT THE TABLES SAY
+-- WHAT THE TABLES HOLD
 
--- v is the length of the longest front of s that lies in s itself from j on
+-- v is the length of the longest prefix of s that also starts at j > 0 in s
 abbrev pub Z-value : (s : List ℕ) → (j v : ℕ) → Type 0
 Z-value s j v = 1 ≤ j → Longest-prefix-at s s j (length s - j) v
 
--- the Z-array: at each place of s after its first
+-- the Z-array: the Z-value at each index of s above 0
 abbrev pub Z-array : (s zarray : List ℕ) → Type 0
 Z-array s zs = (j : ℕ) → j < length s → Z-value s j (getD zs j 0)
 
--- v is the length of the longest front of s that lies in ts at the start j, which counts from 0
+-- v is the length of the longest prefix of s that lies in ts at the start j, counted from 0
 abbrev pub Prefix-length : (s ts : List ℕ) → (j v : ℕ) → Type 0
 Prefix-length s ts j v = Longest-prefix-at s ts j (length s) v
 
@@ -59,7 +59,7 @@ Prefix-length s ts j v = Longest-prefix-at s ts j (length s) v
 abbrev pub Prefix-lengths : (s ts reach : List ℕ) → Type 0
 Prefix-lengths s ts rs = (j : ℕ) → j < length rs → Prefix-length s ts j (getD rs j 0)
 
--- a table is as it was but from place `from` to place `to`
+-- a table is unchanged except from index `from` to index `to`
 abbrev pub Kept-but : (from to : ℕ) → (old now : List ℕ) → Type 0
 Kept-but from to old xs = (j : ℕ) → (j < from) ⊎ (to ≤ j) → getD xs j 0 ≡ getD old j 0
 
@@ -69,7 +69,7 @@ module _ (s ts : List ℕ) (at : ℕ) where
   pub prefix-none : at ≤ length ts → Prefix-at s ts at 0
   prefix-none b = record { short = omega arith; within = omega arith; equal = λ x h. absurd (omega arith) }
 
-  -- one character more
+  -- one more character
   pub prefix-more :
       (n : ℕ) → Prefix-at s ts at n → n < length s → at + n < length ts → getD ts (at + n) 0 ≡ getD s n 0 → Prefix-at s ts at (n + 1)
   prefix-more n h short within same =
@@ -79,7 +79,7 @@ module _ (s ts : List ℕ) (at : ℕ) where
         equal = below-more (λ (x : ℕ). getD ts (at + x) 0 ≡ getD s x 0) n (h .equal) same;
       }
 
--- a string stands where all of it lies
+-- a string stands where its longest prefix is all of it
 pub longest-stands :
     (s ts : List ℕ) (j n : ℕ) → Longest-prefix-at s ts j (length s) n → j + length s ≤ length ts → leb (length s) n ≡ stands s ts (suc j)
 longest-stands s ts j n h within = iff-eq (leb (length s) n) (stands s ts (suc j)) whole back
@@ -102,7 +102,7 @@ longest-stands s ts j n h within = iff-eq (leb (length s) n) (stands s ts (suc j
         ⊎-elim (λ (b : length s ≤ n). le-leb (length s) n b)
         (λ (b : n < length s). absurd (same (stands-get s ts (suc j) t) b)) (le-or-lt (length s) n)
 
--- the starts found in such a table are those at which s stands
+-- the starts found in a table of prefix lengths are those at which s stands
 pub found-prefixes :
     (s ts rs : List ℕ) → length rs + length s ≤ suc (length ts) → Prefix-lengths s ts rs →
     found-in (length s) 1 rs ≡ those-from (length rs) 1 (λ p. stands s ts p)
@@ -112,15 +112,15 @@ found-prefixes s ts rs room told =
     let z : suc j ≡ 1 + j = omega arith in
     longest-stands s ts j (getD rs j 0) (told j b) (omega (arith, b, room)) ∙ ap (λ (p : ℕ). stands s ts p) z)
 
--- A STRETCH THAT IS A FRONT
+-- THE Z-BOX
 
--- the text from `left` to `right` is a front of s; if it goes beyond `at`, it began from `first` on and before `at`
+-- the text from `left` to `right` is a prefix of s; if it goes beyond `at`, it starts from `first` on and before `at`
 pub record Z-box (first : ℕ) (s ts : List ℕ) (at left right : ℕ) : Type 0 where
   pub ordered : left ≤ right
   pub begun : at < right → (first ≤ left) × (left < at)
   pub lies : Prefix-at s ts left (right - left)
 
--- n is what the stretch and the repeats tell of the start `at`
+-- n is the part of the prefix at `at` that the Z-box and the Z-array give without comparing
 pub record Known (zs : List ℕ) (at left right n : ℕ) : Type 0 where
   pub none : right ≤ at → n ≡ 0
   pub repeated : at < right → n ≤ getD zs (at - left) 0
@@ -136,7 +136,7 @@ module _ (first : ℕ) (s ts : List ℕ) where
       }
 
   module _ (at : ℕ) where
-    -- a new stretch
+    -- a new Z-box
     pub zbox-new : (n : ℕ) → first ≤ at → Prefix-at s ts at n → Z-box first s ts (at + 1) at (at + n)
     zbox-new n from h =
         let z : n ≡ at + n - at = omega arith in
@@ -155,11 +155,11 @@ module _ (first : ℕ) (s ts : List ℕ) where
             lies = h .lies;
           }
 
-      -- the stretch is no longer than the string
+      -- the Z-box is no longer than the string
       pub zbox-short : at < right → at - left < length s
       zbox-short b = omega (arith, h .begun b .1, h .lies .short)
 
-      -- what is known lies there: the stretch has the string's own characters, and these repeat its front
+      -- this part lies there: the Z-box has the string's own characters, and these start with its prefix again
       pub known-lies :
           (k : ℕ) (zs : List ℕ) (n : ℕ) → ((j : ℕ) → j < k → Z-value s j (getD zs j 0)) → (at < right → at - left < k) →
           at ≤ length ts → Known zs at left right n → Prefix-at s ts at n
@@ -183,7 +183,7 @@ module _ (first : ℕ) (s ts : List ℕ) where
 
 -- FILLING A TABLE
 
--- each place of the table below `at` says P of what lies there, the others are as they were, and a stretch is kept beside it
+-- P holds for each element of the table below `at`, the others are unchanged, and a Z-box is kept
 pub record Filling (first : ℕ) (s ts : List ℕ) (P : ℕ → ℕ → Type 0) (old xs : List ℕ) (at left right : ℕ) : Type 0 where
   pub from : first ≤ at
   pub zbox : Z-box first s ts at left right
@@ -220,14 +220,14 @@ module _ (first : ℕ) (s ts : List ℕ) (P : ℕ → ℕ → Type 0) (old : Lis
             len = length-set xs at n ∙ h .len;
           }
 
-      -- the stretch stays, or what lies here is the new one
+      -- the Z-box stays, or the prefix found here is the new one
       pub filling-on : Filling first s ts P old (set xs at n) (at + 1) left right
       filling-on = kept left right (zbox-on first s ts at left right (h .zbox))
 
       pub filling-new : Prefix-at s ts at n → Filling first s ts P old (set xs at n) (at + 1) at (at + n)
       filling-new f = kept at (at + n) (zbox-new first s ts at n (h .from) f)
 
--- a table for the string's own places is as it was outside them
+-- a table over the string's own indexes is unchanged outside them
 pub filled-rest :
     (s ts : List ℕ) (P : ℕ → ℕ → Type 0) (old xs : List ℕ) (at left right : ℕ) → Filling 1 s ts P old xs at left right →
     (1 < at → at ≤ length s) → Kept-but 1 (length s) old xs

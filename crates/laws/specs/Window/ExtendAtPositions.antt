@@ -1,4 +1,4 @@
--- The pass over one position list: each entry at the offset raises the reach of its start. Assumes nothing.
+-- The pass over one posting list: each entry at the offset extends the reach of its start. Assumes nothing.
 use mathlib.Core.Path.{_≡_, refl, sym, ap, _∙_}
 use mathlib.Core.Bool.{Bool, true, false}
 use mathlib.Core.List.{List}
@@ -10,19 +10,19 @@ use Rattle.laws.specs.Window.Window.{Within, within-more, within-set, Re
 use Rattle.laws.specs.Window.WindowSearch.{extend-all, positions-all, extend-outside, extend-passed, extend-here, positions-none, positions-next, positions-skip}
 use Rattle.laws.specs.Window.ListRange.{Window-range}
 
--- a key of this length shares a place with the string at the offset, and the numbers that the pass computes are small
+-- a key of this length shares a position with the string at the offset, and the numbers that the pass computes are small
 pub record Offset-fits (len i o q : ℕ) : Type 0 where
   pub shared : i ≤ o + len
   pub end-small : o + len ≤ 65535
   pub first-small : q ≤ 65536
 
--- a key of an index, which starts within the string
+-- a key of an index that starts within the string
 pub offset-fits : (len o q : ℕ) → len ≤ 32 → o ≤ 256 → q ≤ 65536 → Offset-fits len 0 o q
 offset-fits len o q short start first = record { shared = omega arith; end-small = omega arith; first-small = first }
 
 -- ONE START
 
--- what becomes of the reach at p: it is raised to `end` where it is from o to `end` − 1, and r says whether
+-- the reach at p is extended to `end` if it is from o to `end` − 1; r tells whether
 pub record Extends (o end : ℕ) (rs : List ℕ) (p : ℕ) (r : Bool) (now : List ℕ) : Type 0 where
   pub extended : r ≡ true → (o ≤ getD rs p 0) × (getD rs p 0 < end) × (now ≡ set rs p end)
   pub passed : r ≡ false → (o ≤ getD rs p 0 → end ≤ getD rs p 0) × (now ≡ rs)
@@ -36,7 +36,7 @@ module _ (o end : ℕ) (rs : List ℕ) (p : ℕ) where
 
 -- THE PASS
 
--- after j of the positions bs, with the window at rs and no reach above top
+-- after j of the positions bs, with the window at rs and no reach above `highest`
 pub record Extending (bs : List ℕ) (l i o q : ℕ) (old : List ℕ) (max-reach : ℕ) (rs : List ℕ) (highest j : ℕ) : Type 0 where
   pub within : j ≤ length bs
   pub way : Progress (positions-all i o l q (drop j bs)) (positions-all i o l q bs old) old rs highest
@@ -52,7 +52,7 @@ module _ (bs : List ℕ) (l i o q : ℕ) (old : List ℕ) (max-reach : ℕ) (rs 
   extending-end past =
       progress-end (positions-all i o l q (drop j bs)) (positions-all i o l q bs old) old rs highest (h .way) (positions-none i o l q bs j past rs)
 
-  -- positions outside the window are passed over
+  -- positions outside the window are skipped
   pub extending-skip :
       (k : ℕ) → j ≤ k → k ≤ length bs →
       ((x : ℕ) → j ≤ x → x < k → q + o ≤ getD bs x 0 + i → length rs + (q + o) ≤ getD bs x 0 + i) →
@@ -79,12 +79,12 @@ module _ (bs : List ℕ) (l i o q : ℕ) (old : List ℕ) (max-reach : ℕ) (rs 
           top-small = small;
         }
 
-    -- the jth position is no start of the window
+    -- the position at j belongs to no start of the window
     pub extending-outside : (q + o ≤ getD bs j 0 + i → length rs + (q + o) ≤ getD bs j 0 + i) → Extending bs l i o q old max-reach rs highest (j + 1)
     extending-outside outside =
         step rs highest refl (record { is = sym (extend-outside i o l q (getD bs j 0) rs outside); bounded = h .way .bounded }) (h .top-small)
 
-    -- it is the start p
+    -- it belongs to the start p
     module _
         (p : ℕ) (own : p + (q + o) ≡ getD bs j 0 + i) (inside : p < length rs) (end : ℕ) (is : end ≡ max o (o + l - i)) (r : Bool)
         (now : List ℕ) (done : Extends o end rs p r now) where

@@ -1,4 +1,4 @@
--- The passes of the search over the offsets of a key and over the stages, each with the window midway. Assumes nothing.
+-- The passes of the search over the offsets of a key and over the offsets above 0, each with the window in progress. Assumes nothing.
 use mathlib.Core.Path.{_≡_, refl, sym, ap, _∙_}
 use mathlib.Core.Bool.{true, false}
 use mathlib.Core.List.{List}
@@ -24,7 +24,7 @@ module _ (i o : ℕ) (s k : List ℕ) (q : ℕ) (bs old : List ℕ) where
       Reaches (key-all i o s k q bs old) rs max-reach
   extends-all t rs max-reach r = record { is = r .is ∙ sym (key-agrees i o s k q bs old t); bounded = r .bounded }
 
--- ONE KEY AT THE OFFSETS FROM 0 DOWN
+-- ONE KEY AT THE OFFSETS OF 0 AND BELOW
 
 -- i offsets are done
 pub record Backing (s k : List ℕ) (q : ℕ) (bs old rs : List ℕ) (highest i : ℕ) : Type 0 where
@@ -67,9 +67,9 @@ module _ (s k : List ℕ) (q : ℕ) (bs old : List ℕ) where
         progress-end (back-all (length k - i) i s k q bs) (back-all (length k) 0 s k q bs old) old rs highest (h .way)
         (back-none s k q bs i past rs)
 
--- THE STAGES
+-- THE OFFSETS ABOVE 0
 
--- the stages before o are done
+-- the offsets below o are done
 pub record Offsets (lex : Lexicon) (ls : List Line) (s : List ℕ) (q : ℕ) (old rs : List ℕ) (highest o : ℕ) : Type 0 where
   pub within : o ≤ length s
   pub way : Progress (offsets-all (length s - o) o lex ls s q) (offsets-all (length s - 1) 1 lex ls s q old) old rs highest
@@ -92,7 +92,7 @@ module _ (lex : Lexicon) (ls : List Line) (s : List ℕ) (q : ℕ) (old : List �
               (offsets-next lex ls s q o below rs) kept r;
         }
 
-    -- all stages are done, or no start gets to the next one
+    -- all offsets are done, or no start reaches the next one
     pub offsets-end : length s ≤ o → Reaches (offsets-all (length s - 1) 1 lex ls s q old) rs highest
     offsets-end past =
         progress-end (offsets-all (length s - o) o lex ls s q) (offsets-all (length s - 1) 1 lex ls s q old) old rs highest (h .way)
@@ -103,7 +103,7 @@ module _ (lex : Lexicon) (ls : List Line) (s : List ℕ) (q : ℕ) (old : List �
         progress-end (offsets-all (length s - o) o lex ls s q) (offsets-all (length s - 1) 1 lex ls s q old) old rs highest (h .way)
         (offsets-stop lex ls s q (length s - o) o highest rs (h .way .bounded) early)
 
--- all stages, after the first one
+-- all offsets above 0, after the leading keys
 pub offsets-after :
     (lex : Lexicon) (ls : List Line) (s : List ℕ) (q : ℕ) (old mid now : List ℕ) (highest max-reach : ℕ) → Reaches (leading-all lex ls s q old) mid highest →
     Reaches (offsets-all (length s - 1) 1 lex ls s q mid) now max-reach →

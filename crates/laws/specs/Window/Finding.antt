@@ -1,4 +1,4 @@
--- Counting and writing the starts whose reach passes the string. Assumes nothing.
+-- Counting and writing the starts whose reach comes to the string's end. Assumes nothing.
 use mathlib.Core.Path.{_≡_, refl, sym, ap, _∙_}
 use mathlib.Core.Bool.{Bool, true, false, cond}
 use mathlib.Core.Logic.{⊎-elim}
@@ -65,7 +65,7 @@ module _ (m : ℕ) (rs : List ℕ) where
         let none : count-in m (drop i rs) ≡ 0 = rw (drop-of-length-le rs past) in
         omega (arith, h .counted)
 
--- where no reach passes the string, nothing is found
+-- if no reach comes to the string's end, nothing is found
 pub none-found : (m most q : ℕ) (rs : List ℕ) → Within most rs → most < m → found-in m q rs ≡ []
 unfolding found-in
 none-found m most q [] w h = refl
@@ -74,7 +74,7 @@ none-found m most q (r ∷ rs) w h =
 
 -- THE NEXT START
 
--- the start at i is found or not, before those after it
+-- the start at i, found or not, comes before those after it
 pub cut :
     (m q : ℕ) (rs : List ℕ) (i : ℕ) → i < length rs →
     found-in m (q + i) (drop i rs)
@@ -92,7 +92,7 @@ pub record Next-found (m : ℕ) (rs : List ℕ) (from r : ℕ) : Type 0 where
   pub near : m ≤ getD rs r 0
   pub passed : (q : ℕ) → found-in m (q + from) (drop from rs) ≡ found-in m (q + r) (drop r rs)
 
--- from `from` up to i none is found, and one is still to come
+-- none is found from `from` up to i, and one is still to come
 pub record Passing (m : ℕ) (rs : List ℕ) (from i : ℕ) : Type 0 where
   pub onward : from ≤ i
   pub some : 1 ≤ count-in m (drop i rs)
@@ -139,7 +139,7 @@ empty-of : (l : List ℕ) → length l ≡ 0 → l ≡ []
 empty-of [] e = refl
 empty-of (x ∷ l) e = absurd (omega arith)
 
--- after i of the reaches, with so many starts written to the front of the slice
+-- after i of the reaches, with `written` of the starts written to the slice
 pub record Finding (m q : ℕ) (rs old out : List ℕ) (written i : ℕ) : Type 0 where
   pub within : i ≤ length rs
   pub ahead : take written out ++ found-in m (q + i) (drop i rs) ≡ found-in m q rs
@@ -159,7 +159,7 @@ module _ (m q : ℕ) (rs old : List ℕ) where
       }
 
   module _ (out : List ℕ) (written i : ℕ) (h : Finding m q rs old out written i) where
-    -- what is still to be written is at a start still to come
+    -- if a start is still to be written, one is still to come
     pub finding-more : written < length (found-in m q rs) → 1 ≤ count-in m (drop i rs)
     finding-more some = omega (arith, h .left, count-found m (q + i) (drop i rs))
 

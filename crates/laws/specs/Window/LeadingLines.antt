@@ -1,5 +1,5 @@
--- The lines of words whose keys agree with a string at an offset of 0 or below, listed once: the first stage of every window is a
--- walk over these alone. Assumes nothing.
+-- The lines of words whose keys are leading: they agree with the string at an offset of 0 or below. They are listed once, and each
+-- window then walks only these. Assumes nothing.
 use mathlib.Core.Path.{_≡_, refl, sym, ap, _∙_}
 use mathlib.Core.Bool.{Bool, true, false, cond}
 use mathlib.Core.List.{List, [], _∷_}
@@ -33,7 +33,7 @@ use Rattle.laws.specs.Window.LineSteps.{run-from, run, positions-at, lea
 unfoldable pub agrees-leading : (string key : List ℕ) → Bool
 agrees-leading s k = any-from (length k) 0 (λ i. agrees s i k 0)
 
--- it agrees at none of the first n of them
+-- the key agrees at none of the first n such offsets
 abbrev pub Apart-to : (string key : List ℕ) → (n : ℕ) → Type 0
 Apart-to s k n = (i : ℕ) → i < n → agrees s i k 0 ≡ false
 
@@ -45,7 +45,7 @@ module _ (s k : List ℕ) where
     pub apart-next : agrees s n k 0 ≡ false → Apart-to s k (n + 1)
     apart-next f = below-more (λ (i : ℕ). agrees s i k 0 ≡ false) n h f
 
-    -- where the key does not have the string's first character
+    -- if the key does not have the string's first character there
     pub apart-pass : n < length k → (getD k n 0 ≡ getD s 0 0 → ⊥) → Apart-to s k (n + 1)
     apart-pass some other = apart-next (key-starts-apart n s k some other)
 
@@ -62,7 +62,7 @@ module _ (s k : List ℕ) where
   unfolding agrees-leading
   leading-found i b t = sym (any-from-put (length k) 0 (λ i. agrees s i k 0) i (omega arith) (omega arith) t)
 
-  -- a key that agrees at none of them raises nothing
+  -- a key that agrees at none of them extends nothing
   back-apart : (p : ℕ) (bs : List ℕ) (n i r : ℕ) → Apart-to s k (i + n) → reach-back n i s k p bs r ≡ r
   unfolding reach-back
   back-apart p bs zero i r h = refl
@@ -83,13 +83,13 @@ module _ (s k : List ℕ) where
       extended-same (λ p r. reach-back (length k) 0 s k p bs r) q rs
       (λ j w. back-apart (q + j) bs (length k) 0 (getD rs j 0) (λ i b. leading-none f i (omega arith)))
 
--- THE LINES THAT HAVE SUCH A KEY
+-- THE LINES OF LEADING KEYS
 
--- whether the key of line i is one
+-- whether the key of line i is leading
 abbrev pub is-leading : Lexicon → (numbers string : List ℕ) → (i : ℕ) → Bool
 is-leading lex xs s i = agrees-leading s (spells lex (key-at xs i))
 
--- those of the first w lines, ascending
+-- the leading ones of the first w lines, ascending
 unfoldable pub leading-lines : Lexicon → (numbers string : List ℕ) → (w : ℕ) → List ℕ
 leading-lines lex xs s w = those-from w 0 (is-leading lex xs s)
 
@@ -97,12 +97,12 @@ leading-lines lex xs s w = those-from w 0 (is-leading lex xs s)
 abbrev pub Has-lines : (numbers lines : List ℕ) → Type 0
 Has-lines xs is = (j : ℕ) → j < length is → getD is j 0 < keys-of xs
 
--- the steps of the numbers of a list, one after another
+-- the steps of the listed numbers, one after another
 unfoldable pub run-list : (step : ℕ → List ℕ → List ℕ) → (numbers reaches : List ℕ) → List ℕ
 run-list f [] rs = rs
 run-list f (i ∷ is) rs = run-list f is (f i rs)
 
--- a walk may pass over the steps that change nothing
+-- a walk may skip steps that change nothing
 run-those :
     (f : ℕ → List ℕ → List ℕ) (test : ℕ → Bool) → ((i : ℕ) → test i ≡ false → (rs : List ℕ) → f i rs ≡ rs) → (n i : ℕ) (rs : List ℕ) →
     run-list f (those-from n i test) rs ≡ run-from f n i rs
@@ -117,12 +117,12 @@ run-those f test still (suc n) i rs = by-test (test i) refl (λ old. run-those f
     by-test false t rest = rest rs ∙ ap (run-from f n (suc i)) (sym (still i t rs))
 
 module _ (lex : Lexicon) (xs s : List ℕ) where
-  -- a line whose key is none changes nothing
+  -- a line whose key is not leading changes nothing
   pub leading-apart : (q i : ℕ) → is-leading lex xs s i ≡ false → (rs : List ℕ) → leading-at lex xs s q i rs ≡ rs
   unfolding leading-at
   leading-apart q i f rs = leading-all-apart s (spells lex (key-at xs i)) q (positions-at xs i) rs f
 
-  -- so walking the listed lines is walking all
+  -- so walking the listed lines does what walking all does
   pub leading-run : (q w : ℕ) (rs : List ℕ) → run-list (leading-at lex xs s q) (leading-lines lex xs s w) rs ≡ run (leading-at lex xs s q) 0 w rs
   unfolding leading-lines
   leading-run q w rs = rw (sub-zero w) (run-those (leading-at lex xs s q) (is-leading lex xs s) (leading-apart q) w 0 rs)
@@ -150,7 +150,7 @@ module _ (lex : Lexicon) (xs s : List ℕ) where
 
 -- WALKING A LIST OF LINES
 
--- the steps of the first j listed numbers are done, `rs` stands where `old` stood, and no reach is above `top`
+-- the steps of the first j listed numbers are done, `rs` is the window now, and no reach is above `highest`
 abbrev pub Listed : (step : ℕ → List ℕ → List ℕ) → (numbers old rs : List ℕ) → (highest j : ℕ) → Type 0
 Listed f is old rs highest j = Progress (run-list f (drop j is)) (run-list f is old) old rs highest
 
@@ -176,7 +176,7 @@ module _ (f : ℕ → List ℕ → List ℕ) (is old : List ℕ) where
 
 -- FILLING THE LIST
 
--- of the first w lines those from i on are left to try, and so many are listed
+-- of the first w lines those from i on are still to be tested, and `count` are listed
 abbrev pub Leading : Lexicon → (numbers string : List ℕ) → (w : ℕ) → (old now : List ℕ) → (count i : ℕ) → Type 0
 Leading lex xs s w old now count i = Writing (leading-lines lex xs s w) old now (those-from (w - i) i (is-leading lex xs s)) count
 
@@ -221,7 +221,7 @@ module _ (lex : Lexicon) (xs s : List ℕ) (w : ℕ) (old : List ℕ) where
       unfolding in-front
       leading-written = written (leading-lines lex xs s w) old now count last
 
--- what stands at the front of the list filled
+-- the start of the filled list
 pub leading-taken : (count : ℕ) (new old now : List ℕ) → count ≡ length new → now ≡ in-front new old → take count now ≡ new
 unfolding in-front
 leading-taken count new old now e w = rw w (take-at new (drop (length new) old) count (sym e))

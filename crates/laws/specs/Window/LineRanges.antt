@@ -1,4 +1,4 @@
--- The directory lines of an accepted index in order: words first, then lone characters, each part rising; and which of the lone
+-- The directory lines of an accepted index in order: words first, then lone characters, each part ascending; and which of the lone
 -- characters can agree at an offset. Assumes nothing.
 use mathlib.Core.Path.{_≡_, refl, sym, ap, _∙_}
 use mathlib.Core.Bool.{true, false}
@@ -30,7 +30,7 @@ use Rattle.laws.specs.Window.WindowSearch.{positions-all}
 use Rattle.laws.specs.Window.Extending.{extends-all}
 use Rattle.laws.specs.Window.LineSteps.{run, run-one, run-skip, run-unchanged, Unchanged, positions-at, offset-at, offset-apart, offset-done}
 
--- KEYS RISE
+-- KEYS ASCEND
 
 rise-at :
     (ls : List Line) → Keys-rise ls → (i j : ℕ) (l m : Line) (after later : List Line) → i < j → drop i ls ≡ l ∷ after →
@@ -175,7 +175,7 @@ module _ (cs ls xs : List ℕ) (can : Can-read cs ls xs) where
               let y : o + 0 ≡ o = omega arith in
               rw z (rw y (sym (e ∙ is)))
 
-      -- so what its positions do is done by its line
+      -- so extending at its positions is the step of its line
       pub lone-done :
           (i : ℕ) → w ≤ i → i < keys-of xs → value-at xs i ≡ c → o < length s → (q : ℕ) (bs : List ℕ) → bs ≡ positions-at xs i →
           (old now : List ℕ) (max-reach : ℕ) → Reaches (positions-all 0 o 1 q bs old) now max-reach →
@@ -186,7 +186,7 @@ module _ (cs ls xs : List ℕ) (can : Can-read cs ls xs) where
           (rw (lone-single i a b) r))
 
       module _ (r : ℕ) (cut : Lower-bound (number-at xs 1) w (keys-of xs) c r) where
-        -- of all lines only the one found can agree
+        -- of all these lines only the one found can agree
         pub lone-others :
             (i : ℕ) → w ≤ i → i < keys-of xs → (i ≡ r → ⊥) → agrees s 0 (spells (lexicon cs ls) (key-at xs i)) o ≡ false
         lone-others i a b other =
@@ -202,7 +202,7 @@ module _ (cs ls xs : List ℕ) (can : Can-read cs ls xs) where
             ))
             (λ (l : i < r). omega (arith, cut .below i a l)) (le-or-lt r i))
 
-        -- and not where it has another character
+        -- and it does not if it has another character
         pub lone-all :
             (r < keys-of xs → value-at xs r ≡ c → ⊥) → (i : ℕ) → w ≤ i → i < keys-of xs →
             agrees s 0 (spells (lexicon cs ls) (key-at xs i)) o ≡ false

@@ -1,5 +1,5 @@
--- A walk over the directory lines from a to b − 1, each with a step on the window; a stage as such a walk, and the lines that it may
--- pass over. Assumes nothing.
+-- A walk over the directory lines from a to b − 1, each with a step on the window; the pass at one offset as such a walk, and the
+-- lines that it may skip. Assumes nothing.
 use mathlib.Core.Path.{_≡_, refl, sym, ap, _∙_}
 use mathlib.Core.Bool.{false}
 use mathlib.Core.List.{List}
@@ -69,7 +69,7 @@ module _ (f : ℕ → List ℕ → List ℕ) where
   pub run-unchanged : (a b : ℕ) → Unchanged f a b → (rs : List ℕ) → run f a b rs ≡ rs
   run-unchanged a b still rs = from-unchanged (b - a) a (λ j l r. still j l (omega arith)) rs
 
-  -- steps at both ends that change nothing
+  -- steps at both ends that change nothing are skipped
   pub run-skip :
       (a r t b : ℕ) → a ≤ r → r ≤ t → t ≤ b → Unchanged f a r → Unchanged f t b → (rs : List ℕ) → run f a b rs ≡ run f r t rs
   run-skip a r t b p q s front back rs =
@@ -93,7 +93,7 @@ module _ (f : ℕ → List ℕ → List ℕ) where
 
 -- WHAT IS LEFT OF A WALK
 
--- of the steps a to b − 1 those from lo to hi − 1 are left to do, `rs` stands where `old` stood, and no reach is above `top`
+-- of the steps a to b − 1 those from lo to hi − 1 are still to do, `rs` is the window now, and no reach is above `highest`
 abbrev pub Left : (step : ℕ → List ℕ → List ℕ) → (a b : ℕ) → (old rs : List ℕ) → (highest lo hi : ℕ) → Type 0
 Left f a b old rs highest lo hi = Progress (run f lo hi) (run f a b old) old rs highest
 
@@ -102,13 +102,13 @@ module _ (f : ℕ → List ℕ → List ℕ) (a b : ℕ) (old : List ℕ) where
   left-start max-reach w = progress-start (run f a b) old max-reach w
 
   module _ (rs : List ℕ) (highest lo hi : ℕ) (h : Left f a b old rs highest lo hi) where
-    -- the first of them done
+    -- the first of them is done
     pub left-step :
         lo < hi → (now : List ℕ) (max-reach : ℕ) → length now ≡ length rs → Reaches (f lo rs) now max-reach → Left f a b old now max-reach (lo + 1) hi
     left-step some now max-reach kept r =
         progress-step (run f lo hi) (run f (lo + 1) hi) (run f a b old) old rs now highest max-reach (f lo rs) h (run-next f lo hi some rs) kept r
 
-    -- those at both ends passed over
+    -- those at both ends are skipped
     pub left-narrow : (r t : ℕ) → lo ≤ r → r ≤ t → t ≤ hi → Unchanged f lo r → Unchanged f t hi → Left f a b old rs highest r t
     left-narrow r t p q s front back =
         progress-pass (run f lo hi) (run f r t) (run f a b old) old rs highest h (run-skip f lo r t hi p q s front back rs)
@@ -116,7 +116,7 @@ module _ (f : ℕ → List ℕ → List ℕ) (a b : ℕ) (old : List ℕ) where
     pub left-end : hi ≤ lo → Reaches (run f a b old) rs highest
     left-end past = progress-end (run f lo hi) (run f a b old) old rs highest h (run-none f lo hi past rs)
 
-    -- all of them done
+    -- all of them are done
     pub left-all : (now : List ℕ) (max-reach : ℕ) → Reaches (run f lo hi rs) now max-reach → Reaches (run f a b old) now max-reach
     left-all now max-reach r = record { is = r .is ∙ h .left; bounded = r .bounded }
 
@@ -130,7 +130,7 @@ positions-at xs i = take (count-at xs i) (drop (list-start xs i) xs)
 unfoldable pub offset-at : (o : ℕ) → Lexicon → (numbers string : List ℕ) → (first i : ℕ) → (reaches : List ℕ) → List ℕ
 offset-at o lex xs s q i rs = key-all 0 o s (spells lex (key-at xs i)) q (positions-at xs i) rs
 
--- the key of line i at the offsets from 0 down
+-- the key of line i at the offsets of 0 and below
 unfoldable pub leading-at : Lexicon → (numbers string : List ℕ) → (first i : ℕ) → (reaches : List ℕ) → List ℕ
 leading-at lex xs s q i rs =
     back-all (length (spells lex (key-at xs i))) 0 s (spells lex (key-at xs i)) q (positions-at xs i) rs
@@ -146,7 +146,7 @@ module _ (lex : Lexicon) (xs s : List ℕ) (q : ℕ) where
       ∙ rw (lines-next xs i (omega arith))
       (rw (add-one i) (sym (offset-next lex s q o (line-of xs i) (drop (suc i) (lines-in xs)) rs)))
 
-  -- a stage is the walk over all lines
+  -- the pass at one offset is the walk over all lines
   pub offset-whole : (o : ℕ) (rs : List ℕ) → run (offset-at o lex xs s q) 0 (keys-of xs) rs ≡ offset-all o lex (lines-in xs) s q rs
   offset-whole o rs = rw (sub-zero (keys-of xs)) (offset-from o (keys-of xs) 0 (omega arith) rs)
 
@@ -161,7 +161,7 @@ module _ (lex : Lexicon) (xs s : List ℕ) (q : ℕ) where
       ∙ rw (lines-next xs i (omega arith))
       (rw (add-one i) (sym (leading-next lex s q (line-of xs i) (drop (suc i) (lines-in xs)) rs)))
 
-  -- and so is the first stage
+  -- and so is the pass of the leading keys
   pub leading-whole : (rs : List ℕ) → run (leading-at lex xs s q) 0 (keys-of xs) rs ≡ leading-all lex (lines-in xs) s q rs
   leading-whole rs = rw (sub-zero (keys-of xs)) (leading-from (keys-of xs) 0 (omega arith) rs)
 
@@ -170,7 +170,7 @@ module _ (lex : Lexicon) (xs s : List ℕ) (q : ℕ) where
   unfolding offset-at
   offset-apart o i f rs = key-apart 0 o s (spells lex (key-at xs i)) q (positions-at xs i) rs f
 
-  -- a key of one character has one offset from 0 down
+  -- a key of one character has one offset of 0 or below
   pub leading-single :
       (i : ℕ) → length (spells lex (key-at xs i)) ≡ 1 → (rs : List ℕ) → leading-at lex xs s q i rs ≡ offset-at 0 lex xs s q i rs
   unfolding leading-at offset-at
@@ -198,7 +198,7 @@ module _ (lex : Lexicon) (xs s : List ℕ) (q : ℕ) where
         bounded = r .bounded;
       }
 
-  -- the first stage, where the keys from w on have one character
+  -- the leading keys, if the keys from w on have one character
   pub leading-both :
       (w : ℕ) → w ≤ keys-of xs → ((i : ℕ) → w ≤ i → i < keys-of xs → length (spells lex (key-at xs i)) ≡ 1) →
       (old mid now : List ℕ) (highest max-reach : ℕ) → Reaches (run (leading-at lex xs s q) 0 w old) mid highest →
@@ -216,7 +216,7 @@ module _ (lex : Lexicon) (xs s : List ℕ) (q : ℕ) where
         bounded = r .bounded;
       }
 
-  -- what is done by a key and its positions is done by its line
+  -- a step by the key and the positions of line i is the step of line i
   module _ (i : ℕ) (k bs : List ℕ) (key : k ≡ spells lex (key-at xs i)) (positions : bs ≡ positions-at xs i) (rs now : List ℕ) (max-reach : ℕ) where
     pub offset-done : (o : ℕ) → Reaches (key-all 0 o s k q bs rs) now max-reach → Reaches (offset-at o lex xs s q i rs) now max-reach
     unfolding offset-at

@@ -1,5 +1,4 @@
--- The positions of an ascending list that fall into a window of starts: a range of the list, between two lower bounds. Assumes
--- nothing.
+-- The positions of an ascending list that fall into a window of starts: a range of the list, between two lower bounds. Assumes nothing.
 use mathlib.Core.Path.{_≡_}
 use mathlib.Core.List.{List, [], _∷_}
 use Prim.Native.Nat.{ℕ, zero, suc, _+_, _-_, _≤_, _<_}
@@ -16,11 +15,11 @@ use Rattle.laws.specs.Window.LineSteps.{positions-at}
 
 -- THE LISTS OF AN INDEX ASCEND
 
--- the list does not fall
+-- the list is nondecreasing
 abbrev pub Ascending : List ℕ → Type 0
 Ascending bs = Rising (λ i. getD bs i 0) 0 (length bs)
 
--- r is its first index whose position is not below c
+-- r is the lower bound of c: the first index whose position is not below c
 abbrev pub List-lower-bound : List ℕ → (c r : ℕ) → Type 0
 List-lower-bound bs c r = Lower-bound (λ i. getD bs i 0) 0 (length bs) c r
 
@@ -45,7 +44,7 @@ module _ (cs ls xs : List ℕ) (can : Can-read cs ls xs) (i : ℕ) (below : i < 
 
 -- THE RANGE OF A WINDOW
 
--- the positions from a to b − 1 in the list, laid at the offset, are those that fall into the window of n starts from q on
+-- at this offset, the positions at indexes a to b − 1 of the list are those that fall into the window of n starts from q on
 pub record Window-range (bs : List ℕ) (i o q n a b : ℕ) : Type 0 where
   pub from : a ≤ length bs
   pub to : b ≤ length bs

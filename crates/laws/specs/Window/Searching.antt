@@ -1,4 +1,4 @@
--- What a search of a window says, and of all starts: from the refusal to the whole promise. Assumes nothing.
+-- The contract of a search of a window, and of all starts, from the refusal on. Assumes nothing.
 use mathlib.Core.Path.{_≡_, refl, sym, ap, _∙_, subst}
 use mathlib.Core.List.{List, [], _∷_}
 use Prim.Native.Nat.{ℕ, zero, suc, _-_, _≤_, _<_}
@@ -20,7 +20,7 @@ use Rattle.laws.specs.Search.Sizing.{Is-string, Sized, sized-short, size
 unfoldable pub Window-says : Lexicon → (index string : List ℕ) → (n q : ℕ) → Answer → (out out-now : List ℕ) → Type 0
 Window-says lex xs s n q r o z = Sized (found-from n q lex (lines-in xs) s) r o z
 
--- nothing is reached in a cleared window
+-- every reach is 0 in a cleared window
 pub cleared-within : (n : ℕ) (rs : List ℕ) → rs ≡ replicate n 0 → Within 0 rs
 cleared-within n rs e = rw e (within-none n)
 
@@ -39,7 +39,7 @@ module _ (lex : Lexicon) (xs s : List ℕ) (n q : ℕ) (o : List ℕ) where
 
   module _ (rs : List ℕ) (max-reach : ℕ) (old : List ℕ) (clear : old ≡ replicate n 0)
       (done : Reaches (offsets-all (length s - 1) 1 lex (lines-in xs) s q (leading-all lex (lines-in xs) s q old)) rs max-reach) where
-    -- what the window shows is what the starts find
+    -- what the window has found is what the starts find
     pub in-window : found-in (length s) q rs ≡ found-from n q lex (lines-in xs) s
     in-window =
         ap (found-in (length s) q)
@@ -47,14 +47,14 @@ module _ (lex : Lexicon) (xs s : List ℕ) (n q : ℕ) (o : List ℕ) where
         ∙ ap (λ (l : List ℕ). offsets-all (length s - 1) 1 lex (lines-in xs) s q (leading-all lex (lines-in xs) s q l)) clear)
         ∙ window-found lex (lines-in xs) s q n
 
-    -- no start passes the string
+    -- no reach comes to the string's end
     pub says-none : max-reach < length s → (r : Answer) → r .refusal ≡ 0 → r .count ≡ 0 → Window-says lex xs s n q r o o
     unfolding Window-says found in-front
     says-none early r a b =
         let none : found ≡ [] = sym in-window ∙ none-found (length s) max-reach q rs (done .bounded) early in
         rw none (sized-written [] r o o (omega arith) a b refl)
 
-    -- what is said of the window is said of the starts
+    -- an answer from the window is an answer for the starts
     pub says-answered : (r : Answer) (z : List ℕ) → Sized (found-in (length s) q rs) r o z → Window-says lex xs s n q r o z
     unfolding Window-says found
     says-answered r z h = subst (λ (l : List ℕ). Sized l r o z) in-window h
@@ -80,13 +80,13 @@ pub all-starts :
 unfolding Window-says find
 all-starts lex xs s r o z starts e h = rw e at h
 
--- the number of starts, as the code has it
+-- the same, with the number of starts as the code has it
 pub says-count :
     (lex : Lexicon) (xs s : List ℕ) (n k q : ℕ) (r : Answer) (o z : List ℕ) → n ≡ k → Window-says lex xs s n q r o z →
     Window-says lex xs s k q r o z
 says-count lex xs s n k q r o z e h = rw e at h
 
--- a local array is cleared when it is made, and as long as it is said to be
+-- a new local array is all zeros and has its stated length
 pub cleared-room : (n k : ℕ) → k ≤ n → k ≤ length (replicate {A = ℕ} n 0)
 cleared-room n k h = omega (arith, length-replicate {A = ℕ} n 0)
 

@@ -1,4 +1,4 @@
--- A window of starts: a list of reaches, one for each start from `first` on, a step done to all of them, and a walk of such steps.
+-- A window of starts: a list of reaches, one for each start from `first` on; a step applied to all of them, and a walk of such steps.
 -- Assumes nothing.
 use mathlib.Core.Path.{_≡_, refl, sym, ap, _∙_}
 use mathlib.Core.Bool.{Bool, true, false, cond}
@@ -14,7 +14,7 @@ use Rattle.basics.specs.Steps.{those-from}
 
 -- ONE STEP AT EACH START
 
--- each reach changed by what its start and itself say
+-- each reach changed as a function of its start and itself
 unfoldable pub extended : (step : ℕ → ℕ → ℕ) → (first : ℕ) → (reaches : List ℕ) → List ℕ
 extended f q [] = []
 extended f q (r ∷ rs) = f q r ∷ extended f (suc q) rs
@@ -33,14 +33,14 @@ getD-extended f q (r ∷ rs) (suc j) h =
     let z : suc q + j ≡ q + suc j = omega arith in
     rw z at (getD-extended f (suc q) rs j (omega arith))
 
--- two steps
+-- two steps, one after the other
 pub extended-then :
     (f g : ℕ → ℕ → ℕ) (q : ℕ) (rs : List ℕ) → extended g q (extended f q rs) ≡ extended (λ p r. g p (f p r)) q rs
 unfolding extended
 extended-then f g q [] = refl
 extended-then f g q (r ∷ rs) = rw (extended-then f g (suc q) rs)
 
--- two steps that are alike
+-- two steps that are equal everywhere
 pub extended-alike :
     (f g : ℕ → ℕ → ℕ) (q : ℕ) (rs : List ℕ) → ((p r : ℕ) → f p r ≡ g p r) → extended f q rs ≡ extended g q rs
 unfolding extended
@@ -68,9 +68,9 @@ module _ (f : ℕ → ℕ → ℕ) (q : ℕ) (rs : List ℕ) where
           rw z (here ∙ sym (getD-set-same rs i v 0 within))
       at j b false t = others j b (eqb-false j i t) ∙ sym (getD-set-other rs i j v 0 (eqb-false j i t))
 
--- HOW FAR ANY START REACHES
+-- THE GREATEST REACH
 
--- no reach is above `most`
+-- no reach is above `max-reach`
 abbrev pub Within : (max-reach : ℕ) → (reaches : List ℕ) → Type 0
 Within max-reach rs = (j : ℕ) → j < length rs → getD rs j 0 ≤ max-reach
 
@@ -91,12 +91,12 @@ within-none n j l = rw (getD-replicate {A = ℕ} n j 0 0 (omega (arith, length-r
 
 -- A WALK OF STEPS
 
--- the window is `goal`, and no reach in it is above `most`
+-- the window is `goal`, and no reach in it is above `max-reach`
 pub record Reaches (goal rs : List ℕ) (max-reach : ℕ) : Type 0 where
   pub is : rs ≡ goal
   pub bounded : Within max-reach rs
 
--- `rs` stands where `old` stood: what is left to do gives the goal, and no reach is above `most`
+-- `rs` is the window now: what is left to do gives the goal, and no reach is above `max-reach`
 pub record Progress (rest : List ℕ → List ℕ) (goal old rs : List ℕ) (max-reach : ℕ) : Type 0 where
   pub left : rest rs ≡ goal
   pub len : length rs ≡ length old
@@ -105,7 +105,7 @@ pub record Progress (rest : List ℕ → List ℕ) (goal old rs : List ℕ) (max
 pub progress-start : (rest : List ℕ → List ℕ) (rs : List ℕ) (max-reach : ℕ) → Within max-reach rs → Progress rest (rest rs) rs rs max-reach
 progress-start rest rs max-reach w = record { left = refl; len = refl; bounded = w }
 
--- one step, by what was done to the window
+-- one step, by what it does to the window
 pub progress-step :
     (rest next : List ℕ → List ℕ) (goal old rs now : List ℕ) (max-reach highest : ℕ) (stepped : List ℕ) → Progress rest goal old rs max-reach →
     rest rs ≡ next stepped → length now ≡ length rs → Reaches stepped now highest → Progress next goal old now highest
@@ -130,14 +130,14 @@ unfoldable pub found-in : (m first : ℕ) → (reaches : List ℕ) → List ℕ
 found-in m q [] = []
 found-in m q (r ∷ rs) = cond (leb m r) (q ∷ found-in m (suc q) rs) (found-in m (suc q) rs)
 
--- of a window that began with nothing reached
+-- in a window that starts with every reach 0
 pub found-in-extended :
     (m : ℕ) (f : ℕ → ℕ → ℕ) (n q : ℕ) → found-in m q (extended f q (replicate n 0)) ≡ those-from n q (λ p. leb m (f p 0))
 unfolding found-in extended those-from
 found-in-extended m f zero q = refl
 found-in-extended m f (suc n) q = rw (found-in-extended m f n (suc q))
 
--- of a window whose reaches tell where a test holds
+-- in a window whose reaches tell where a test holds
 pub found-in-those :
     (m q : ℕ) (rs : List ℕ) (f : ℕ → Bool) → ((j : ℕ) → j < length rs → leb m (getD rs j 0) ≡ f (q + j)) →
     found-in m q rs ≡ those-from (length rs) q f

@@ -1,4 +1,4 @@
--- The search algorithm on a window of starts: each of its loops, with what one turn does and how it ends. Assumes nothing.
+-- The search algorithm on a window of starts: each of its loops, what one iteration does and how it ends. Assumes nothing.
 use mathlib.Core.Path.{_≡_, refl, sym, ap, _∙_}
 use mathlib.Core.Bool.{true, false, cond}
 use mathlib.Core.Logic.{⊎-elim}
@@ -21,7 +21,7 @@ use Rattle.laws.specs.Search.Reach.{reach-key-apart, reach-offsets-stop}
 use Rattle.laws.specs.Search.ReachExact.{found-reach}
 use Rattle.laws.specs.Window.Window.{extended, extended-then, extended-alike, extended-same, extended-one, Within, found-in, found-in-extended}
 
--- THE STEPS, each done to every start of the window
+-- THE STEPS, each applied to every start of the window
 
 unfoldable pub extend-all : (i o len first b : ℕ) → (reaches : List ℕ) → List ℕ
 extend-all i o l q b = extended (λ p r. extend i o l p b r) q
@@ -44,8 +44,8 @@ offset-all o lex ls s q = extended (λ p r. reach-offset o lex ls s p r) q
 unfoldable pub offsets-all : (left o : ℕ) → Lexicon → List Line → (string : List ℕ) → (first : ℕ) → (reaches : List ℕ) → List ℕ
 offsets-all n o lex ls s q = extended (λ p r. reach-offsets n o lex ls s p r) q
 
--- ONE POSITION b OF A KEY'S LIST: it is a start's own at most once, and is passed over where it is no start of the window, where
--- that start is not reached so far, or where nothing is gained
+-- ONE POSITION b OF A KEY'S LIST: it belongs to at most one start, and is skipped if that is no start of the window, if the reach does
+-- not come to the offset, or if the reach would not grow
 
 module _ (i o l q b : ℕ) (rs : List ℕ) where
   elsewhere : (j : ℕ) → (b + i ≡ q + j + o → ⊥) → extend i o l (q + j) b (getD rs j 0) ≡ getD rs j 0
@@ -59,7 +59,7 @@ module _ (i o l q b : ℕ) (rs : List ℕ) where
       (λ j w. elsewhere j (λ (e : b + i ≡ q + j + o). omega (arith, outside (omega arith))))
 
   module _ (p : ℕ) (own : p + (q + o) ≡ b + i) (within : p < length rs) where
-    -- at its own start
+    -- at its start
     here :
         (v : ℕ) → cond (leb o (getD rs p 0)) (max (getD rs p 0) ((o + l) - i)) (getD rs p 0) ≡ v → extend-all i o l q b rs ≡ set rs p v
     unfolding extend-all extend
@@ -78,7 +78,7 @@ module _ (i o l q b : ℕ) (rs : List ℕ) where
         o ≤ getD rs p 0 → getD rs p 0 ≤ max o ((o + l) - i) → extend-all i o l q b rs ≡ set rs p (max o ((o + l) - i))
     extend-here near gain = here (max o ((o + l) - i)) (rw (le-leb o (getD rs p 0) near) (omega arith))
 
--- THE POSITIONS OF A KEY, from the jth on
+-- THE POSITIONS OF A KEY, from index j on
 
 module _ (i o l q : ℕ) (bs : List ℕ) (j : ℕ) where
   pub positions-none : length bs ≤ j → (rs : List ℕ) → positions-all i o l q (drop j bs) rs ≡ rs
@@ -94,7 +94,7 @@ module _ (i o l q : ℕ) (bs : List ℕ) (j : ℕ) where
       rw (add-one j, drop-cons bs j 0)
       (sym (extended-then (λ p r. extend i o l p (getD bs j 0) r) (λ p r. reach-positions i o l p (drop (suc j) bs) r) q rs))
 
--- positions that are no starts of the window are passed over
+-- positions that belong to no start of the window are skipped
 module _ (i o l q : ℕ) (bs rs : List ℕ) where
   skip :
       (n j : ℕ) → j + n ≤ length bs →
@@ -185,7 +185,7 @@ module _ (lex : Lexicon) (s : List ℕ) (q : ℕ) where
       sym
       (extended-then (λ p r. reach-key 0 o s (spells lex (l .key-of)) p (l .positions) r) (λ p r. reach-offset o lex ls s p r) q rs)
 
--- THE STAGES FROM o ON
+-- THE OFFSETS FROM o ON
 
 module _ (lex : Lexicon) (ls : List Line) (s : List ℕ) (q : ℕ) where
   pub offsets-none : (o : ℕ) → length s ≤ o → (rs : List ℕ) → offsets-all (length s - o) o lex ls s q rs ≡ rs
@@ -205,14 +205,14 @@ module _ (lex : Lexicon) (ls : List Line) (s : List ℕ) (q : ℕ) where
       (sym
       (extended-then (λ p r. reach-offset o lex ls s p r) (λ p r. reach-offsets (length s - suc o) (suc o) lex ls s p r) q rs))
 
-  -- where no reach comes to o, the stages from o on change nothing
+  -- if no reach comes to o, the offsets from o on change nothing
   pub offsets-stop : (n o max-reach : ℕ) (rs : List ℕ) → Within max-reach rs → max-reach < o → offsets-all n o lex ls s q rs ≡ rs
   unfolding offsets-all
   offsets-stop n o max-reach rs w h =
       extended-same (λ p r. reach-offsets n o lex ls s p r) q rs
       (λ j b. reach-offsets-stop lex s (q + j) ls n o (getD rs j 0) (omega (arith, w j b)))
 
-  -- WHAT IS FOUND: the starts whose reach passes the string, once all stages are done to a window that began with nothing
+  -- WHAT IS FOUND: the starts whose reach comes to the string's end, once all offsets are done on a window that starts with every reach 0
   pub window-found :
       (n : ℕ) →
       found-in (length s) q (offsets-all (length s - 1) 1 lex ls s q (leading-all lex ls s q (replicate n 0))) ≡ found-from n q lex ls s

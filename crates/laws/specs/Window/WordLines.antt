@@ -1,5 +1,5 @@
--- Lines of words narrowed character by character to those that share what the string has from an offset on: the others do not agree
--- there. Assumes nothing.
+-- The prefix range of the word lines that share the string's characters from an offset on, refined character by character: the others do
+-- not agree there. Assumes nothing.
 use mathlib.Core.Path.{_≡_, sym, ap, _∙_}
 use mathlib.Core.Bool.{true, false}
 use mathlib.Core.Logic.{_⊎_, ⊎-elim}
@@ -21,18 +21,18 @@ use Rattle.basics.specs.LowerBound.{Rising, Lower-bound, rising-part}
 use Rattle.laws.specs.Window.LineSteps.{Unchanged, offset-at, offset-apart}
 use Rattle.laws.specs.Window.LineRanges.{Split, word-lines-rise}
 
--- a key at an offset within the string has the string's characters, as far as both lie
+-- a key that agrees at an offset within the string has the string's characters on the overlap
 agree-deep : (s k : List ℕ) (o d : ℕ) → Agree s 0 k o → d < length k → o + d < length s → getD s (o + d) 0 ≡ getD k d 0
 agree-deep s k o d h l r =
     let y : o + d - 0 ≡ o + d = omega arith in
     let z : o + d - o ≡ d = omega arith in
     rw (y, z) at (h .equal (o + d) (omega arith) (omega arith) (omega arith) (omega arith))
 
--- the character at depth d of the word of line i, read where it stands
+-- the character at depth d of the word of line i, read from the dictionary's characters
 abbrev pub word-char : (chars numbers starts : List ℕ) → (d i : ℕ) → ℕ
 word-char cs xs ws d i = getD cs (getD ws (value-at xs i) 0 + d) 0
 
--- words lo to hi − 1 have a character at depth d, and these do not fall
+-- words lo to hi − 1 have a character at depth d, and these are nondecreasing
 pub record Word-column (cs xs ws : List ℕ) (lo hi d : ℕ) : Type 0 where
   pub rising : Rising (word-char cs xs ws d) lo hi
   pub line : (i : ℕ) → lo ≤ i → i < hi → header + 3 * i + 2 < length xs
@@ -71,7 +71,7 @@ module _
   abbrev word-of : ℕ → List ℕ
   word-of i = spells (lexicon cs ls) (key-at xs i)
 
-  -- the first of them left out
+  -- the same range without its first word
   pub shared-prefix-next : lo < hi → Shared-prefix cs ls xs s o w (lo + 1) hi d
   shared-prefix-next some =
       record {
@@ -96,7 +96,7 @@ module _
     room : getD ws (value-at xs i) 0 + getD ls (value-at xs i) 0 ≤ length cs
     room = word-room cs ls xs can i shared-line (split .words i (omega (arith, h .within))) ws table
 
-    -- its length stands among the lengths
+    -- its length is in the list of lengths
     pub shared-long : length (word-of i) ≡ getD ls (value-at xs i) 0
     shared-long =
         sym (ap length spelt)
@@ -115,7 +115,7 @@ module _
         (drop (getD ws (value-at xs i) 0) cs) j 0 (omega (arith, shared-long)))
         ∙ ap (λ (k : List ℕ). getD k j 0) spelt
 
-  -- those that have no more to share, or where the string has no more, agree
+  -- words that end at depth d, or all if the string ends there, agree
   pub shared-prefix-agrees :
       o < length s → (i : ℕ) → lo ≤ i → i < hi → (length s ≤ o + d) ⊎ (getD ls (value-at xs i) 0 ≡ d) →
       agrees s 0 (spells (lexicon cs ls) (key-at xs i)) o ≡ true
@@ -127,7 +127,7 @@ module _
       (λ (p : getD ls (value-at xs i) 0 ≡ d). omega (arith, shared-long i a b)) done)
       (λ j l. sym (h .share i j a b l)))
 
-  -- where the first has more than d characters, so have all
+  -- if the first has more than d characters, so have all
   module _ (some : lo < hi) (more : getD ls (value-at xs lo) 0 ≡ d → ⊥) where
     longer : (i : ℕ) → lo ≤ i → i < hi → d < length (word-of i)
     longer i a b =
@@ -146,7 +146,7 @@ module _
             (λ j c. h .share lo j (omega arith) some (omega arith) ∙ sym (h .share i j a b (omega arith))))
             (le-or-lt i lo)
 
-    -- a word has at most 32 characters: narrowing ends
+    -- a word has at most 32 characters, so the refinement ends
     pub shared-deep : d < 32
     shared-deep = omega (arith, longer lo (omega arith) some, key-short cs ls xs can lo (shared-line lo (omega arith) some))
 
@@ -180,7 +180,7 @@ module _
           room = λ i a b. omega (arith, room i a b, shared-long i a b, longer i a b);
         }
 
-    -- those that share one character more
+    -- the equal range of the string's next character shares one character more
     module _
         (c from to : ℕ) (is : c ≡ getD s (o + d) 0) (below : o + d < length s)
         (low : Lower-bound (word-char cs xs ws d) lo hi c from) (high : Lower-bound (word-char cs xs ws d) from hi (c + 1) to) where
