@@ -25,8 +25,8 @@ pub absent-at : (xs : List ℕ) (g : ℕ) → (In g xs → ⊥) → (i : ℕ) �
 absent-at xs g absent i b e = absent (subst (λ (x : ℕ). In x xs) e (in-getD xs i 0 b))
 
 -- there is only one least absent number
-pub least-one : (xs : List ℕ) (g h : ℕ) → Least-absent xs g → Least-absent xs h → g ≡ h
-least-one xs g h p q =
+pub least-one : {xs : List ℕ} {g h : ℕ} → Least-absent xs g → Least-absent xs h → g ≡ h
+least-one {g} {h} p q =
     ⊎-elim
     (λ (a : g ≤ h).
     ⊎-elim (λ (b : h ≤ g). omega arith) (λ (b : g < h). absurd (p .absent (q .lower g b))) (le-or-lt h g))

@@ -15,9 +15,9 @@ pub record Copying (links : List ℕ) (head : ℕ) (old now : List ℕ) (start h
   pub writing : Writing (take start old ++ chain links head) old now (drop (here - start) (chain links head)) here
 
 pub copy-start :
-    (links : List ℕ) (head : ℕ) (old : List ℕ) (start : ℕ) → Threaded links head → start + length (chain links head) ≤ length old →
+    {links : List ℕ} {head : ℕ} (old : List ℕ) (start : ℕ) → Threaded links head → start + length (chain links head) ≤ length old →
     Copying links head old old start start head
-copy-start links head old start t room =
+copy-start {links} {head} old start t room =
     let none : start - start ≡ 0 = omega arith in
     record {
       from = omega arith;
@@ -32,13 +32,13 @@ pub record Copy-in-hand (links : List ℕ) (head : ℕ) (old now : List ℕ) (st
   pub linked : member - 1 < length links
   pub next : Copying links head old (set now here member) start (here + 1) (getD links (member - 1) 0)
 
-module _ (links : List ℕ) (head : ℕ) (old now : List ℕ) (start here member : ℕ)
+module _ {links : List ℕ} {head : ℕ} {old now : List ℕ} {start here member : ℕ}
     (k : Copying links head old now start here member) where
   pub copy-member : Threaded links head → (member ≡ 0 → ⊥) → Copy-in-hand links head old now start here member
   copy-member t some =
       record {
         left = m .below;
-        room = has-room (take start old ++ chain links head) old now member (drop (here - start + 1) (chain links head)) here w;
+        room = has-room member (drop (here - start + 1) (chain links head)) w;
         linked =
             omega (
               arith,
@@ -50,7 +50,7 @@ module _ (links : List ℕ) (head : ℕ) (old now : List ℕ) (start here member
             record {
               from = omega (arith, k .from);
               walking = rw on (m .next);
-              writing = rw on (writes (take start old ++ chain links head) old now member (drop (here - start + 1) (chain links head)) here w);
+              writing = rw on (writes member (drop (here - start + 1) (chain links head)) w);
             };
       }
     where

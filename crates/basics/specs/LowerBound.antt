@@ -22,7 +22,7 @@ pub record Bisected (f : ℕ → ℕ) (lo hi c a b : ℕ) : Type 0 where
   pub below : (i : ℕ) → lo ≤ i → i < a → f i < c
   pub above : (i : ℕ) → b ≤ i → i < hi → c ≤ f i
 
-module _ (f : ℕ → ℕ) (lo hi : ℕ) (h : Rising f lo hi) where
+module _ {f : ℕ → ℕ} {lo hi : ℕ} (h : Rising f lo hi) where
   pub rising-part : (a b : ℕ) → lo ≤ a → a ≤ b → b ≤ hi → Rising f a b
   rising-part a b l m r = record { order = m; rises = λ i j p q s. h .rises i j (omega arith) q (omega arith) }
 
@@ -57,7 +57,7 @@ module _ (f : ℕ → ℕ) (lo hi : ℕ) (h : Rising f lo hi) where
           above = λ i l r. absurd (omega arith);
         }
 
-    module _ (a b : ℕ) (s : Bisected f lo hi c a b) where
+    module _ {a b : ℕ} (s : Bisected f lo hi c a b) where
       pub bisected-end : b ≤ a → Lower-bound f lo hi c a
       bisected-end done =
           record {

@@ -110,7 +110,7 @@ module _ {A : Type 0} (before : A → A → Bool) where
   length-sort [] = refl
   length-sort (x ∷ xs) = length-insert x (sort before xs) ∙ ap suc (length-sort xs)
 
-module _ {A : Type 0} (before : A → A → Bool) (strict : Strict before) where
+module _ {A : Type 0} {before : A → A → Bool} (strict : Strict before) where
   not-itself {ℓ} : {X : Type ℓ} → (a b : A) → before a b ≡ true → a ≡ b → X
   not-itself a b t e = clash (rw (← e) at t) (strict .irreflexive a)
 

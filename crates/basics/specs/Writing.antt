@@ -22,7 +22,7 @@ pub record Writing (all old now todo : List ℕ) (at : ℕ) : Type 0 where
 pub starts : (old xs : List ℕ) (at : ℕ) → at + length xs ≤ length old → Writing (take at old ++ xs) old old xs at
 starts old xs at h = record { so-far = refl; rest = refl; len = refl; room = h }
 
-module _ (all old now : List ℕ) (x : ℕ) (todo : List ℕ) (at : ℕ) (w : Writing all old now (x ∷ todo) at) where
+module _ {all old now : List ℕ} (x : ℕ) (todo : List ℕ) {at : ℕ} (w : Writing all old now (x ∷ todo) at) where
   pub has-room : at < length now
   has-room = omega (arith, w .room, w .len)
 
@@ -41,9 +41,9 @@ module _ (all old now : List ℕ) (x : ℕ) (todo : List ℕ) (at : ℕ) (w : Wr
 
 -- several numbers that another writer wrote there
 pub appends :
-    (all old now xs todo : List ℕ) (at : ℕ) → Writing all old now (xs ++ todo) at →
+    {all old now : List ℕ} (xs todo : List ℕ) {at : ℕ} → Writing all old now (xs ++ todo) at →
     Writing all old (over (take at now ++ xs) now) todo (at + length xs)
-appends all old now xs todo at w =
+appends {old} {now} xs todo {at} w =
     record {
       so-far = rw (take-at (take at now ++ xs) (drop (length (take at now ++ xs)) now) (at + length xs) len, append-assoc (take at now) xs todo) (w .so-far);
       rest =
@@ -80,9 +80,9 @@ module _ (all old now : List ℕ) (at : ℕ) (w : Writing all old now [] at) whe
 
 -- the part from `at` on is lent to a writer, which writes the rest over its start
 lent-on :
-    (all old now todo part : List ℕ) (at : ℕ) → Writing all old now todo at → part ≡ over todo (drop at now) →
+    {all old now todo : List ℕ} (part : List ℕ) {at : ℕ} → Writing all old now todo at → part ≡ over todo (drop at now) →
     take at now ++ part ≡ over all old
-lent-on all old now todo part at w e =
+lent-on {all} {old} {now} {todo} part {at} w e =
     rw (e, ← append-assoc (take at now) todo (drop (length todo) (drop at now)), w .so-far, drop-drop (length todo) at now)
     (ap (λ (l : List ℕ). all ++ l) (sym (drop-drop (length todo) at now) ∙ ap (λ (l : List ℕ). drop (length todo) l) (w .rest) ∙ drop-drop (length todo) at old)
     ∙ ap (λ (n : ℕ). all ++ drop n old) len)
@@ -103,13 +103,13 @@ pub lent-tail-is : (at : ℕ) (now : List ℕ) → lent-tail at now ≡ drop at 
 lent-tail-is at now = take-all (length now - at) (drop at now) (omega (arith, length-drop at now))
 
 pub tail-written :
-    (all old now todo part : List ℕ) (at : ℕ) → Writing all old now todo at → part ≡ over todo (lent-tail at now) →
+    {all old now todo : List ℕ} (part : List ℕ) {at : ℕ} → Writing all old now todo at → part ≡ over todo (lent-tail at now) →
     tail-back at now part ≡ over all old
-tail-written all old now todo part at w e =
+tail-written {all} {old} {now} {todo} part {at} w e =
     let past : length (drop at now) ≤ length now - at = omega (arith, length-drop at now) in
     let nothing : drop (length now - at) (drop at now) ≡ [] = drop-of-length-le (drop at now) past in
     rw (nothing, append-nil part)
-    (lent-on all old now todo part at w (e ∙ ap (λ (l : List ℕ). over todo l) (lent-tail-is at now)))
+    (lent-on part w (e ∙ ap (λ (l : List ℕ). over todo l) (lent-tail-is at now)))
 
 -- three numbers, one after the other
 pub three-written :
@@ -118,9 +118,9 @@ pub three-written :
 three-written old at x y z room =
     rw (next)
     (written all old (set (set (set old at x) (at + 1) y) (at + 1 + 1) z) (at + 1 + 1 + 1)
-    (writes all old (set (set old at x) (at + 1) y) z [] (at + 1 + 1)
-    (writes all old (set old at x) y (z ∷ []) (at + 1)
-    (writes all old old x (y ∷ z ∷ []) at (starts old (x ∷ y ∷ z ∷ []) at room)))))
+    (writes z []
+    (writes y (z ∷ [])
+    (writes x (y ∷ z ∷ []) (starts old (x ∷ y ∷ z ∷ []) at room)))))
   where
     all : List ℕ
     all = take at old ++ (x ∷ y ∷ z ∷ [])

@@ -22,7 +22,7 @@ use Rattle.laws.specs.Build.Inverted.{scan-count}
 
 pub entries-few : (lex : Lexicon) (ts : List ℕ) → Good-lexicon lex → Chars ts → length (entries lex ts) ≤ length ts
 unfolding make-index
-entries-few lex ts good chars = omega (arith, scan-count lex good ts chars, length-scan (longest-at lex ts) (length ts) 1 1)
+entries-few lex ts good chars = omega (arith, scan-count good ts chars, length-scan (longest-at lex ts) (length ts) 1 1)
 
 -- at most as many lines as positions
 lines-few :
@@ -59,16 +59,16 @@ below-cons b x xs h p y (inl e) = omega arith
 below-cons b x xs h p y (inr m) = p y m
 
 -- n is below the bound
-module _ (lex : Lexicon) (good : Good-lexicon lex) (bound : ℕ) (n : ℕ) (short : n < bound) where
-  pub place-below : (l : Line) → Good-line lex n l → Below bound (l .positions)
-  place-below l h p m =
-      omega (arith, h .fits p m, spells-some lex good (l .key-of) (h .is-key))
+module _ {lex : Lexicon} (good : Good-lexicon lex) (bound : ℕ) (n : ℕ) (short : n < bound) where
+  pub place-below : {l : Line} → Good-line lex n l → Below bound (l .positions)
+  place-below {l} h p m =
+      omega (arith, h .fits p m, spells-some good (l .key-of) (h .is-key))
 
   pub positions-below : (ls : List Line) → ((l : Line) → In l ls → Good-line lex n l) → Below bound (all-positions ls)
   unfolding all-positions
   positions-below [] each = λ x m. absurd m
   positions-below (l ∷ ls) each =
-      below-append bound (l .positions) (all-positions ls) (place-below l (each l (inl refl))) (positions-below ls (λ m i. each m (inr i)))
+      below-append bound (l .positions) (all-positions ls) (place-below (each l (inl refl))) (positions-below ls (λ m i. each m (inr i)))
 
   -- and so are characters
   module _ (wide : 65536 ≤ bound) where
@@ -83,13 +83,13 @@ module _ (lex : Lexicon) (good : Good-lexicon lex) (bound : ℕ) (n : ℕ) (shor
         below-cons bound (l .key-of .kind) (l .key-of .value ∷ length (l .positions) ∷ directory ls)
         (omega (arith, h .is-key .kind-small))
         (below-cons bound (l .key-of .value) (length (l .positions) ∷ directory ls)
-        (omega (arith, value-below lex good (l .key-of) (h .is-key)))
+        (omega (arith, value-below good (l .key-of) (h .is-key)))
         (below-cons bound (length (l .positions)) (directory ls) (omega arith)
         (directory-below ls (λ m i. each m (inr i)) (omega arith))))
 
-    pub numbers-below : (ls : List Line) → Good-lines lex n ls → length (all-positions ls) < bound → Below bound (numbers n ls)
+    pub numbers-below : {ls : List Line} → Good-lines lex n ls → length (all-positions ls) < bound → Below bound (numbers n ls)
     unfolding numbers
-    numbers-below ls lines few =
+    numbers-below {ls} lines few =
         below-cons bound n (length ls ∷ (directory ls ++ all-positions ls)) short
         (below-cons bound (length ls) (directory ls ++ all-positions ls) (omega (arith, lines-few lex n ls (lines .each)))
         (below-append bound (directory ls) (all-positions ls) (directory-below ls (lines .each) few) (positions-below ls (lines .each))))
@@ -97,11 +97,11 @@ module _ (lex : Lexicon) (good : Good-lexicon lex) (bound : ℕ) (n : ℕ) (shor
 -- THE INDEX OF A TEXT
 
 pub index-below :
-    (lex : Lexicon) (ts : List ℕ) → Good-lexicon lex → Chars ts → (bound : ℕ) → 65536 ≤ bound → length ts < bound →
+    {lex : Lexicon} (ts : List ℕ) → Good-lexicon lex → Chars ts → (bound : ℕ) → 65536 ≤ bound → length ts < bound →
     Below bound (index-of lex ts)
 unfolding index-of
-index-below lex ts good chars bound wide short =
-    numbers-below lex good bound (length ts) short wide (lines-of (sorted (entries lex ts)))
+index-below {lex} ts good chars bound wide short =
+    numbers-below good bound (length ts) short wide
     (rw lines-in-index at (index-lines-good lex good ts chars))
     (omega (
       arith,
@@ -111,6 +111,6 @@ index-below lex ts good chars bound wide short =
     ))
 
 -- for a text of at most 65,535 characters: 16-bit numbers
-pub index-chars : (lex : Lexicon) (ts : List ℕ) → Good-lexicon lex → Chars ts → length ts ≤ 65535 → Chars (index-of lex ts)
-index-chars lex ts good chars short i h =
-    index-below lex ts good chars 65536 (omega arith) (omega arith) (getD (index-of lex ts) i 0) (in-getD (index-of lex ts) i 0 h)
+pub index-chars : {lex : Lexicon} (ts : List ℕ) → Good-lexicon lex → Chars ts → length ts ≤ 65535 → Chars (index-of lex ts)
+index-chars {lex} ts good chars short i h =
+    index-below ts good chars 65536 (omega arith) (omega arith) (getD (index-of lex ts) i 0) (in-getD (index-of lex ts) i 0 h)

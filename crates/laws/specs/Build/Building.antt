@@ -141,10 +141,10 @@ abbrev pub Tokens-say : (tokens text : List ℕ) → Answer → (out out-now : L
 Tokens-say ms ts r o z = Puts (output-refusal (length (token-numbers ms ts)) (length o)) (token-numbers ms ts) r o z
 
 pub token-numbers-index :
-    (lex : Lexicon) → Good-lexicon lex → (ts : List ℕ) → Chars ts → (ms : List ℕ) → Tokens lex ts ms →
+    {lex : Lexicon} → Good-lexicon lex → {ts : List ℕ} → Chars ts → {ms : List ℕ} → Tokens lex ts ms →
     token-numbers ms ts ≡ index-of lex ts
 unfolding token-numbers
-token-numbers-index lex good ts chars ms tokens = token-index lex good ts chars ms tokens
+token-numbers-index {lex} good {ts} chars {ms} tokens = token-index good chars tokens
 
 pub fresh : (n m : ℕ) → n ≡ 69632 → m ≡ 1088 → Fresh (replicate n 0) (replicate m 0)
 fresh n m e f =
@@ -154,20 +154,20 @@ fresh n m e f =
       none = λ k h. getD-replicate n k 0 0 (omega (arith, length-replicate {A = ℕ} n 0));
     }
 
-module _ (ts ms links heads pages : List ℕ) (keys entries : ℕ) (can : Linkable ts ms)
+module _ {ts ms links heads pages : List ℕ} {keys entries : ℕ} (can : Linkable ts ms)
     (l : Links ts ms links heads pages keys entries 0) where
   pub linked-listable : Listable heads pages links
   linked-listable =
       record {
         codes = l .codes;
         paged = l .paged;
-        threads = linked-threads ms ts heads links (l .linked);
+        threads = linked-threads (l .linked);
         short = omega (arith, l .linked .len, can .len, can .short);
       }
 
   lines-are : lines-at heads links 0 ≡ inverted ms ts
   unfolding inverted
-  lines-are = linked-lines ms ts heads links (l .linked) 69632 (l .codes)
+  lines-are = linked-lines (l .linked) 69632 (l .codes)
 
   pub linked-keys : keys ≡ length (lines-at heads links 0)
   unfolding inverted
@@ -220,8 +220,8 @@ pub reached-lexicon : (cs ls : List ℕ) → Chars cs → dictionary-refusal cs 
 reached-lexicon cs ls chars none = admitted-lexicon cs ls (reached-admitted cs ls chars none)
 
 pub tokens-linkable :
-    (lex : Lexicon) → Good-lexicon lex → (ts ms : List ℕ) → Tokens lex ts ms → length ts ≤ 65535 → Linkable ts ms
-tokens-linkable lex good ts ms tokens short = record { len = tokens .len; short = short; small = small }
+    {lex : Lexicon} → Good-lexicon lex → {ts ms : List ℕ} → Tokens lex ts ms → length ts ≤ 65535 → Linkable ts ms
+tokens-linkable {lex} good {ms} tokens short = record { len = tokens .len; short = short; small = small }
   where
     at-most : (q m : ℕ) → q < length ms → getD ms q 0 ≡ m → m ≤ 4097
     at-most q zero h e = omega arith
@@ -242,15 +242,15 @@ module _ (cs ls ts : List ℕ) (w : ℕ) (o : List ℕ) where
 
   -- what answers for the tokens answers for the call
   pub build-tokens :
-      Chars cs → Chars ts → early-refusal cs ls ts w ≡ 0 → (ms : List ℕ) → Tokens (lexicon cs ls) (replaced ts) ms →
+      Chars cs → Chars ts → early-refusal cs ls ts w ≡ 0 → {ms : List ℕ} → Tokens (lexicon cs ls) (replaced ts) ms →
       (r : Answer) (z : List ℕ) →
       Tokens-say ms (replaced ts) r o z →
       Puts (build-refusal cs ls ts (length o) w) (index-of (lexicon cs ls) (replaced ts)) r o z
-  build-tokens chars text none ms tokens r z puts =
+  build-tokens chars text none {ms} tokens r z puts =
       let good : Good-lexicon (lexicon cs ls) = reached-lexicon cs ls chars (reached cs ls ts w none .admits) in
       rw (
         build-late cs ls ts w (length o) none,
-        ← token-numbers-index (lexicon cs ls) good (replaced ts) (replaced-chars ts text) ms tokens,
+        ← token-numbers-index good (replaced-chars ts text) tokens,
       )
       puts
 
@@ -269,9 +269,9 @@ blank n m k e f h =
     }
 
 pub blank-room :
-    (cs ls ts : List ℕ) (w : ℕ) (heads links starts : List ℕ) → Chars cs → early-refusal cs ls ts w ≡ 0 → Blank heads links starts →
+    (cs ls ts : List ℕ) (w : ℕ) {heads links starts : List ℕ} → Chars cs → early-refusal cs ls ts w ≡ 0 → Blank heads links starts →
     Room cs ls heads links starts
-blank-room cs ls ts w heads links starts chars none b =
+blank-room cs ls ts w chars none b =
     let adm : admitted cs ls ≡ true = reached-admitted cs ls chars (reached cs ls ts w none .admits) in
     let few : length ls ≤ 4096 = admitted-get cs ls adm .few in
     record {
@@ -286,5 +286,5 @@ pub front-linkable :
     (cs ls ts : List ℕ) (w : ℕ) (work : List ℕ) → Chars cs → early-refusal cs ls ts w ≡ 0 →
     Tokens (lexicon cs ls) (replaced ts) (take (length ts) work) → Linkable (replaced ts) (take (length ts) work)
 front-linkable cs ls ts w work chars none tokens =
-    tokens-linkable (lexicon cs ls) (reached-lexicon cs ls chars (reached cs ls ts w none .admits)) (replaced ts) (take (length ts) work)
+    tokens-linkable (reached-lexicon cs ls chars (reached cs ls ts w none .admits))
     tokens (omega (arith, reached cs ls ts w none .short, length-replaced ts))

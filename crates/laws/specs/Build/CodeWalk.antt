@@ -31,7 +31,7 @@ pub record Next (heads : List ℕ) (from code : ℕ) : Type 0 where
 pub passed-start : (heads : List ℕ) (from : ℕ) → from ≤ length heads → Passed heads from from
 passed-start heads from h = record { after = omega arith; within = h; unused = λ k lo hi. absurd (omega arith) }
 
-module _ (heads : List ℕ) (from code : ℕ) (p : Passed heads from code) where
+module _ {heads : List ℕ} {from code : ℕ} (p : Passed heads from code) where
   pub passed-one : code < length heads → getD heads code 0 ≡ 0 → Passed heads from (code + 1)
   passed-one b e = record { after = omega (arith, p .after); within = omega arith; unused = unused }
     where
@@ -40,9 +40,9 @@ module _ (heads : List ℕ) (from code : ℕ) (p : Passed heads from code) where
           ⊎-elim (λ (h : code ≤ k). let z : k ≡ code = omega arith in rw z e) (λ (h : k < code). p .unused k lo h) (le-or-lt code k)
 
   pub passed-page :
-      (pages : List ℕ) → Paged heads pages → code < length heads → code % 64 ≡ 0 → getD pages (code / 64) 0 ≡ 0 →
+      {pages : List ℕ} → Paged heads pages → code < length heads → code % 64 ≡ 0 → getD pages (code / 64) 0 ≡ 0 →
       Passed heads from (code + 64)
-  passed-page pages g b start e = record { after = omega (arith, p .after); within = omega (arith, g .whole); unused = unused }
+  passed-page {pages} g b start e = record { after = omega (arith, p .after); within = omega (arith, g .whole); unused = unused }
     where
       unused : (k : ℕ) → from ≤ k → k < code + 64 → getD heads k 0 ≡ 0
       unused k lo hi =
@@ -61,9 +61,9 @@ module _ (heads : List ℕ) (from code : ℕ) (p : Passed heads from code) where
 -- LINES FROM A CODE ON
 
 module _ (heads links : List ℕ) where
-  pub lines-next : (from code : ℕ) → Passed heads from code → lines-at heads links from ≡ lines-at heads links code
+  pub lines-next : {from code : ℕ} → Passed heads from code → lines-at heads links from ≡ lines-at heads links code
   unfolding lines-at
-  lines-next from code p =
+  lines-next {from} {code} p =
       let split : length heads - from ≡ (code - from) + (length heads - code) = omega (arith, p .after, p .within) in
       let there : from + (code - from) ≡ code = omega (arith, p .after) in
       rw split
@@ -100,19 +100,19 @@ pub record Line-by-line (give : List Line → List ℕ) (each : Line → List �
   pub none : give [] ≡ []
   pub more : (l : Line) (ls : List Line) → give (l ∷ ls) ≡ each l ++ give ls
 
-module _ (give : List Line → List ℕ) (each : Line → List ℕ) (by : Line-by-line give each) (heads links old : List ℕ) where
+module _ {give : List Line → List ℕ} {each : Line → List ℕ} (by : Line-by-line give each) (heads links old : List ℕ) where
   pub listing-start :
-      (at code : ℕ) → at + length (give (lines-at heads links 0)) ≤ length old → Next heads 0 code →
+      (at : ℕ) {code : ℕ} → at + length (give (lines-at heads links 0)) ≤ length old → Next heads 0 code →
       Listing give heads links (take at old ++ give (lines-at heads links 0)) old old code at
-  listing-start at code room next =
+  listing-start at {code} room next =
       record {
         writing =
-            rw (← lines-next heads links 0 code (next .passed)) (starts old (give (lines-at heads links 0)) at room);
+            rw (← lines-next heads links (next .passed)) (starts old (give (lines-at heads links 0)) at room);
         within = next .passed .within;
         used = next .used;
       }
 
-  module _ (all now : List ℕ) (code at : ℕ) (l : Listing give heads links all old now code at) where
+  module _ {all now : List ℕ} {code at : ℕ} (l : Listing give heads links all old now code at) where
     pub listing-line :
         Threads heads links → (b : code < length heads) →
         Writing all old now
@@ -139,14 +139,14 @@ module _ (give : List Line → List ℕ) (each : Line → List ℕ) (by : Line-b
         )
 
     pub listing-step :
-        Threads heads links → code < length heads → (next : ℕ) → Next heads (code + 1) next → (xs later : List ℕ) →
+        Threads heads links → code < length heads → {next : ℕ} → Next heads (code + 1) next → (xs later : List ℕ) →
         xs ≡ each (line (code-key code) (chain links (getD heads code 0))) → later ≡ over (take at now ++ xs) now →
         Listing give heads links all old later next (at + length xs)
-    listing-step threads b next n xs later e f =
+    listing-step threads b {next} n xs later e f =
         record {
           writing =
-              rw (f, ← lines-next heads links (code + 1) next (n .passed))
-              (appends all old now xs (give (lines-at heads links (code + 1))) at (rw e (listing-line threads b)));
+              rw (f, ← lines-next heads links (n .passed))
+              (appends xs (give (lines-at heads links (code + 1))) (rw e (listing-line threads b)));
           within = n .passed .within;
           used = n .used;
         }

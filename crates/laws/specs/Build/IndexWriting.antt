@@ -20,8 +20,8 @@ module _ (n : ℕ) (ls : List Line) (keys : ℕ) (k : keys ≡ length ls) (old :
   pub header-written : Writing (numbers n ls) old (set (set old 0 n) 1 keys) (directory ls ++ all-positions ls) 2
   unfolding numbers
   header-written =
-      writes (numbers n ls) old (set old 0 n) keys (directory ls ++ all-positions ls) 1
-      (writes (numbers n ls) old old n (keys ∷ (directory ls ++ all-positions ls)) 0 start)
+      writes keys (directory ls ++ all-positions ls)
+      (writes n (keys ∷ (directory ls ++ all-positions ls)) start)
     where
       start : Writing (numbers n ls) old old (n ∷ keys ∷ (directory ls ++ all-positions ls)) 0
       start = rw k (starts old (numbers n ls) 0 (omega (arith, room)))
@@ -33,7 +33,7 @@ module _ (n : ℕ) (ls : List Line) (keys : ℕ) (k : keys ≡ length ls) (old :
     pub directory-written : Writing (numbers n ls) old now (all-positions ls) (2 + 3 * keys)
     directory-written =
         let len : 3 * keys ≡ length (directory ls) = omega (arith, length-directory ls) in
-        rw (e, len) (appends (numbers n ls) old (set (set old 0 n) 1 keys) (directory ls) (all-positions ls) 2 header-written)
+        rw (e, len) (appends (directory ls) (all-positions ls) header-written)
 
     pub positions-room : length (all-positions ls) ≤ length (lent-tail (2 + 3 * keys) now)
     positions-room =
@@ -51,7 +51,7 @@ module _ (n : ℕ) (ls : List Line) (keys : ℕ) (k : keys ≡ length ls) (old :
     pub index-written :
         (part : List ℕ) → part ≡ over (all-positions ls) (lent-tail (2 + 3 * keys) now) →
         tail-back (2 + 3 * keys) now part ≡ over (numbers n ls) old
-    index-written part e = tail-written (numbers n ls) old now (all-positions ls) part (2 + 3 * keys) directory-written e
+    index-written part e = tail-written part directory-written e
 
   pub written-long : length (over (numbers n ls) old) ≡ length old
   written-long =

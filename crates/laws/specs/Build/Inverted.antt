@@ -26,32 +26,32 @@ positions-rise-apart a (e ∷ es) r = (
   positions-rise-apart (suc (e .at)) es (r .1),
 )
 
-module _ (lex : Lexicon) (good : Good-lexicon lex) (ts : List ℕ) (chars : Chars ts) where
+module _ {lex : Lexicon} (good : Good-lexicon lex) (ts : List ℕ) (chars : Chars ts) where
   -- Lines that are in order and have exactly the text's entries are the lines of its index.
   pub inverted-index :
-      (ls : List Line) → Good-lines lex (length ts) ls → ((e : Entry) → In e (flat lex ls) → In e (entries lex ts)) →
+      {ls : List Line} → Good-lines lex (length ts) ls → ((e : Entry) → In e (flat lex ls) → In e (entries lex ts)) →
       ((e : Entry) → In e (entries lex ts) → In e (flat lex ls)) → numbers (length ts) ls ≡ index-of lex ts
   unfolding index-of
-  inverted-index ls lines only all =
+  inverted-index {ls} lines only all =
       ap (numbers (length ts))
-      (lines-unique lex (length ts) ls (lines-of (sorted (entries lex ts))) lines
+      (lines-unique lines
       (rw lines-in-index at (index-lines-good lex good ts chars))
       (λ e m. rw lines-in-index at (in-index-put lex good ts chars e (only e m)))
       (λ e m. all e (in-index-get lex good ts chars e (rw lines-in-index m))))
 
   -- so are lines that have exactly the entries that the scan registers
   pub inverted-scan :
-      (ls : List Line) → Good-lines lex (length ts) ls → ((e : Entry) → In e (flat lex ls) → In e (make-index lex ts)) →
+      {ls : List Line} → Good-lines lex (length ts) ls → ((e : Entry) → In e (flat lex ls) → In e (make-index lex ts)) →
       ((e : Entry) → In e (make-index lex ts) → In e (flat lex ls)) → numbers (length ts) ls ≡ index-of lex ts
-  inverted-scan ls lines only all =
-      inverted-index ls lines (λ e m. make-index-get lex good ts chars e (only e m))
+  inverted-scan {ls} lines only all =
+      inverted-index lines (λ e m. make-index-get lex good ts chars e (only e m))
       (λ e m. all e (make-index-put lex good ts chars e m))
 
   -- THE SCAN, SORTED
 
   pub sorted-scan : sorted (make-index lex ts) ≡ sorted (entries lex ts)
   sorted-scan =
-      ascend-unique entry-before entry-before-strict (sorted (make-index lex ts)) (sorted (entries lex ts))
+      ascend-unique entry-before-strict (sorted (make-index lex ts)) (sorted (entries lex ts))
       (sorted-ascends (make-index lex ts) (positions-rise-apart 1 (make-index lex ts) (make-index-exact lex good ts chars .rise)))
       (sorted-entries-ascend lex ts)
       (λ e m.

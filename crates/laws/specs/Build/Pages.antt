@@ -21,9 +21,9 @@ pub paged-start : (heads pages : List ℕ) → No-heads heads → length heads �
 paged-start heads pages none h = record { whole = h; unused = λ k b z. none k b }
 
 pub paged-chained :
-    (heads pages : List ℕ) (code v : ℕ) → Paged heads pages → code < length heads →
+    {heads pages : List ℕ} (code v : ℕ) → Paged heads pages → code < length heads →
     Paged (set heads code v) (set pages (code / 64) 1)
-paged-chained heads pages code v g fits =
+paged-chained {heads} {pages} code v g fits =
     record {
       whole = length-set heads code v ∙ g .whole ∙ ap (λ (x : ℕ). 64 * x) (sym (length-set pages (code / 64) 1));
       unused =

@@ -34,7 +34,7 @@ linked-start ms ts heads none =
       chains = λ k h. rw (postings-end ms ts (length ms) k (omega arith)) (none k h);
     }
 
-module _ (ms ts heads links : List ℕ) (q p : ℕ) (s : q ≡ suc p) (l : Linked ms ts heads links q) where
+module _ {ms ts heads links : List ℕ} {q : ℕ} (p : ℕ) (s : q ≡ suc p) (l : Linked ms ts heads links q) where
   below : p < length ms
   below = omega (arith, l .within)
 
@@ -109,7 +109,7 @@ Threads heads links = (k : ℕ) → k < length heads → Threaded links (getD he
 unfoldable pub lines-at : (heads links : List ℕ) → (k : ℕ) → List Line
 lines-at heads links k = lines-from (length heads - k) k (λ (j : ℕ). chain links (getD heads j 0))
 
-module _ (ms ts heads links : List ℕ) (l : Linked ms ts heads links 0) where
+module _ {ms ts heads links : List ℕ} (l : Linked ms ts heads links 0) where
   postings-short : (k : ℕ) → length (postings ms ts 0 k) ≤ length links
   unfolding postings
   postings-short k = omega (arith, those-short (length ms - 0) 1 (holds ms ts k), l .len)
@@ -148,8 +148,8 @@ pub record Links (ts ms links heads pages : List ℕ) (keys entries p : ℕ) : T
   pub paged : Paged heads pages
   pub counted : Counted 69632 ms ts p keys entries
 
-pub links-start : (ts ms heads pages : List ℕ) → Fresh heads pages → Links ts ms ms heads pages 0 0 (length ms)
-links-start ts ms heads pages f =
+pub links-start : (ts ms : List ℕ) {heads pages : List ℕ} → Fresh heads pages → Links ts ms ms heads pages 0 0 (length ms)
+links-start ts ms {heads} {pages} f =
     record {
       codes = f .codes;
       linked = linked-start ms ts heads (f .none);
@@ -157,13 +157,13 @@ links-start ts ms heads pages f =
       counted = counted-start 69632 ms ts;
     }
 
-module _ (ts ms links heads pages : List ℕ) (keys entries q p : ℕ) (s : q ≡ suc p)
+module _ {ts ms links heads pages : List ℕ} {keys entries q : ℕ} (p : ℕ) (s : q ≡ suc p)
     (l : Links ts ms links heads pages keys entries q) where
   pub links-below : p < length links
   links-below = omega (arith, l .linked .within, l .linked .len)
 
   pub links-token : getD links p 0 ≡ getD ms p 0
-  links-token = token-here ms ts heads links q p s (l .linked)
+  links-token = token-here p s (l .linked)
 
   coded-here : (v : ℕ) → coded (getD links p 0) (getD ts p 0) ≡ v → coded (getD ms p 0) (getD ts p 0) ≡ v
   coded-here v e = ap (λ (m : ℕ). coded m (getD ts p 0)) (sym links-token) ∙ e
@@ -172,10 +172,10 @@ module _ (ts ms links heads pages : List ℕ) (keys entries q p : ℕ) (s : q �
   links-passed none =
       record {
         codes = l .codes;
-        linked = linked-passed ms ts heads links q p s (l .linked) (coded-here 0 none);
+        linked = linked-passed p s (l .linked) (coded-here 0 none);
         paged = l .paged;
         counted =
-            counted-passed 69632 ms ts q p s (omega (arith, links-below, l .linked .len)) keys entries (l .counted)
+            counted-passed p s (omega (arith, links-below, l .linked .len)) (l .counted)
             (coded-here 0 none);
       }
 
@@ -184,13 +184,13 @@ module _ (ts ms links heads pages : List ℕ) (keys entries q p : ℕ) (s : q �
     fits = omega (arith, l .codes)
 
     chained :
-        (more : ℕ) → Counted 69632 ms ts p more (entries + 1) →
+        {more : ℕ} → Counted 69632 ms ts p more (entries + 1) →
         Links ts ms (set links p (getD heads code 0)) (set heads code (p + 1)) (set pages (code / 64) 1) more (entries + 1) p
-    chained more c =
+    chained c =
         record {
           codes = length-set heads code (p + 1) ∙ l .codes;
-          linked = linked-chained ms ts heads links q p s (l .linked) code (coded-here (suc code) here) fits;
-          paged = paged-chained heads pages code (p + 1) (l .paged) fits;
+          linked = linked-chained p s (l .linked) code (coded-here (suc code) here) fits;
+          paged = paged-chained code (p + 1) (l .paged) fits;
           counted = c;
         }
 
@@ -199,8 +199,8 @@ module _ (ts ms links heads pages : List ℕ) (keys entries q p : ℕ) (s : q �
         getD heads code 0 ≡ 0 →
         Links ts ms (set links p (getD heads code 0)) (set heads code (p + 1)) (set pages (code / 64) 1) (keys + 1) (entries + 1) p
     links-new none =
-        chained (keys + 1)
-        (counted-new 69632 ms ts q p s (omega (arith, links-below, l .linked .len)) keys entries (l .counted) code
+        chained
+        (counted-new p s (omega (arith, links-below, l .linked .len)) (l .counted) code
         (coded-here (suc code) here) small
         (chained-empty links (getD heads code 0) (postings ms ts q code) (l .linked .chains code fits) none))
 
@@ -208,7 +208,7 @@ module _ (ts ms links heads pages : List ℕ) (keys entries q p : ℕ) (s : q �
         (getD heads code 0 ≡ 0 → ⊥) →
         Links ts ms (set links p (getD heads code 0)) (set heads code (p + 1)) (set pages (code / 64) 1) keys (entries + 1) p
     links-more some =
-        chained keys
-        (counted-more 69632 ms ts q p s (omega (arith, links-below, l .linked .len)) keys entries (l .counted) code
+        chained
+        (counted-more p s (omega (arith, links-below, l .linked .len)) (l .counted) code
         (coded-here (suc code) here) small
         (chained-some links (getD heads code 0) (postings ms ts q code) (l .linked .chains code fits) some))

@@ -71,8 +71,8 @@ pub record Line-of (n k : ℕ) (f : ℕ → List ℕ) (l : Line) : Type 0 where
   pub is : l ≡ line (code-key code) (f code)
   pub some : 1 ≤ length (f code)
 
-later-line : (n k : ℕ) (f : ℕ → List ℕ) (l : Line) → Line-of n (suc k) f l → Line-of (suc n) k f l
-later-line n k f l m =
+later-line : {n : ℕ} (k : ℕ) {f : ℕ → List ℕ} {l : Line} → Line-of n (suc k) f l → Line-of (suc n) k f l
+later-line k m =
     record { code = m .code; from = omega (arith, m .from); below = omega (arith, m .below); is = m .is; some = m .some }
 
 pub lines-get : (n k : ℕ) (f : ℕ → List ℕ) (l : Line) → In l (lines-from n k f) → Line-of n k f l
@@ -83,7 +83,7 @@ lines-get (suc n) k f l m = go (f k) refl m (lines-get n (suc k) f l)
     go :
         (ps : List ℕ) → f k ≡ ps → In l (with-positions k ps (lines-from n (suc k) f)) →
         (In l (lines-from n (suc k) f) → Line-of n (suc k) f l) → Line-of (suc n) k f l
-    go [] e i ih = later-line n k f l (ih i)
+    go [] e i ih = later-line k (ih i)
     go (p ∷ ps) e (inl q) ih =
         record {
           code = k;
@@ -92,7 +92,7 @@ lines-get (suc n) k f l m = go (f k) refl m (lines-get n (suc k) f l)
           is = q ∙ ap (λ (xs : List ℕ). line (code-key k) xs) (sym e);
           some = omega (arith, ap length e);
         }
-    go (p ∷ ps) e (inr i) ih = later-line n k f l (ih i)
+    go (p ∷ ps) e (inr i) ih = later-line k (ih i)
 
 pub lines-put :
     (n k : ℕ) (f : ℕ → List ℕ) (x : ℕ) → k ≤ x → x < k + n → 1 ≤ length (f x) → In (line (code-key x) (f x)) (lines-from n k f)

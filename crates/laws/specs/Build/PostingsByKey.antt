@@ -91,7 +91,7 @@ counted-start codes ms ts =
     none : inverted-after codes ms ts (length ms) ≡ []
     none = lines-empty codes 0 (postings ms ts (length ms)) (λ x lo hi. postings-end ms ts (length ms) x (omega arith))
 
-module _ (codes : ℕ) (ms ts : List ℕ) (q p : ℕ) (s : q ≡ suc p) (below : p < length ms) (keys entries : ℕ)
+module _ {codes : ℕ} {ms ts : List ℕ} {q : ℕ} (p : ℕ) (s : q ≡ suc p) (below : p < length ms) {keys entries : ℕ}
     (c : Counted codes ms ts q keys entries) where
   pub counted-passed : coded (getD ms p 0) (getD ts p 0) ≡ 0 → Counted codes ms ts p keys entries
   counted-passed none =

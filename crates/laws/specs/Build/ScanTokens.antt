@@ -53,8 +53,8 @@ entry-long k p l = refl
 
 module _ (lex : Lexicon) (good : Good-lexicon lex) (ts : List ℕ) (chars : Chars ts) (q e : ℕ) (below : q < length ts) where
   -- any longest entry there is the one that the definition computes
-  longest-is : (x : Entry) → Longest-at lex ts (q + 1) x → x ≡ longest-at lex ts (q + 1)
-  longest-is x l = longest-at-unique lex good ts chars (q + 1) x (omega arith) (omega arith) l
+  longest-is : {x : Entry} → Longest-at lex ts (q + 1) x → x ≡ longest-at lex ts (q + 1)
+  longest-is {x} l = longest-at-unique lex good ts chars (omega arith) (omega arith) l
 
   module _ (number len : ℕ) (f : Found lex ts (q + 1) (e + 1) number len) where
     -- a word was found: its token is a 16-bit number, and it ends within the text
@@ -79,7 +79,7 @@ module _ (lex : Lexicon) (good : Good-lexicon lex) (ts : List ℕ) (chars : Char
         w = f .some (number - 1) (omega (arith, some))
 
         same : entry (key 0 (number - 1)) (q + 1) (length (getD (lex .words) (number - 1) [])) ≡ longest-at lex ts (q + 1)
-        same = longest-is _ (word-at-longest lex good ts chars (q + 1) (number - 1) (w .is-word))
+        same = longest-is (word-at-longest lex good ts chars (w .is-word))
 
         size : longest-at lex ts (q + 1) .len ≡ length (getD (lex .words) (number - 1) [])
         size =
@@ -105,8 +105,8 @@ module _ (lex : Lexicon) (good : Good-lexicon lex) (ts : List ℕ) (chars : Char
       where
         same : entry (key 1 (getD ts (q + 1 - 1) 0)) (q + 1) 1 ≡ longest-at lex ts (q + 1)
         same =
-            longest-is _
-            (none-after-lone lex good ts chars (q + 1) (e + 1) (omega arith) (omega arith) (omega arith) (f .none none))
+            longest-is
+            (none-after-lone lex good ts chars (omega arith) (omega arith) (omega arith) (f .none none))
 
         size : longest-at lex ts (q + 1) .len ≡ 1
         size = sym (ap (λ (x : Entry). x .len) same) ∙ entry-long (key 1 (getD ts (q + 1 - 1) 0)) (q + 1) 1
@@ -123,17 +123,17 @@ module _ (lex : Lexicon) (good : Good-lexicon lex) (ts : List ℕ) (chars : Char
       where
         early : q + 1 + longest-at lex ts (q + 1) .len ≤ e + 1
         early =
-            none-after-passes lex good ts chars (q + 1) (e + 1) (longest-at lex ts (q + 1)) (omega arith) (f .none none)
+            none-after-passes lex good ts chars (omega arith) (f .none none)
             (longest-at-is lex good ts chars (q + 1) (omega arith) (omega arith))
 
 -- THE SCAN
 
 -- a step is a step of figure 1's scan
 pub stepped-scans :
-    (lex : Lexicon) (ts : List ℕ) (p last token next n : ℕ) → Stepped lex ts p last token next →
+    {lex : Lexicon} {ts : List ℕ} {p last token next : ℕ} (n : ℕ) → Stepped lex ts p last token next →
     scan (longest-at lex ts) (suc n) p last
     ≡ token-entry lex p token (getD ts (p - 1) 0) ++ scan (longest-at lex ts) n (suc p) next
-stepped-scans lex ts p last token next n s =
+stepped-scans {lex} {ts} {p} {last} n s =
     ⊎-elim
     (λ (h : p + longest-at lex ts p .len ≤ last).
     scan-passes (longest-at lex ts) n p last h
@@ -185,8 +185,8 @@ module _ (lex : Lexicon) (ts old : List ℕ) (room : length ts ≤ length old) w
     scanning-tokens-room below = omega (arith, h .size)
 
     pub scanning-tokens-step :
-        (token end : ℕ) → i < length ts → Stepped lex ts (i + 1) (e + 1) token (end + 1) → Scanning lex ts old (set work i token) (i + 1) end
-    scanning-tokens-step token end below s =
+        {token : ℕ} (end : ℕ) → i < length ts → Stepped lex ts (i + 1) (e + 1) token (end + 1) → Scanning lex ts old (set work i token) (i + 1) end
+    scanning-tokens-step {token} end below s =
         record {
           within = omega arith;
           end = omega (arith, s .within);
@@ -234,7 +234,7 @@ module _ (lex : Lexicon) (ts old : List ℕ) (room : length ts ≤ length old) w
             (append-assoc (entries-of-tokens lex 1 (take i work) ts) (token-entry lex (i + 1) token (getD ts (i + 1 - 1) 0))
             (scan (longest-at lex ts) (length ts - (i + 1)) (suc (i + 1)) (end + 1))
             ∙ ap (λ (l : List Entry). entries-of-tokens lex 1 (take i work) ts ++ l)
-            (sym (stepped-scans lex ts (i + 1) (e + 1) token (end + 1) (length ts - (i + 1)) s))
+            (sym (stepped-scans (length ts - (i + 1)) s))
             ∙ ap (λ (x : ℕ). entries-of-tokens lex 1 (take i work) ts ++ scan (longest-at lex ts) x (i + 1) (e + 1)) (sym left)
             ∙ h .exact)
 

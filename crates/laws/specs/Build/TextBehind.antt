@@ -17,7 +17,7 @@ module _ (lex : Lexicon) (old : List ℕ) (n : ℕ) (room : 2 * n ≤ length old
   pub behind-start : Scanning lex (take n (drop n old)) old old 0 0
   behind-start = scanning-tokens-start lex (take n (drop n old)) old (omega (arith, len))
 
-  module _ (work : List ℕ) (i e : ℕ) (h : Scanning lex (take n (drop n old)) old work i e) where
+  module _ {work : List ℕ} {i e : ℕ} (h : Scanning lex (take n (drop n old)) old work i e) where
     -- the text stays
     kept : take (2 * n - n) (drop n work) ≡ take n (drop n old)
     kept =
@@ -41,10 +41,10 @@ module _ (lex : Lexicon) (old : List ℕ) (n : ℕ) (room : 2 * n ≤ length old
     behind-room below = omega (arith, h .size, room)
 
     pub behind-step :
-        (token end : ℕ) → i < n → Stepped lex (take (2 * n - n) (drop n work)) (i + 1) (e + 1) token (end + 1) →
+        {token : ℕ} (end : ℕ) → i < n → Stepped lex (take (2 * n - n) (drop n work)) (i + 1) (e + 1) token (end + 1) →
         Scanning lex (take n (drop n old)) old (set work i token) (i + 1) end
-    behind-step token end below s =
-        scanning-tokens-step lex (take n (drop n old)) old (omega (arith, len)) work i e h token end (omega (arith, len)) (rw kept at s)
+    behind-step {token} end below s =
+        scanning-tokens-step lex (take n (drop n old)) old (omega (arith, len)) work i e h end (omega (arith, len)) (rw kept at s)
 
     module _ (past : n ≤ i) where
       pub behind-tokens : Tokens lex (take n (drop n old)) (take n work)

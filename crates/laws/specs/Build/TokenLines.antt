@@ -99,7 +99,7 @@ postings-rises ms ts k = those-from-rise (length ms - 0) 1 (holds ms ts k)
 
 -- THE LINES
 
-module _ (lex : Lexicon) (good : Good-lexicon lex) (ts : List ℕ) (chars : Chars ts) (ms : List ℕ) (tokens : Tokens lex ts ms) where
+module _ {lex : Lexicon} (good : Good-lexicon lex) {ts : List ℕ} (chars : Chars ts) {ms : List ℕ} (tokens : Tokens lex ts ms) where
   token-entry-get : (e : Entry) → In e (make-index lex ts) → Token-at lex ms ts (e .at) e × (1 ≤ e .at) × (e .at ≤ length ms)
   unfolding token-entry
   token-entry-get e m = go (got .0) (got .1) (got .2) (getD ms (got .0) 0) refl (got .3)
@@ -201,4 +201,4 @@ module _ (lex : Lexicon) (good : Good-lexicon lex) (ts : List ℕ) (chars : Char
           (eq-eqb (coded (getD ms (p - 1) 0) (getD ts (p - 1) 0)) (suc k) c)
 
   pub token-index : numbers (length ts) (inverted ms ts) ≡ index-of lex ts
-  token-index = inverted-scan lex good ts chars (inverted ms ts) inverted-good inverted-get inverted-put
+  token-index = inverted-scan good ts chars inverted-good inverted-get inverted-put

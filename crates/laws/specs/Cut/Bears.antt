@@ -18,9 +18,9 @@ module _ (k s : List ℕ) where
       ⊎-elim
       (λ (u : (lies-in s k || lies-in k s) ≡ true).
       ⊎-elim
-      (λ (v : lies-in s k ≡ true). let h = lies-in-get s k v in (h .0, 1, stand-agree s k (h .0) s-some (h .1)))
+      (λ (v : lies-in s k ≡ true). let h = lies-in-get s k v in (h .0, 1, stand-agree s k s-some (h .1)))
       (λ (v : lies-in k s ≡ true).
-      let h = lies-in-get k s v in (1, h .0, agree-sym k (h .0) s 1 (stand-agree k s (h .0) k-some (h .1))))
+      let h = lies-in-get k s v in (1, h .0, agree-sym k (h .0) s 1 (stand-agree k s k-some (h .1))))
       (or-get (lies-in s k) (lies-in k s) u))
       (λ (u : (joins k s || joins s k) ≡ true).
       ⊎-elim
@@ -30,26 +30,26 @@ module _ (k s : List ℕ) where
       (or-get (lies-in s k || lies-in k s) (joins k s || joins s k) t)
 
   -- four cases: which of the two starts first, and which ends first
-  pub bears-put : (a b : ℕ) → Agree s a k b → bears k s ≡ true
+  pub bears-put : {a b : ℕ} → Agree s a k b → bears k s ≡ true
   unfolding bears
-  bears-put a b h =
+  bears-put {a} {b} h =
       ⊎-elim
       (λ (start : a ≤ b).
       ⊎-elim
       (λ (end : b + length k ≤ a + length s).
       or-left (joins k s || joins s k)
-      (or-right (lies-in s k) (lies-in-put k s (suc (b - a)) (agree-stand k s b a (agree-sym s a k b h) start end))))
+      (or-right (lies-in s k) (lies-in-put k s (suc (b - a)) (agree-stand k s (agree-sym s a k b h) start end))))
       (λ (end : a + length s < b + length k).
       or-right (lies-in s k || lies-in k s)
-      (or-right (joins k s) (joins-put s k (b - a) (agree-join s k a b h start (omega arith)))))
+      (or-right (joins k s) (joins-put s k (b - a) (agree-join s k h start (omega arith)))))
       (le-or-lt (b + length k) (a + length s)))
       (λ (start : b < a).
       ⊎-elim
       (λ (end : a + length s ≤ b + length k).
       or-left (joins k s || joins s k)
-      (or-left (lies-in k s) (lies-in-put s k (suc (a - b)) (agree-stand s k a b h (omega arith) end))))
+      (or-left (lies-in k s) (lies-in-put s k (suc (a - b)) (agree-stand s k h (omega arith) end))))
       (λ (end : b + length k < a + length s).
       or-right (lies-in s k || lies-in k s)
-      (or-left (joins s k) (joins-put k s (a - b) (agree-join k s b a (agree-sym s a k b h) (omega arith) (omega arith)))))
+      (or-left (joins s k) (joins-put k s (a - b) (agree-join k s (agree-sym s a k b h) (omega arith) (omega arith)))))
       (le-or-lt (a + length s) (b + length k)))
       (le-or-lt a b)

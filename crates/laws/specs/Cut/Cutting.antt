@@ -22,14 +22,14 @@ use Rattle.laws.specs.Cut.ExactFlags.{bearing-from, bears-at, bearing-do
 
 -- three numbers written one after another
 pub writes-three :
-    (all old now : List ℕ) (a b c : ℕ) (todo : List ℕ) (at : ℕ) → Writing all old now (a ∷ b ∷ c ∷ todo) at →
+    {all old now : List ℕ} (a b c : ℕ) (todo : List ℕ) {at : ℕ} → Writing all old now (a ∷ b ∷ c ∷ todo) at →
     Writing all old (set (set (set now at a) (at + 1) b) (at + 2) c) todo (at + 3)
-writes-three all old now a b c todo at w =
-    let one = writes all old now a (b ∷ c ∷ todo) at w in
-    let two = writes all old (set now at a) b (c ∷ todo) (at + 1) one in
+writes-three {all} {old} {now} a b c todo {at} w =
+    let one = writes a (b ∷ c ∷ todo) w in
+    let two = writes b (c ∷ todo) one in
     let second : at + 1 + 1 ≡ at + 2 = omega arith in
     let third : at + 2 + 1 ≡ at + 3 = omega arith in
-    rw third at (writes all old (set (set now at a) (at + 1) b) c todo (at + 2) (rw second at two))
+    rw third at (writes c todo (rw second at two))
 
 module _ (lex : Lexicon) (xs s : List ℕ) where
   -- the bearing lines before line i are in the directory
@@ -43,7 +43,7 @@ module _ (lex : Lexicon) (xs s : List ℕ) where
   listing-start from out room =
       record { within = omega arith; way = starts out (directory (bearing-from lex xs s 0)) from room }
 
-  module _ (from : ℕ) (old out : List ℕ) (at i : ℕ) (h : Listing from old out at i) where
+  module _ {from : ℕ} {old out : List ℕ} {at i : ℕ} (h : Listing from old out at i) where
     pub listing-end : keys-of xs ≤ i → out ≡ over (take from old ++ directory (bearing-from lex xs s 0)) old
     unfolding directory
     listing-end past =
@@ -75,8 +75,8 @@ module _ (lex : Lexicon) (xs s : List ℕ) where
             record {
               within = omega arith;
               way =
-                  writes-three (take from old ++ directory (bearing-from lex xs s 0)) old out (kind-at xs i) (value-at xs i)
-                  (count-at xs i) (directory (bearing-from lex xs s (i + 1))) at way-now;
+                  writes-three (kind-at xs i) (value-at xs i)
+                  (count-at xs i) (directory (bearing-from lex xs s (i + 1))) way-now;
             }
 
       pub listing-pass : bears-at lex xs s i ≡ false → Listing from old out at (i + 1)
@@ -104,14 +104,14 @@ module _ (bs : List ℕ) (from : ℕ) where
       cut = rw (add-one j, drop-cons bs j 0)
 
       pub copying-room : from + j < length out
-      copying-room = has-room (take from old ++ bs) old out (getD bs j 0) (drop (j + 1) bs) (from + j) (rw cut at (h .way))
+      copying-room = has-room (getD bs j 0) (drop (j + 1) bs) (rw cut at (h .way))
 
       pub copying-step : Copying bs from old (set out (from + j) (getD bs j 0)) (j + 1)
       copying-step =
           let z : from + j + 1 ≡ from + (j + 1) = omega arith in
           record {
             within = omega arith;
-            way = rw z at (writes (take from old ++ bs) old out (getD bs j 0) (drop (j + 1) bs) (from + j) (rw cut at (h .way)));
+            way = rw z at (writes (getD bs j 0) (drop (j + 1) bs) (rw cut at (h .way)));
           }
 
 module _ (lex : Lexicon) (xs s : List ℕ) where
@@ -132,7 +132,7 @@ module _ (lex : Lexicon) (xs s : List ℕ) where
         way = starts out (all-positions (bearing-from lex xs s 0)) 0 (omega (arith, room));
       }
 
-  module _ (old out : List ℕ) (start at i : ℕ) (h : Placing old out start at i) where
+  module _ {old out : List ℕ} {start at i : ℕ} (h : Placing old out start at i) where
     pub placing-end : keys-of xs ≤ i → out ≡ over (all-positions (bearing-from lex xs s 0)) old
     unfolding all-positions
     placing-end past =
@@ -194,8 +194,8 @@ module _ (lex : Lexicon) (xs s : List ℕ) where
                   (over (take at out ++ take (start + count-at xs i - start) (drop start xs)) out)
                   (all-positions (bearing-from lex xs s (i + 1))) (at + n))
                   (placing-counted ∙ sym counted)
-                  (appends (all-positions (bearing-from lex xs s 0)) old out
-                  (take (start + count-at xs i - start) (drop start xs)) (all-positions (bearing-from lex xs s (i + 1))) at way-here));
+                  (appends
+                  (take (start + count-at xs i - start) (drop start xs)) (all-positions (bearing-from lex xs s (i + 1))) way-here));
             }
 
       pub placing-pass : bears-at lex xs s i ≡ false → Placing old out (start + count-at xs i) at (i + 1)
@@ -206,10 +206,10 @@ module _ (lex : Lexicon) (xs s : List ℕ) where
 
 -- the length of the cut-down index
 pub cut-long :
-    (lex : Lexicon) (xs s : List ℕ) (keys entries : ℕ) → Is-size lex xs s keys entries →
+    {lex : Lexicon} {xs s : List ℕ} {keys entries : ℕ} → Is-size lex xs s keys entries →
     header + 3 * keys + entries ≡ length (cut-down lex xs s)
 unfolding cut-down
-cut-long lex xs s keys entries size =
+cut-long {lex} {xs} {s} size =
     omega (arith, size .keys-are, size .entries-are, length-numbers (n-of xs) (bearing lex s (lines-in xs)))
 
 -- the cut-down index is the numbers of the bearing lines

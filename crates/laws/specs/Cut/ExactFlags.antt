@@ -51,15 +51,15 @@ module _ (lex : Lexicon) (xs s : List ℕ) where
     pub room : keys-of xs ≤ length fs
     pub at : (i : ℕ) → i < n → getD fs i 0 ≡ cond (bears-at i) 1 0
 
-  pub exact-flags-get : (n : ℕ) (fs : List ℕ) → Exact-flags n fs → (i : ℕ) → i < n → (getD fs i 0 ≡ 0 → ⊥) → bears-at i ≡ true
-  exact-flags-get n fs h i b some = by-test (bears-at i) refl
+  pub exact-flags-get : {n : ℕ} {fs : List ℕ} → Exact-flags n fs → (i : ℕ) → i < n → (getD fs i 0 ≡ 0 → ⊥) → bears-at i ≡ true
+  exact-flags-get h i b some = by-test (bears-at i) refl
     where
       by-test : (t : Bool) → bears-at i ≡ t → t ≡ true
       by-test true e = refl
       by-test false e = absurd (some (h .at i b ∙ rw e))
 
-  pub exact-flags-none : (n : ℕ) (fs : List ℕ) → Exact-flags n fs → (i : ℕ) → i < n → getD fs i 0 ≡ 0 → bears-at i ≡ false
-  exact-flags-none n fs h i b none = by-test (bears-at i) refl
+  pub exact-flags-none : {n : ℕ} {fs : List ℕ} → Exact-flags n fs → (i : ℕ) → i < n → getD fs i 0 ≡ 0 → bears-at i ≡ false
+  exact-flags-none {fs} h i b none = by-test (bears-at i) refl
     where
       by-test : (t : Bool) → bears-at i ≡ t → t ≡ false
       by-test true e = let one : getD fs i 0 ≡ 1 = h .at i b ∙ rw e in absurd (omega arith)
@@ -85,7 +85,7 @@ module _ (lex : Lexicon) (xs s : List ℕ) where
         entries-few = omega arith;
       }
 
-  module _ (keys entries i : ℕ) (h : Counting keys entries i) (below : i < keys-of xs) where
+  module _ {keys entries i : ℕ} (h : Counting keys entries i) (below : i < keys-of xs) where
     pub counting-bears :
         bears-at i ≡ true → count-at xs i ≤ 65535 → Fits xs → Counting (keys + 1) (entries + count-at xs i) (i + 1)
     unfolding all-positions line
@@ -126,10 +126,10 @@ pub record Is-size (lex : Lexicon) (xs s : List ℕ) (keys entries : ℕ) : Type
   pub entries-small : entries ≤ 65535 * 65535
 
 pub counting-end :
-    (lex : Lexicon) (xs s : List ℕ) (keys entries i : ℕ) → Counting lex xs s keys entries i → keys-of xs ≤ i → keys-of xs ≤ 65535 →
+    {lex : Lexicon} {xs s : List ℕ} {keys entries i : ℕ} → Counting lex xs s keys entries i → keys-of xs ≤ i → keys-of xs ≤ 65535 →
     Is-size lex xs s keys entries
 unfolding all-positions
-counting-end lex xs s keys entries i h past few =
+counting-end {lex} {xs} {s} {i} h past few =
     let none : bearing-from lex xs s i ≡ [] = bearing-done lex xs s i past in
     record {
       keys-are = omega (arith, h .keys-left, ap length none);

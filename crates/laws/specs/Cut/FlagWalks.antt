@@ -31,7 +31,7 @@ module _ (k s : List ℕ) where
   pub before-start : Apart-before k s 1
   before-start = record { some = omega arith; apart = λ p some b. absurd (omega arith) }
 
-  module _ (n : ℕ) (h : Apart-before k s n) where
+  module _ {n : ℕ} (h : Apart-before k s n) where
     pub before-next : agrees s n k 0 ≡ false → Apart-before k s (n + 1)
     before-next f =
         record {
@@ -54,18 +54,18 @@ module _ (lex : Lexicon) (xs s : List ℕ) where
     pub way : Flagging lex xs s old fs
     pub done : (q : ℕ) → q < o → Flagged lex xs s 0 q 0 (keys-of xs) fs
 
-  pub offsets-start : (fs : List ℕ) → Flags lex xs s fs → Offsets fs fs 0
-  offsets-start fs h = record { way = flagging-start lex xs s fs h; done = λ q b. absurd (omega arith) }
+  pub offsets-start : {fs : List ℕ} → Flags lex xs s fs → Offsets fs fs 0
+  offsets-start {fs} h = record { way = flagging-start lex xs s h; done = λ q b. absurd (omega arith) }
 
   pub offsets-next :
-      (old fs now : List ℕ) (o : ℕ) → Offsets old fs o → Flagging lex xs s fs now × Flagged lex xs s 0 o 0 (keys-of xs) now → Offsets old now (o + 1)
-  offsets-next old fs now o h next =
+      {old fs : List ℕ} (now : List ℕ) {o : ℕ} → Offsets old fs o → Flagging lex xs s fs now × Flagged lex xs s 0 o 0 (keys-of xs) now → Offsets old now (o + 1)
+  offsets-next {old} {fs} now {o} h next =
       record {
-        way = flagging-on lex xs s old fs now (h .way) (next .0);
+        way = flagging-on lex xs s (h .way) (next .0);
         done =
             λ q b.
             ⊎-elim (λ (p : o ≤ q). let e : q ≡ o = omega arith in rw e (next .1))
-            (λ (p : q < o). flagged-kept lex xs s 0 q 0 (keys-of xs) fs now (next .0) (omega arith) (h .done q p)) (le-or-lt o q);
+            (λ (p : q < o). flagged-kept lex xs s 0 q 0 (keys-of xs) (next .0) (omega arith) (h .done q p)) (le-or-lt o q);
       }
 
   -- ALL OFFSETS BELOW 0
@@ -75,10 +75,10 @@ module _ (lex : Lexicon) (xs s : List ℕ) where
     pub way : Flagging lex xs s old fs
     pub done : (p : ℕ) → 1 ≤ p → Flagged lex xs s p 0 0 n fs
 
-  pub backs-start : (fs : List ℕ) → Flags lex xs s fs → Backs fs fs 0
-  backs-start fs h = record { way = flagging-start lex xs s fs h; done = λ p some i a b. absurd (omega arith) }
+  pub backs-start : {fs : List ℕ} → Flags lex xs s fs → Backs fs fs 0
+  backs-start {fs} h = record { way = flagging-start lex xs s h; done = λ p some i a b. absurd (omega arith) }
 
-  module _ (old fs : List ℕ) (n : ℕ) (h : Backs old fs n) where
+  module _ {old fs : List ℕ} {n : ℕ} (h : Backs old fs n) where
     pub backs-pass : ((p : ℕ) → 1 ≤ p → agrees s p (spells lex (key-at xs n)) 0 ≡ false) → Backs old fs (n + 1)
     backs-pass none =
         record {
@@ -92,7 +92,7 @@ module _ (lex : Lexicon) (xs s : List ℕ) where
     pub backs-next : n < keys-of xs → bears-at lex xs s n ≡ true → Backs old (set fs n 1) (n + 1)
     backs-next below bear =
         record {
-          way = flagging-on lex xs s old fs (set fs n 1) (h .way) on;
+          way = flagging-on lex xs s (h .way) on;
           done =
               λ p some i a b t.
               ⊎-elim (λ (l : n ≤ i). omega (arith, one .inside i l b))
@@ -104,38 +104,38 @@ module _ (lex : Lexicon) (xs s : List ℕ) where
 
         on : Flagging lex xs s fs (set fs n 1)
         on =
-            flagging-ones lex xs s n (n + 1) fs (set fs n 1) (h .way .flags) one
+            flagging-ones lex xs s (h .way .flags) one
             (λ i a b. let e : i ≡ n = omega arith in ap (bears-at lex xs s) e ∙ bear)
 
 module _
-    (cs ls xs : List ℕ) (can : Can-read cs ls xs) (w : ℕ) (split : Split xs w) (s : List ℕ) (is : Is-string s) (old mid fs : List ℕ)
+    {cs ls xs : List ℕ} (can : Can-read cs ls xs) {w : ℕ} (split : Split xs w) {s : List ℕ} (is : Is-string s) {old mid fs : List ℕ}
     (backs : Backs (lexicon cs ls) xs s old mid w) (offsets : Offsets (lexicon cs ls) xs s mid fs (length s)) where
   abbrev key : ℕ → List ℕ
   key i = spells (lexicon cs ls) (key-at xs i)
 
   module _ (i : ℕ) (below : i < keys-of xs) where
-    ahead : (a b : ℕ) → a ≤ b → Agree s a (key i) b → 1 ≤ getD fs i 0
-    ahead a b l h =
+    ahead : {a b : ℕ} → a ≤ b → Agree s a (key i) b → 1 ≤ getD fs i 0
+    ahead {a} {b} l h =
         offsets .done (b - a) (omega arith) i (omega arith) below
-        (agrees-put s 0 (key i) (b - a) (agree-move s a (key i) b 0 (b - a) (omega arith) h))
+        (agrees-put s 0 (key i) (b - a) (agree-move 0 (b - a) (omega arith) h))
 
     -- a lone character does not start before the string
-    back : (a b : ℕ) → b < a → Agree s a (key i) b → 1 ≤ getD fs i 0
-    back a b l h =
-        ⊎-elim (λ (p : w ≤ i). absurd (omega (arith, lone-single cs ls xs can w split i p below)))
+    back : {a b : ℕ} → b < a → Agree s a (key i) b → 1 ≤ getD fs i 0
+    back {a} {b} l h =
+        ⊎-elim (λ (p : w ≤ i). absurd (omega (arith, lone-single can split i p below)))
         (λ (p : i < w).
         omega (
           arith,
           backs .done (a - b) (omega arith) i (omega arith) p
-              (agrees-put s (a - b) (key i) 0 (agree-move s a (key i) b (a - b) 0 (omega arith) h)),
+              (agrees-put s (a - b) (key i) 0 (agree-move (a - b) 0 (omega arith) h)),
           offsets .way .kept i below,
         ))
         (le-or-lt w i)
 
     found : bears-at (lexicon cs ls) xs s i ≡ true → 1 ≤ getD fs i 0
     found t =
-        let h = bears-get (key i) s (key-some cs ls xs can i below) (is .some) t in
-        ⊎-elim (λ (l : h .0 ≤ h .1). ahead (h .0) (h .1) l (h .2)) (λ (l : h .1 < h .0). back (h .0) (h .1) l (h .2))
+        let h = bears-get (key i) s (key-some can i below) (is .some) t in
+        ⊎-elim (λ (l : h .0 ≤ h .1). ahead l (h .2)) (λ (l : h .1 < h .0). back l (h .2))
         (le-or-lt (h .0) (h .1))
 
     by-test : (t : Bool) → bears-at (lexicon cs ls) xs s i ≡ t → getD fs i 0 ≡ cond t 1 0

@@ -31,8 +31,8 @@ pub ones-none : (from : ℕ) (fs : List ℕ) → Ones from from fs fs
 ones-none from fs =
     record { order = omega arith; len = refl; inside = λ i a b. absurd (omega arith); outside = λ i e. refl }
 
-pub ones-next : (from to : ℕ) (old fs : List ℕ) → Ones from to old fs → to < length fs → Ones from (to + 1) old (set fs to 1)
-ones-next from to old fs h room =
+pub ones-next : {from to : ℕ} {old fs : List ℕ} → Ones from to old fs → to < length fs → Ones from (to + 1) old (set fs to 1)
+ones-next {from} {to} {fs} h room =
     record {
       order = omega (arith, h .order);
       len = length-set fs to 1 ∙ h .len;
@@ -48,7 +48,7 @@ ones-next from to old fs h room =
     }
 
 pub ones-one : (i : ℕ) (fs : List ℕ) → i < length fs → Ones i (i + 1) fs (set fs i 1)
-ones-one i fs room = ones-next i i fs fs (ones-none i fs) room
+ones-one i fs room = ones-next (ones-none i fs) room
 
 module _ (lex : Lexicon) (xs s : List ℕ) where
   -- a flag is 0 or 1, and is 1 only if the key bears on the string
@@ -73,25 +73,25 @@ module _ (lex : Lexicon) (xs s : List ℕ) where
         sound = λ i b. omega (arith, ap (λ (l : List ℕ). getD l i 0) clear, getD-replicate {A = ℕ} (length fs) i 0 0 (omega arith));
       }
 
-  pub flagging-start : (fs : List ℕ) → Flags fs → Flagging fs fs
-  flagging-start fs h = record { flags = h; len = refl; kept = λ i b. omega arith }
+  pub flagging-start : {fs : List ℕ} → Flags fs → Flagging fs fs
+  flagging-start h = record { flags = h; len = refl; kept = λ i b. omega arith }
 
-  pub flagging-on : (old mid fs : List ℕ) → Flagging old mid → Flagging mid fs → Flagging old fs
-  flagging-on old mid fs h g =
+  pub flagging-on : {old mid fs : List ℕ} → Flagging old mid → Flagging mid fs → Flagging old fs
+  flagging-on h g =
       record { flags = g .flags; len = g .len ∙ h .len; kept = λ i b. omega (arith, h .kept i b, g .kept i b) }
 
-  pub flagged-kept : (p q a b : ℕ) (old fs : List ℕ) → Flagging old fs → b ≤ keys-of xs → Flagged p q a b old → Flagged p q a b fs
-  flagged-kept p q a b old fs h within done i l r t = omega (arith, done i l r t, h .kept i (omega arith))
+  pub flagged-kept : (p q a b : ℕ) {old fs : List ℕ} → Flagging old fs → b ≤ keys-of xs → Flagged p q a b old → Flagged p q a b fs
+  flagged-kept p q a b h within done i l r t = omega (arith, done i l r t, h .kept i (omega arith))
 
   -- a key that agrees at some offset bears
   pub agrees-bears-at : (p q i : ℕ) → agrees s p (spells lex (key-at xs i)) q ≡ true → bears-at lex xs s i ≡ true
-  agrees-bears-at p q i t = bears-put (spells lex (key-at xs i)) s p q (agrees-get s p (spells lex (key-at xs i)) q t)
+  agrees-bears-at p q i t = bears-put (spells lex (key-at xs i)) s (agrees-get s p (spells lex (key-at xs i)) q t)
 
   -- setting the flags of a run of bearing lines
   pub flagging-ones :
-      (from to : ℕ) (fs now : List ℕ) → Flags fs → Ones from to fs now → ((i : ℕ) → from ≤ i → i < to → bears-at lex xs s i ≡ true) →
+      {from to : ℕ} {fs now : List ℕ} → Flags fs → Ones from to fs now → ((i : ℕ) → from ≤ i → i < to → bears-at lex xs s i ≡ true) →
       Flagging fs now
-  flagging-ones from to fs now h ones bear =
+  flagging-ones {from} {to} {fs} {now} h ones bear =
       record {
         flags = record { room = omega (arith, h .room, ones .len); sound = λ i b. sound i b };
         len = ones .len;
@@ -131,16 +131,16 @@ module _ (lex : Lexicon) (xs s : List ℕ) where
     pub front : Flagged 0 o 0 lo fs
     pub back : Flagged 0 o hi w fs
 
-  pub left-start : (o w : ℕ) (fs : List ℕ) → Flags fs → w ≤ keys-of xs → Left o w fs fs 0 w
-  left-start o w fs h within =
+  pub left-start : (o w : ℕ) {fs : List ℕ} → Flags fs → w ≤ keys-of xs → Left o w fs fs 0 w
+  left-start o w {fs} h within =
       record {
-        way = flagging-start fs h;
+        way = flagging-start h;
         within = within;
         front = λ i a b t. absurd (omega arith);
         back = λ i a b t. absurd (omega arith);
       }
 
-  module _ (o w : ℕ) (old fs : List ℕ) (lo hi : ℕ) (h : Left o w old fs lo hi) where
+  module _ {o w : ℕ} {old fs : List ℕ} {lo hi : ℕ} (h : Left o w old fs lo hi) where
     -- lines at both ends that do not agree are left out
     pub left-narrow :
         (from to : ℕ) → ((i : ℕ) → lo ≤ i → i < from → agrees s 0 (spells lex (key-at xs i)) o ≡ false) →
@@ -159,21 +159,21 @@ module _ (lex : Lexicon) (xs s : List ℕ) where
 
     -- a run of agreeing lines is flagged
     pub left-ones :
-        (to : ℕ) (now : List ℕ) → to ≤ hi → hi ≤ w → Ones lo to fs now →
+        {to : ℕ} {now : List ℕ} → to ≤ hi → hi ≤ w → Ones lo to fs now →
         ((i : ℕ) → lo ≤ i → i < to → agrees s 0 (spells lex (key-at xs i)) o ≡ true) → Left o w old now to hi
-    left-ones to now within whole ones agree =
+    left-ones {to} {now} within whole ones agree =
         record {
-          way = flagging-on old fs now (h .way) on;
+          way = flagging-on (h .way) on;
           within = h .within;
           front =
               λ i a b t.
               ⊎-elim (λ (p : lo ≤ i). omega (arith, ones .inside i p b))
               (λ (p : i < lo). omega (arith, h .front i a p t, on .kept i (omega (arith, h .within, ones .order)))) (le-or-lt lo i);
-          back = flagged-kept 0 o hi w fs now on (h .within) (h .back);
+          back = flagged-kept 0 o hi w on (h .within) (h .back);
         }
       where
         on : Flagging fs now
-        on = flagging-ones lo to fs now (h .way .flags) ones (λ i a b. agrees-bears-at 0 o i (agree i a b))
+        on = flagging-ones (h .way .flags) ones (λ i a b. agrees-bears-at 0 o i (agree i a b))
 
     pub left-end : lo ≡ hi → Flagging old fs × Flagged 0 o 0 w fs
     left-end e =
@@ -186,7 +186,7 @@ module _ (lex : Lexicon) (xs s : List ℕ) where
         ((i : ℕ) → a ≤ i → i < b → (i ≡ r → ⊥) → agrees s 0 (spells lex (key-at xs i)) o ≡ false) →
         Flagging fs (set fs r 1) × Flagged 0 o a b (set fs r 1)
     flagged-one r below agree others = (
-      flagging-ones r (r + 1) fs (set fs r 1) h one
+      flagging-ones h one
           (λ i x y. let e : i ≡ r = omega arith in ap (bears-at lex xs s) e ∙ agrees-bears-at 0 o r agree),
       λ i x y t. at i x y t (eqb i r) refl,
     )
@@ -202,15 +202,15 @@ module _ (lex : Lexicon) (xs s : List ℕ) where
 
     pub flagged-none :
         ((i : ℕ) → a ≤ i → i < b → agrees s 0 (spells lex (key-at xs i)) o ≡ false) → Flagging fs fs × Flagged 0 o a b fs
-    flagged-none none = (flagging-start fs h, λ i x y t. clash t (none i x y))
+    flagged-none none = (flagging-start h, λ i x y t. clash t (none i x y))
 
   -- the words' lines, then the lone characters'
   pub flagged-both :
       (o w : ℕ) → w ≤ keys-of xs → (old mid fs : List ℕ) → Flagging old mid × Flagged 0 o 0 w mid →
       Flagging mid fs × Flagged 0 o w (keys-of xs) fs → Flagging old fs × Flagged 0 o 0 (keys-of xs) fs
   flagged-both o w within old mid fs words lone = (
-    flagging-on old mid fs (words .0) (lone .0),
+    flagging-on (words .0) (lone .0),
     λ i a b t.
-        ⊎-elim (λ (p : w ≤ i). lone .1 i p b t) (λ (p : i < w). flagged-kept 0 o 0 w mid fs (lone .0) within (words .1) i a p t)
+        ⊎-elim (λ (p : w ≤ i). lone .1 i p b t) (λ (p : i < w). flagged-kept 0 o 0 w (lone .0) within (words .1) i a p t)
         (le-or-lt w i),
   )

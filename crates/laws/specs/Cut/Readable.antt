@@ -24,8 +24,8 @@ bearing-rises lex s (l ∷ ls) r = go (bears (spells lex (l .key-of)) s) (bearin
     go true ih = (λ m i. r .0 m (bearing-get lex s ls m i .0), ih)
     go false ih = ih
 
-pub bearing-good : (lex : Lexicon) (s : List ℕ) (n : ℕ) (ls : List Line) → Good-lines lex n ls → Good-lines lex n (bearing lex s ls)
-bearing-good lex s n ls good =
+pub bearing-good : {lex : Lexicon} (s : List ℕ) {n : ℕ} {ls : List Line} → Good-lines lex n ls → Good-lines lex n (bearing lex s ls)
+bearing-good {lex} s {ls} good =
     record {
       each = λ l m. good .each l (bearing-get lex s ls l m .0);
       order = bearing-rises lex s ls (good .order);
@@ -45,5 +45,5 @@ pub cut-readable : (g : ℕ) (lex : Lexicon) (xs s : List ℕ) → readable g le
 unfolding cut-down
 cut-readable g lex xs s t =
     let can : Readable g lex xs = readable-get g lex xs t in
-    readable-put g lex (n-of xs) (bearing lex s (lines-in xs)) (bearing-good lex s (n-of xs) (lines-in xs) (can .lines))
+    readable-put g (bearing-good s (can .lines))
     (can .length-allowed)

@@ -24,7 +24,7 @@ module _ (lex : Lexicon) (ks ls : List Line) (fewer : Fewer lex ks ls) (s : List
   pub covered-fewer : (a p : ℕ) → covered lex ks s a p ≡ true → covered lex ls s a p ≡ true
   covered-fewer a p t =
       let e = covered-get lex ks s a p t in
-      covered-put lex ls s a p (e .0)
+      covered-put lex ls s a p
       (record { among = fewer (e .0) (e .1 .among); from = e .1 .from; to = e .1 .to; agree = e .1 .agree })
 
 -- LINES THAT BEAR
@@ -70,8 +70,8 @@ module _ (lex : Lexicon) (s : List ℕ) where
       from : covered lex ls s a p ≡ true → covered lex (bearing lex s ls) s a p ≡ true
       from t =
           let e = covered-get lex ls s a p t in
-          let bear = bears-put (spells lex (e .0 .key-of)) s a (e .0 .at) (e .1 .agree) in
-          covered-put lex (bearing lex s ls) s a p (e .0)
+          let bear = bears-put (spells lex (e .0 .key-of)) s (e .1 .agree) in
+          covered-put lex (bearing lex s ls) s a p
           (record { among = bearing-keeps ls (e .0) (e .1 .among) bear; from = e .1 .from; to = e .1 .to; agree = e .1 .agree })
 
   pub all-covered-bearing : (ls : List Line) (n p a : ℕ) → all-covered n p lex (bearing lex s ls) s a ≡ all-covered n p lex ls s a

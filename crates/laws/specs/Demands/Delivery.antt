@@ -93,30 +93,30 @@ module _ (cs ls : List ℕ) (adm : admitted cs ls ≡ true) where
       (none-row 5 (Unreadable (lexicon cs ls) xs) [] (λ f. clash can f) none-nil)
 
   -- readable numbers and a query meet no line of first
-  none-string : (xs s : List ℕ) → readable longest-text (lexicon cs ls) xs ≡ true → Query s → None-met (string-rows cs ls xs s)
-  none-string xs s can q =
+  none-string : (xs : List ℕ) {s : List ℕ} → readable longest-text (lexicon cs ls) xs ≡ true → Query s → None-met (string-rows cs ls xs s)
+  none-string xs {s} can q =
       none-both (index-rows cs ls xs) (row 6 (String-wrong s) ∷ []) (none-index xs can)
       (none-row 6 (String-wrong s) []
       (⊎-elim (λ (e : length s ≡ 0). omega (arith, q .nonempty)) (λ (l : 256 < length s). omega (arith, q .short))) none-nil)
 
   -- with enough output they meet no line of search or cut
   none-find :
-      (xs s result o : List ℕ) → readable longest-text (lexicon cs ls) xs ≡ true → Query s → length result ≤ length o →
+      (xs : List ℕ) {s : List ℕ} (result o : List ℕ) → readable longest-text (lexicon cs ls) xs ≡ true → Query s → length result ≤ length o →
       None-met (find-rows cs ls xs s result o)
-  none-find xs s result o can q room =
-      none-both (string-rows cs ls xs s) (row 8 (Output-short result o) ∷ []) (none-string xs s can q)
+  none-find xs {s} result o can q room =
+      none-both (string-rows cs ls xs s) (row 8 (Output-short result o) ∷ []) (none-string xs can q)
       (none-row 8 (Output-short result o) [] (λ l. omega (arith, room)) none-nil)
 
   -- any readable numbers whose search gives the string's positions in a text
   found-for :
-      (xs ts s : List ℕ) → readable longest-text (lexicon cs ls) xs ≡ true → Query s →
+      (xs : List ℕ) {ts s : List ℕ} → readable longest-text (lexicon cs ls) xs ≡ true → Query s →
       Exactly-positions (replaced s) ts (find (lexicon cs ls) xs (replaced s)) → Found-for cs ls xs ts s
-  found-for xs ts s can q exactly r o z room says =
+  found-for xs {ts} {s} can q exactly r o z room says =
       let found = find (lexicon cs ls) xs (replaced s) in
       let h =
       accepts-none (find-rows cs ls xs s found o) (r .refusal) (Written found r o z) (Untouched r o z)
       (first-demand .searches cs ls xs s r o z says)
-      (none-find xs s found o can q (omega (arith, room, ap length (exactly .are-positions)))) in (
+      (none-find xs found o can q (omega (arith, room, ap length (exactly .are-positions)))) in (
         h .number,
         subst (λ (ps : List ℕ). Written ps r o z) (exactly .are-positions) (h .result),
         subst (Exactly-positions (replaced s) ts) (sym (h .result .front)) exactly,
@@ -124,12 +124,12 @@ module _ (cs ls : List ℕ) (adm : admitted cs ls ≡ true) where
 
   -- any readable numbers whose first position is the first at which the string stands
   first-for :
-      (xs ts s : List ℕ) → readable longest-text (lexicon cs ls) xs ≡ true → Query s →
+      (xs : List ℕ) {ts s : List ℕ} → readable longest-text (lexicon cs ls) xs ≡ true → Query s →
       First-stands (replaced s) ts (first-position (lexicon cs ls) xs (replaced s)) → First-for cs ls xs ts s
-  first-for xs ts s can q stands r says =
+  first-for xs {ts} {s} can q stands r says =
       let h =
       accepts-none (string-rows cs ls xs s) (r .refusal) (r .position ≡ first-position (lexicon cs ls) xs (replaced s)) (r .position ≡ 0)
-      (first-demand .firsts cs ls xs s r says) (none-string xs s can q) in
+      (first-demand .firsts cs ls xs s r says) (none-string xs can q) in
       (h .number, subst (First-stands (replaced s) ts) (sym (h .result)) stands)
 
   module _ (xs ts : List ℕ) (text : Text-of longest-text (lexicon cs ls) xs ts) where
@@ -176,12 +176,12 @@ module _ (cs ls : List ℕ) (adm : admitted cs ls ≡ true) where
 
     -- numbers equal to the cut-down index give its answers
     cut-found :
-        (s ys : List ℕ) → Query s → ys ≡ cut-down (lexicon cs ls) xs (replaced s) → Found-for cs ls ys ts s × First-for cs ls ys ts s
-    cut-found s ys q e =
+        {s : List ℕ} (ys : List ℕ) → Query s → ys ≡ cut-down (lexicon cs ls) xs (replaced s) → Found-for cs ls ys ts s × First-for cs ls ys ts s
+    cut-found {s} ys q e =
         let cut = cut-down (lexicon cs ls) xs (replaced s) in
         subst (λ (zs : List ℕ). Found-for cs ls zs ts s × First-for cs ls zs ts s) (sym e) (
-          found-for cut ts s (serves .cut-readable s q) q (serves .cut-exact s q),
-          first-for cut ts s (serves .cut-readable s q) q (serves .cut-first-exact s q),
+          found-for cut (serves .cut-readable s q) q (serves .cut-exact s q),
+          first-for cut (serves .cut-readable s q) q (serves .cut-first-exact s q),
         )
 
     cut-for : (s : List ℕ) → Query s → Cut-for cs ls xs ts s
@@ -189,8 +189,8 @@ module _ (cs ls : List ℕ) (adm : admitted cs ls ≡ true) where
         let cut = cut-down (lexicon cs ls) xs (replaced s) in
         let h =
         accepts-none (find-rows cs ls xs s cut o) (r .refusal) (Written cut r o z) (Untouched r o z)
-        (first-demand .cuts cs ls xs s r o z says) (none-find xs s cut o can q room) in
-        let found = cut-found s (take (r .count) z) q (h .result .front) in (h .number, h .result, found .0, found .1)
+        (first-demand .cuts cs ls xs s r o z says) (none-find xs cut o can q room) in
+        let found = cut-found (take (r .count) z) q (h .result .front) in (h .number, h .result, found .0, found .1)
 
     -- what an accepted call of cut wrote is the cut-down index
     cut-written :
@@ -207,8 +207,8 @@ module _ (cs ls : List ℕ) (adm : admitted cs ls ≡ true) where
           text = text;
           only-text = serves .only-text;
           is-recovered = recovered-for;
-          searched = λ s q. found-for xs ts s can q (serves .search-exact s q);
-          first = λ s q. first-for xs ts s can q (serves .first-exact s q);
+          searched = λ s q. found-for xs can q (serves .search-exact s q);
+          first = λ s q. first-for xs can q (serves .first-exact s q);
           cut = cut-for;
-          accepted-cut = λ s q r o z says zero. cut-found s (take (r .count) z) q (cut-written s r o z says zero);
+          accepted-cut = λ s q r o z says zero. cut-found (take (r .count) z) q (cut-written s r o z says zero);
         }

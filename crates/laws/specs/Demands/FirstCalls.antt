@@ -128,9 +128,9 @@ other-first cs ls xs ys s none can h says =
 
 module _ (cs ls xs s : List ℕ) (f h : FirstAnswer) (says : First-says cs ls xs s f) where
   same-answer :
-      (ys : List ℕ) → 1 ≤ f .position → readable longest-text (lexicon cs ls) ys ≡ true → Same-to (f .position + length s - 1) xs ys →
+      {ys : List ℕ} → 1 ≤ f .position → readable longest-text (lexicon cs ls) ys ≡ true → Same-to (f .position + length s - 1) xs ys →
       First-says cs ls ys s h → (h .refusal ≡ 0) × (h .position ≡ f .position)
-  same-answer ys some can same other =
+  same-answer {ys} some can same other =
       let a = position-accepted cs ls xs s f says some in
       let b = other-first cs ls xs ys s (a .none-met) can h other in (
         b .0,
@@ -143,7 +143,7 @@ module _ (cs ls xs s : List ℕ) (f h : FirstAnswer) (says : First-says cs ls xs
   kept-answer some other =
       let q = f .position + length s - 1 in
       let can = can-read cs ls xs s (position-accepted cs ls xs s f says some .none-met) in
-      same-answer (index-to q xs) some (index-to-readable q xs longest-text (lexicon cs ls) can) (index-to-same q xs) other
+      same-answer some (index-to-readable q xs longest-text (lexicon cs ls) can) (index-to-same q xs) other
 
   cut-answer :
       (r : Answer) (o z : List ℕ) → Cut-says cs ls xs s r o z → r .refusal ≡ 0 → First-says cs ls (take (r .count) z) s h →
@@ -166,7 +166,7 @@ first-calls =
       heads-search = beside-search;
       refuses-as-search = refused-beside;
       never-eight = not-eight;
-      from-same = λ cs ls xs ys s f h says some can same other. same-answer cs ls xs s f h says ys some can same other;
+      from-same = λ cs ls xs ys s f h says some can same other. same-answer cs ls xs s f h says some can same other;
       from-kept = kept-answer;
       from-cut = λ cs ls xs s f h r o z says cut zero other. cut-answer cs ls xs s f h says r o z cut zero other;
     }

@@ -60,8 +60,8 @@ module _ (cs ls : List ℕ) (c : ℕ) (adm : admitted cs ls ≡ true) (form : is
 
 module _ (s : List ℕ) (c : ℕ) (form : is-full-width c ≡ true) where
   -- at the shared position the replaced string would have a full-width form
-  agree-never : (a b : ℕ) → Agree (replaced s) a (c ∷ []) b → ⊥
-  agree-never a b h =
+  agree-never : {a b : ℕ} → Agree (replaced s) a (c ∷ []) b → ⊥
+  agree-never {a} {b} h =
       let here : h .shared - b ≡ 0 = omega (arith, h .entry-from, h .entry-to) in
       let same : getD (replaced s) (h .shared - a) 0 ≡ c =
       h .equal (h .shared) (h .string-from) (h .string-to) (h .entry-from) (h .entry-to)
@@ -72,13 +72,13 @@ module _ (s : List ℕ) (c : ℕ) (form : is-full-width c ≡ true) where
 
   agrees-never : (a b : ℕ) → agrees (replaced s) a (c ∷ []) b ≡ false
   agrees-never a b =
-      false-put (agrees (replaced s) a (c ∷ []) b) (λ t. agree-never a b (agrees-get (replaced s) a (c ∷ []) b t))
+      false-put (agrees (replaced s) a (c ∷ []) b) (λ t. agree-never (agrees-get (replaced s) a (c ∷ []) b t))
 
   bears-never : 1 ≤ length s → bears (c ∷ []) (replaced s) ≡ false
   bears-never some =
       false-put (bears (c ∷ []) (replaced s))
       (λ t.
-      let h = bears-get (c ∷ []) (replaced s) (omega arith) (omega (arith, length-replaced s)) t in agree-never (h .0) (h .1) (h .2))
+      let h = bears-get (c ∷ []) (replaced s) (omega arith) (omega (arith, length-replaced s)) t in agree-never (h .2))
 
 spells-form : (lex : Lexicon) (l : Line) (c : ℕ) → l .key-of ≡ key 1 c → spells lex (l .key-of) ≡ c ∷ []
 unfolding key
@@ -91,14 +91,14 @@ cut-out lex xs s c some (form, (l, m, e)) =
 
 -- NO TEXT HAS IT
 
-module _ (lex : Lexicon) (good : Good-lexicon lex) (g : ℕ) (xs : List ℕ) (can : readable g lex xs ≡ true) where
+module _ {lex : Lexicon} (good : Good-lexicon lex) (g : ℕ) (xs : List ℕ) (can : readable g lex xs ≡ true) where
   -- if the numbers are the index of the text recovered from them, their entries stand in it
   line-stands :
       is-index g lex xs ≡ true → (l : Line) → In l (lines-in xs) → (p : ℕ) → In p (l .positions) →
       Stand (spells lex (l .key-of)) (recovered lex xs) p
   line-stands own l m p n =
-      entries-get lex good (recovered lex xs) (readable-chars lex good g xs can) (posting lex (l .key-of) p)
-      (is-index-only lex good g xs own (posting lex (l .key-of) p) (flat-put lex (lines-in xs) l p m n)) .is-entry .stand
+      entries-get lex good (recovered lex xs) (readable-chars good g xs can) (posting lex (l .key-of) p)
+      (is-index-only good g xs own (posting lex (l .key-of) p) (flat-put lex (lines-in xs) l p m n)) .is-entry .stand
 
   -- so the form stands at the first of its positions, in a text that has no full-width form
   unreceived : (c : ℕ) → Lone-form xs c → received g lex xs ≡ false
@@ -111,7 +111,7 @@ module _ (lex : Lexicon) (good : Good-lexicon lex) (g : ℕ) (xs : List ℕ) (ca
           rw (spells-form lex l c e) at
           (line-stands (h .is-own) l m p (in-getD (l .positions) 0 0 (readable-get g lex xs can .lines .each l m .some))) in
           clash form
-          (ap is-full-width (stand-at (c ∷ []) (recovered lex xs) p 0 stand (omega arith))
+          (ap is-full-width (stand-at 0 stand (omega arith))
           ∙ h .plain (p + 0 - 1) (omega (arith, stand .from, stand .within)))
 
 found-without :
@@ -129,7 +129,7 @@ form-as-key g =
       bears-never = λ s c some form. bears-never s c form some;
       cut-out = cut-out;
       found-without = found-without g;
-      unreceived = λ cs ls xs c adm can. unreceived (lexicon cs ls) (admitted-lexicon cs ls adm) g xs can c;
+      unreceived = λ cs ls xs c adm can. unreceived (admitted-lexicon cs ls adm) g xs can c;
     }
 
 -- OVER THE CALLS
@@ -151,7 +151,7 @@ module _ (cs ls xs : List ℕ) (adm : admitted cs ls ≡ true) (can : readable l
     nine : reception-refusal cs ls xs w ≡ 9
     nine =
         reception-unreceived cs ls xs w (sym (short-none (index-refusal cs ls xs) xs w no-refusal room))
-        (unreceived (lexicon cs ls) (admitted-lexicon cs ls adm) longest-text xs can c lone)
+        (unreceived (admitted-lexicon cs ls adm) longest-text xs can c lone)
 
     nine-recovery : (o : ℕ) → recovery-refusal cs ls xs o w ≡ 9
     nine-recovery o = recovery-early cs ls xs w o (λ (z : reception-refusal cs ls xs w ≡ 0). omega (arith, nine)) ∙ nine

@@ -30,14 +30,14 @@ scan-alike f g (suc n) p last m lo fits h =
       scan-alike f g n (suc p) last m (omega arith) (omega arith) h,
     )
 
-module _ (lex : Lexicon) (good : Good-lexicon lex) (ts : List ℕ) (chars : Chars ts) where
-  longest-entry-at : (p : ℕ) (e : Entry) → Longest-entry lex ts p e → Longest-at lex ts p e
-  longest-entry-at p e l =
+module _ {lex : Lexicon} (good : Good-lexicon lex) (ts : List ℕ) (chars : Chars ts) where
+  longest-entry-at : {p : ℕ} {e : Entry} → Longest-entry lex ts p e → Longest-at lex ts p e
+  longest-entry-at {e} l =
       record {
         is-longest =
             record {
               is-entry = complete-get lex ts chars e (l .member);
-              longest = λ f hf a. l .longest f (complete-put lex ts good f hf) (a ∙ l .here);
+              longest = λ f hf a. l .longest f (complete-put good hf) (a ∙ l .here);
             };
         here = l .here;
       }
@@ -48,17 +48,17 @@ module _ (lex : Lexicon) (good : Good-lexicon lex) (ts : List ℕ) (chars : Char
   unfolding make-index
   scan-is longest h =
       scan-alike longest (longest-at lex ts) (length ts) 1 1 (length ts) (omega arith) (omega arith)
-      (λ q lo hi. longest-at-unique lex good ts chars q (longest q) lo hi (longest-entry-at q (longest q) (h q lo hi)))
+      (λ q lo hi. longest-at-unique lex good ts chars lo hi (longest-entry-at (h q lo hi)))
 
 pub scan-builds : (g : ℕ) → Scan-builds g
 unfolding Scan-builds
 scan-builds g cs ls ts adm text longest h =
     let good : Good-lexicon (lexicon cs ls) = admitted-lexicon cs ls adm in
     let chars : Chars ts = is-text-get g ts text .0 in
-    rw (scan-is (lexicon cs ls) good ts chars longest h) (
+    rw (scan-is good ts chars longest h) (
       make-index-get (lexicon cs ls) good ts chars,
       make-index-put (lexicon cs ls) good ts chars,
-      scan-index (lexicon cs ls) good ts chars,
+      scan-index good ts chars,
     )
 
 pub greedy-cover : Greedy-cover

@@ -46,7 +46,7 @@ module _ (s : List ℕ) where
       (le-leb (length (finds-on s)) 50 (c .few-finds))
 
   -- the parts of a sheet are those read on it
-  module _ (ws : List (List ℕ)) (t : List ℕ) (fs : List (List ℕ)) (sheet : Sheet-of ws t fs s) where
+  module _ {ws : List (List ℕ)} {t : List ℕ} {fs : List (List ℕ)} (sheet : Sheet-of ws t fs s) where
     counts-on : Within-counts ws t fs → Within-counts (words-on s) (text-on s) (finds-on s)
     counts-on c =
         rw (form-tested .words-read ws t fs s sheet, form-tested .text-read ws t fs s sheet, form-tested .finds-read ws t fs s sheet) c
@@ -58,7 +58,7 @@ module _ (s : List ℕ) where
   unfolding sheet-wrong
   reflects-broken =
       record {
-        holds = λ t (ws, u, fs, sheet, counts). clash (sheet-right ws u fs sheet counts) (not-get (in-form s && in-counts s) t);
+        holds = λ t (ws, u, fs, sheet, counts). clash (sheet-right sheet counts) (not-get (in-form s && in-counts s) t);
         fails =
             λ f h.
             let both = not-false (in-form s && in-counts s) f in
@@ -179,10 +179,10 @@ module _ (s : List ℕ) where
 
   -- no sheet of the length and the counts allowed meets line 1
   pub never-too-large :
-      (ws : List (List ℕ)) (t : List ℕ) (fs : List (List ℕ)) → Sheet-of ws t fs s → Within-counts ws t fs → (Sheet-too-long s → ⊥) →
+      {ws : List (List ℕ)} {t : List ℕ} {fs : List (List ℕ)} → Sheet-of ws t fs s → Within-counts ws t fs → (Sheet-too-long s → ⊥) →
       Too-large (run-together ws) (lengths-of ws) → ⊥
   unfolding words-on
-  never-too-large ws t fs sheet counts short =
+  never-too-large {ws} {t} {fs} sheet counts short =
       let words : words-on s ≡ ws = form-tested .words-read ws t fs s sheet in
       let few : length s ≤ 32768 = at-most 32768 (length s) short in
       ⊎-elim (λ (many : 4096 < length (lengths-of ws)). omega (arith, length-lengths ws, counts .few-words))

@@ -72,7 +72,7 @@ module _ (cs ls ts : List ℕ) (adm : admitted cs ls ≡ true) (text : is-text l
             let (e, m, s) = from (item (spells lex k) p) (h .only (item (spells lex k) p) (k, p, u, refl)) in (
               e,
               m,
-              keys-distinct lex good (e .key-of) k (key-among e m) (key-under k p u) (ap (λ (i : Item). i .word) s),
+              keys-distinct good (key-among e m) (key-under k p u) (ap (λ (i : Item). i .word) s),
               ap (λ (i : Item). i .position) s,
             )
 
@@ -80,7 +80,7 @@ module _ (cs ls ts : List ℕ) (adm : admitted cs ls ≡ true) (text : is-text l
         all k p (e, m, a, b) =
             let (j, q, u, s) = h .all (item-of lex e) (to e m) in
             let same : j ≡ k =
-            keys-distinct lex good j (e .key-of) (key-under j q u) (key-among e m) (ap (λ (i : Item). i .word) s) ∙ a in
+            keys-distinct good (key-under j q u) (key-among e m) (ap (λ (i : Item). i .word) s) ∙ a in
             let position : q ≡ p = ap (λ (i : Item). i .position) s ∙ b in
             subst (λ (x : Key). Under x p ys) same (subst (λ (x : ℕ). Under j x ys) position u)
 

@@ -55,16 +55,16 @@ reflects-and true t A B p q = record { holds = λ e. (p .holds refl, q .holds e)
 reflects-and false t A B p q = record { holds = λ e. clash e refl; fails = λ f h. p .fails refl (h .0) }
 
 -- one of two tests fails
-pub reflects-nand : (s t : Bool) (A B : Type 0) → Reflects (not s) A → Reflects (not t) B → Reflects (not (s && t)) (A ⊎ B)
-reflects-nand true t A B p q =
+pub reflects-nand : (s t : Bool) {A B : Type 0} → Reflects (not s) A → Reflects (not t) B → Reflects (not (s && t)) (A ⊎ B)
+reflects-nand true t {A} {B} p q =
     record { holds = λ e. inr (q .holds e); fails = λ f. ⊎-elim (λ (v : A). p .fails refl v) (λ (w : B). q .fails f w) }
-reflects-nand false t A B p q = record { holds = λ e. inl (p .holds refl); fails = λ f. clash refl f }
+reflects-nand false t p q = record { holds = λ e. inl (p .holds refl); fails = λ f. clash refl f }
 
 -- the first element or one of the others
 pub reflects-some :
-    {A : Type 0} (P : A → Type 0) (x : A) (xs : List A) (t : Bool) → Reflects t (P x ⊎ ((a : A) × In a xs × P a)) →
+    {A : Type 0} (P : A → Type 0) (x : A) (xs : List A) {t : Bool} → Reflects t (P x ⊎ ((a : A) × In a xs × P a)) →
     Reflects t ((a : A) × In a (x ∷ xs) × P a)
-reflects-some {A} P x xs t both = record { holds = λ e. join (both .holds e); fails = λ f h. both .fails f (split h) }
+reflects-some {A} P x xs both = record { holds = λ e. join (both .holds e); fails = λ f h. both .fails f (split h) }
   where
     split : (a : A) × In a (x ∷ xs) × P a → P x ⊎ ((a : A) × In a xs × P a)
     split (a, inl e, w) = inl (subst P e w)
@@ -79,7 +79,7 @@ Wrong l = (l ≡ 0) ⊎ (32 < l)
 
 pub reflects-length : (l : ℕ) → Reflects (not (length-good l)) (Wrong l)
 unfolding length-good
-reflects-length l = reflects-nand (leb 1 l) (leb l 32) (l ≡ 0) (32 < l) low high
+reflects-length l = reflects-nand (leb 1 l) (leb l 32) low high
   where
     low : Reflects (not (leb 1 l)) (l ≡ 0)
     low =
@@ -99,8 +99,8 @@ pub reflects-lengths : (ls : List ℕ) → Reflects (not (lengths-good ls)) ((l 
 unfolding lengths-good
 reflects-lengths [] = record { holds = λ t. clash t refl; fails = λ f h. h .1 }
 reflects-lengths (l ∷ ls) =
-    reflects-some Wrong l ls _
-    (reflects-nand (length-good l) (lengths-good ls) (Wrong l) ((k : ℕ) × In k ls × Wrong k) (reflects-length l) (reflects-lengths ls))
+    reflects-some Wrong l ls
+    (reflects-nand (length-good l) (lengths-good ls) (reflects-length l) (reflects-lengths ls))
 
 -- a word that contains a full-width form
 
@@ -117,14 +117,14 @@ reflects-forms : (cs : List ℕ) → Reflects (holds-full-width cs) (Holds-form 
 unfolding holds-full-width
 reflects-forms [] = record { holds = λ t. clash t refl; fails = λ f h. h .1 }
 reflects-forms (c ∷ cs) =
-    reflects-some Form c cs _
+    reflects-some Form c cs
     (reflects-or (is-full-width c) (holds-full-width cs) (Form c) (Holds-form cs) (reflects-form c) (reflects-forms cs))
 
 reflects-words : (ws : List (List ℕ)) → Reflects (some-full-width ws) ((w : List ℕ) × In w ws × Holds-form w)
 unfolding some-full-width
 reflects-words [] = record { holds = λ t. clash t refl; fails = λ f h. h .1 }
 reflects-words (w ∷ ws) =
-    reflects-some (λ (v : List ℕ). Holds-form v) w ws _
+    reflects-some (λ (v : List ℕ). Holds-form v) w ws
     (reflects-or (holds-full-width w) (some-full-width ws) (Holds-form w) ((v : List ℕ) × In v ws × Holds-form v) (reflects-forms w)
     (reflects-words ws))
 
@@ -140,7 +140,7 @@ module _ (cs ls : List ℕ) where
   pub reflects-lengths-wrong : Reflects (lengths-wrong cs ls) (Lengths-wrong cs ls)
   unfolding lengths-wrong
   reflects-lengths-wrong =
-      reflects-nand (lengths-good ls) (eqb (total ls) (length cs)) ((l : ℕ) × In l ls × Wrong l) (total ls ≡ length cs → ⊥)
+      reflects-nand (lengths-good ls) (eqb (total ls) (length cs))
       (reflects-lengths ls) (reflects-ne (total ls) (length cs))
 
   pub reflects-disordered : Reflects (disordered cs ls) (Disordered cs ls)
@@ -169,7 +169,7 @@ pub reflects-finds : (fs : List (List ℕ)) → Reflects (some-string-wrong fs) 
 unfolding some-string-wrong
 reflects-finds [] = record { holds = λ t. clash t refl; fails = λ f h. h .1 }
 reflects-finds (s ∷ ss) =
-    reflects-some (λ (f : List ℕ). String-wrong f) s ss _
+    reflects-some (λ (f : List ℕ). String-wrong f) s ss
     (reflects-or (string-wrong s) (some-string-wrong ss) (String-wrong s) ((f : List ℕ) × In f ss × String-wrong f) (reflects-string s)
     (reflects-finds ss))
 

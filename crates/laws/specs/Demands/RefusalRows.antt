@@ -72,12 +72,12 @@ one-first (l ∷ ls) m n (inr (unmet, h)) (inl (w, e)) = absurd (unmet w)
 one-first (l ∷ ls) m n (inr (unmet, h)) (inr (other, k)) = one-first ls m n h k
 
 -- the table fixes one number
-pub one-number : (rows : List Row) (m n : ℕ) (A B : Type 0) → Refuses rows m A → Refuses rows n B → m ≡ n
-one-number rows m n A B h k = one-first rows m n (h .first) (k .first)
+pub one-number : {rows : List Row} {m n : ℕ} {A B : Type 0} → Refuses rows m A → Refuses rows n B → m ≡ n
+one-number {rows} {m} {n} h k = one-first rows m n (h .first) (k .first)
 
 -- no input is both accepted and refused
-pub not-both : (rows : List Row) (m n : ℕ) (A B : Type 0) → Accepts rows m A → Refuses rows n B → ⊥
-not-both rows m n A B h k = h .none-met n (first-meets rows n (k .first))
+pub not-both : {rows : List Row} {m n : ℕ} {A B : Type 0} → Accepts rows m A → Refuses rows n B → ⊥
+not-both {rows} {n} h k = h .none-met n (first-meets rows n (k .first))
 
 -- the decision, with what holds after an accepted call (A) and after a refused one (B)
 pub decides :
@@ -92,9 +92,9 @@ decides rows n m first some e A B accepts refuses =
 
 pub decided-number : (rows : List Row) (m n : ℕ) (A B C D : Type 0) → Decides rows m A B → Decides rows n C D → m ≡ n
 decided-number rows m n A B C D (inl h) (inl k) = h .number ∙ sym (k .number)
-decided-number rows m n A B C D (inl h) (inr k) = absurd (not-both rows m n A D h k)
-decided-number rows m n A B C D (inr h) (inl k) = absurd (not-both rows n m C B k h)
-decided-number rows m n A B C D (inr h) (inr k) = one-number rows m n B D h k
+decided-number rows m n A B C D (inl h) (inr k) = absurd (not-both h k)
+decided-number rows m n A B C D (inr h) (inl k) = absurd (not-both k h)
+decided-number rows m n A B C D (inr h) (inr k) = one-number h k
 
 -- A ROW BY ITS TEST, AND ROWS BEFORE OTHERS
 

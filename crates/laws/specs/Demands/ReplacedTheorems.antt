@@ -71,10 +71,10 @@ dictionary-before cs ls none = by-test (lengths-good ls && eqb (total ls) (lengt
 
 -- a key whose string has a full-width form is that form, lone
 spells-plain :
-    (lex : Lexicon) → Good-lexicon lex → (k : Key) → Is-key lex k → ((c : ℕ) → is-full-width c ≡ true → k ≡ key 1 c → ⊥) →
+    {lex : Lexicon} → Good-lexicon lex → {k : Key} → Is-key lex k → ((c : ℕ) → is-full-width c ≡ true → k ≡ key 1 c → ⊥) →
     Plain (spells lex k)
 unfolding key
-spells-plain lex good k h none =
+spells-plain {lex} good {k} h none =
     ⊎-elim (λ (w : Is-word-key lex k). good .plain (spells lex k) (spells-in lex k w))
     (λ (c : Is-lone-key lex k).
     rw (spells-lone lex k (c .kind-is))
@@ -87,12 +87,12 @@ spells-plain lex good k h none =
 
 -- the text recovered from readable numbers without such a key has no full-width form
 pub readable-plain :
-    (g : ℕ) (lex : Lexicon) → Good-lexicon lex → (xs : List ℕ) → readable g lex xs ≡ true → ((c : ℕ) → Lone-form xs c → ⊥) →
+    (g : ℕ) {lex : Lexicon} → Good-lexicon lex → (xs : List ℕ) → readable g lex xs ≡ true → ((c : ℕ) → Lone-form xs c → ⊥) →
     Plain (recovered lex xs)
-readable-plain g lex good xs can none =
+readable-plain g {lex} good xs can none =
     recovered-is-plain lex xs
     (λ l m.
-    spells-plain lex good (l .key-of) (readable-get g lex xs can .lines .each l m .is-key)
+    spells-plain good (readable-get g lex xs can .lines .each l m .is-key)
     (λ c t e. none c (t, (l, m, e))))
 
 received-before :
@@ -103,7 +103,7 @@ received-before g cs ls xs adm none =
     iff-eq (received g lex xs) (is-index g lex xs) (λ t. received-get g lex xs t .is-own)
     (λ t.
     received-put g lex xs
-    (record { is-own = t; plain = readable-plain g lex (admitted-lexicon cs ls adm) xs (is-index-get g lex xs t .can-read) none }))
+    (record { is-own = t; plain = readable-plain g (admitted-lexicon cs ls adm) xs (is-index-get g lex xs t .can-read) none }))
 
 text-printed :
     (lex : Lexicon) (ts : List ℕ) (fs : List (List ℕ)) → holds-full-width ts ≡ false →
@@ -134,7 +134,7 @@ as-before =
 pub same-lettering : Same-lettering
 unfolding Same-lettering
 same-lettering cs ls ts us adm chars also = (
-  index-injective (lexicon cs ls) (admitted-lexicon cs ls adm) (replaced ts) (replaced us)
+  index-injective (admitted-lexicon cs ls adm) (replaced ts) (replaced us)
       (replaced-chars ts (all-chars-get ts chars)) (replaced-chars us (all-chars-get us also)),
   ap (index-of (lexicon cs ls)),
 )

@@ -45,7 +45,7 @@ unfolding Recovers
 recovers g cs ls ts a t =
     let good = admitted-lexicon cs ls a in
     let text = is-text-get g ts t in
-    (index-can-read (lexicon cs ls) good ts (text .0) g (text .1), index-recovered (lexicon cs ls) good ts (text .0))
+    (index-can-read good ts (text .0) g (text .1), index-recovered good ts (text .0))
 
 pub only-readable : (g : ℕ) → Only-readable g
 unfolding Only-readable
@@ -58,13 +58,13 @@ only-readable g cs ls ts a t =
 
 -- received numbers are the index of the recovered text
 received-text :
-    (g : ℕ) (lex : Lexicon) → Good-lexicon lex → (xs : List ℕ) → received g lex xs ≡ true → Text-of g lex xs (recovered lex xs)
-received-text g lex good xs r =
+    (g : ℕ) {lex : Lexicon} → Good-lexicon lex → (xs : List ℕ) → received g lex xs ≡ true → Text-of g lex xs (recovered lex xs)
+received-text g {lex} good xs r =
     let h : Received g lex xs = received-get g lex xs r in
     let own : Is-index g lex xs = is-index-get g lex xs (h .is-own) in
     record {
       is-a-text =
-          is-text-put g (recovered lex xs) (readable-chars lex good g xs (own .can-read)) (readable-small lex good g xs (own .can-read))
+          is-text-put g (recovered lex xs) (readable-chars good g xs (own .can-read)) (readable-small good g xs (own .can-read))
           (h .plain);
       length-is = length-recovered lex xs;
       index-is = own .index-is;
@@ -75,16 +75,16 @@ unfolding Received-exactly
 received-exactly g cs ls xs a =
     let good = admitted-lexicon cs ls a in (
       λ r.
-          let h = received-text g (lexicon cs ls) good xs r in
+          let h = received-text g good xs r in
           (recovered (lexicon cs ls) xs, h .is-a-text, h .length-is, h .index-is),
       λ ts t len e.
-          let text = is-text-get g ts t in is-index-received (lexicon cs ls) good ts (text .0) g xs (text .1) (text .2) e,
+          let text = is-text-get g ts t in is-index-received good ts (text .0) g xs (text .1) (text .2) e,
     )
 
 pub one-text : (g : ℕ) → One-text g
 unfolding One-text
 one-text g cs ls ts us a t u e =
-    index-injective (lexicon cs ls) (admitted-lexicon cs ls a) ts us (is-text-get g ts t .0) (is-text-get g us u .0) e
+    index-injective (admitted-lexicon cs ls a) ts us (is-text-get g ts t .0) (is-text-get g us u .0) e
 
 replaced-some : (s : List ℕ) → 1 ≤ length s → 1 ≤ length (replaced s)
 replaced-some s some = omega (arith, length-replaced s)
@@ -92,7 +92,7 @@ replaced-some s some = omega (arith, length-replaced s)
 pub search-exact : (g : ℕ) → Search-exact g
 unfolding Search-exact
 search-exact g cs ls ts s a t q =
-    index-find (lexicon cs ls) (admitted-lexicon cs ls a) ts (is-text-get g ts t .0) (replaced s) (replaced-some s (q .nonempty))
+    index-find (admitted-lexicon cs ls a) ts (is-text-get g ts t .0) (replaced s) (replaced-some s (q .nonempty))
 
 -- ANY READABLE INDEX
 
@@ -111,7 +111,7 @@ pub fewer-find-less : Fewer-find-less
 unfolding Fewer-find-less
 fewer-find-less lex xs ys n fewer s p m =
     let h = find-get lex xs s p m in
-    find-put lex ys s p
+    find-put lex ys s
     (record {
       from = h .from;
       within = omega (arith, h .within);
@@ -129,9 +129,9 @@ exactly-positions s ts ps some e =
     record {
       are-positions = e;
       only = λ p m. stands-put s ts p (positions-get s ts p (rw e at m));
-      all = λ p t. rw e (positions-put s ts some p (stands-get s ts p t));
+      all = λ p t. rw e (positions-put s ts some (stands-get s ts p t));
       ascending = up;
-      once = ascend-once ltb ltb-strict ps 0 up;
+      once = ascend-once ltb-strict ps 0 up;
     }
 
 pub demand-three : (g : ℕ) → Demand-three g
@@ -147,13 +147,13 @@ demand-three g cs ls xs a = (serves, has-text)
     has-text : (ts : List ℕ) → Text-of g lex xs ts → received g lex xs ≡ true
     has-text ts h =
         let text = is-text-get g ts (h .is-a-text) in
-        is-index-received lex good ts (text .0) g xs (text .1) (text .2) (h .index-is)
+        is-index-received good ts (text .0) g xs (text .1) (text .2) (h .index-is)
 
     serves : received g lex xs ≡ true → Serves g lex xs (recovered lex xs)
     serves r =
         record {
           text = text;
-          only-text = λ us h. sym (is-index-recovered lex good us (is-text-get g us (h .is-a-text) .0) xs (h .index-is));
+          only-text = λ us h. sym (is-index-recovered good us (is-text-get g us (h .is-a-text) .0) xs (h .index-is));
           search-exact = exact;
           cut-readable = λ s q. cut-any g lex xs (replaced s) can .0;
           cut-exact = cut-exact;
@@ -162,7 +162,7 @@ demand-three g cs ls xs a = (serves, has-text)
         }
       where
         text : Text-of g lex xs (recovered lex xs)
-        text = received-text g lex good xs r
+        text = received-text g good xs r
 
         can : readable g lex xs ≡ true
         can = received-reads g lex xs r
@@ -170,7 +170,7 @@ demand-three g cs ls xs a = (serves, has-text)
         found : (s : List ℕ) → Query s → find lex xs (replaced s) ≡ positions (replaced s) (recovered lex xs)
         found s q =
             ap (λ (ys : List ℕ). find lex ys (replaced s)) (sym (text .index-is))
-            ∙ index-find lex good (recovered lex xs) (is-text-get g (recovered lex xs) (text .is-a-text) .0) (replaced s)
+            ∙ index-find good (recovered lex xs) (is-text-get g (recovered lex xs) (text .is-a-text) .0) (replaced s)
             (replaced-some s (q .nonempty))
 
         exact : (s : List ℕ) → Query s → Exactly-positions (replaced s) (recovered lex xs) (find lex xs (replaced s))
@@ -187,7 +187,7 @@ demand-three g cs ls xs a = (serves, has-text)
         first-exact :
             (ys s : List ℕ) → Exactly-positions s (recovered lex xs) (find lex ys s) →
             First-stands s (recovered lex xs) (first-position lex ys s)
-        first-exact ys s h = first-stands s (recovered lex xs) (find lex ys s) (first-position lex ys s) h (first-heads-find lex ys s)
+        first-exact ys s h = first-stands h (first-heads-find lex ys s)
 
 -- RECEPTION BY COUNTING
 
@@ -212,8 +212,8 @@ received-by-count g cs ls xs a can = (taken, accounts)
     taken us c plain h =
         let chars = all-chars-get us c in
         received-as us plain
-        (index-taken lex good g xs can us chars (h .length-is)
-        (counted-index lex good g xs can us chars (h .length-is)
+        (index-taken good g xs can us chars (h .length-is)
+        (counted-index good g xs can us chars (h .length-is)
         (λ e m.
         rw (entry-whole lex good us chars e m) at
         (under-get lex xs (e .key-of) (e .at) (h .each (e .key-of) (e .at) (e, m, refl, refl))))
@@ -222,14 +222,14 @@ received-by-count g cs ls xs a can = (taken, accounts)
     accounts : received g lex xs ≡ true → Accounts lex xs (recovered lex xs)
     accounts r =
         let own = received-get g lex xs r .is-own in
-        let chars = readable-chars lex good g xs can in
+        let chars = readable-chars good g xs can in
         record {
           length-is = length-recovered lex xs;
           each =
               λ k p h.
               under-put lex xs k p
-              (is-index-all lex good g xs own (posting lex k p) (among-get lex good (recovered lex xs) chars k p h));
-          count = is-index-count lex good g xs own;
+              (is-index-all good g xs own (posting lex k p) (among-get lex good (recovered lex xs) chars k p h));
+          count = is-index-count good g xs own;
         }
 
 -- KEYS AND STRINGS
@@ -243,11 +243,11 @@ bears-by-offset k s k-some s-some = (
         agrees-in-offsets s (h .0) k (h .1) agree,
         sym (agrees-offset s (h .0) k (h .1)) ∙ agree,
       ),
-  λ o b t. bears-put k s (string-start o) (key-start o) (agrees-get s (string-start o) k (key-start o) t),
+  λ o b t. bears-put k s (agrees-get s (string-start o) k (key-start o) t),
 )
 
 -- THE TALLY
 
 pub tally-sums-holds : (g : ℕ) → Tally-sums g
 unfolding Tally-sums
-tally-sums-holds g cs ls xs a t = tally-sums g (lexicon cs ls) xs (admitted-lexicon cs ls a) t
+tally-sums-holds g cs ls xs a t = tally-sums g xs (admitted-lexicon cs ls a) t

@@ -102,7 +102,7 @@ spells-lone lex k e = rw (ne-eqb (k .kind) 0 (λ (z : k .kind ≡ 0). omega arit
 pub spells-in : (lex : Lexicon) (k : Key) → Is-word-key lex k → In (spells lex k) (lex .words)
 spells-in lex k h = rw (spells-word lex k (h .kind-is)) (in-getD (lex .words) (k .value) [] (h .below))
 
-module _ (lex : Lexicon) (good : Good-lexicon lex) where
+module _ {lex : Lexicon} (good : Good-lexicon lex) where
   pub spells-some : (k : Key) → Is-key lex k → 1 ≤ length (spells lex k)
   spells-some k h =
       ⊎-elim (λ (w : Is-word-key lex k). good .nonempty (spells lex k) (spells-in lex k w))
@@ -126,20 +126,20 @@ module _ (lex : Lexicon) (good : Good-lexicon lex) where
       one b zero l = b
       one b (suc i) l = absurd (omega arith)
 
-  pub keys-distinct : (j k : Key) → Is-key lex j → Is-key lex k → spells lex j ≡ spells lex k → j ≡ k
-  keys-distinct j k hj hk e = cases (key-kinds lex j hj) (key-kinds lex k hk)
+  pub keys-distinct : {j k : Key} → Is-key lex j → Is-key lex k → spells lex j ≡ spells lex k → j ≡ k
+  keys-distinct {j} {k} hj hk e = cases (key-kinds lex j hj) (key-kinds lex k hk)
     where
       -- a word is no lone character
-      apart : (a b : Key) → Is-word-key lex a → Is-lone-key lex b → spells lex a ≡ spells lex b → ⊥
-      apart a b w c s = c .no-word (rw (← spells-lone lex b (c .kind-is), ← s) (spells-in lex a w))
+      apart : {a b : Key} → Is-word-key lex a → Is-lone-key lex b → spells lex a ≡ spells lex b → ⊥
+      apart {a} {b} w c s = c .no-word (rw (← spells-lone lex b (c .kind-is), ← s) (spells-in lex a w))
 
       cases : Is-word-key lex j ⊎ Is-lone-key lex j → Is-word-key lex k ⊎ Is-lone-key lex k → j ≡ k
       cases (inl v) (inl w) =
           key-eq j k (v .kind-is ∙ sym (w .kind-is))
           (good .distinct (j .value) (k .value) (v .below) (w .below)
           (sym (spells-word lex j (v .kind-is)) ∙ e ∙ spells-word lex k (w .kind-is)))
-      cases (inl v) (inr c) = absurd (apart j k v c e)
-      cases (inr c) (inl w) = absurd (apart k j w c (sym e))
+      cases (inl v) (inr c) = absurd (apart v c e)
+      cases (inr c) (inl w) = absurd (apart w c (sym e))
       cases (inr c) (inr d) =
           key-eq j k (c .kind-is ∙ sym (d .kind-is))
           (ap (λ (s : List ℕ). getD s 0 0) (sym (spells-lone lex j (c .kind-is)) ∙ e ∙ spells-lone lex k (d .kind-is)))

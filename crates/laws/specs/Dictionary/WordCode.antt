@@ -243,7 +243,7 @@ small-take (suc n) (x ∷ xs) h (suc i) = small-take n xs (λ (j : ℕ). h (suc 
 small-part : (cs : List ℕ) (at end : ℕ) → Small cs → Small (part cs at end)
 small-part cs at end h = small-take (end - at) (drop at cs) (small-drop at cs h)
 
-module _ (cs : List ℕ) (at next end a b : ℕ) (small : Small cs) (h : Neighbours cs at next end a b) where
+module _ {cs : List ℕ} {at next end a b : ℕ} (small : Small cs) (h : Neighbours cs at next end a b) where
   pub neighbours-less : a < b → word-before (part cs at next) (part cs next end) ≡ true
   neighbours-less less =
       code-less (part cs at next) (part cs next end) (small-part cs at next small) (small-part cs next end small)

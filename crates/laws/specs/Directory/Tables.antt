@@ -55,7 +55,7 @@ in-front-of [] i l more e = absurd (omega (arith, sym (ap length (drop-nil i)) �
 in-front-of (x ∷ xs) zero l more e = inl (sym (ap (λ (ys : List Line). getD ys 0 l) e))
 in-front-of (x ∷ xs) (suc i) l more e = inr (in-front-of xs i l more e)
 
-module _ (cs ls xs : List ℕ) (can : Can-read cs ls xs) (i : ℕ) (below : i < keys-of xs) where
+module _ {cs ls xs : List ℕ} (can : Can-read cs ls xs) (i : ℕ) (below : i < keys-of xs) where
   -- the numbers of line i lie within the slice
   pub line-room : header + 3 * i + 2 < length xs
   line-room = omega (arith, can .fits .has-directory)
@@ -78,7 +78,7 @@ module _ (cs ls xs : List ℕ) (can : Can-read cs ls xs) (i : ℕ) (below : i < 
         (λ (l : Is-lone-key (lexicon cs ls) (key-at xs i)). absurd (omega (arith, l .kind-is)))
         (key-kinds (lexicon cs ls) (key-at xs i) key-is)
 
-    module _ (ws : List ℕ) (table : Word-starts ls (length ls) ws) where
+    module _ {ws : List ℕ} (table : Word-starts ls (length ls) ws) where
       start-is : getD ws (value-at xs i) 0 ≡ word-start ls (value-at xs i)
       start-is = table .at (value-at xs i) word-below
 
@@ -108,7 +108,7 @@ module _ (cs ls xs : List ℕ) (can : Can-read cs ls xs) (i : ℕ) (below : i < 
       ∙ sym (spells-lone (lexicon cs ls) (key-at xs i) kind))
 
   pub key-short : length (spells (lexicon cs ls) (key-at xs i)) ≤ 32
-  key-short = spells-short (lexicon cs ls) (can .lexicon-good) (key-at xs i) key-is
+  key-short = spells-short (can .lexicon-good) (key-at xs i) key-is
 
   pub spelt-short : (k : List ℕ) → k ≡ spells (lexicon cs ls) (key-at xs i) → length k ≤ 32
   spelt-short k e = rw e key-short
@@ -124,8 +124,8 @@ module _ (ls : List ℕ) where
   word-starts-first = refl
 
   pub word-starts-next :
-      (n : ℕ) (ws : List ℕ) → Word-starts ls n ws → n < length ls → (v : ℕ) → v ≡ word-start ls n → Word-starts ls (n + 1) (set ws n v)
-  word-starts-next n ws h below v e =
+      {n : ℕ} {ws : List ℕ} → Word-starts ls n ws → n < length ls → (v : ℕ) → v ≡ word-start ls n → Word-starts ls (n + 1) (set ws n v)
+  word-starts-next {n} {ws} h below v e =
       record {
         within = omega arith;
         room = omega (arith, h .room, length-set ws n v);
@@ -144,8 +144,8 @@ module _ (xs : List ℕ) where
   list-starts-first = refl
 
   pub list-starts-next :
-      (n : ℕ) (ts : List ℕ) → List-starts xs n ts → n < keys-of xs → (v : ℕ) → v ≡ counts-from n 0 xs → List-starts xs (n + 1) (set ts n v)
-  list-starts-next n ts h below v e =
+      {n : ℕ} {ts : List ℕ} → List-starts xs n ts → n < keys-of xs → (v : ℕ) → v ≡ counts-from n 0 xs → List-starts xs (n + 1) (set ts n v)
+  list-starts-next {n} {ts} h below v e =
       record {
         within = omega arith;
         room = omega (arith, h .room, length-set ts n v);
@@ -157,7 +157,7 @@ module _ (xs : List ℕ) where
 
 -- READING THE POSITIONS
 
-module _ (xs : List ℕ) (fits : Fits xs) (i : ℕ) (below : i < keys-of xs) (ts : List ℕ) (table : List-starts xs (keys-of xs) ts) where
+module _ {xs : List ℕ} (fits : Fits xs) (i : ℕ) (below : i < keys-of xs) {ts : List ℕ} (table : List-starts xs (keys-of xs) ts) where
   starts-at : getD ts i 0 ≡ counts-from i 0 xs
   starts-at = table .at i below
 
@@ -174,11 +174,11 @@ module _ (xs : List ℕ) (fits : Fits xs) (i : ℕ) (below : i < keys-of xs) (ts
       omega arith in
       rw (z, starts-at)
 
-pub word-starts-all : (ls : List ℕ) (n : ℕ) (ws : List ℕ) → Word-starts ls n ws → length ls ≤ n → Word-starts ls (length ls) ws
-word-starts-all ls n ws h past = let e : n ≡ length ls = omega (arith, h .within) in rw e at h
+pub word-starts-all : {ls : List ℕ} {n : ℕ} {ws : List ℕ} → Word-starts ls n ws → length ls ≤ n → Word-starts ls (length ls) ws
+word-starts-all {ls} {n} h past = let e : n ≡ length ls = omega (arith, h .within) in rw e at h
 
-pub list-starts-all : (xs : List ℕ) (n : ℕ) (ts : List ℕ) → List-starts xs n ts → keys-of xs ≤ n → List-starts xs (keys-of xs) ts
-list-starts-all xs n ts h past = let e : n ≡ keys-of xs = omega (arith, h .within) in rw e at h
+pub list-starts-all : {xs : List ℕ} {n : ℕ} {ts : List ℕ} → List-starts xs n ts → keys-of xs ≤ n → List-starts xs (keys-of xs) ts
+list-starts-all {xs} {n} h past = let e : n ≡ keys-of xs = omega (arith, h .within) in rw e at h
 
 -- an accepted index with both tables
 pub record Opened (cs ls xs ws ts : List ℕ) : Type 0 where
@@ -215,5 +215,5 @@ can-read cs ls xs small-chars small none =
         (ok .is-readable)
 
 pub key-some :
-    (cs ls xs : List ℕ) → Can-read cs ls xs → (i : ℕ) → i < keys-of xs → 1 ≤ length (spells (lexicon cs ls) (key-at xs i))
-key-some cs ls xs can i below = spells-some (lexicon cs ls) (can .lexicon-good) (key-at xs i) (key-is cs ls xs can i below)
+    {cs ls xs : List ℕ} → Can-read cs ls xs → (i : ℕ) → i < keys-of xs → 1 ≤ length (spells (lexicon cs ls) (key-at xs i))
+key-some {cs} {ls} {xs} can i below = spells-some (can .lexicon-good) (key-at xs i) (key-is can i below)

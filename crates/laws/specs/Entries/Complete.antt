@@ -41,11 +41,11 @@ key-entries-get (suc n) p k s ts e m =
         }
 
 key-entries-put :
-    (left p : ℕ) (k : Key) (s ts : List ℕ) (e : Entry) → Of-key k s ts e → p ≤ e .at → e .at < p + left →
+    (left p : ℕ) {k : Key} {s ts : List ℕ} {e : Entry} → Of-key k s ts e → p ≤ e .at → e .at < p + left →
     In e (key-entries left p k s ts)
 unfolding key-entries entry
-key-entries-put zero p k s ts e h lo hi = absurd (omega arith)
-key-entries-put (suc n) p k s ts e h lo hi = cases (key-entries-put n (suc p) k s ts e h) (le-or-lt (e .at) p)
+key-entries-put zero p h lo hi = absurd (omega arith)
+key-entries-put (suc n) p {k} {s} {ts} {e} h lo hi = cases (key-entries-put n (suc p) h) (le-or-lt (e .at) p)
   where
     cases :
         (suc p ≤ e .at → e .at < suc p + n → In e (key-entries n (suc p) k s ts)) → ((e .at ≤ p) ⊎ (p < e .at)) →
@@ -84,18 +84,18 @@ word-entries-get i (w ∷ ws) ts e m =
         record { number = suc (f .number); below = omega (arith, f .below); of = rw next (f .of) }
 
 word-entries-put :
-    (i : ℕ) (ws : List (List ℕ)) (ts : List ℕ) (e : Entry) (j : ℕ) → j < length ws → 1 ≤ length (getD ws j []) →
+    (i : ℕ) (ws : List (List ℕ)) {ts : List ℕ} {e : Entry} (j : ℕ) → j < length ws → 1 ≤ length (getD ws j []) →
     Of-key (key 0 (i + j)) (getD ws j []) ts e → In e (word-entries i ws ts)
 unfolding word-entries
-word-entries-put i [] ts e j b l h = absurd (omega arith)
-word-entries-put i (w ∷ ws) ts e zero b l h =
+word-entries-put i [] j b l h = absurd (omega arith)
+word-entries-put i (w ∷ ws) {ts} {e} zero b l h =
     let first : i + 0 ≡ i = omega arith in
     in-append-left e (key-entries (length ts) 1 (key 0 i) w ts) (word-entries (suc i) ws ts)
-    (key-entries-put (length ts) 1 (key 0 i) w ts e (rw first at h) (h .stand .from) (omega (arith, h .stand .within)))
-word-entries-put i (w ∷ ws) ts e (suc j) b l h =
+    (key-entries-put (length ts) 1 (rw first at h) (h .stand .from) (omega (arith, h .stand .within)))
+word-entries-put i (w ∷ ws) {ts} {e} (suc j) b l h =
     let next : i + suc j ≡ suc i + j = omega arith in
     in-append-right e (key-entries (length ts) 1 (key 0 i) w ts) (word-entries (suc i) ws ts)
-    (word-entries-put (suc i) ws ts e j (omega arith) l (rw next at h))
+    (word-entries-put (suc i) ws j (omega arith) l (rw next at h))
 
 -- ENTRIES OF LONE CHARACTERS
 
@@ -191,16 +191,16 @@ complete-get lex ts cs e m =
           stand = rw (spelt, at) (stand-char ts (f .number) (f .below));
         }
 
-pub complete-put : (lex : Lexicon) (ts : List ℕ) → Good-lexicon lex → (e : Entry) → Is-entry lex ts e → In e (complete lex ts)
+pub complete-put : {lex : Lexicon} {ts : List ℕ} → Good-lexicon lex → {e : Entry} → Is-entry lex ts e → In e (complete lex ts)
 unfolding complete key
-complete-put lex ts good e h = ⊎-elim word lone (key-kinds lex (e .key-of) (h .is-key))
+complete-put {lex} {ts} good {e} h = ⊎-elim word lone (key-kinds lex (e .key-of) (h .is-key))
   where
     word : Is-word-key lex (e .key-of) → In e (complete lex ts)
     word w =
         let spelt : spells lex (e .key-of) ≡ getD (lex .words) (e .key-of .value) [] = spells-word lex (e .key-of) (w .kind-is) in
         in-append-left e (word-entries 0 (lex .words) ts) (lone-entries 1 lex ts)
-        (word-entries-put 0 (lex .words) ts e (e .key-of .value) (w .below)
-        (rw spelt at (spells-some lex good (e .key-of) (h .is-key)))
+        (word-entries-put 0 (lex .words) (e .key-of .value) (w .below)
+        (rw spelt at (spells-some good (e .key-of) (h .is-key)))
         (record {
           key-is = key-eq (e .key-of) (key 0 (0 + e .key-of .value)) (w .kind-is) (sym (zero-add (e .key-of .value)));
           len-is = h .len-is ∙ ap length spelt;
@@ -212,7 +212,7 @@ complete-put lex ts good e h = ⊎-elim word lone (key-kinds lex (e .key-of) (h 
         let spelt : spells lex (e .key-of) ≡ e .key-of .value ∷ [] = spells-lone lex (e .key-of) (c .kind-is) in
         let stand : Stand (e .key-of .value ∷ []) ts (e .at) = rw spelt at (h .stand) in
         let char : e .key-of .value ≡ getD ts (e .at - 1) 0 =
-        stand-at (e .key-of .value ∷ []) ts (e .at) 0 stand (omega arith)
+        stand-at 0 stand (omega arith)
         ∙ ap (λ (x : ℕ). getD ts (x - 1) 0) (add-zero (e .at)) in
         in-append-right e (word-entries 0 (lex .words) ts) (lone-entries 1 lex ts)
         (lone-entries-put 1 lex ts e (e .at - 1) (omega (arith, stand .from, stand .within))

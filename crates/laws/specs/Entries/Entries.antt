@@ -45,9 +45,9 @@ same-key-put j k e =
 
 -- entries of one text with the same key and position are the same
 pub same-entry-get :
-    (lex : Lexicon) (ts : List ℕ) (e f : Entry) → Is-entry lex ts e → Is-entry lex ts f → same-entry e f ≡ true → e ≡ f
+    {lex : Lexicon} {ts : List ℕ} {e f : Entry} → Is-entry lex ts e → Is-entry lex ts f → same-entry e f ≡ true → e ≡ f
 unfolding same-entry
-same-entry-get lex ts e f he hf t =
+same-entry-get {lex} {e} {f} he hf t =
     let keys : e .key-of ≡ f .key-of =
     same-key-get (e .key-of) (f .key-of) (and-left (same-key (e .key-of) (f .key-of)) (eqb (e .at) (f .at)) t) in
     entry-eq e f keys (eqb-true (e .at) (f .at) (and-right (same-key (e .key-of) (f .key-of)) (eqb (e .at) (f .at)) t))
@@ -63,14 +63,14 @@ same-entry-put e f p =
 
 -- entries of one text with the same position and length are the same
 pub entry-unique :
-    (lex : Lexicon) → Good-lexicon lex → (ts : List ℕ) (e f : Entry) → Is-entry lex ts e → Is-entry lex ts f →
+    {lex : Lexicon} → Good-lexicon lex → {ts : List ℕ} {e f : Entry} → Is-entry lex ts e → Is-entry lex ts f →
     e .at ≡ f .at → e .len ≡ f .len → e ≡ f
-entry-unique lex good ts e f he hf a l =
-    entry-eq e f (keys-distinct lex good (e .key-of) (f .key-of) (he .is-key) (hf .is-key) spelt) a l
+entry-unique {lex} good {ts} {e} {f} he hf a l =
+    entry-eq e f (keys-distinct good (he .is-key) (hf .is-key) spelt) a l
   where
     spelt : spells lex (e .key-of) ≡ spells lex (f .key-of)
     spelt =
-        stand-unique (spells lex (e .key-of)) (spells lex (f .key-of)) ts (f .at) (rw a at (he .stand)) (hf .stand)
+        stand-unique (rw a at (he .stand)) (hf .stand)
         (sym (he .len-is) ∙ l ∙ hf .len-is)
 
 -- an entry lies within the text and takes up at least one position
@@ -79,11 +79,11 @@ pub record In-text (ts : List ℕ) (e : Entry) : Type 0 where
   pub some : 1 ≤ e .len
   pub within : e .at + e .len ≤ suc (length ts)
 
-pub in-text : (lex : Lexicon) → Good-lexicon lex → (ts : List ℕ) (e : Entry) → Is-entry lex ts e → In-text ts e
-in-text lex good ts e h =
+pub in-text : {lex : Lexicon} → Good-lexicon lex → {ts : List ℕ} {e : Entry} → Is-entry lex ts e → In-text ts e
+in-text {lex} good {e} h =
     record {
       from = h .stand .from;
-      some = omega (arith, h .len-is, spells-some lex good (e .key-of) (h .is-key));
+      some = omega (arith, h .len-is, spells-some good (e .key-of) (h .is-key));
       within = omega (arith, h .len-is, h .stand .within);
     }
 
@@ -107,13 +107,13 @@ in-another-get e (f ∷ fs) t =
     )
 
 pub in-another-put :
-    (e f : Entry) (fs : List Entry) → In f fs → same-entry e f ≡ false → Contains f e → in-another e fs ≡ true
+    {e f : Entry} (fs : List Entry) → In f fs → same-entry e f ≡ false → Contains f e → in-another e fs ≡ true
 unfolding in-another
-in-another-put e f [] m d c = absurd m
-in-another-put e f (g ∷ fs) (inl p) d c =
+in-another-put [] m d c = absurd m
+in-another-put {e} {f} (g ∷ fs) (inl p) d c =
     let here : (not (same-entry e g) && contains g e) ≡ true = rw (← p) (and-put (not-put d) (contains-put f e c)) in
     or-left (in-another e fs) here
-in-another-put e f (g ∷ fs) (inr m) d c = or-right (not (same-entry e g) && contains g e) (in-another-put e f fs m d c)
+in-another-put {e} {f} (g ∷ fs) (inr m) d c = or-right (not (same-entry e g) && contains g e) (in-another-put fs m d c)
 
 pub maximal-get : (e : Entry) (es fs : List Entry) → In e (maximal es fs) → In e fs × (in-another e es ≡ false)
 unfolding maximal
@@ -142,15 +142,15 @@ module _ (lex : Lexicon) (good : Good-lexicon lex) (ts : List ℕ) (chars : Char
 
       alone : (f : Entry) → Is-entry lex ts f → Contains f e → f ≡ e
       alone f hf c =
-          ⊎-elim (λ (t : same-entry e f ≡ true). sym (same-entry-get lex ts e f he hf t))
+          ⊎-elim (λ (t : same-entry e f ≡ true). sym (same-entry-get he hf t))
           (λ (d : same-entry e f ≡ false).
-          clash (in-another-put e f (complete lex ts) (complete-put lex ts good f hf) d c) (got .1))
+          clash (in-another-put (complete lex ts) (complete-put good hf) d c) (got .1))
           (true-or-false (same-entry e f))
 
-  pub entries-put : (e : Entry) → Is-maximal lex ts e → In e (entries lex ts)
+  pub entries-put : {e : Entry} → Is-maximal lex ts e → In e (entries lex ts)
   unfolding entries
-  entries-put e h =
-      maximal-put e (complete lex ts) (complete lex ts) (complete-put lex ts good e (h .is-entry))
+  entries-put {e} h =
+      maximal-put e (complete lex ts) (complete lex ts) (complete-put good (h .is-entry))
       (false-put (in-another e (complete lex ts)) none)
     where
       none : in-another e (complete lex ts) ≡ true → ⊥

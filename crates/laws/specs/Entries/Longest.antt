@@ -31,9 +31,9 @@ pub record Longest-of (p : ℕ) (best : Entry) (es : List Entry) (r : Entry) : T
   pub over-all : (e : Entry) → In e es → e .at ≡ p → e .len ≤ r .len
 
 longer-of :
-    (p : ℕ) (best e r : Entry) (es : List Entry) → e .at ≡ p → best .len < e .len → Longest-of p e es r →
+    {p : ℕ} (best : Entry) {e r : Entry} {es : List Entry} → e .at ≡ p → best .len < e .len → Longest-of p e es r →
     Longest-of p best (e ∷ es) r
-longer-of p best e r es here longer l = record { source = source (l .source); over-best = omega (arith, l .over-best); over-all = all }
+longer-of {p} best {e} {r} {es} here longer l = record { source = source (l .source); over-best = omega (arith, l .over-best); over-all = all }
   where
     source : (In r es × (r .at ≡ p)) ⊎ (r ≡ e) → (In r (e ∷ es) × (r .at ≡ p)) ⊎ (r ≡ best)
     source (inl m) = inl (inr (m .0), m .1)
@@ -44,9 +44,9 @@ longer-of p best e r es here longer l = record { source = source (l .source); ov
     all f (inr m) a = l .over-all f m a
 
 not-longer-of :
-    (p : ℕ) (best e r : Entry) (es : List Entry) → (e .at ≡ p → e .len ≤ best .len) → Longest-of p best es r →
+    {p : ℕ} {best : Entry} (e : Entry) {r : Entry} {es : List Entry} → (e .at ≡ p → e .len ≤ best .len) → Longest-of p best es r →
     Longest-of p best (e ∷ es) r
-not-longer-of p best e r es none l = record { source = source (l .source); over-best = l .over-best; over-all = all }
+not-longer-of {p} {best} e {r} {es} none l = record { source = source (l .source); over-best = l .over-best; over-all = all }
   where
     source : (In r es × (r .at ≡ p)) ⊎ (r ≡ best) → (In r (e ∷ es) × (r .at ≡ p)) ⊎ (r ≡ best)
     source (inl m) = inl (inr (m .0), m .1)
@@ -68,11 +68,11 @@ longest-of-is p best (e ∷ es) =
         (b : Bool) → (eqb (e .at) p && ltb (best .len) (e .len)) ≡ b → Longest-of p e es (longest-of p e es) →
         Longest-of p best es (longest-of p best es) → Longest-of p best (e ∷ es) (longest-of p (cond b e best) es)
     cases true t l k =
-        longer-of p best e (longest-of p e es) es
+        longer-of best
         (eqb-true (e .at) p (and-left (eqb (e .at) p) (ltb (best .len) (e .len)) t))
         (ltb-true (best .len) (e .len) (and-right (eqb (e .at) p) (ltb (best .len) (e .len)) t)) l
     cases false t l k =
-        not-longer-of p best e (longest-of p best es) es
+        not-longer-of e
         (λ a.
         ⊎-elim (λ (q : e .len ≤ best .len). q)
         (λ (q : best .len < e .len). clash (and-put (eq-eqb (e .at) p a) (lt-ltb (best .len) (e .len) q)) t)
@@ -92,7 +92,7 @@ module _ (lex : Lexicon) (good : Good-lexicon lex) (ts : List ℕ) (chars : Char
   unfolding longest-at entry
   longest-at-is p lo hi =
       let (e, he, a, one) = char-entry lex good ts chars p lo hi in
-      let over : e .len ≤ longest-at lex ts p .len = l .over-all e (complete-put lex ts good e he) a in
+      let over : e .len ≤ longest-at lex ts p .len = l .over-all e (complete-put good he) a in
       ⊎-elim is
       (λ (q : longest-at lex ts p ≡ entry (key 1 0) p 0). absurd (omega (arith, ap (λ (x : Entry). x .len) q))) (l .source)
     where
@@ -105,23 +105,23 @@ module _ (lex : Lexicon) (good : Good-lexicon lex) (ts : List ℕ) (chars : Char
             is-longest =
                 record {
                   is-entry = complete-get lex ts chars (longest-at lex ts p) (q .0);
-                  longest = λ f hf a. l .over-all f (complete-put lex ts good f hf) (a ∙ q .1);
+                  longest = λ f hf a. l .over-all f (complete-put good hf) (a ∙ q .1);
                 };
             here = q .1;
           }
 
   -- any longest entry at a position is this one
-  pub longest-at-unique : (p : ℕ) (e : Entry) → 1 ≤ p → p ≤ length ts → Longest-at lex ts p e → e ≡ longest-at lex ts p
-  longest-at-unique p e lo hi l =
+  pub longest-at-unique : {p : ℕ} {e : Entry} → 1 ≤ p → p ≤ length ts → Longest-at lex ts p e → e ≡ longest-at lex ts p
+  longest-at-unique {p} {e} lo hi l =
       let k : Longest-at lex ts p (longest-at lex ts p) = longest-at-is p lo hi in
-      longest-unique lex good ts e (longest-at lex ts p) (l .is-longest) (k .is-longest) (l .here ∙ sym (k .here))
+      longest-unique lex good ts (l .is-longest) (k .is-longest) (l .here ∙ sym (k .here))
 
   pub make-index-exact : Maximal-from lex ts 1 (make-index lex ts)
   unfolding make-index
   make-index-exact = scan-exact lex good ts (longest-at lex ts) longest-at-is
 
   pub make-index-get : (e : Entry) → In e (make-index lex ts) → In e (entries lex ts)
-  make-index-get e m = entries-put lex good ts chars e (make-index-exact .get e m)
+  make-index-get e m = entries-put lex good ts chars (make-index-exact .get e m)
 
   pub make-index-put : (e : Entry) → In e (entries lex ts) → In e (make-index lex ts)
   make-index-put e m =

@@ -46,37 +46,37 @@ maximal-leading lex ts e h = record { is-longest = record { is-entry = h .is-ent
         (λ (q : f .at + f .len < e .at + e .len). q) (le-or-lt (e .at + e .len) (f .at + f .len))
 
 module _ (lex : Lexicon) (good : Good-lexicon lex) (ts : List ℕ) where
-  pub leading-maximal : (e : Entry) → Is-leading lex ts e → Is-maximal lex ts e
-  leading-maximal e h = record { is-entry = h .is-longest .is-entry; alone = alone }
+  pub leading-maximal : {e : Entry} → Is-leading lex ts e → Is-maximal lex ts e
+  leading-maximal {e} h = record { is-entry = h .is-longest .is-entry; alone = alone }
     where
       alone : (f : Entry) → Is-entry lex ts f → Contains f e → f ≡ e
       alone f hf c =
           ⊎-elim
           (λ (p : e .at ≤ f .at).
           let here : f .at ≡ e .at = omega (arith, c .starts) in
-          entry-unique lex good ts f e hf (h .is-longest .is-entry) here
+          entry-unique good hf (h .is-longest .is-entry) here
           (omega (arith, c .ends, h .is-longest .longest f hf here)))
           (λ (q : f .at < e .at). absurd (omega (arith, c .ends, h .after f hf q))) (le-or-lt (e .at) (f .at))
 
-  pub longest-unique : (e f : Entry) → Is-longest lex ts e → Is-longest lex ts f → e .at ≡ f .at → e ≡ f
-  longest-unique e f he hf a =
-      entry-unique lex good ts e f (he .is-entry) (hf .is-entry) a
+  pub longest-unique : {e f : Entry} → Is-longest lex ts e → Is-longest lex ts f → e .at ≡ f .at → e ≡ f
+  longest-unique {e} {f} he hf a =
+      entry-unique good (he .is-entry) (hf .is-entry) a
       (omega (arith, he .longest f (hf .is-entry) (sym a), hf .longest e (he .is-entry) a))
 
   -- two maximal entries at one position are the same
-  pub maximal-unique : (e f : Entry) → Is-maximal lex ts e → Is-maximal lex ts f → e .at ≡ f .at → e ≡ f
-  maximal-unique e f he hf a =
-      longest-unique e f (maximal-leading lex ts e he .is-longest) (maximal-leading lex ts f hf .is-longest) a
+  pub maximal-unique : {e f : Entry} → Is-maximal lex ts e → Is-maximal lex ts f → e .at ≡ f .at → e ≡ f
+  maximal-unique {e} {f} he hf a =
+      longest-unique (maximal-leading lex ts e he .is-longest) (maximal-leading lex ts f hf .is-longest) a
 
 -- EVERY ENTRY LIES IN A MAXIMAL ONE
 
 module _ (lex : Lexicon) (good : Good-lexicon lex) (ts : List ℕ) (chars : Chars ts) where
   -- an entry is maximal, or lies in a longer one
   pub maximal-or-longer :
-      (e : Entry) → Is-entry lex ts e →
+      {e : Entry} → Is-entry lex ts e →
       Is-maximal lex ts e ⊎ ((f : Entry) × Is-entry lex ts f × Contains f e × (e .len < f .len))
   unfolding entries
-  maximal-or-longer e h = ⊎-elim longer alone (true-or-false (in-another e (complete lex ts)))
+  maximal-or-longer {e} h = ⊎-elim longer alone (true-or-false (in-another e (complete lex ts)))
     where
       alone :
           in-another e (complete lex ts) ≡ false →
@@ -84,7 +84,7 @@ module _ (lex : Lexicon) (good : Good-lexicon lex) (ts : List ℕ) (chars : Char
       alone n =
           inl
           (entries-get lex good ts chars e
-          (maximal-put e (complete lex ts) (complete lex ts) (complete-put lex ts good e h) n))
+          (maximal-put e (complete lex ts) (complete lex ts) (complete-put good h) n))
 
       longer :
           in-another e (complete lex ts) ≡ true →
@@ -96,23 +96,23 @@ module _ (lex : Lexicon) (good : Good-lexicon lex) (ts : List ℕ) (chars : Char
           (λ (p : f .len ≤ e .len).
           let a : e .at ≡ f .at = omega (arith, c .starts, c .ends) in
           let l : e .len ≡ f .len = omega (arith, c .starts, c .ends) in
-          clash (same-entry-put e f (entry-unique lex good ts e f h hf a l)) d)
+          clash (same-entry-put e f (entry-unique good h hf a l)) d)
           (λ (q : e .len < f .len). inr (f, hf, c, q)) (le-or-lt (f .len) (e .len))
 
   -- by recursion on the difference to the length of the text: each step goes to a longer entry
   in-maximal-from :
-      (fuel : ℕ) (e : Entry) → Is-entry lex ts e → length ts < e .len + fuel → (f : Entry) × Is-maximal lex ts f × Contains f e
-  in-maximal-from zero e h b = absurd (omega (arith, in-text lex good ts e h))
-  in-maximal-from (suc n) e h b =
+      (fuel : ℕ) {e : Entry} → Is-entry lex ts e → length ts < e .len + fuel → (f : Entry) × Is-maximal lex ts f × Contains f e
+  in-maximal-from zero {e} h b = absurd (omega (arith, in-text good h))
+  in-maximal-from (suc n) {e} h b =
       ⊎-elim (λ (m : Is-maximal lex ts e). (e, m, record { starts = omega arith; ends = omega arith }))
       (λ (l : (f : Entry) × Is-entry lex ts f × Contains f e × (e .len < f .len)).
       let (f, hf, c, q) = l in
-      let (g, mg, d) = in-maximal-from n f hf (omega arith) in
+      let (g, mg, d) = in-maximal-from n hf (omega arith) in
       (g, mg, record { starts = omega (arith, c .starts, d .starts); ends = omega (arith, c .ends, d .ends) }))
-      (maximal-or-longer e h)
+      (maximal-or-longer h)
 
-  pub in-maximal : (e : Entry) → Is-entry lex ts e → (f : Entry) × Is-maximal lex ts f × Contains f e
-  in-maximal e h = in-maximal-from (suc (length ts)) e h (omega arith)
+  pub in-maximal : {e : Entry} → Is-entry lex ts e → (f : Entry) × Is-maximal lex ts f × Contains f e
+  in-maximal {e} h = in-maximal-from (suc (length ts)) h (omega arith)
 
   -- each position of the text has the entry of its character
   pub char-entry : (p : ℕ) → 1 ≤ p → p ≤ length ts → (e : Entry) × Is-entry lex ts e × (e .at ≡ p) × (e .len ≡ 1)
@@ -128,5 +128,5 @@ module _ (lex : Lexicon) (good : Good-lexicon lex) (ts : List ℕ) (chars : Char
       (p : ℕ) → 1 ≤ p → p ≤ length ts → (e : Entry) × Is-maximal lex ts e × (e .at ≤ p) × (p < e .at + e .len)
   maximal-covers p lo hi =
       let (e, he, a, l) = char-entry p lo hi in
-      let (f, hf, c) = in-maximal e he in
+      let (f, hf, c) = in-maximal he in
       (f, hf, omega (arith, c .starts), omega (arith, c .ends))

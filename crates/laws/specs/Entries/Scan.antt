@@ -63,56 +63,56 @@ pub record Longest-at (lex : Lexicon) (ts : List ℕ) (p : ℕ) (e : Entry) : Ty
   pub is-longest : Is-longest lex ts e
   pub here : e .at ≡ p
 
-module _ (lex : Lexicon) (good : Good-lexicon lex) (ts : List ℕ) where
+module _ {lex : Lexicon} (good : Good-lexicon lex) (ts : List ℕ) where
   pub scanned-start : Scanned lex ts 1 1
   scanned-start =
       record {
-        behind = λ f hf b. absurd (omega (arith, in-text lex good ts f hf));
-        ahead = λ e he b. omega (arith, in-text lex good ts e (he .is-entry));
+        behind = λ f hf b. absurd (omega (arith, in-text good hf));
+        ahead = λ e he b. omega (arith, in-text good (he .is-entry));
       }
 
   -- an entry that ends after `last` is maximal, and its end is the next `last`
   pub scanned-maximal :
-      (p last : ℕ) (e : Entry) → Scanned lex ts p last → Longest-at lex ts p e → last < p + e .len → Is-maximal lex ts e
-  scanned-maximal p last e s l h =
-      leading-maximal lex good ts e
+      {p last : ℕ} {e : Entry} → Scanned lex ts p last → Longest-at lex ts p e → last < p + e .len → Is-maximal lex ts e
+  scanned-maximal {e} s l h =
+      leading-maximal lex good ts
       (record {
         is-longest = l .is-longest;
         after = λ f hf b. omega (arith, l .here, s .behind f hf (omega (arith, l .here)));
       })
 
   pub scanned-registered :
-      (p last : ℕ) (e : Entry) → Scanned lex ts p last → Longest-at lex ts p e → last < p + e .len →
+      {p last : ℕ} {e : Entry} → Scanned lex ts p last → Longest-at lex ts p e → last < p + e .len →
       Scanned lex ts (suc p) (p + e .len)
-  scanned-registered p last e s l h =
+  scanned-registered {p} {e} s l h =
       record {
-        behind = λ f hf b. behind f hf b (le-or-lt p (f .at));
+        behind = λ f hf b. behind hf b (le-or-lt p (f .at));
         ahead =
             λ f hf b. omega (arith, l .here, maximal-leading lex ts f hf .after e (l .is-longest .is-entry) (omega (arith, l .here)));
       }
     where
-      behind : (f : Entry) → Is-entry lex ts f → f .at < suc p → ((p ≤ f .at) ⊎ (f .at < p)) → f .at + f .len ≤ p + e .len
-      behind f hf b (inl q) = omega (arith, l .is-longest .longest f hf (omega (arith, l .here)))
-      behind f hf b (inr q) = omega (arith, s .behind f hf q)
+      behind : {f : Entry} → Is-entry lex ts f → f .at < suc p → ((p ≤ f .at) ⊎ (f .at < p)) → f .at + f .len ≤ p + e .len
+      behind {f} hf b (inl q) = omega (arith, l .is-longest .longest f hf (omega (arith, l .here)))
+      behind {f} hf b (inr q) = omega (arith, s .behind f hf q)
 
   -- otherwise p has no maximal entry, and `last` stays
   pub scanned-none :
-      (p last : ℕ) (e f : Entry) → Scanned lex ts p last → Longest-at lex ts p e → p + e .len ≤ last → Is-maximal lex ts f →
+      {p last : ℕ} {e f : Entry} → Scanned lex ts p last → Longest-at lex ts p e → p + e .len ≤ last → Is-maximal lex ts f →
       f .at ≡ p → ⊥
-  scanned-none p last e f s l h hf a =
+  scanned-none {f} s l h hf a =
       omega (arith, s .ahead f hf (omega arith), l .is-longest .longest f (hf .is-entry) (omega (arith, l .here)))
 
   pub scanned-passed :
-      (p last : ℕ) (e : Entry) → Scanned lex ts p last → Longest-at lex ts p e → p + e .len ≤ last → Scanned lex ts (suc p) last
-  scanned-passed p last e s l h =
+      {p last : ℕ} {e : Entry} → Scanned lex ts p last → Longest-at lex ts p e → p + e .len ≤ last → Scanned lex ts (suc p) last
+  scanned-passed {p} {last} s l h =
       record {
-        behind = λ f hf b. behind f hf b (le-or-lt p (f .at));
+        behind = λ f hf b. behind hf b (le-or-lt p (f .at));
         ahead = λ f hf b. s .ahead f hf (omega arith);
       }
     where
-      behind : (f : Entry) → Is-entry lex ts f → f .at < suc p → ((p ≤ f .at) ⊎ (f .at < p)) → f .at + f .len ≤ last
-      behind f hf b (inl q) = omega (arith, l .is-longest .longest f hf (omega (arith, l .here)))
-      behind f hf b (inr q) = s .behind f hf q
+      behind : {f : Entry} → Is-entry lex ts f → f .at < suc p → ((p ≤ f .at) ⊎ (f .at < p)) → f .at + f .len ≤ last
+      behind {f} hf b (inl q) = omega (arith, l .is-longest .longest f hf (omega (arith, l .here)))
+      behind {f} hf b (inr q) = s .behind f hf q
 
 -- THE WHOLE SCAN
 
@@ -127,14 +127,14 @@ module _ (lex : Lexicon) (good : Good-lexicon lex) (ts : List ℕ) where
   maximal-from-end =
       record {
         get = λ e m. absurd m;
-        put = λ e h b. absurd (omega (arith, in-text lex good ts e (h .is-entry)));
+        put = λ e h b. absurd (omega (arith, in-text good (h .is-entry)));
         rise = tt;
       }
 
   maximal-from-registered :
-      (p : ℕ) (e : Entry) (es : List Entry) → Longest-at lex ts p e → Is-maximal lex ts e → Maximal-from lex ts (suc p) es →
+      {p : ℕ} {e : Entry} {es : List Entry} → Longest-at lex ts p e → Is-maximal lex ts e → Maximal-from lex ts (suc p) es →
       Maximal-from lex ts p (e ∷ es)
-  maximal-from-registered p e es l h more = record { get = get; put = put; rise = (omega (arith, l .here), rw (l .here) (more .rise)) }
+  maximal-from-registered {p} {e} {es} l h more = record { get = get; put = put; rise = (omega (arith, l .here), rw (l .here) (more .rise)) }
     where
       get : (f : Entry) → In f (e ∷ es) → Is-maximal lex ts f
       get f (inl q) = rw q h
@@ -142,13 +142,13 @@ module _ (lex : Lexicon) (good : Good-lexicon lex) (ts : List ℕ) where
 
       put : (f : Entry) → Is-maximal lex ts f → p ≤ f .at → In f (e ∷ es)
       put f hf b =
-          ⊎-elim (λ (q : f .at ≤ p). inl (maximal-unique lex good ts f e hf h (omega (arith, l .here))))
+          ⊎-elim (λ (q : f .at ≤ p). inl (maximal-unique lex good ts hf h (omega (arith, l .here))))
           (λ (q : p < f .at). inr (more .put f hf q)) (le-or-lt (f .at) p)
 
   maximal-from-passed :
-      (p : ℕ) (es : List Entry) → ((f : Entry) → Is-maximal lex ts f → f .at ≡ p → ⊥) → Maximal-from lex ts (suc p) es →
+      (p : ℕ) {es : List Entry} → ((f : Entry) → Is-maximal lex ts f → f .at ≡ p → ⊥) → Maximal-from lex ts (suc p) es →
       Maximal-from lex ts p es
-  maximal-from-passed p es none more =
+  maximal-from-passed p {es} none more =
       record { get = more .get; put = put; rise = positions-rise-from (suc p) p es (omega arith) (more .rise) }
     where
       put : (f : Entry) → Is-maximal lex ts f → p ≤ f .at → In f es
@@ -174,14 +174,14 @@ module _ (lex : Lexicon) (good : Good-lexicon lex) (ts : List ℕ) where
             ((p + longest p .len ≤ last) ⊎ (last < p + longest p .len)) → Maximal-from lex ts p (scan longest (suc n) p last)
         step more (inl h) =
             rw (scan-passes longest n p last h)
-            (maximal-from-passed p (scan longest n (suc p) last) (λ f hf. scanned-none lex good ts p last (longest p) f s l h hf)
-            (more last (scanned-passed lex good ts p last (longest p) s l h) (omega arith) (omega arith)))
+            (maximal-from-passed p (λ f hf. scanned-none good ts s l h hf)
+            (more last (scanned-passed good ts s l h) (omega arith) (omega arith)))
         step more (inr h) =
             rw (scan-registers longest n p last h)
-            (maximal-from-registered p (longest p) (scan longest n (suc p) (p + longest p .len)) l
-            (scanned-maximal lex good ts p last (longest p) s l h)
-            (more (p + longest p .len) (scanned-registered lex good ts p last (longest p) s l h) (omega arith) (omega arith)))
+            (maximal-from-registered l
+            (scanned-maximal good ts s l h)
+            (more (p + longest p .len) (scanned-registered good ts s l h) (omega arith) (omega arith)))
 
     -- figure 1 starts with tail 1, and registers all maximal entries and no others, each once, by ascending positions
     pub scan-exact : Maximal-from lex ts 1 (scan longest (length ts) 1 1)
-    scan-exact = scan-from (length ts) 1 1 (scanned-start lex good ts) (omega arith) (omega arith)
+    scan-exact = scan-from (length ts) 1 1 (scanned-start good ts) (omega arith) (omega arith)

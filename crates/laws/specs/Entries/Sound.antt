@@ -13,9 +13,9 @@ module _ (lex : Lexicon) (good : Good-lexicon lex) (ts : List ℕ) (chars : Char
   pub entries-sound : Sound lex (length ts) (entries lex ts)
   entries-sound e m =
       let h = entries-get lex good ts chars e m .is-entry in
-      let text = in-text lex good ts e h in
+      let text = in-text good h in
       record { is-key = h .is-key; len-is = h .len-is; from = text .from; within = text .within }
 
   pub entries-own-positions : Own-positions (entries lex ts)
   entries-own-positions e f m n a =
-      maximal-unique lex good ts e f (entries-get lex good ts chars e m) (entries-get lex good ts chars f n) a
+      maximal-unique lex good ts (entries-get lex good ts chars e m) (entries-get lex good ts chars f n) a

@@ -28,10 +28,10 @@ pub record Word-at (lex : Lexicon) (ts : List ℕ) (p i : ℕ) : Type 0 where
 
 -- an entry is a word's, or has one character
 pub entry-bounded :
-    (lex : Lexicon) (ts : List ℕ) (p most : ℕ) (e : Entry) → Is-entry lex ts e → e .at ≡ p → 1 ≤ most →
+    {lex : Lexicon} {ts : List ℕ} (p most : ℕ) {e : Entry} → Is-entry lex ts e → e .at ≡ p → 1 ≤ most →
     ((j : ℕ) → j < length (lex .words) → Stand (getD (lex .words) j []) ts p → length (getD (lex .words) j []) ≤ most) →
     e .len ≤ most
-entry-bounded lex ts p most e h a one words =
+entry-bounded {lex} {ts} p most {e} h a one words =
     ⊎-elim
     (λ (w : Is-word-key lex (e .key-of)).
     let spelt : spells lex (e .key-of) ≡ getD (lex .words) (e .key-of .value) [] = spells-word lex (e .key-of) (w .kind-is) in
@@ -42,9 +42,9 @@ entry-bounded lex ts p most e h a one words =
 
 module _ (lex : Lexicon) (good : Good-lexicon lex) (ts : List ℕ) (chars : Chars ts) where
   pub word-at-longest :
-      (p i : ℕ) → Word-at lex ts p i → Longest-at lex ts p (entry (key 0 i) p (length (getD (lex .words) i [])))
+      {p i : ℕ} → Word-at lex ts p i → Longest-at lex ts p (entry (key 0 i) p (length (getD (lex .words) i [])))
   unfolding entry key
-  word-at-longest p i w =
+  word-at-longest {p} {i} w =
       record {
         is-longest =
             record {
@@ -56,7 +56,7 @@ module _ (lex : Lexicon) (good : Good-lexicon lex) (ts : List ℕ) (chars : Char
                   };
               longest =
                   λ f hf a.
-                  entry-bounded lex ts p (length (getD (lex .words) i [])) f hf a
+                  entry-bounded p (length (getD (lex .words) i [])) hf a
                   (good .nonempty (getD (lex .words) i []) (in-getD (lex .words) i [] (w .below))) (w .longest);
             };
         here = refl;
@@ -67,10 +67,10 @@ module _ (lex : Lexicon) (good : Good-lexicon lex) (ts : List ℕ) (chars : Char
 
   -- if no word there ends after `last` and `last` is not after p, no word stands at p at all: the character is lone
   pub none-after-lone :
-      (p last : ℕ) → 1 ≤ p → p ≤ length ts → last ≤ p → None-after lex ts p last →
+      {p last : ℕ} → 1 ≤ p → p ≤ length ts → last ≤ p → None-after lex ts p last →
       Longest-at lex ts p (entry (key 1 (getD ts (p - 1) 0)) p 1)
   unfolding entry key
-  none-after-lone p last lo hi small n =
+  none-after-lone {p} lo hi small n =
       record {
         is-longest =
             record {
@@ -82,7 +82,7 @@ module _ (lex : Lexicon) (good : Good-lexicon lex) (ts : List ℕ) (chars : Char
                     len-is = ap length (sym spelt);
                     stand = rw spelt stand;
                   };
-              longest = λ f hf a. entry-bounded lex ts p 1 f hf a (omega arith) (λ j b h. absurd (no-word-stands j b h));
+              longest = λ f hf a. entry-bounded p 1 hf a (omega arith) (λ j b h. absurd (no-word-stands j b h));
             };
         here = refl;
       }
@@ -106,9 +106,9 @@ module _ (lex : Lexicon) (good : Good-lexicon lex) (ts : List ℕ) (chars : Char
 
   -- if `last` is after p, nothing is registered
   pub none-after-passes :
-      (p last : ℕ) (e : Entry) → p < last → None-after lex ts p last → Longest-at lex ts p e → p + e .len ≤ last
-  none-after-passes p last e big n l =
+      {p last : ℕ} {e : Entry} → p < last → None-after lex ts p last → Longest-at lex ts p e → p + e .len ≤ last
+  none-after-passes {p} {last} {e} big n l =
       let bound : e .len ≤ last - p =
-      entry-bounded lex ts p (last - p) e (l .is-longest .is-entry) (l .here) (omega arith)
+      entry-bounded p (last - p) (l .is-longest .is-entry) (l .here) (omega arith)
       (λ j b h. omega (arith, n .none j b h)) in
       omega arith

@@ -34,7 +34,7 @@ module _ (m q : ℕ) (rs : List ℕ) where
   pub none-before-start : None-before m q rs 0
   none-before-start = record { within = omega arith; passed = rw (add-zero q) }
 
-  module _ (i : ℕ) (h : None-before m q rs i) where
+  module _ {i : ℕ} (h : None-before m q rs i) where
     module _ (below : i < length rs) where
       pub none-before-step : getD rs i 0 < m → None-before m q rs (i + 1)
       none-before-step far =
@@ -53,18 +53,18 @@ module _ (m q : ℕ) (rs : List ℕ) where
 
 module _ (lex : Lexicon) (xs s : List ℕ) (n q : ℕ) where
   -- by what was done to a cleared window
-  module _ (rs : List ℕ) (max-reach : ℕ) (old : List ℕ) (clear : old ≡ replicate n 0)
+  module _ {rs : List ℕ} {max-reach : ℕ} (old : List ℕ) (clear : old ≡ replicate n 0)
       (done : Reaches (offsets-all (length s - 1) 1 lex (lines-in xs) s q (leading-all lex (lines-in xs) s q old)) rs max-reach) where
     pub first-in-window : (r : ℕ) → r ≡ first-of (found-in (length s) q rs) → First-in lex xs s n q r
     unfolding First-in
-    first-in-window r e = e ∙ ap first-of (in-window lex xs s n q [] rs max-reach old clear done)
+    first-in-window r e = e ∙ ap first-of (in-window lex xs s n q [] old clear done)
 
     -- no reach comes to the string's end
     pub first-in-none : max-reach < length s → First-in lex xs s n q 0
     unfolding First-in first-of
     first-in-none early =
         sym
-        (ap first-of (sym (in-window lex xs s n q [] rs max-reach old clear done) ∙ none-found (length s) max-reach q rs (done .bounded) early))
+        (ap first-of (sym (in-window lex xs s n q [] old clear done) ∙ none-found (length s) max-reach q rs (done .bounded) early))
 
   -- the same, with the number of starts as the code has it
   pub first-in-count : (k r : ℕ) → n ≡ k → First-in lex xs s n q r → First-in lex xs s k q r

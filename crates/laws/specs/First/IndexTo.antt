@@ -103,8 +103,8 @@ module _ (q : ℕ) where
               rw (h .2) (r .0 (h .0) (h .1))
 
   line-to-good :
-      (lex : Lexicon) (n : ℕ) (l : Line) → Good-line lex n l → 1 ≤ length (positions-to q (l .positions)) → Good-line lex n (line-to l)
-  line-to-good lex n l good some =
+      {lex : Lexicon} {n : ℕ} {l : Line} → Good-line lex n l → 1 ≤ length (positions-to q (l .positions)) → Good-line lex n (line-to l)
+  line-to-good {l} good some =
       record {
         is-key = good .is-key;
         some = some;
@@ -112,13 +112,13 @@ module _ (q : ℕ) where
         fits = λ p m. good .fits p (positions-to-get (l .positions) p m .0);
       }
 
-  pub lines-to-good : (lex : Lexicon) (n : ℕ) (ls : List Line) → Good-lines lex n ls → Good-lines lex n (lines-to q ls)
-  lines-to-good lex n ls good =
+  pub lines-to-good : {lex : Lexicon} {n : ℕ} {ls : List Line} → Good-lines lex n ls → Good-lines lex n (lines-to q ls)
+  lines-to-good {lex} {n} {ls} good =
       record {
         each =
             λ m i.
             let h = lines-to-get ls m i in
-            rw (h .1 .2) (line-to-good lex n (h .1 .0) (good .each (h .1 .0) (h .1 .1)) (rw (h .1 .2) at (h .0)));
+            rw (h .1 .2) (line-to-good (good .each (h .1 .0) (h .1 .1)) (rw (h .1 .2) at (h .0)));
         order = lines-to-rises ls (good .order);
       }
 
@@ -153,7 +153,7 @@ module _ (q : ℕ) (xs : List ℕ) where
   unfolding index-to
   index-to-readable g lex t =
       let can : Readable g lex xs = readable-get g lex xs t in
-      readable-put g lex (n-of xs) (lines-to q (lines-in xs)) (lines-to-good q lex (n-of xs) (lines-in xs) (can .lines))
+      readable-put g (lines-to-good q (can .lines))
       (can .length-allowed)
 
   -- it has the n and the entries, up to q, of the index

@@ -46,16 +46,16 @@ unfolding first-position
 first-heads-find lex xs s = first-of-rising (find lex xs s) (find-rise lex xs s)
 
 -- there is one least position
-pub first-only : (ps : List ℕ) (p q : ℕ) → Is-first ps p → In q ps → ((a : ℕ) → In a ps → q ≤ a) → p ≡ q
-first-only ps p q first m least =
+pub first-only : {ps : List ℕ} {p : ℕ} (q : ℕ) → Is-first ps p → In q ps → ((a : ℕ) → In a ps → q ≤ a) → p ≡ q
+first-only {ps} {p} q first m least =
     ⊎-elim
     (λ (some : 1 ≤ p). omega (arith, first .least q m, least p (first .among some)))
     (λ (few : p < 1). let none : ps ≡ [] = first .none (omega arith) in absurd (rw none at m))
     (le-or-lt 1 p)
 
 -- of positions that are exactly those of a string in a text, the least is the first at which it stands
-pub first-stands : (s ts ps : List ℕ) (p : ℕ) → Exactly-positions s ts ps → Is-first ps p → First-stands s ts p
-first-stands s ts ps p exactly first =
+pub first-stands : {s ts ps : List ℕ} {p : ℕ} → Exactly-positions s ts ps → Is-first ps p → First-stands s ts p
+first-stands {s} {ts} {ps} {p} exactly first =
     record {
       none = λ e a. false-put (stands s ts a) (λ t. let none : ps ≡ [] = first .none e in rw none at (exactly .all a t));
       nowhere = nowhere;
@@ -78,14 +78,14 @@ module _ (lex : Lexicon) (xs ys s : List ℕ) (q : ℕ) (n : n-of xs ≡ n-of ys
   pub found-there : (a : ℕ) → a + length s ≤ suc q → In a (find lex xs s) → In a (find lex ys s)
   found-there a ends m =
       let h = find-get lex xs s a m in
-      find-put lex ys s a
+      find-put lex ys s
       (record {
         from = h .from;
         within = omega (arith, h .within);
         each =
             λ x lo hi.
             let e = covered-get lex (lines-in xs) s a x (h .each x lo hi) in
-            covered-put lex (lines-in ys) s a x (e .0)
+            covered-put lex (lines-in ys) s a x
             (record {
               among =
                   under-flat lex xs ys (e .0) (there (e .0 .key-of) (e .0 .at) (omega (arith, e .1 .from))) (e .1 .among);
@@ -99,7 +99,7 @@ module _ (lex : Lexicon) (xs ys s : List ℕ) (p : ℕ) (some : 1 ≤ p) (same :
   -- what is found first in one slice is found first in the other
   pub first-there : p ≡ first-position lex xs s → first-position lex ys s ≡ p
   first-there is =
-      first-only (find lex ys s) (first-position lex ys s) p (first-heads-find lex ys s)
+      first-only p (first-heads-find lex ys s)
       (found-there lex xs ys s (p + length s - 1) (same .n-is) (same .there) p (omega arith) here) least
     where
       here : In p (find lex xs s)

@@ -114,7 +114,7 @@ module _ (e : ℕ) (cs ls ds : List ℕ) (good : admitted cs ls ≡ true) (can :
   restored-below : Below (suc e) (all-positions (lines-in (restored ds)))
   restored-below =
       let r = readable-get e lex (restored ds) can in
-      positions-below lex (admitted-lexicon cs ls good) (suc e) (n-of (restored ds)) (omega (arith, r .length-allowed))
+      positions-below (admitted-lexicon cs ls good) (suc e) (n-of (restored ds)) (omega (arith, r .length-allowed))
       (lines-in (restored ds)) (r .lines .each)
 
   positions-are : all-positions (lines-in (restored ds)) ≡ drop first (restored ds)
@@ -160,8 +160,8 @@ module _ (e : ℕ) (cs ls ds : List ℕ) (good : admitted cs ls ≡ true) (can :
 
       below : Below (suc e) (prefix-sums (l .positions))
       below =
-          place-below lex (admitted-lexicon cs ls good) (suc e) (n-of (restored ds)) (omega (arith, r .length-allowed))
-          (line (l .key-of) (prefix-sums (l .positions)))
+          place-below (admitted-lexicon cs ls good) (suc e) (n-of (restored ds)) (omega (arith, r .length-allowed))
+         
           (r .lines .each (line (l .key-of) (prefix-sums (l .positions)))
           (rw (lines-in-with prefix-sums (length-sums 0) ds (restored-fits .has-directory)) (in-lines-with prefix-sums l (lines-in ds) m)))
 

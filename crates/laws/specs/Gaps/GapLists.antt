@@ -75,7 +75,7 @@ some-gap : (sum d : ℕ) → leb (suc sum) (sum + d) ≡ ltb 0 d
 some-gap sum zero = lt-leb (suc sum) (sum + 0) (omega arith)
 some-gap sum (suc d) = le-leb (suc sum) (sum + suc d) (omega arith) ∙ sym (lt-ltb 0 (suc d) (omega arith))
 
-module _ (ds : List ℕ) (good : Bool) (sum i : ℕ) (h : Summed ds good sum i) where
+module _ {ds : List ℕ} {good : Bool} {sum i : ℕ} (h : Summed ds good sum i) where
   pub summed-step :
       i < length ds → getD ds i 0 ≤ 65535 → Summed ds (good && ltb 0 (getD ds i 0)) (sum + getD ds i 0) (i + 1)
   unfolding sums-after rise-from total

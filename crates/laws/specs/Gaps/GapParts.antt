@@ -53,7 +53,7 @@ length-apart y x [] = refl
 length-apart y x (p ∷ ps) = ap suc (length-pairs x p ps)
 
 -- the parts of the numbers that are lent: the positions, and a run of them with the number before
-module _ (xs : List ℕ) (fits : Fits xs) (keys : ℕ) (is : keys ≡ keys-of xs) where
+module _ {xs : List ℕ} (fits : Fits xs) (keys : ℕ) (is : keys ≡ keys-of xs) where
   abbrev positions : List ℕ
   positions = drop (header + 3 * keys-of xs) xs
 
@@ -110,7 +110,7 @@ module _ (xs : List ℕ) (fits : Fits xs) (keys : ℕ) (is : keys ≡ keys-of xs
 
 -- THE WHOLE: the directory copied, and the lists written after it
 
-module _ (f : List ℕ → List ℕ) (keeps : Keeps-length f) (xs : List ℕ) (fits : Fits xs)
+module _ (f : List ℕ → List ℕ) (keeps : Keeps-length f) {xs : List ℕ} (fits : Fits xs)
     (first : ℕ) (is : first ≡ header + 3 * keys-of xs) where
   pub front-long : first ≡ length (take first xs)
   front-long = sym (length-take-le first xs (omega (arith, fits .has-directory, is)))
@@ -157,7 +157,7 @@ module _ (f : List ℕ → List ℕ) (keeps : Keeps-length f) (xs : List ℕ) (f
         let part-all : length (lent-tail first now) ≤ length todo =
         omega (arith, part-long, length-lists f keeps (keys-of xs) 0 xs (drop (header + 3 * keys-of xs) xs)) in
         let all : length old ≤ length (with-lists f xs) = omega (arith, even, length-with f keeps xs) in
-        tail-written (with-lists f xs) old now todo part first front-way
+        tail-written part front-way
         (e ∙ sym (append-nil todo) ∙ ap (λ (l : List ℕ). todo ++ l) (sym (drop-of-length-le (lent-tail first now) part-all)))
         ∙ ap (λ (l : List ℕ). with-lists f xs ++ l) (drop-of-length-le old all)
         ∙ append-nil (with-lists f xs)
@@ -169,9 +169,9 @@ pub record Line-there (xs part : List ℕ) (i at : ℕ) : Type 0 where
   pub next : at + count-at xs i ≤ length xs
 
 pub line-there :
-    (b : Bool) (xs part : List ℕ) (i at : ℕ) → Writable b xs →
+    {b : Bool} {xs part : List ℕ} {i at : ℕ} → Writable b xs →
     Firsts (first-as b) (pair-as b) xs (drop (header + 3 * keys-of xs) xs) part i at → i < keys-of xs → Line-there xs part i at
-line-there b xs part i at can h below =
+line-there {b} {xs} {part} {i} {at} can h below =
     let write : at < length part =
     first-room (first-as b) (pair-as b) xs (drop (header + 3 * keys-of xs) xs) part i at h below (can .some i below) in
     let len = length-drop (header + 3 * keys-of xs) xs in

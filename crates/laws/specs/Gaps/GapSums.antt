@@ -79,7 +79,7 @@ module _ (ms ds : List ℕ) (even : length ms ≡ length ds) where
   pub adding-start : Adding ms ds ms 0 0
   adding-start = record { so-far = refl; rest = refl; len = refl; within = omega arith }
 
-  module _ (now : List ℕ) (sum i : ℕ) (h : Adding ms ds now sum i) where
+  module _ {now : List ℕ} {sum i : ℕ} (h : Adding ms ds now sum i) where
     pub adding-end : length ds ≤ i → now ≡ masked-sums 0 ms ds
     unfolding masked-sums
     adding-end past =

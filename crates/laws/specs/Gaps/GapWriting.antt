@@ -182,7 +182,7 @@ module _ (run old : List ℕ) (even : length run ≡ suc (length old)) where
             };
       }
 
-  module _ (now : List ℕ) (i : ℕ) (h : Distances run old now i) where
+  module _ {now : List ℕ} {i : ℕ} (h : Distances run old now i) where
     pub distances-step : i < length now → Distances run old (set now i (getD run (i + 1) 0 - getD run i 0)) (i + 1)
     unfolding gaps-after
     distances-step below =
@@ -191,8 +191,8 @@ module _ (run old : List ℕ) (even : length run ≡ suc (length old)) where
         record {
           within = there;
           way =
-              writes (gaps-after (getD run 0 0) (drop 1 run)) old now (getD run (i + 1) 0 - getD run i 0)
-              (gaps-after (getD run (i + 1) 0) (drop (i + 1 + 1) run)) i (rw next at (h .way));
+              writes (getD run (i + 1) 0 - getD run i 0)
+              (gaps-after (getD run (i + 1) 0) (drop (i + 1 + 1) run)) (rw next at (h .way));
         }
 
     pub distances-end : length now ≤ i → now ≡ gaps-after (getD run 0 0) (drop 1 run)

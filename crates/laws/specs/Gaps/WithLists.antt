@@ -75,11 +75,11 @@ module _ (f : List ℕ → List ℕ) (keeps : Keeps-length f) where
         (length-lists k (suc i) xs (drop (count-at xs i) ps)) .1
 
   lines-of-lists :
-      (k i : ℕ) (xs ys ps : List ℕ) → Same-lines xs ys (i + k) →
+      (k i : ℕ) {xs ys : List ℕ} (ps : List ℕ) → Same-lines xs ys (i + k) →
       lines-from k i ys (lists-from f k i xs ps) ≡ lines-with f (lines-from k i xs ps)
   unfolding lines-from lines-with line key
-  lines-of-lists zero i xs ys ps same = refl
-  lines-of-lists (suc k) i xs ys ps same =
+  lines-of-lists zero i ps same = refl
+  lines-of-lists (suc k) i {xs} {ys} ps same =
       let next : i + suc k ≡ suc i + k = omega arith in
       rw (
         same .kinds i (omega arith),
@@ -89,7 +89,7 @@ module _ (f : List ℕ → List ℕ) (keeps : Keeps-length f) where
         later-lists k i xs ps,
       )
       (ap (λ (ls : List Line). line (key-at xs i) (f (take (count-at xs i) ps)) ∷ ls)
-      (lines-of-lists k (suc i) xs ys (drop (count-at xs i) ps) (rw next at same)))
+      (lines-of-lists k (suc i) (drop (count-at xs i) ps) (rw next at same)))
 
   -- THE WHOLE
 
@@ -164,21 +164,21 @@ module _ (f : List ℕ → List ℕ) (keeps : Keeps-length f) where
     unfolding lines-in
     lines-in-with dir =
         let z : 0 + keys-of xs ≡ keys-of xs = omega arith in
-        rw (keys-with, positions-with dir) (lines-of-lists (keys-of xs) 0 xs ys (drop first xs) (rw z (same-with dir)))
+        rw (keys-with, positions-with dir) (lines-of-lists (keys-of xs) 0 (drop first xs) (rw z (same-with dir)))
 
-  same-counts : (k i : ℕ) (xs ys : List ℕ) → Same-lines xs ys (i + k) → counts-from k i ys ≡ counts-from k i xs
+  same-counts : (k i : ℕ) {xs ys : List ℕ} → Same-lines xs ys (i + k) → counts-from k i ys ≡ counts-from k i xs
   unfolding counts-from
-  same-counts zero i xs ys same = refl
-  same-counts (suc k) i xs ys same =
+  same-counts zero i same = refl
+  same-counts (suc k) i {xs} {ys} same =
       let next : i + suc k ≡ suc i + k = omega arith in
-      rw (same .counts i (omega arith), same-counts k (suc i) xs ys (rw next at same))
+      rw (same .counts i (omega arith), same-counts k (suc i) (rw next at same))
 
   module _ (xs : List ℕ) where
     entries-with : header + 3 * keys-of xs ≤ length xs → entries-of (with-lists f xs) ≡ entries-of xs
     unfolding entries-of
     entries-with dir =
         let z : 0 + keys-of xs ≡ keys-of xs = omega arith in
-        rw (keys-with xs) (same-counts (keys-of xs) 0 xs (with-lists f xs) (rw z (same-with xs dir)))
+        rw (keys-with xs) (same-counts (keys-of xs) 0 (rw z (same-with xs dir)))
 
     pub fits-with : Fits xs → Fits (with-lists f xs)
     fits-with fits =
@@ -213,11 +213,11 @@ in-lines-with f l (k ∷ ls) (inr m) = inr (in-lines-with f l ls m)
 
 module _ (f g : List ℕ → List ℕ) (keeps : Keeps-length f) (keeps-too : Keeps-length g) where
   lists-back :
-      (k i : ℕ) (xs ys ps : List ℕ) → Same-lines xs ys (i + k) →
+      (k i : ℕ) {xs ys : List ℕ} (ps : List ℕ) → Same-lines xs ys (i + k) →
       ((l : Line) → In l (lines-from k i xs ps) → g (f (l .positions)) ≡ l .positions) → lists-from g k i ys (lists-from f k i xs ps) ≡ ps
   unfolding lists-from lines-from line
-  lists-back zero i xs ys ps same each = refl
-  lists-back (suc k) i xs ys ps same each =
+  lists-back zero i ps same each = refl
+  lists-back (suc k) i {xs} {ys} ps same each =
       let next : i + suc k ≡ suc i + k = omega arith in
       rw (
         same .counts i (omega arith),
@@ -226,7 +226,7 @@ module _ (f g : List ℕ → List ℕ) (keeps : Keeps-length f) (keeps-too : Kee
         each (line (key-at xs i) (take (count-at xs i) ps)) (inl refl),
       )
       (ap (λ (qs : List ℕ). take (count-at xs i) ps ++ qs)
-      (lists-back k (suc i) xs ys (drop (count-at xs i) ps) (rw next at same) (λ l m. each l (inr m)))
+      (lists-back k (suc i) (drop (count-at xs i) ps) (rw next at same) (λ l m. each l (inr m)))
       ∙ take-append-drop (count-at xs i) ps)
 
   -- if g undoes f on each list, it undoes it on the whole
@@ -249,5 +249,5 @@ module _ (f g : List ℕ → List ℕ) (keeps : Keeps-length f) (keeps-too : Kee
           let z : 0 + keys-of xs ≡ keys-of xs = omega arith in
           rw (keys-with f keeps xs, front-with f keeps xs dir, positions-with f keeps xs dir)
           (ap (λ (qs : List ℕ). take first xs ++ qs)
-          (lists-back (keys-of xs) 0 xs ys (drop first xs) (rw z (same-with f keeps xs dir)) each)
+          (lists-back (keys-of xs) 0 (drop first xs) (rw z (same-with f keeps xs dir)) each)
           ∙ take-append-drop first xs)

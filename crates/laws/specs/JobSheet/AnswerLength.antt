@@ -42,10 +42,10 @@ module _ (s : List ℕ) where
       let ls = lengths-of (words-on s) in
       let ts = text-on s in
       rw (accepted-yes (sheet-refusal s) (printed s) (refused-line (sheet-refusal s)) none)
-      (shown-short cs ls (index-of (lexicon cs ls) (replaced ts)) (finds-on s)
+      (shown-short (finds-on s)
       (index-usable cs ls ts (words-on-chars s) (text-on-chars s) (good .admits) (good .text-short))
       (chars-small (index-of (lexicon cs ls) (replaced ts))
-      (index-chars (lexicon cs ls) (replaced ts) (reached-lexicon cs ls (words-on-chars s) (good .admits))
+      (index-chars (replaced ts) (reached-lexicon cs ls (words-on-chars s) (good .admits))
       (replaced-chars ts (text-on-chars s))
       (omega (arith, good .text-short, length-replaced ts))))
       (good .finds-few))

@@ -36,9 +36,9 @@ spaced-get x a b c d t =
       fourth = and-right (((eqb x space && is-digit a) && is-digit b) && is-digit c) (is-digit d) t;
     }
 
-spaced-put : (x a b c d : ℕ) → Spaced x a b c d → is-spaced x a b c d ≡ true
+spaced-put : {x a b c d : ℕ} → Spaced x a b c d → is-spaced x a b c d ≡ true
 unfolding is-spaced
-spaced-put x a b c d s =
+spaced-put {x} s =
     and-put (and-put (and-put (and-put (eq-eqb x space (s .gap)) (s .first)) (s .second)) (s .third)) (s .fourth)
 
 -- ONE DIGIT, by its value
@@ -133,4 +133,4 @@ module _ (l : List ℕ) (at : ℕ) where
         third = digit-put (byte 3) r nc;
         fourth = digit-put (byte 4) s nd;
       } in
-      rw (p .0, q .0, r .0, s .0) (sym (character-there (spaced-put (getD l at 0) (byte 1) (byte 2) (byte 3) (byte 4) all)))
+      rw (p .0, q .0, r .0, s .0) (sym (character-there (spaced-put all)))

@@ -39,7 +39,7 @@ finds-start lex xs fs ls start old tested fits room =
       writing = writing-start (found-lines lex xs (words-from ls fs)) start old room;
     }
 
-module _ (lex : Lexicon) (xs fs ls : List ℕ) (start : ℕ) (old : List ℕ) (from end i : ℕ) (now : List ℕ) (h : Finds-printed lex xs fs ls start old from end i now) where
+module _ {lex : Lexicon} {xs fs ls : List ℕ} {start : ℕ} {old : List ℕ} {from end i : ℕ} {now : List ℕ} (h : Finds-printed lex xs fs ls start old from end i now) where
   pub finds-end : length ls ≤ i → Wrote (found-lines lex xs (words-from ls fs)) start old end now
   unfolding found-lines words-from
   finds-end past =
@@ -92,9 +92,9 @@ module _ (lex : Lexicon) (xs fs ls : List ℕ) (start : ℕ) (old : List ℕ) (f
         (writing-as next-line (h .writing))
 
     pub finds-step :
-        (end' : ℕ) (now' : List ℕ) → Wrote (found-line (find lex xs (replaced (string-at fs ls from i)))) end now end' now' →
+        {end' : ℕ} {now' : List ℕ} → Wrote (found-line (find lex xs (replaced (string-at fs ls from i)))) end now end' now' →
         Finds-printed lex xs fs ls start old (from + getD ls i 0) end' (i + 1) now'
-    finds-step end' now' w =
+    finds-step w =
         record {
           within = omega arith;
           tested =

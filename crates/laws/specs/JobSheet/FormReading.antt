@@ -52,7 +52,7 @@ head-short l h short =
 pub head-start : (l h : List ℕ) → length h ≤ length l → Head-read l h 0
 head-start l h room = record { within = omega arith; room = room; tested = refl }
 
-module _ (l h : List ℕ) (i : ℕ) (r : Head-read l h i) where
+module _ {l h : List ℕ} {i : ℕ} (r : Head-read l h i) where
   taken : length (take (length h) l) ≡ length h
   taken = length-take-le (length h) l (r .room)
 
@@ -152,7 +152,7 @@ unfolding string-in
 string-start l start old some good room =
     record { within = some; good = good; writing = writing-start (characters (drop 5 l)) start old room }
 
-module _ (l : List ℕ) (start : ℕ) (old : List ℕ) (from end : ℕ) (now : List ℕ) (h : String-read l start old from end now) where
+module _ {l : List ℕ} {start : ℕ} {old : List ℕ} {from end : ℕ} {now : List ℕ} (h : String-read l start old from end now) where
   pub string-end : length l < from + 5 → Wrote (string-in l) start old end now
   string-end past = writing-end (writing-as (characters-end l from past (h .within)) (h .writing))
 

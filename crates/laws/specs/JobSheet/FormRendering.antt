@@ -151,7 +151,7 @@ pub record Head (h : List ℕ) : Type 0 where
   pub five : length h ≡ head-length
   pub plain : Plain h
 
-module _ (g cs rest : List ℕ) (head : Head g) where
+module _ {g : List ℕ} (cs rest : List ℕ) (head : Head g) where
   first-line : lines (form g cs ++ rest) ≡ line-of g cs ∷ lines rest
   first-line = ap lines (form-then g cs rest) ∙ lines-line (line-of g cs) rest (line-plain g cs (head .plain))
 

@@ -32,17 +32,17 @@ pub record Keys-printed (xs : List ℕ) (start : ℕ) (old : List ℕ) (position
   pub writing : Writing (key-lines (lines-in xs)) start old (left-from xs position i) end now
 
 pub keys-start :
-    (xs : List ℕ) (start : ℕ) (old : List ℕ) → Whole xs → start + length (key-lines (lines-in xs)) ≤ length old →
+    {xs : List ℕ} (start : ℕ) (old : List ℕ) → Whole xs → start + length (key-lines (lines-in xs)) ≤ length old →
     Keys-printed xs start old (2 + 3 * keys-of xs) start 0 old
 unfolding lines-in left-from entries-of
-keys-start xs start old whole fits =
+keys-start {xs} start old whole fits =
     record {
       within = omega arith;
       room = rw (sub-zero (keys-of xs)) (sym (whole .exact));
       writing = rw (sub-zero (keys-of xs)) (writing-start (key-lines (lines-in xs)) start old fits);
     }
 
-module _ (xs : List ℕ) (start : ℕ) (old : List ℕ) (position end i : ℕ) (now : List ℕ) (h : Keys-printed xs start old position end i now) where
+module _ {xs : List ℕ} {start : ℕ} {old : List ℕ} {position end i : ℕ} {now : List ℕ} (h : Keys-printed xs start old position end i now) where
   pub keys-end : keys-of xs ≤ i → Wrote (key-lines (lines-in xs)) start old end now
   unfolding left-from key-lines lines-from
   keys-end past =
@@ -74,9 +74,9 @@ module _ (xs : List ℕ) (start : ℕ) (old : List ℕ) (position end i : ℕ) (
         (writing-as next-line (h .writing))
 
     pub keys-step :
-        (end' : ℕ) (now' : List ℕ) → Wrote (key-line (line (key-at xs i) (positions-at xs position i))) end now end' now' →
+        {end' : ℕ} {now' : List ℕ} → Wrote (key-line (line (key-at xs i) (positions-at xs position i))) end now end' now' →
         Keys-printed xs start old (position + count-at xs i) end' (i + 1) now'
-    keys-step end' now' w =
+    keys-step w =
         record {
           within = omega arith;
           room = omega (arith, counted);

@@ -71,9 +71,9 @@ unfoldable pub shown : (chars lengths index strings counts : List ℕ) → List 
 shown cs ls xs fs ns = index-lines xs ++ found-lines (lexicon cs ls) xs (words-from ns fs)
 
 pub shown-short :
-    (cs ls xs : List ℕ) (ss : List (List ℕ)) → Usable cs ls xs → Small xs → length ss ≤ 50 →
+    {cs ls xs : List ℕ} (ss : List (List ℕ)) → Usable cs ls xs → Small xs → length ss ≤ 50 →
     length (index-lines xs ++ found-lines (lexicon cs ls) xs ss) ≤ 700000
-shown-short cs ls xs ss u small few =
+shown-short {cs} {ls} {xs} ss u small few =
     omega (
       arith,
       length-append (index-lines xs) (found-lines (lexicon cs ls) xs ss),
@@ -82,7 +82,7 @@ shown-short cs ls xs ss u small few =
       u .few,
     )
 
-module _ (cs ls xs fs ns out : List ℕ) (u : Usable cs ls xs) (small : Small xs) (good : Strings-good fs ns) (room : 700000 ≤ length out) where
+module _ {cs ls xs fs ns : List ℕ} (out : List ℕ) (u : Usable cs ls xs) (small : Small xs) (good : Strings-good fs ns) (room : 700000 ≤ length out) where
   finds-lines : List ℕ
   finds-lines = found-lines (lexicon cs ls) xs (words-from ns fs)
 
@@ -90,16 +90,16 @@ module _ (cs ls xs fs ns out : List ℕ) (u : Usable cs ls xs) (small : Small xs
   unfolding shown finds-lines
   first =
       writing-start (shown cs ls xs fs ns) 0 out
-      (omega (arith, shown-short cs ls xs (words-from ns fs) u small (omega (arith, length-words ns fs, good .few))))
+      (omega (arith, shown-short (words-from ns fs) u small (omega (arith, length-words ns fs, good .few))))
 
   pub index-lines-fit : 0 + length (index-lines xs) ≤ length out
   index-lines-fit = writing-room (index-lines xs) finds-lines first
 
   pub then-finds :
-      (end : ℕ) (mid : List ℕ) → Wrote (index-lines xs) 0 out end mid →
+      {end : ℕ} {mid : List ℕ} → Wrote (index-lines xs) 0 out end mid →
       Writing (shown cs ls xs fs ns) 0 out (found-lines (lexicon cs ls) xs (words-from ns fs)) end mid
   unfolding finds-lines
-  then-finds end mid w = writing-step (index-lines xs) finds-lines first w
+  then-finds w = writing-step (index-lines xs) finds-lines first w
 
 -- the parts of a job: dictionary, text and strings
 pub record Parts-good (cs ls ts fs ns : List ℕ) : Type 0 where
@@ -118,17 +118,17 @@ index-shown cs ls ts fs ns xs e = rw e
 -- THE OUTPUT
 
 -- what was written to the start of a buffer is there
-pub written-in-hand : (ys old : List ℕ) (end : ℕ) (now : List ℕ) → Wrote ys 0 old end now → In-hand ys end now
+pub written-in-hand : {ys old : List ℕ} {end : ℕ} {now : List ℕ} → Wrote ys 0 old end now → In-hand ys end now
 unfolding placed
-written-in-hand ys old end now w =
+written-in-hand {ys} {old} {end} {now} w =
     in-hand ys end now (drop (0 + length ys) old) (omega (arith, w .ends)) (w .content)
 
 -- bytes at the start of an output that holds them
 pub handed-over :
-    (ys : List ℕ) (r : Answer) (o z : List ℕ) (end : ℕ) → length ys ≤ length o → r .refusal ≡ 0 → r .count ≡ length ys →
+    {ys : List ℕ} (r : Answer) {o z : List ℕ} {end : ℕ} → length ys ≤ length o → r .refusal ≡ 0 → r .count ≡ length ys →
     Wrote ys 0 o end z → Sized ys r o z
 unfolding placed in-front
-handed-over ys r o z end enough number count w =
+handed-over {ys} r {o} {z} enough number count w =
     sized-written ys r o z enough number count (w .content ∙ ap (λ (n : ℕ). ys ++ drop n o) (zero-add (length ys)))
 
 pub job-says : (s ys : List ℕ) (r : Answer) (o z : List ℕ) → ys ≡ job-answer s → Sized ys r o z → Job-says s r o z

@@ -90,7 +90,7 @@ printed-there words dictionary text finds chars lengths =
     printed-of (take dictionary chars) (take words lengths) (text-part dictionary text chars) (strings-part dictionary text chars)
     (counts-part words finds lengths)
 
-module _ (s : List ℕ) (words dictionary text finds : ℕ) (chars lengths : List ℕ) (none : sheet-refusal s ≡ 0) (p : Job-parts s words dictionary text finds chars lengths) where
+module _ {s : List ℕ} {words dictionary text finds : ℕ} {chars lengths : List ℕ} (none : sheet-refusal s ≡ 0) (p : Job-parts s words dictionary text finds chars lengths) where
   text-there : text-part dictionary text chars ≡ text-on s
   text-there =
       let z : dictionary + text - dictionary ≡ text = omega arith in

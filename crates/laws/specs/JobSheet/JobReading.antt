@@ -109,7 +109,7 @@ pub record Job-parts (s : List ℕ) (words dictionary text finds : ℕ) (chars l
   pub chars-fit : dictionary + text + length (run-together (finds-on s)) ≤ length chars
   pub lengths-fit : words + 1 + finds ≤ length lengths
 
-module _ (s chars₀ lengths₀ : List ℕ) (good : Bool) (words dictionary text finds : ℕ) (chars lengths : List ℕ) (r : Sheet-read s chars₀ lengths₀ good words dictionary text finds chars lengths) (t : good ≡ true) where
+module _ {s chars₀ lengths₀ : List ℕ} {good : Bool} {words dictionary text finds : ℕ} {chars lengths : List ℕ} (r : Sheet-read s chars₀ lengths₀ good words dictionary text finds chars lengths) (t : good ≡ true) where
   both : (in-form s && in-counts s) ≡ true
   both = sym (r .tested) ∙ t
 
@@ -198,7 +198,7 @@ module _ (s : List ℕ) (short : length s ≤ 32768) where
 
 -- the parts in the slices are the parts of the sheet
 pub parts-tested :
-    (s : List ℕ) (words dictionary text finds : ℕ) (chars lengths : List ℕ) → Job-parts s words dictionary text finds chars lengths →
+    {s : List ℕ} {words dictionary text finds : ℕ} {chars lengths : List ℕ} → Job-parts s words dictionary text finds chars lengths →
     parts-refusal (take dictionary chars) (take words lengths) (take finds (drop (words + 1) lengths))
     ≡ parts-refusal (run-together (words-on s)) (lengths-of (words-on s)) (lengths-of (finds-on s))
-parts-tested s words dictionary text finds chars lengths p = rw (p .words-are, p .words-lengths, p .finds-lengths)
+parts-tested p = rw (p .words-are, p .words-lengths, p .finds-lengths)

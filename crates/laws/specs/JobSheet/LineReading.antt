@@ -91,7 +91,7 @@ line-start s at within =
           ∙ sym (some .2);
     }
 
-module _ (s : List ℕ) (at i : ℕ) (h : Line-read s at i) where
+module _ {s : List ℕ} {at i : ℕ} (h : Line-read s at i) where
   pub line-step : i < length s → (getD s i 0 ≡ line-feed → ⊥) → Line-read s at (i + 1)
   line-step below other =
       record {
@@ -155,7 +155,7 @@ pub record Form-end (h s : List ℕ) (at r : ℕ) : Type 0 where
   pub none : length s ≤ r → forms h (lines (drop at s)) ≡ []
   pub all-left : length s ≤ r → after h (lines (drop at s)) ≡ lines (drop at s)
 
-module _ (h s : List ℕ) (at r : ℕ) (e : Line-end s at r) where
+module _ (h : List ℕ) {s : List ℕ} {at r : ℕ} (e : Line-end s at r) where
   pub form-missing : length s ≤ r → Form-end h s at r
   unfolding forms after
   form-missing past =

@@ -37,9 +37,9 @@ pub record Forms-got (h s : List ℕ) (start used₀ count₀ : ℕ) (chars₀ l
   pub lengths-got : Wrote (lengths-of (strings-at h s start)) count₀ lengths₀ count lengths
 
 pub forms-start :
-    (h s : List ℕ) (at used count end : ℕ) (chars lengths : List ℕ) → Room h s at used count chars lengths → Form-end h s at end →
+    {h s : List ℕ} {at used count end : ℕ} {chars lengths : List ℕ} → Room h s at used count chars lengths → Form-end h s at end →
     Forms-read h s at used count chars lengths at used count end chars lengths
-forms-start h s at used count end chars lengths room here =
+forms-start {h} {s} {at} {used} {count} {chars} {lengths} room here =
     record {
       here = here;
       rest = refl;
@@ -47,7 +47,7 @@ forms-start h s at used count end chars lengths room here =
       lengths-left = writing-start (lengths-of (strings-at h s at)) count lengths (room .lengths-fit);
     }
 
-module _ (h s : List ℕ) (start used₀ count₀ : ℕ) (chars₀ lengths₀ : List ℕ) (at used count end : ℕ) (chars lengths : List ℕ) (r : Forms-read h s start used₀ count₀ chars₀ lengths₀ at used count end chars lengths) where
+module _ {h s : List ℕ} {start used₀ count₀ : ℕ} {chars₀ lengths₀ : List ℕ} {at used count end : ℕ} {chars lengths : List ℕ} (r : Forms-read h s start used₀ count₀ chars₀ lengths₀ at used count end chars lengths) where
   pub forms-end : length s ≤ end → Forms-got h s start used₀ count₀ chars₀ lengths₀ at used count chars lengths
   unfolding run-together lengths-of
   forms-end past =
@@ -86,9 +86,9 @@ module _ (h s : List ℕ) (start used₀ count₀ : ℕ) (chars₀ lengths₀ : 
     length-fits = omega (arith, next-length .room)
 
     pub forms-step :
-        (next : ℕ) (chars' : List ℕ) → Wrote (string-in (part s at end)) used chars next chars' → (end' : ℕ) → Form-end h s (end + 1) end' →
+        {next : ℕ} {chars' : List ℕ} → Wrote (string-in (part s at end)) used chars next chars' → {end' : ℕ} → Form-end h s (end + 1) end' →
         Forms-read h s start used₀ count₀ chars₀ lengths₀ (end + 1) next (count + 1) end' chars' (set lengths count (next - used))
-    forms-step next chars' w end' here' =
+    forms-step {next} w here' =
         let len : next - used ≡ length (string-in (part s at end)) = omega (arith, w .ends) in
         record {
           here = here';

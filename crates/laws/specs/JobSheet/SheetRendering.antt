@@ -30,7 +30,7 @@ text-is-head = record { five = refl; plain = plain-get text-head refl }
 find-is-head : Head find-head
 find-is-head = record { five = refl; plain = plain-get find-head refl }
 
-module _ (h : List ℕ) (head : Head h) where
+module _ {h : List ℕ} (head : Head h) where
   forms-all :
       (ss : List (List ℕ)) (rest : List ℕ) → All-characters ss →
       (forms h (lines (form-lines h ss ++ rest)) ≡ ss ++ forms h (lines rest))
@@ -38,7 +38,7 @@ module _ (h : List ℕ) (head : Head h) where
   unfolding form-lines
   forms-all [] rest chars = (refl, refl)
   forms-all (s ∷ ss) rest chars =
-      let one = form-first h s (form-lines h ss ++ rest) head (chars s (inl refl)) in
+      let one = form-first s (form-lines h ss ++ rest) head (chars s (inl refl)) in
       let more = forms-all ss rest (λ x m. chars x (inr m)) in
       let grouped : (form h s ++ form-lines h ss) ++ rest ≡ form h s ++ (form-lines h ss ++ rest) =
       append-assoc (form h s) (form-lines h ss) rest in (
@@ -48,11 +48,11 @@ module _ (h : List ℕ) (head : Head h) where
 
 -- forms with another head
 forms-other :
-    (g h : List ℕ) (ss : List (List ℕ)) → Head g → same g h ≡ false →
+    {g : List ℕ} (h : List ℕ) (ss : List (List ℕ)) → Head g → same g h ≡ false →
     (forms h (lines (form-lines g ss)) ≡ []) × (after h (lines (form-lines g ss)) ≡ lines (form-lines g ss))
 unfolding form-lines forms after lines
-forms-other g h [] head other = (refl, refl)
-forms-other g h (s ∷ ss) head other = other-first g s (form-lines g ss) head h other
+forms-other h [] head other = (refl, refl)
+forms-other {g} h (s ∷ ss) head other = other-first s (form-lines g ss) head h other
 
 module _ (ws : List (List ℕ)) (t : List ℕ) (fs : List (List ℕ)) (s : List ℕ) (sheet : Sheet-of ws t fs s) where
   abbrev past-words : List ℕ
@@ -66,40 +66,40 @@ module _ (ws : List (List ℕ)) (t : List ℕ) (fs : List (List ℕ)) (s : List 
   unfolding words-on same
   words-back =
       ap (λ (l : List ℕ). forms word-head (lines l)) whole
-      ∙ forms-all word-head word-is-head ws past-words (sheet .words-chars) .0
-      ∙ ap (λ (l : List (List ℕ)). ws ++ l) (other-first text-head t (form-lines find-head fs) text-is-head word-head refl .0)
+      ∙ forms-all word-is-head ws past-words (sheet .words-chars) .0
+      ∙ ap (λ (l : List (List ℕ)). ws ++ l) (other-first t (form-lines find-head fs) text-is-head word-head refl .0)
       ∙ append-nil ws
 
   after-words : after word-head (lines s) ≡ lines past-words
   unfolding same
   after-words =
       ap (λ (l : List ℕ). after word-head (lines l)) whole
-      ∙ forms-all word-head word-is-head ws past-words (sheet .words-chars) .1
-      ∙ other-first text-head t (form-lines find-head fs) text-is-head word-head refl .1
+      ∙ forms-all word-is-head ws past-words (sheet .words-chars) .1
+      ∙ other-first t (form-lines find-head fs) text-is-head word-head refl .1
 
   texts-back : texts-on s ≡ t ∷ []
   unfolding texts-on same
   texts-back =
       ap (forms text-head) after-words
-      ∙ form-first text-head t (form-lines find-head fs) text-is-head (sheet .text-chars) .0
-      ∙ ap (λ (l : List (List ℕ)). t ∷ l) (forms-other find-head text-head fs find-is-head refl .0)
+      ∙ form-first t (form-lines find-head fs) text-is-head (sheet .text-chars) .0
+      ∙ ap (λ (l : List (List ℕ)). t ∷ l) (forms-other text-head fs find-is-head refl .0)
 
   after-text : after text-head (after word-head (lines s)) ≡ lines (form-lines find-head fs ++ [])
   unfolding same
   after-text =
       ap (after text-head) after-words
-      ∙ form-first text-head t (form-lines find-head fs) text-is-head (sheet .text-chars) .1
-      ∙ forms-other find-head text-head fs find-is-head refl .1
+      ∙ form-first t (form-lines find-head fs) text-is-head (sheet .text-chars) .1
+      ∙ forms-other text-head fs find-is-head refl .1
       ∙ ap lines (sym (append-nil (form-lines find-head fs)))
 
   finds-back : finds-on s ≡ fs
   unfolding finds-on forms lines
   finds-back =
-      ap (forms find-head) after-text ∙ forms-all find-head find-is-head fs [] (sheet .finds-chars) .0 ∙ append-nil fs
+      ap (forms find-head) after-text ∙ forms-all find-is-head fs [] (sheet .finds-chars) .0 ∙ append-nil fs
 
   left-back : left-on s ≡ [] ∷ []
   unfolding left-on after lines
-  left-back = ap (after find-head) after-text ∙ forms-all find-head find-is-head fs [] (sheet .finds-chars) .1
+  left-back = ap (after find-head) after-text ∙ forms-all find-is-head fs [] (sheet .finds-chars) .1
 
   text-back : text-on s ≡ t
   unfolding text-on

@@ -48,15 +48,15 @@ stage-start s chars lengths enough =
     }
 
 wrote-then :
-    {old mid now : List ℕ} {at used end : ℕ} (xs ys : List ℕ) → at + length xs ≤ length old → Wrote xs at old used mid → Wrote ys used mid end now →
+    {old mid now : List ℕ} {at used end : ℕ} {xs ys : List ℕ} → at + length xs ≤ length old → Wrote xs at old used mid → Wrote ys used mid end now →
     Wrote (xs ++ ys) at old end now
-wrote-then {old} {mid} {now} {at} {used} {end} xs ys room first second =
+wrote-then {old} {mid} {now} {at} {used} {end} {xs} {ys} room first second =
     record {
       ends = omega (arith, first .ends, second .ends, length-append xs ys);
       content = second .content ∙ rw (first .ends, first .content) (placed-append xs ys at old room);
     }
 
-module _ (s chars₀ lengths₀ cs ls : List ℕ) (rest : List (List ℕ)) (at used count : ℕ) (chars lengths : List ℕ) (st : Stage s chars₀ lengths₀ cs ls rest at used count chars lengths) where
+module _ {s chars₀ lengths₀ cs ls : List ℕ} {rest : List (List ℕ)} {at used count : ℕ} {chars lengths : List ℕ} (st : Stage s chars₀ lengths₀ cs ls rest at used count chars lengths) where
   chars-room : 0 + length cs ≤ length chars₀
   chars-room = omega (arith, st .sized, st .enough .for-chars)
 
@@ -86,9 +86,9 @@ module _ (s chars₀ lengths₀ cs ls : List ℕ) (rest : List (List ℕ)) (at u
       }
 
   pub stage-step :
-      (h : List ℕ) (at' used' count' : ℕ) (chars' lengths' : List ℕ) → Forms-got h s at used count chars lengths at' used' count' chars' lengths' →
+      {h : List ℕ} {at' used' count' : ℕ} {chars' lengths' : List ℕ} → Forms-got h s at used count chars lengths at' used' count' chars' lengths' →
       Stage s chars₀ lengths₀ (cs ++ run-together (forms h rest)) (ls ++ lengths-of (forms h rest)) (after h rest) at' used' count' chars' lengths'
-  stage-step h at' used' count' chars' lengths' got =
+  stage-step {h} got =
       record {
         enough = st .enough;
         within = got .within;
@@ -102,10 +102,10 @@ module _ (s chars₀ lengths₀ cs ls : List ℕ) (rest : List (List ℕ)) (at u
               length-append ls (lengths-of (forms h rest)),
             );
         chars-got =
-            wrote-then cs (run-together (forms h rest)) chars-room (st .chars-got)
+            wrote-then chars-room (st .chars-got)
             (rw (st .left) at (got .chars-got));
         lengths-got =
-            wrote-then ls (lengths-of (forms h rest)) lengths-room (st .lengths-got)
+            wrote-then lengths-room (st .lengths-got)
             (rw (st .left) at (got .lengths-got));
       }
 
@@ -201,7 +201,7 @@ module _ (s chars₀ lengths₀ : List ℕ) (at used count : ℕ) (chars lengths
       Words-read s chars₀ lengths₀ at used count chars lengths
   unfolding words-on
   words-read enough got =
-      stage-step s chars₀ lengths₀ [] [] (lines s) 0 0 0 chars₀ lengths₀ (stage-start s chars₀ lengths₀ enough) word-head at used count chars lengths got
+      stage-step (stage-start s chars₀ lengths₀ enough) got
 
   module _ (at' used' count' : ℕ) (chars' lengths' : List ℕ) where
     pub texts-read :
@@ -210,7 +210,7 @@ module _ (s chars₀ lengths₀ : List ℕ) (at used count : ℕ) (chars lengths
         Texts-read s chars₀ lengths₀ at' used' count' chars' lengths'
     unfolding texts-on
     texts-read st got =
-        stage-step s chars₀ lengths₀ (run-together (words-on s)) (lengths-of (words-on s)) (after word-head (lines s)) at used count chars lengths st text-head at' used' count' chars' lengths' got
+        stage-step st got
 
     pub finds-read :
         Texts-read s chars₀ lengths₀ at used count chars lengths →
@@ -218,11 +218,11 @@ module _ (s chars₀ lengths₀ : List ℕ) (at used count : ℕ) (chars lengths
         Finds-read s chars₀ lengths₀ at' used' count' chars' lengths'
     unfolding finds-on left-on
     finds-read st got =
-        stage-step s chars₀ lengths₀
-        (run-together (words-on s) ++ run-together (texts-on s))
-        (lengths-of (words-on s) ++ lengths-of (texts-on s))
-        (after text-head (after word-head (lines s)))
-        at used count chars lengths st find-head at' used' count' chars' lengths' got
+        stage-step
+       
+       
+       
+        st got
 
 -- how many of each there are
 module _ (s chars₀ lengths₀ : List ℕ) (at used count : ℕ) (chars lengths : List ℕ) where
@@ -262,17 +262,17 @@ module _ (s chars₀ lengths₀ : List ℕ) (at used count : ℕ) (chars lengths
 
   pub finds-chars-long : Finds-read s chars₀ lengths₀ at used count chars lengths → length chars ≡ length chars₀
   finds-chars-long st =
-      chars-long s chars₀ lengths₀
-      ((run-together (words-on s) ++ run-together (texts-on s)) ++ run-together (finds-on s))
-      ((lengths-of (words-on s) ++ lengths-of (texts-on s)) ++ lengths-of (finds-on s))
-      (left-on s) at used count chars lengths st
+      chars-long
+     
+     
+      st
 
   pub finds-lengths-long : Finds-read s chars₀ lengths₀ at used count chars lengths → length lengths ≡ length lengths₀
   finds-lengths-long st =
-      lengths-long s chars₀ lengths₀
-      ((run-together (words-on s) ++ run-together (texts-on s)) ++ run-together (finds-on s))
-      ((lengths-of (words-on s) ++ lengths-of (texts-on s)) ++ lengths-of (finds-on s))
-      (left-on s) at used count chars lengths st
+      lengths-long
+     
+     
+      st
 
 pub sheet-read :
     (s chars₀ lengths₀ : List ℕ) (at used count : ℕ) (chars lengths : List ℕ) (good : Bool) (words dictionary text finds : ℕ) →

@@ -33,35 +33,35 @@ Lower-bound cs ss lo hi d c r = halving.Lower-bound (column cs ss d) lo hi c r
 abbrev pub Bisected : (cs ss : List ℕ) (lo hi d c a b : ℕ) → Type 0
 Bisected cs ss lo hi d c a b = halving.Bisected (column cs ss d) lo hi c a b
 
-module _ (cs ss : List ℕ) (lo hi d c : ℕ) (h : Column cs ss lo hi d) where
+module _ {cs ss : List ℕ} {lo hi d : ℕ} (c : ℕ) (h : Column cs ss lo hi d) where
   rising : Rising (column cs ss d) lo hi
   rising = record { order = h .order; rises = h .rises }
 
   pub bisected-start : Bisected cs ss lo hi d c lo hi
-  bisected-start = halving.bisected-start (column cs ss d) lo hi rising c
+  bisected-start = halving.bisected-start rising c
 
   -- the first character is not below c already
   pub bound-first : lo < hi → c ≤ column cs ss d lo → Lower-bound cs ss lo hi d c lo
-  bound-first = halving.bound-first (column cs ss d) lo hi rising c
+  bound-first = halving.bound-first rising c
 
   -- the last character is below c
   pub bound-last : lo < hi → column cs ss d (hi - 1) < c → Lower-bound cs ss lo hi d c hi
-  bound-last = halving.bound-last (column cs ss d) lo hi rising c
+  bound-last = halving.bound-last rising c
 
   module _ (a b : ℕ) (s : Bisected cs ss lo hi d c a b) where
     pub bisected-end : b ≤ a → Lower-bound cs ss lo hi d c a
-    bisected-end = halving.bisected-end (column cs ss d) lo hi rising c a b s
+    bisected-end = halving.bisected-end rising c s
 
     module _ (m : ℕ) (l : a ≤ m) (r : m < b) where
       pub bisected-up : column cs ss d m < c → Bisected cs ss lo hi d c (m + 1) b
-      bisected-up = halving.bisected-up (column cs ss d) lo hi rising c a b s m l r
+      bisected-up = halving.bisected-up rising c s m l r
 
       pub bisected-down : c ≤ column cs ss d m → Bisected cs ss lo hi d c a m
-      bisected-down = halving.bisected-down (column cs ss d) lo hi rising c a b s m l r
+      bisected-down = halving.bisected-down rising c s m l r
 
 -- the end of a run has its column too
-pub column-part : (cs ss : List ℕ) (lo hi d r : ℕ) → Column cs ss lo hi d → lo ≤ r → r ≤ hi → Column cs ss r hi d
-column-part cs ss lo hi d r h from to =
+pub column-part : {cs ss : List ℕ} {lo hi d : ℕ} (r : ℕ) → Column cs ss lo hi d → lo ≤ r → r ≤ hi → Column cs ss r hi d
+column-part r h from to =
     record {
       order = to;
       known = h .known;
@@ -72,7 +72,7 @@ column-part cs ss lo hi d r h from to =
 -- THE COLUMN OF A PREFIX RANGE OF WORDS
 
 module _
-    (cs ls ss : List ℕ) (t : Started cs ls ss) (ts : List ℕ) (p k lo hi d best : ℕ)
+    {cs ls ss : List ℕ} (t : Started cs ls ss) {ts : List ℕ} {p k lo hi d best : ℕ}
     (h : Narrowed (lexicon cs ls .words) ts p k lo hi d best) where
   known : (i : ℕ) → i < hi → i < length ls
   known i b = omega (arith, h .within, h .known, many-words cs ls (t .dictionary))
@@ -82,7 +82,7 @@ module _
 
   pub run-hit : lo < hi → getD ls lo 0 ≡ d → Narrowed (lexicon cs ls .words) ts p k (lo + 1) hi d (lo + 1)
   run-hit some e =
-      narrow-hit (lexicon cs ls .words) ts p k lo hi d best h some (word-long cs ls (t .dictionary) lo (known lo some) ∙ e)
+      narrow-hit (lexicon cs ls .words) ts p k h some (word-long cs ls (t .dictionary) lo (known lo some) ∙ e)
 
   module _ (some : lo < hi) (more : getD ls lo 0 ≡ d → ⊥) where
     sorted : ascend (lexicon cs ls .words) ≡ true
@@ -96,7 +96,7 @@ module _
         omega (
           arith,
           word-long cs ls (t .dictionary) i (known i b),
-          narrow-longer (lexicon cs ls .words) ts p k lo hi d best h some sorted other i a b,
+          narrow-longer (lexicon cs ls .words) ts p k h some sorted other i a b,
         )
 
     -- a word has at most 32 characters, so the refinement ends
@@ -121,7 +121,7 @@ module _
                 arith,
                 column-word i a (omega arith),
                 column-word j (omega arith) c,
-                narrow-rises (lexicon cs ls .words) ts p k lo hi d best h some sorted other i j a b c,
+                narrow-rises (lexicon cs ls .words) ts p k h some sorted other i j a b c,
               );
         }
 
@@ -135,11 +135,11 @@ module _
         }
 
     pub run-stop : suc (length ts) ≤ p + d → Last-standing (lexicon cs ls .words) ts p k best
-    run-stop past = narrow-stop (lexicon cs ls .words) ts p k lo hi d best h some sorted other past
+    run-stop past = narrow-stop (lexicon cs ls .words) ts p k h some sorted other past
 
     pub run-step :
         (c from to : ℕ) → c ≡ getD ts (p + d - 1) 0 → p + d ≤ length ts → Lower-bound cs ss lo hi d c from → Lower-bound cs ss from hi d (c + 1) to →
         Narrowed (lexicon cs ls .words) ts p k from to (d + 1) best
     run-step c from to e room l r =
-        narrow-step (lexicon cs ls .words) ts p k lo hi d best h some sorted other c from to e room
+        narrow-step (lexicon cs ls .words) ts p k h some sorted other e room
         (cut-words lo c from (omega arith) l) (cut-words from (c + 1) to (l .from) r)

@@ -174,8 +174,8 @@ module _ (links : List ℕ) (f : ℕ → ℕ) (b n : ℕ) (Q : ℕ → Type 0) w
           passed j (inl (inr m)) = inl m
           passed j (inr p) = inr p
 
-  pub walk-stop : (next : ℕ) → Walk links f b n Q next → (next ≡ 0 → ⊥) → Stop next
-  walk-stop next w some = stop-at next (w .ahead) some (w .chain) (w .falls) (w .mine) (w .rest)
+  pub walk-stop : {next : ℕ} → Walk links f b n Q next → (next ≡ 0 → ⊥) → Stop next
+  walk-stop {next} w some = stop-at next (w .ahead) some (w .chain) (w .falls) (w .mine) (w .rest)
 
   pub walk-end : Walk links f b n Q 0 → (j : ℕ) → j < n → f j ≡ b → Q j
   walk-end w j l e = ⊎-elim (λ (m : In j (w .ahead)). absurd (none (w .ahead) (w .chain) m)) (λ (q : Q j). q) (w .rest j l e)

@@ -48,7 +48,7 @@ module _ (cs ls : List ℕ) (a : admitted cs ls ≡ true) (ts : List ℕ) (q e :
       length (word cs ls j) ≤ length (word cs ls i)
   no-longer i j l b s r =
       ⊎-elim (λ (z : i ≤ j). let same : i ≡ j = omega arith in omega (arith, ap (λ (x : ℕ). length (word cs ls x)) same))
-      (λ (z : j < i). omega (arith, standing-ascend (lexicon cs ls .words) (admitted-ascend cs ls a) ts (q + 1) j i z b r s))
+      (λ (z : j < i). omega (arith, standing-ascend (lexicon cs ls .words) (admitted-ascend cs ls a) j i z b r s))
       (le-or-lt i j)
 
   word-there : (j : ℕ) → j < length (lexicon cs ls .words) → 1 ≤ length (word cs ls j)
@@ -61,7 +61,7 @@ module _ (cs ls : List ℕ) (a : admitted cs ls ≡ true) (ts : List ℕ) (q e :
   pair-past len end =
       record { none = λ z j b l s. absurd (omega (arith, s .within)); some = λ i z. absurd (omega arith) }
 
-  module _ (number : ℕ) (h : Pair-found (lexicon cs ls .words) ts (q + 1) (e + 1) number) where
+  module _ {number : ℕ} (h : Pair-found (lexicon cs ls .words) ts (q + 1) (e + 1) number) where
     pub pair-missing : (len : ℕ) → number ≡ 0 → Pair-longest (lexicon cs ls) ts (q + 1) (e + 1) 0 len
     pair-missing len z =
         record {
@@ -121,7 +121,7 @@ module _ (cs ls : List ℕ) (a : admitted cs ls ≡ true) (ts : List ℕ) (q e :
 
   -- BOTH CHAINS
 
-  module _ (number len : ℕ) (h : Pair-longest (lexicon cs ls) ts (q + 1) (e + 1) number len) where
+  module _ {number len : ℕ} (h : Pair-longest (lexicon cs ls) ts (q + 1) (e + 1) number len) where
     pub found-pair : (number ≡ 0 → ⊥) → Found (lexicon cs ls) ts (q + 1) (e + 1) number len
     found-pair some = record { none = λ z. absurd (some z); some = h .some }
 
@@ -149,8 +149,8 @@ module _ (cs ls : List ℕ) (a : admitted cs ls ≡ true) (ts : List ℕ) (q e :
           (le-or-lt 2 (length (word cs ls j)))
 
       pub found-single :
-          (single : ℕ) → Single-found (lexicon cs ls .words) ts (q + 1) single → Found (lexicon cs ls) ts (q + 1) (e + 1) single 1
-      found-single single s =
+          {single : ℕ} → Single-found (lexicon cs ls .words) ts (q + 1) single → Found (lexicon cs ls) ts (q + 1) (e + 1) single 1
+      found-single s =
           record {
             none = λ z. record { none = λ j b r. absurd (s .none z j b (short j b r) r) };
             some =

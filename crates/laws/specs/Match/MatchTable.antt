@@ -155,9 +155,9 @@ pub record Bucket-read (cs : List ℕ) (at len r : ℕ) : Type 0 where
   pub more : 2 ≤ len → r ≡ pair-bucket (getD cs at 0) (getD cs (at + 1) 0)
 
 pub bucket-read :
-    (cs ls : List ℕ) → admitted cs ls ≡ true → (i at r : ℕ) → i < length ls → at ≡ start-of ls i → Bucket-read cs at (getD ls i 0) r →
+    {cs : List ℕ} (ls : List ℕ) → admitted cs ls ≡ true → (i : ℕ) {at r : ℕ} → i < length ls → at ≡ start-of ls i → Bucket-read cs at (getD ls i 0) r →
     r ≡ bucket-of cs ls i
-bucket-read cs ls a i at r below e h =
+bucket-read {cs} ls a i {at} below e h =
     ⊎-elim
     (λ (l : 2 ≤ getD ls i 0).
     h .more l
@@ -219,7 +219,7 @@ module _ (cs ls heads links starts : List ℕ) where
         chains = λ b h. ap (λ (l : List ℕ). getD l b 0) (r .heads-clear) ∙ getD-replicate {A = ℕ} 10240 b 0 0 h;
       }
 
-  module _ (at n : ℕ) (h : Chained cs ls heads links starts at n) where
+  module _ {at n : ℕ} (h : Chained cs ls heads links starts at n) where
     -- a start is stored at its index
     started-more : (i : ℕ) → i ≤ n → getD (set starts n at) i 0 ≡ start-of ls i
     started-more i b =

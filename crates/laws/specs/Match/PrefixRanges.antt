@@ -89,7 +89,7 @@ module _ (ws : List (List ℕ)) (ts : List ℕ) (p k : ℕ) where
         rest = λ i b s. inr (omega arith, b);
       }
 
-  module _ (lo hi d best : ℕ) (h : Narrowed ws ts p k lo hi d best) where
+  module _ {lo hi d best : ℕ} (h : Narrowed ws ts p k lo hi d best) where
     pub narrow-end : hi ≤ lo → Last-standing ws ts p k best
     narrow-end done =
         record {
@@ -165,9 +165,9 @@ module _ (ws : List (List ℕ)) (ts : List ℕ) (p k : ℕ) where
 
         -- the equal range of the text's next character is left
         pub narrow-step :
-            (c from to : ℕ) → c ≡ getD ts (p + d - 1) 0 → p + d ≤ length ts → Lower-bound-at ws lo hi d c from → Lower-bound-at ws from hi d (c + 1) to →
+            {c from to : ℕ} → c ≡ getD ts (p + d - 1) 0 → p + d ≤ length ts → Lower-bound-at ws lo hi d c from → Lower-bound-at ws from hi d (c + 1) to →
             Narrowed ws ts p k from to (d + 1) best
-        narrow-step c from to e room l r =
+        narrow-step {c} {from} {to} e room l r =
             record {
               order = r .from;
               within = omega (arith, r .to, h .within);
@@ -191,7 +191,7 @@ module _ (ws : List (List ℕ)) (ts : List ℕ) (p k : ℕ) where
 
             left : (i : ℕ) → Stand (getD ws i []) ts p → (lo ≤ i) × (i < hi) → (from ≤ i) × (i < to)
             left i s q =
-                let here : getD (getD ws i []) d 0 ≡ c = stand-at (getD ws i []) ts p d s (narrow-longer i (q .0) (q .1)) ∙ sym e in
+                let here : getD (getD ws i []) d 0 ≡ c = stand-at d s (narrow-longer i (q .0) (q .1)) ∙ sym e in
                 let low : from ≤ i =
                 ⊎-elim (λ (z : from ≤ i). z) (λ (z : i < from). absurd (omega (arith, l .below i (q .0) z))) (le-or-lt from i) in
                 let high : i < to =

@@ -27,7 +27,7 @@ pub record Stands-after (w ts : List ℕ) (p last : ℕ) (r : Bool) : Type 0 whe
   pub yes : r ≡ true → Stand w ts p × (last < p + length w)
   pub no : r ≡ false → Stand w ts p → p + length w ≤ last
 
-module _ (cs ls ss : List ℕ) (t : Started cs ls ss) (ts : List ℕ) (q e i : ℕ) (below : i < length ls) where
+module _ {cs ls ss : List ℕ} (t : Started cs ls ss) (ts : List ℕ) (q e i : ℕ) (below : i < length ls) where
   len : length (word cs ls i) ≡ getD ls i 0
   len = word-long cs ls (t .dictionary) i below
 
@@ -48,9 +48,9 @@ module _ (cs ls ss : List ℕ) (t : Started cs ls ss) (ts : List ℕ) (q e i : �
       ap (λ (x : ℕ). getD ts x 0) at
 
   pub compared :
-      (r : Bool) → e < q + getD ls i 0 → q + getD ls i 0 ≤ length ts → Same-run cs (getD ss i 0) ts q (getD ls i 0) r →
+      {r : Bool} → e < q + getD ls i 0 → q + getD ls i 0 ≤ length ts → Same-run cs (getD ss i 0) ts q (getD ls i 0) r →
       Stands-after (word cs ls i) ts (q + 1) (e + 1) r
-  compared r after room h =
+  compared after room h =
       record {
         yes =
             λ b. (
@@ -60,7 +60,7 @@ module _ (cs ls ss : List ℕ) (t : Started cs ls ss) (ts : List ℕ) (q e i : �
             );
         no =
             λ b s.
-            absurd (h .no b (λ j l. read j l ∙ stand-at (word cs ls i) ts (q + 1) j s (omega (arith, len)) ∙ sym (position j)));
+            absurd (h .no b (λ j l. read j l ∙ stand-at j s (omega (arith, len)) ∙ sym (position j)));
       }
 
 -- THE CHAIN OF TWO CHARACTERS
@@ -81,7 +81,7 @@ abbrev pub Pair-walk : (cs ls links ts : List ℕ) (q e next : ℕ) → Type 0
 Pair-walk cs ls links ts q e =
     Walk links (bucket-of cs ls) (pair-bucket (getD ts q 0) (getD ts (q + 1) 0)) (length ls) (Passed cs ls ts (q + 1) (e + 1))
 
-module _ (cs ls heads links ss : List ℕ) (t : Tables cs ls heads links ss) (ts : List ℕ) (q e : ℕ) where
+module _ {cs ls heads links ss : List ℕ} (t : Tables cs ls heads links ss) (ts : List ℕ) (q e : ℕ) where
   pub pair-start : Pair-walk cs ls links ts q e (getD heads (pair-bucket (getD ts q 0) (getD ts (q + 1) 0)) 0)
   pair-start =
       walk-start links (bucket-of cs ls) (pair-bucket (getD ts q 0) (getD ts (q + 1) 0)) (length ls) (Passed cs ls ts (q + 1) (e + 1))
@@ -95,8 +95,8 @@ module _ (cs ls heads links ss : List ℕ) (t : Tables cs ls heads links ss) (ts
   pair-mine j l s =
       let first : q + 1 + 0 - 1 ≡ q = omega arith in
       let second : q + 1 + 1 - 1 ≡ q + 1 = omega arith in
-      let a : getD (word cs ls j) 0 0 ≡ getD ts q 0 = rw first at (stand-at (word cs ls j) ts (q + 1) 0 s (omega arith)) in
-      let b : getD (word cs ls j) 1 0 ≡ getD ts (q + 1) 0 = rw second at (stand-at (word cs ls j) ts (q + 1) 1 s (omega arith)) in
+      let a : getD (word cs ls j) 0 0 ≡ getD ts q 0 = rw first at (stand-at 0 s (omega arith)) in
+      let b : getD (word cs ls j) 1 0 ≡ getD ts (q + 1) 0 = rw second at (stand-at 1 s (omega arith)) in
       bucket-pair (word cs ls j) l ∙ rw (a, b)
 
   known : (j : ℕ) → j < length (lexicon cs ls .words) → j < length ls
@@ -122,7 +122,7 @@ module _ (cs ls heads links ss : List ℕ) (t : Tables cs ls heads links ss) (ts
         Stop links (bucket-of cs ls) (pair-bucket (getD ts q 0) (getD ts (q + 1) 0)) (length ls) (Passed cs ls ts (q + 1) (e + 1)) next
     pair-stop =
         walk-stop links (bucket-of cs ls) (pair-bucket (getD ts q 0) (getD ts (q + 1) 0)) (length ls)
-        (Passed cs ls ts (q + 1) (e + 1)) next w some
+        (Passed cs ls ts (q + 1) (e + 1)) w some
 
     pub pair-known : next - 1 < length ls
     pair-known = omega (arith, some, pair-stop .below)
@@ -138,9 +138,9 @@ module _ (cs ls heads links ss : List ℕ) (t : Tables cs ls heads links ss) (ts
         ⊎-elim h (λ (z : Passed cs ls ts (q + 1) (e + 1) j). absurd (omega (arith, z s))) (pair-stop .left j (known j b) (pair-mine j l s))
 
     pub pair-hit :
-        (r : Bool) → Stands-after (word cs ls (next - 1)) ts (q + 1) (e + 1) r → r ≡ true →
+        {r : Bool} → Stands-after (word cs ls (next - 1)) ts (q + 1) (e + 1) r → r ≡ true →
         Pair-found (lexicon cs ls .words) ts (q + 1) (e + 1) next
-    pair-hit r h b =
+    pair-hit h b =
         record {
           below = pair-below;
           stand = λ i z. let here : next - 1 ≡ i = omega arith in rw here at (h .yes b .0);
@@ -148,14 +148,14 @@ module _ (cs ls heads links ss : List ℕ) (t : Tables cs ls heads links ss) (ts
         }
 
     pub pair-miss :
-        (r : Bool) → Stands-after (word cs ls (next - 1)) ts (q + 1) (e + 1) r → r ≡ false →
+        {r : Bool} → Stands-after (word cs ls (next - 1)) ts (q + 1) (e + 1) r → r ≡ false →
         Pair-walk cs ls links ts q e (getD links (next - 1) 0)
-    pair-miss r h b = pair-stop .onward (h .no b)
+    pair-miss h b = pair-stop .onward (h .no b)
 
     pub pair-narrowed :
-        (number : ℕ) → Last-standing (lexicon cs ls .words) ts (q + 1) next number →
+        {number : ℕ} → Last-standing (lexicon cs ls .words) ts (q + 1) next number →
         Pair-found (lexicon cs ls .words) ts (q + 1) (e + 1) number
-    pair-narrowed number h =
+    pair-narrowed {number} h =
         record {
           below = omega (arith, h .below, pair-below);
           stand = h .stand;
@@ -177,7 +177,7 @@ Other cs ls c j = getD (word cs ls j) 0 0 ≡ c → ⊥
 abbrev pub Single-walk : (cs ls links : List ℕ) (c next : ℕ) → Type 0
 Single-walk cs ls links c = Walk links (bucket-of cs ls) (char-bucket c) (length ls) (Other cs ls c)
 
-module _ (cs ls heads links ss : List ℕ) (t : Tables cs ls heads links ss) (ts : List ℕ) (q : ℕ) where
+module _ {cs ls heads links ss : List ℕ} (t : Tables cs ls heads links ss) (ts : List ℕ) (q : ℕ) where
   pub single-start : Single-walk cs ls links (getD ts q 0) (getD heads (char-bucket (getD ts q 0)) 0)
   single-start =
       walk-start links (bucket-of cs ls) (char-bucket (getD ts q 0)) (length ls) (Other cs ls (getD ts q 0))
@@ -195,7 +195,7 @@ module _ (cs ls heads links ss : List ℕ) (t : Tables cs ls heads links ss) (ts
       first : (j : ℕ) → length (word cs ls j) ≡ 1 → Stand (word cs ls j) ts (q + 1) → getD (word cs ls j) 0 0 ≡ getD ts q 0
       first j l s =
           let at : q + 1 + 0 - 1 ≡ q = omega arith in
-          rw at at (stand-at (word cs ls j) ts (q + 1) 0 s (omega arith))
+          rw at at (stand-at 0 s (omega arith))
 
       none : (j : ℕ) → j < length ls → length (word cs ls j) ≡ 1 → getD (word cs ls j) 0 0 ≡ getD ts q 0 → ⊥
       none j b l same =
@@ -205,7 +205,7 @@ module _ (cs ls heads links ss : List ℕ) (t : Tables cs ls heads links ss) (ts
   module _ (next : ℕ) (w : Single-walk cs ls links (getD ts q 0) next) (some : next ≡ 0 → ⊥) where
     pub single-stop : Stop links (bucket-of cs ls) (char-bucket (getD ts q 0)) (length ls) (Other cs ls (getD ts q 0)) next
     single-stop =
-        walk-stop links (bucket-of cs ls) (char-bucket (getD ts q 0)) (length ls) (Other cs ls (getD ts q 0)) next w some
+        walk-stop links (bucket-of cs ls) (char-bucket (getD ts q 0)) (length ls) (Other cs ls (getD ts q 0)) w some
 
     pub single-known : next - 1 < length ls
     single-known = omega (arith, some, single-stop .below)

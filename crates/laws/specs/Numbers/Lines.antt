@@ -75,10 +75,10 @@ Measured lex es = (e : Entry) → In e es → e .len ≡ length (spells lex (e .
 module _ (lex : Lexicon) (e : Entry) (es : List Entry) (len : e .len ≡ length (spells lex (e .key-of)))
     (before : (f : Entry) → In f es → entry-before e f ≡ true) where
   made-new :
-      (ls : List Line) → Lines-made lex es ls → ((m : Line) → In m ls → key-before (e .key-of) (m .key-of) ≡ true) →
+      {ls : List Line} → Lines-made lex es ls → ((m : Line) → In m ls → key-before (e .key-of) (m .key-of) ≡ true) →
       Lines-made lex (e ∷ es) (line (e .key-of) (e .at ∷ []) ∷ ls)
   unfolding flat entries-at line entry
-  made-new ls made h =
+  made-new {ls} made h =
       record {
         flat-is = rw (← len, made .flat-is);
         some = all-cons (λ (l : Line). 1 ≤ length (l .positions)) (line (e .key-of) (e .at ∷ [])) ls (omega arith) (made .some);
@@ -121,7 +121,7 @@ module _ (lex : Lexicon) (e : Entry) (es : List Entry) (len : e .len ≡ length 
 
   made-with : (ls : List Line) → Lines-made lex es ls → Lines-made lex (e ∷ es) (with-entry e ls)
   unfolding entry
-  made-with [] made = rw (with-entry-new e [] (λ m k. absurd k)) (made-new [] made (λ m k. absurd k))
+  made-with [] made = rw (with-entry-new e [] (λ m k. absurd k)) (made-new made (λ m k. absurd k))
   made-with (l ∷ ls) made = go (key-before-total (e .key-of) (l .key-of))
     where
       first : Entry-before e (posting lex (l .key-of) (getD (l .positions) 0 0))
@@ -133,7 +133,7 @@ module _ (lex : Lexicon) (e : Entry) (es : List Entry) (len : e .len ≡ length 
           (λ m i. key-before-strict .transitive (e .key-of) (l .key-of) (m .key-of) t (made .order .0 m i))
 
       new : key-before (e .key-of) (l .key-of) ≡ true → Lines-made lex (e ∷ es) (with-entry e (l ∷ ls))
-      new t = rw (with-entry-new e (l ∷ ls) (after t)) (made-new (l ∷ ls) made (after t))
+      new t = rw (with-entry-new e (l ∷ ls) (after t)) (made-new made (after t))
 
       same : e .key-of ≡ l .key-of → Lines-made lex (e ∷ es) (with-entry e (l ∷ ls))
       same k = rw (with-entry-same e l ls k) (made-same l ls made k)
@@ -201,10 +201,10 @@ good-flat-sound lex n ls good e m = let r = flat-get lex ls e m in go (r .0) (e 
 
 -- Good lines with the same entries are equal.
 pub lines-unique :
-    (lex : Lexicon) (n : ℕ) (ks ls : List Line) → Good-lines lex n ks → Good-lines lex n ls →
+    {lex : Lexicon} {n : ℕ} {ks ls : List Line} → Good-lines lex n ks → Good-lines lex n ls →
     ((e : Entry) → In e (flat lex ks) → In e (flat lex ls)) → ((e : Entry) → In e (flat lex ls) → In e (flat lex ks)) → ks ≡ ls
-lines-unique lex n ks ls p q f g =
+lines-unique {lex} {n} {ks} {ls} p q f g =
     let equal : flat lex ks ≡ flat lex ls =
-    ascend-unique entry-before entry-before-strict (flat lex ks) (flat lex ls) (good-flat-ascends lex n ks p)
+    ascend-unique entry-before-strict (flat lex ks) (flat lex ls) (good-flat-ascends lex n ks p)
     (good-flat-ascends lex n ls q) f g in
     sym (good-lines-of-flat lex n ks p) ∙ ap lines-of equal ∙ good-lines-of-flat lex n ls q

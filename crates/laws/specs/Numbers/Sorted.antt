@@ -36,7 +36,7 @@ pub length-sorted : (es : List Entry) → length (sorted es) ≡ length es
 length-sorted es = rw sorted-is (length-sort entry-before es)
 
 pub sorted-ascends : (es : List Entry) → Apart entry-before es → Ascend entry-before (sorted es)
-sorted-ascends es p = rw sorted-is (sort-ascends entry-before entry-before-strict es p)
+sorted-ascends es p = rw sorted-is (sort-ascends entry-before-strict es p)
 
 -- A TEXT'S ENTRIES ARE EACH LISTED ONCE
 

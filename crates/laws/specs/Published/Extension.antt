@@ -41,7 +41,7 @@ word-key lex w (inr c) =
 pub word-some : (lex : Lexicon) → Good-lexicon lex → (w : List ℕ) → Is-word lex w → 1 ≤ length w
 word-some lex good w h =
     let (k, hk, s) = word-key lex w h in
-    rw s at (spells-some lex good k hk)
+    rw s at (spells-some good k hk)
 
 -- ITEMS AND ENTRIES
 
@@ -62,15 +62,15 @@ item-entry lex ts i h =
 
 -- containment by position is enough for extension: an item that lies within another in the text has its word within the other's word
 pub nested-extends :
-    (lex : Lexicon) (ts : List ℕ) (i j : Item) → Is-item lex ts i → Is-item lex ts j → i .position ≤ j .position →
+    {lex : Lexicon} {ts : List ℕ} {i j : Item} → Is-item lex ts i → Is-item lex ts j → i .position ≤ j .position →
     j .position + length (j .word) ≤ i .position + length (i .word) → Extends i j
 unfolding Extends-word
-nested-extends lex ts i j hi hj starts ends =
+nested-extends {ts} {i} {j} hi hj starts ends =
     record {
       extends-word = (
         suc (j .position - i .position),
         stands-put (j .word) (i .word) (suc (j .position - i .position))
-            (stand-within (j .word) (i .word) ts (j .position) (i .position) (stands-get (j .word) ts (j .position) (hj .stand))
+            (stand-within (stands-get (j .word) ts (j .position) (hj .stand))
             (stands-get (i .word) ts (i .position) (hi .stand)) starts ends),
       );
       starts = starts;
@@ -78,49 +78,49 @@ nested-extends lex ts i j hi hj starts ends =
     }
 
 pub contains-extends :
-    (lex : Lexicon) (ts : List ℕ) (e f : Entry) → Is-entry lex ts e → Is-entry lex ts f → Contains e f →
+    {lex : Lexicon} {ts : List ℕ} {e f : Entry} → Is-entry lex ts e → Is-entry lex ts f → Contains e f →
     Extends (item-of lex e) (item-of lex f)
 unfolding item-of item
-contains-extends lex ts e f he hf c =
-    nested-extends lex ts (item-of lex e) (item-of lex f) (entry-item lex ts e he) (entry-item lex ts f hf) (c .starts)
+contains-extends {lex} {ts} {e} {f} he hf c =
+    nested-extends (entry-item lex ts e he) (entry-item lex ts f hf) (c .starts)
     (omega (arith, c .ends, he .len-is, hf .len-is))
 
 pub extends-contains :
-    (lex : Lexicon) (ts : List ℕ) (e f : Entry) → Is-entry lex ts e → Is-entry lex ts f →
+    {lex : Lexicon} {ts : List ℕ} {e f : Entry} → Is-entry lex ts e → Is-entry lex ts f →
     Extends (item-of lex e) (item-of lex f) → Contains e f
 unfolding item-of item
-extends-contains lex ts e f he hf x =
+extends-contains he hf x =
     record { starts = x .starts; ends = omega (arith, x .ends, he .len-is, hf .len-is) }
 
 pub item-of-unique :
-    (lex : Lexicon) → Good-lexicon lex → (ts : List ℕ) (e f : Entry) → Is-entry lex ts e → Is-entry lex ts f →
+    {lex : Lexicon} → Good-lexicon lex → {ts : List ℕ} {e f : Entry} → Is-entry lex ts e → Is-entry lex ts f →
     item-of lex e ≡ item-of lex f → e ≡ f
 unfolding item-of item
-item-of-unique lex good ts e f he hf p =
+item-of-unique {lex} good {e} {f} he hf p =
     let spelt : spells lex (e .key-of) ≡ spells lex (f .key-of) = ap (λ (i : Item). i .word) p in
-    entry-eq e f (keys-distinct lex good (e .key-of) (f .key-of) (he .is-key) (hf .is-key) spelt)
+    entry-eq e f (keys-distinct good (he .is-key) (hf .is-key) spelt)
     (ap (λ (i : Item). i .position) p) (he .len-is ∙ ap length spelt ∙ sym (hf .len-is))
 
 -- DEFINITION 7
 
 module _ (lex : Lexicon) (good : Good-lexicon lex) (ts : List ℕ) where
-  pub maximal-item : (e : Entry) → Is-maximal lex ts e → maximal-items lex ts (item-of lex e)
-  maximal-item e h = record { member = entry-item lex ts e (h .is-entry); alone = alone }
+  pub maximal-item : {e : Entry} → Is-maximal lex ts e → maximal-items lex ts (item-of lex e)
+  maximal-item {e} h = record { member = entry-item lex ts e (h .is-entry); alone = alone }
     where
       alone : (j : Item) → Is-item lex ts j → Extends j (item-of lex e) → j ≡ item-of lex e
       alone j hj x =
           let (f, hf, s) = item-entry lex ts j hj in
-          let same : f ≡ e = h .alone f hf (extends-contains lex ts f e hf (h .is-entry) (rw s x)) in
+          let same : f ≡ e = h .alone f hf (extends-contains hf (h .is-entry) (rw s x)) in
           sym s ∙ ap (item-of lex) same
 
-  pub item-maximal : (e : Entry) → Is-entry lex ts e → maximal-items lex ts (item-of lex e) → Is-maximal lex ts e
-  item-maximal e he h =
+  pub item-maximal : {e : Entry} → Is-entry lex ts e → maximal-items lex ts (item-of lex e) → Is-maximal lex ts e
+  item-maximal {e} he h =
       record {
         is-entry = he;
         alone =
             λ f hf c.
-            item-of-unique lex good ts f e hf he
-            (h .alone (item-of lex f) (entry-item lex ts f hf) (contains-extends lex ts f e hf he c));
+            item-of-unique good hf he
+            (h .alone (item-of lex f) (entry-item lex ts f hf) (contains-extends hf he c));
       }
 
 pub same-index : (g : ℕ) → Same-index g
@@ -138,53 +138,53 @@ same-index g cs ls ts a t = (from, to)
         (e : Entry) × In e (entries (lexicon cs ls) ts) × (item-of (lexicon cs ls) e ≡ i)
     from i h =
         let (e, he, s) = item-entry (lexicon cs ls) ts i (h .member) in
-        (e, entries-put (lexicon cs ls) good ts chars e (item-maximal (lexicon cs ls) good ts e he (rw s h)), s)
+        (e, entries-put (lexicon cs ls) good ts chars (item-maximal (lexicon cs ls) good ts he (rw s h)), s)
 
     to : (e : Entry) → In e (entries (lexicon cs ls) ts) → maximal-items (lexicon cs ls) ts (item-of (lexicon cs ls) e)
-    to e m = maximal-item (lexicon cs ls) good ts e (entries-get (lexicon cs ls) good ts chars e m)
+    to e m = maximal-item (lexicon cs ls) good ts (entries-get (lexicon cs ls) good ts chars e m)
 
 -- THE CLAIMS
 
 pub partial-order : Partial-order
 unfolding Partial-order
 partial-order lex ts i j k hi hj hk = (
-  nested-extends lex ts i i hi hi (omega arith) (omega arith),
-  λ x y. nested-extends lex ts i k hi hk (omega (arith, x .starts, y .starts)) (omega (arith, x .ends, y .ends)),
+  nested-extends hi hi (omega arith) (omega arith),
+  λ x y. nested-extends hi hk (omega (arith, x .starts, y .starts)) (omega (arith, x .ends, y .ends)),
   λ x y.
       let position : i .position ≡ j .position = omega (arith, x .starts, y .starts) in
       item-path i j
-      (stand-unique (i .word) (j .word) ts (j .position) (rw position at (stands-get (i .word) ts (i .position) (hi .stand)))
+      (stand-unique (rw position at (stands-get (i .word) ts (i .position) (hi .stand)))
       (stands-get (j .word) ts (j .position) (hj .stand)) (omega (arith, x .starts, x .ends, y .starts, y .ends)))
       position,
 )
 
-module _ (lex : Lexicon) (good : Good-lexicon lex) (ts : List ℕ) (chars : Chars ts) where
+module _ {lex : Lexicon} (good : Good-lexicon lex) (ts : List ℕ) (chars : Chars ts) where
   -- every item has an extension among the maximal ones
-  pub item-extended : (i : Item) → Is-item lex ts i → (j : Item) × maximal-items lex ts j × Extends j i
-  item-extended i h =
+  pub item-extended : {i : Item} → Is-item lex ts i → (j : Item) × maximal-items lex ts j × Extends j i
+  item-extended {i} h =
       let (e, he, s) = item-entry lex ts i h in
-      let (f, hf, c) = in-maximal lex good ts chars e he in
-      (item-of lex f, maximal-item lex good ts f hf, rw s at (contains-extends lex ts f e (hf .is-entry) he c))
+      let (f, hf, c) = in-maximal lex good ts chars he in
+      (item-of lex f, maximal-item lex good ts hf, rw s at (contains-extends (hf .is-entry) he c))
 
   -- an item is maximal itself, or has an extension among the maximal ones
   pub maximal-or-extended :
-      (i : Item) → Is-item lex ts i → maximal-items lex ts i ⊎ ((j : Item) × maximal-items lex ts j × Extends j i)
-  maximal-or-extended i h =
+      {i : Item} → Is-item lex ts i → maximal-items lex ts i ⊎ ((j : Item) × maximal-items lex ts j × Extends j i)
+  maximal-or-extended {i} h =
       let (e, he, s) = item-entry lex ts i h in
-      ⊎-elim (λ (m : Is-maximal lex ts e). inl (rw s at (maximal-item lex good ts e m)))
-      (λ (l : (f : Entry) × Is-entry lex ts f × Contains f e × (e .len < f .len)). inr (item-extended i h))
-      (maximal-or-longer lex good ts chars e he)
+      ⊎-elim (λ (m : Is-maximal lex ts e). inl (rw s at (maximal-item lex good ts m)))
+      (λ (l : (f : Entry) × Is-entry lex ts f × Contains f e × (e .len < f .len)). inr (item-extended h))
+      (maximal-or-longer lex good ts chars he)
 
 pub claim-1 : (g : ℕ) → Claim-1 g
 unfolding Claim-1 item
 claim-1 g cs ls ts a t w n hw hn =
-    maximal-or-extended (lexicon cs ls) (admitted-lexicon cs ls a) ts (is-text-get g ts t .0) (item w n)
+    maximal-or-extended (admitted-lexicon cs ls a) ts (is-text-get g ts t .0)
     (record { is-word = hw; stand = hn })
 
 pub claim-2 : (g : ℕ) → Claim-2 g
 unfolding Claim-2 item
 claim-2 g cs ls ts a t w hw p hp =
-    let (j, hj, x) = item-extended (lexicon cs ls) good ts (is-text-get g ts t .0) (item w p) (record { is-word = hw; stand = hp }) in
+    let (j, hj, x) = item-extended good ts (is-text-get g ts t .0) (record { is-word = hw; stand = hp }) in
     record {
       of = j;
       member = hj;

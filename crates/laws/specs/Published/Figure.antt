@@ -22,9 +22,9 @@ use Rattle.laws.specs.Entries.Longest.{longest-at, longest-at-is, make-i
 
 module _ (lex : Lexicon) (ts : List ℕ) where
   -- what the longest entry at a position spells is the longest prefix word there
-  pub longest-prefix-put : (p : ℕ) (e : Entry) → Longest-at lex ts p e → Longest-prefix lex ts p (spells lex (e .key-of))
+  pub longest-prefix-put : {p : ℕ} {e : Entry} → Longest-at lex ts p e → Longest-prefix lex ts p (spells lex (e .key-of))
   unfolding item item-of
-  longest-prefix-put p e l = record { is-item = rw (← l .here) (entry-item lex ts e he); longest = longest }
+  longest-prefix-put {p} {e} l = record { is-item = rw (← l .here) (entry-item lex ts e he); longest = longest }
     where
       he : Is-entry lex ts e
       he = l .is-longest .is-entry
@@ -38,10 +38,10 @@ module _ (lex : Lexicon) (ts : List ℕ) where
           (arith, l .is-longest .longest f hf (position ∙ sym (l .here)), hf .len-is, he .len-is, ap length spelt)
 
   -- and there is no other
-  pub longest-prefix-unique : (p : ℕ) (v w : List ℕ) → Longest-prefix lex ts p v → Longest-prefix lex ts p w → v ≡ w
+  pub longest-prefix-unique : {p : ℕ} {v w : List ℕ} → Longest-prefix lex ts p v → Longest-prefix lex ts p w → v ≡ w
   unfolding item
-  longest-prefix-unique p v w h k =
-      stand-unique v w ts p (stands-get v ts p (h .is-item .stand)) (stands-get w ts p (k .is-item .stand))
+  longest-prefix-unique {p} {v} {w} h k =
+      stand-unique (stands-get v ts p (h .is-item .stand)) (stands-get w ts p (k .is-item .stand))
       (omega (arith, h .longest w (k .is-item), k .longest v (h .is-item)))
 
   figure-1-from :
@@ -75,24 +75,24 @@ module _ (lex : Lexicon) (ts : List ℕ) where
       cases more same false = same
 
 -- the scan's entries, as items, are the maximal items
-module _ (lex : Lexicon) (good : Good-lexicon lex) (ts : List ℕ) (chars : Chars ts) where
+module _ {lex : Lexicon} (good : Good-lexicon lex) (ts : List ℕ) (chars : Chars ts) where
   pub make-items-get : (i : Item) → In i (map (item-of lex) (make-index lex ts)) → maximal-items lex ts i
   make-items-get i m =
       let (e, n, s) = in-map-get (item-of lex) i (make-index lex ts) m in
-      rw s at (maximal-item lex good ts e (make-index-exact lex good ts chars .get e n))
+      rw s at (maximal-item lex good ts (make-index-exact lex good ts chars .get e n))
 
   pub make-items-put : (i : Item) → maximal-items lex ts i → In i (map (item-of lex) (make-index lex ts))
   make-items-put i h =
       let (e, he, s) = item-entry lex ts i (h .member) in
       let found : In (item-of lex e) (map (item-of lex) (make-index lex ts)) =
       in-map-put (item-of lex) e (make-index lex ts)
-      (make-index-exact lex good ts chars .put e (item-maximal lex good ts e he (rw s h)) (he .stand .from)) in
+      (make-index-exact lex good ts chars .put e (item-maximal lex good ts he (rw s h)) (he .stand .from)) in
       rw s at found
 
 pub figure-1-holds : (g : ℕ) → Figure-1 g
 unfolding Figure-1 make-index
 figure-1-holds g cs ls ts a t l-prefix is i =
-    (λ m. make-items-get lex good ts chars i (rw same at m), λ h. rw same (make-items-put lex good ts chars i h))
+    (λ m. make-items-get good ts chars i (rw same at m), λ h. rw same (make-items-put good ts chars i h))
   where
     lex : Lexicon
     lex = lexicon cs ls
@@ -107,6 +107,6 @@ figure-1-holds g cs ls ts a t l-prefix is i =
     same =
         figure-1-from lex ts l-prefix (longest-at lex ts) (longest-at-is lex good ts chars)
         (λ p lo hi.
-        longest-prefix-unique lex ts p (l-prefix p) (spells lex (longest-at lex ts p .key-of)) (is p lo hi)
-        (longest-prefix-put lex ts p (longest-at lex ts p) (longest-at-is lex good ts chars p lo hi)))
+        longest-prefix-unique lex ts (is p lo hi)
+        (longest-prefix-put lex ts (longest-at-is lex good ts chars p lo hi)))
         (length ts) 1 1 (omega arith) (omega arith)

@@ -74,9 +74,9 @@ unfolding Is-word
 grown-start lex = record { has = λ w m. m; only = λ w m. inl (is-word-put lex w m) }
 
 module _ (lex : Lexicon) (ts : List ℕ) (chars : Chars ts) where
-  grown-step : (dict : List (List ℕ)) (p : ℕ) → 1 ≤ p → p ≤ length ts → Grown lex dict → Grown lex (grown dict ts p)
+  grown-step : {dict : List (List ℕ)} (p : ℕ) → 1 ≤ p → p ≤ length ts → Grown lex dict → Grown lex (grown dict ts p)
   unfolding grown Is-word is-char
-  grown-step dict p lo hi g = cases (eqb (length (longest-word dict ts p)) 0)
+  grown-step {dict} p lo hi g = cases (eqb (length (longest-word dict ts p)) 0)
     where
       only : (w : List ℕ) → In w ((getD ts (p - 1) 0 ∷ []) ∷ dict) → Is-word lex w
       only w (inl q) = inr (getD ts (p - 1) 0, lt-ltb (getD ts (p - 1) 0) 65536 (chars (p - 1) (omega arith)), q)
@@ -107,10 +107,10 @@ module _ (lex : Lexicon) (ts : List ℕ) (chars : Chars ts) where
 
   -- and the longest is the longest of the lexicon's words and single characters
   grown-longest :
-      (dict : List (List ℕ)) (p : ℕ) → 1 ≤ p → p ≤ length ts → Grown lex dict →
+      {dict : List (List ℕ)} (p : ℕ) → 1 ≤ p → p ≤ length ts → Grown lex dict →
       Longest-prefix lex ts p (longest-word (grown dict ts p) ts p)
   unfolding Is-word item
-  grown-longest dict p lo hi g = ⊎-elim found (λ (q : w ≡ []). absurd (omega (arith, some, ap length q))) (is .source)
+  grown-longest {dict} p lo hi g = ⊎-elim found (λ (q : w ≡ []). absurd (omega (arith, some, ap length q))) (is .source)
     where
       d : List (List ℕ)
       d = grown dict ts p
@@ -119,7 +119,7 @@ module _ (lex : Lexicon) (ts : List ℕ) (chars : Chars ts) where
       w = longest-word d ts p
 
       next : Grown lex d
-      next = grown-step dict p lo hi g
+      next = grown-step p lo hi g
 
       is : Is-longest-word d ts p w
       is = longest-word-is d ts p
@@ -127,34 +127,34 @@ module _ (lex : Lexicon) (ts : List ℕ) (chars : Chars ts) where
       some : 1 ≤ length w
       some = grown-some dict p lo hi
 
-      longest : (v : List ℕ) → Stand v ts p → Is-word lex v → length v ≤ length w
-      longest v h (inl t) = is .over-all v (next .has v (is-word-get lex v t)) h
-      longest v h (inr c) = omega (arith, some, ap length (c .2))
+      longest : {v : List ℕ} → Stand v ts p → Is-word lex v → length v ≤ length w
+      longest {v} h (inl t) = is .over-all v (next .has v (is-word-get lex v t)) h
+      longest h (inr c) = omega (arith, some, ap length (c .2))
 
       found : In w d × Stand w ts p → Longest-prefix lex ts p w
       found m =
           record {
             is-item = record { is-word = next .only w (m .0); stand = stands-put w ts p (m .1) };
-            longest = λ v h. longest v (stands-get v ts p (h .stand)) (h .is-word);
+            longest = λ v h. longest (stands-get v ts p (h .stand)) (h .is-word);
           }
 
   -- THE WHOLE SCAN
 
   growing-scan-from :
       (l-prefix : ℕ → List ℕ) → ((p : ℕ) → 1 ≤ p → p ≤ length ts → Longest-prefix lex ts p (l-prefix p)) → (left p last : ℕ)
-      (dict : List (List ℕ)) → Grown lex dict → 1 ≤ p → p + left ≡ suc (length ts) →
+      {dict : List (List ℕ)} → Grown lex dict → 1 ≤ p → p + left ≡ suc (length ts) →
       growing-scan left p last dict ts ≡ figure-1 l-prefix left p last
   unfolding growing-scan figure-1
-  growing-scan-from l-prefix is zero p last dict g lo fits = refl
-  growing-scan-from l-prefix is (suc n) p last dict g lo fits =
-      let next : Grown lex (grown dict ts p) = grown-step dict p lo (omega arith) g in
+  growing-scan-from l-prefix is zero p last g lo fits = refl
+  growing-scan-from l-prefix is (suc n) p last {dict} g lo fits =
+      let next : Grown lex (grown dict ts p) = grown-step p lo (omega arith) g in
       let same : longest-word (grown dict ts p) ts p ≡ l-prefix p =
-      longest-prefix-unique lex ts p (longest-word (grown dict ts p) ts p) (l-prefix p)
-      (grown-longest dict p lo (omega arith) g) (is p lo (omega arith)) in
+      longest-prefix-unique lex ts
+      (grown-longest p lo (omega arith) g) (is p lo (omega arith)) in
       rw (
         same,
-        growing-scan-from l-prefix is n (suc p) (p + length (l-prefix p)) (grown dict ts p) next (omega arith) (omega arith),
-        growing-scan-from l-prefix is n (suc p) last (grown dict ts p) next (omega arith) (omega arith),
+        growing-scan-from l-prefix is n (suc p) (p + length (l-prefix p)) next (omega arith) (omega arith),
+        growing-scan-from l-prefix is n (suc p) last next (omega arith) (omega arith),
       )
 
 pub growing-figure-1 :
@@ -162,7 +162,7 @@ pub growing-figure-1 :
     ((p : ℕ) → 1 ≤ p → p ≤ length ts → Longest-prefix lex ts p (l-prefix p)) →
     growing-scan (length ts) 1 1 (lex .words) ts ≡ figure-1 l-prefix (length ts) 1 1
 growing-figure-1 lex ts chars l-prefix is =
-    growing-scan-from lex ts chars l-prefix is (length ts) 1 1 (lex .words) (grown-start lex) (omega arith) (omega arith)
+    growing-scan-from lex ts chars l-prefix is (length ts) 1 1 (grown-start lex) (omega arith) (omega arith)
 
 pub growing-same : (g : ℕ) → Growing-same g
 unfolding Growing-same Figure-1
@@ -176,7 +176,7 @@ growing-same g cs ls ts a t i = rw same (figure-1-holds g cs ls ts a t l-prefix 
 
     is : (p : ℕ) → 1 ≤ p → p ≤ length ts → Longest-prefix (lexicon cs ls) ts p (l-prefix p)
     is p lo hi =
-        longest-prefix-put (lexicon cs ls) ts p (longest-at (lexicon cs ls) ts p)
+        longest-prefix-put (lexicon cs ls) ts
         (longest-at-is (lexicon cs ls) (admitted-lexicon cs ls a) ts chars p lo hi)
 
     same : growing-scan (length ts) 1 1 (lexicon cs ls .words) ts ≡ figure-1 l-prefix (length ts) 1 1

@@ -72,7 +72,7 @@ pub under-unique :
     ((k : Key) (p : ℕ) → Under k p xs → Under k p ys) → ((k : Key) (p : ℕ) → Under k p ys → Under k p xs) → xs ≡ ys
 under-unique g lex xs ys can also n there back =
     readable-unique g lex xs ys can also n
-    (lines-unique lex (n-of ys) (lines-in xs) (lines-in ys) (rw n at (readable-get g lex xs can .lines))
+    (lines-unique (rw n at (readable-get g lex xs can .lines))
     (readable-get g lex ys also .lines) (λ e m. under-flat lex xs ys e (there (e .key-of) (e .at)) m)
     (λ e m. under-flat lex ys xs e (back (e .key-of) (e .at)) m))
 
@@ -107,7 +107,7 @@ module _ (lex : Lexicon) (good : Good-lexicon lex) (ts : List ℕ) (chars : Char
   pub index-readable : (g : ℕ) → length ts ≤ g → readable g lex (index-of lex ts) ≡ true
   unfolding index-of
   index-readable g small =
-      readable-put g lex (length ts) (lines-of (sorted (entries lex ts))) (rw lines-in-index at index-lines-good) small
+      readable-put g (rw lines-in-index at index-lines-good) small
 
   -- THE ONLY ONE
 
@@ -117,7 +117,7 @@ module _ (lex : Lexicon) (good : Good-lexicon lex) (ts : List ℕ) (chars : Char
       ((e : Entry) → In e (entries lex ts) → In e (flat lex (lines-in xs))) → xs ≡ index-of lex ts
   index-unique g small xs can n only all =
       readable-unique g lex xs (index-of lex ts) can (index-readable g small) (n ∙ sym (n-of-index lex ts))
-      (lines-unique lex (length ts) (lines-in xs) (lines-in (index-of lex ts))
+      (lines-unique
       (rw n at (readable-get g lex xs can .lines)) index-lines-good
       (λ e m. in-index-put e (only e m)) (λ e m. all e (in-index-get e m)))
 
@@ -170,4 +170,4 @@ module _ (lex : Lexicon) (good : Good-lexicon lex) (ts : List ℕ) (chars : Char
           (e : Entry) × In e (flat lex (lines-in (index-of lex ts))) × (e .at ≤ p) × (p < e .at + e .len)
       cover p lo hi =
           let (e, h, from, to) = maximal-covers lex good ts chars p lo hi in
-          (e, in-index-put e (entries-put lex good ts chars e h), from, to)
+          (e, in-index-put e (entries-put lex good ts chars h), from, to)

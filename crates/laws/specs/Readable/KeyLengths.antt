@@ -12,7 +12,7 @@ use Rattle.laws.specs.Dictionary.Lexicon.{Is-admitted, admitted-put, adm
 use Rattle.laws.specs.Dictionary.Keys.{Is-word-key, Is-lone-key, key-kinds, spells-word, spells-lone, spells-some, spells-short}
 use Rattle.laws.specs.Readable.KeyTests.{word-long, word-count}
 
-module _ (cs ls : List ℕ) (h : Is-admitted cs ls) (kind value : ℕ) (is : Is-key (lexicon cs ls) (key kind value)) where
+module _ {cs ls : List ℕ} (h : Is-admitted cs ls) (kind value : ℕ) (is : Is-key (lexicon cs ls) (key kind value)) where
   pub lone-length : (kind ≡ 0 → ⊥) → 1 ≡ length (spells (lexicon cs ls) (key kind value))
   unfolding key
   lone-length other =
@@ -27,21 +27,21 @@ module _ (cs ls : List ℕ) (h : Is-admitted cs ls) (kind value : ℕ) (is : Is-
     unfolding key
     word-below =
         ⊎-elim
-        (λ (w : Is-word-key (lexicon cs ls) (key kind value)). omega (arith, w .below, word-count cs ls h))
+        (λ (w : Is-word-key (lexicon cs ls) (key kind value)). omega (arith, w .below, word-count h))
         (λ (c : Is-lone-key (lexicon cs ls) (key kind value)). absurd (omega (arith, c .kind-is)))
         (key-kinds (lexicon cs ls) (key kind value) is)
 
     pub word-length : getD ls value 0 ≡ length (spells (lexicon cs ls) (key kind value))
     unfolding key
     word-length =
-        sym (ap length (spells-word (lexicon cs ls) (key kind value) word) ∙ word-long cs ls h value word-below)
+        sym (ap length (spells-word (lexicon cs ls) (key kind value) word) ∙ word-long h value word-below)
 
 -- a key spells 1 to 32 characters
 pub record Key-length (lex : Lexicon) (k : Key) : Type 0 where
   pub some : 1 ≤ length (spells lex k)
   pub short : length (spells lex k) ≤ 32
 
-pub key-sizes : (cs ls : List ℕ) → Is-admitted cs ls → (k : Key) → Is-key (lexicon cs ls) k → Key-length (lexicon cs ls) k
-key-sizes cs ls h k is =
+pub key-sizes : {cs ls : List ℕ} → Is-admitted cs ls → {k : Key} → Is-key (lexicon cs ls) k → Key-length (lexicon cs ls) k
+key-sizes {cs} {ls} h {k} is =
     let good = admitted-lexicon cs ls (admitted-put cs ls h) in
-    record { some = spells-some (lexicon cs ls) good k is; short = spells-short (lexicon cs ls) good k is }
+    record { some = spells-some good k is; short = spells-short good k is }

@@ -35,7 +35,7 @@ word-longs [] cs v h b = absurd (omega arith)
 word-longs (l ∷ ls) cs zero h b = length-take-le l cs (omega arith)
 word-longs (l ∷ ls) cs (suc v) h b = word-longs ls (drop l cs) v (omega (arith, length-drop l cs)) (omega arith)
 
-module _ (cs ls : List ℕ) (h : Is-admitted cs ls) where
+module _ {cs ls : List ℕ} (h : Is-admitted cs ls) where
   pub word-long : (v : ℕ) → v < length ls → length (getD (lexicon cs ls .words) v []) ≡ getD ls v 0
   unfolding lexicon
   word-long v b = word-longs ls cs v (omega (arith, h .sum)) b
@@ -46,14 +46,14 @@ module _ (cs ls : List ℕ) (h : Is-admitted cs ls) where
 
 -- A WORD'S LINE
 
-module _ (read : List ℕ → List ℕ) (cs ls : List ℕ) (h : Is-admitted cs ls) (n least v c : ℕ) (ps : List ℕ) where
+module _ (read : List ℕ → List ℕ) {cs ls : List ℕ} (h : Is-admitted cs ls) (n least v c : ℕ) (ps : List ℕ) where
   pub word-low : v < least → false ≡ line-fits read (lexicon cs ls) n least (key 0 v) c ps
   unfolding line-fits key-fits key
   word-low low = rw (lt-leb least (0 * 65536 + v) (omega arith))
 
   pub word-high : length ls ≤ v → false ≡ line-fits read (lexicon cs ls) n least (key 0 v) c ps
   unfolding line-fits key-fits key-good key
-  word-high high = rw (le-ltb v (length (lexicon cs ls .words)) (omega (arith, word-count cs ls h)), and-false (leb least (0 * 65536 + v)))
+  word-high high = rw (le-ltb v (length (lexicon cs ls .words)) (omega (arith, word-count h)), and-false (leb least (0 * 65536 + v)))
 
   pub word-fits :
       least ≤ v → v < length ls → line-list-good read n (getD ls v 0) c ps ≡ line-fits read (lexicon cs ls) n least (key 0 v) c ps
@@ -61,8 +61,8 @@ module _ (read : List ℕ → List ℕ) (cs ls : List ℕ) (h : Is-admitted cs l
   word-fits order below =
       rw (
         le-leb least (0 * 65536 + v) (omega arith),
-        lt-ltb v (length (lexicon cs ls .words)) (omega (arith, word-count cs ls h)),
-        word-long cs ls h v below,
+        lt-ltb v (length (lexicon cs ls .words)) (omega (arith, word-count h)),
+        word-long h v below,
       )
 
 -- A LONE CHARACTER'S LINE

@@ -15,7 +15,7 @@ use Rattle.laws.specs.Readable.KeyTests.{lone-low, lone-word, lone-fits,
 
 -- A WORD'S LINE
 
-module _ (read : List ℕ → List ℕ) (lex : Lexicon) (xs : List ℕ) (i at least : ℕ)
+module _ {read : List ℕ → List ℕ} {lex : Lexicon} {xs : List ℕ} {i at least : ℕ}
     (h : Lines-read read lex xs i at least) (below : i < keys-of xs) (word : kind-at xs i ≡ 0) where
   abbrev word-test : Bool
   word-test = line-fits read lex (n-of xs) least (key 0 (value-at xs i)) (count-at xs i) (drop at xs)
@@ -34,7 +34,7 @@ module _ (read : List ℕ → List ℕ) (lex : Lexicon) (xs : List ℕ) (i at le
 
 -- A LONE CHARACTER'S LINE
 
-module _ (read : List ℕ → List ℕ) (lex : Lexicon) (xs : List ℕ) (i at least : ℕ)
+module _ {read : List ℕ → List ℕ} {lex : Lexicon} {xs : List ℕ} {i at : ℕ} (least : ℕ)
     (h : Lines-read read lex xs i at (65536 + least)) (below : i < keys-of xs) (small : value-at xs i < 65536) where
   pub other-stop : (kind-at xs i ≡ 1 → ⊥) → false ≡ walk-good read lex xs
   other-stop other =

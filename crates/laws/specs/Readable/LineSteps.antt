@@ -107,7 +107,7 @@ pub record Rises (ps : List ℕ) (good : Bool) (last i : ℕ) : Type 0 where
 pub rises-start : (ps : List ℕ) → Rises ps true 0 0
 rises-start ps = record { within = omega arith; tested = refl }
 
-module _ (ps : List ℕ) (good : Bool) (last i : ℕ) (h : Rises ps good last i) where
+module _ {ps : List ℕ} {good : Bool} {last i : ℕ} (h : Rises ps good last i) where
   pub rises-step : i < length ps → Rises ps (good && ltb last (getD ps i 0)) (getD ps i 0) (i + 1)
   unfolding rise-from
   rises-step below =

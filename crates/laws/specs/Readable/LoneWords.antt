@@ -55,8 +55,8 @@ passed-start cs ls h =
       left = λ u b. refl;
     }
 
-pub passed-raise : (cs ls : List ℕ) (w at v u : ℕ) → v ≤ u → Passed cs ls w at v → Passed cs ls w at u
-passed-raise cs ls w at v u more h =
+pub passed-raise : {cs ls : List ℕ} {w at v : ℕ} (u : ℕ) → v ≤ u → Passed cs ls w at v → Passed cs ls w at u
+passed-raise u more h =
     record { within = h .within; room = h .room; good = h .good; order = h .order; left = λ x b. h .left x (omega arith) }
 
 module _ (cs ls : List ℕ) (w at v : ℕ) (h : Passed cs ls w at v) where
@@ -128,7 +128,7 @@ module _ (cs ls : List ℕ) (w at v : ℕ) (h : Passed cs ls w at v) where
   passed-none past =
       ap (λ (l : List ℕ). listed (v ∷ []) (words-from l (drop at cs))) (sym (drop-of-length-le ls past)) ∙ h .left v (omega arith)
 
-module _ (cs ls : List ℕ) (w at v : ℕ) (h : Reached cs ls w at v) (below : w < length ls) where
+module _ {cs ls : List ℕ} {w at v : ℕ} (h : Reached cs ls w at v) (below : w < length ls) where
   abbrev here : List ℕ
   here = word cs ls w at v (h .passed) below
 

@@ -30,7 +30,7 @@ module _ (cs ls xs : List ℕ) (refusal : ℕ) (number : refusal ≡ index-refus
       }
 
 -- what holds if the index is accepted: no line is met, and the bounds are those of the directory
-module _ (cs ls xs : List ℕ) (refusal keys first : ℕ) (b : Bounded cs ls xs refusal keys first) (none : refusal ≡ 0) where
+module _ {cs ls xs : List ℕ} {refusal keys first : ℕ} (b : Bounded cs ls xs refusal keys first) (none : refusal ≡ 0) where
   pub opened-accepted : index-refusal cs ls xs ≡ 0
   opened-accepted = sym (b .number) ∙ none
 

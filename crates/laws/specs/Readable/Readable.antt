@@ -58,9 +58,9 @@ lines-good-put lex n (l ∷ ls) each =
 
 -- The numbers of good lines are readable.
 pub readable-put :
-    (g : ℕ) (lex : Lexicon) (n : ℕ) (ls : List Line) → Good-lines lex n ls → n ≤ g → readable g lex (numbers n ls) ≡ true
+    (g : ℕ) {lex : Lexicon} {n : ℕ} {ls : List Line} → Good-lines lex n ls → n ≤ g → readable g lex (numbers n ls) ≡ true
 unfolding readable
-readable-put g lex n ls good small =
+readable-put g {lex} {n} {ls} good small =
     rw (lines-in-numbers, keys-of-numbers, n-of-numbers)
     (and-put (and-put (lengths-fit-numbers n ls) (le-leb n g small))
     (and-put (kinds-good-directory ls 0 (numbers n ls) (all-positions ls) (directory-starts n ls)

@@ -189,9 +189,9 @@ recovered-is-plain = recovered-each (λ (c : ℕ). is-full-width c ≡ false) (b
 
 -- the first entry over p has the text's character there
 pub shown-text :
-    (lex : Lexicon) (ls : List Line) (ts : List ℕ) → Lines-match lex ls ts → (p : ℕ) → 1 ≤ p → p ≤ length ts →
+    {lex : Lexicon} {ls : List Line} {ts : List ℕ} → Lines-match lex ls ts → (p : ℕ) → 1 ≤ p → p ≤ length ts →
     shown lex ls p ≡ some (getD ts (p - 1) 0)
-shown-text lex ls ts show p lo hi =
+shown-text {lex} {ls} {ts} show p lo hi =
     let over = show .cover p lo hi in
     let c = shown-put lex ls p (over .0) (over .1) (over .2) (over .3) in
     from-shown (c .0) (c .1)
@@ -212,10 +212,10 @@ recovered-match lex ls ts show =
     each i h =
         let back : (1 + i) - 1 ≡ i = omega arith in
         getD-recovered-from (length ts) 1 lex ls i h
-        ∙ ap char-or (shown-text lex ls ts show (1 + i) (omega arith) (omega arith))
+        ∙ ap char-or (shown-text show (1 + i) (omega arith) (omega arith))
         ∙ ap (λ (j : ℕ). getD ts j 0) back
 
 pub recovered-text :
-    (lex : Lexicon) (xs ts : List ℕ) → Lines-match lex (lines-in xs) ts → n-of xs ≡ length ts → recovered lex xs ≡ ts
+    {lex : Lexicon} (xs : List ℕ) {ts : List ℕ} → Lines-match lex (lines-in xs) ts → n-of xs ≡ length ts → recovered lex xs ≡ ts
 unfolding recovered
-recovered-text lex xs ts show len = rw len (recovered-match lex (lines-in xs) ts show)
+recovered-text {lex} xs {ts} show len = rw len (recovered-match lex (lines-in xs) ts show)

@@ -31,4 +31,4 @@ all-covered-holds g cs ls ts p a t lo hi =
     let good = admitted-lexicon cs ls a in
     let chars = is-text-get g ts t .0 in
     let (e, he, starts, ends) = maximal-covers (lexicon cs ls) good ts chars p lo hi in
-    covers-place-put p e (entries (lexicon cs ls) ts) (entries-put (lexicon cs ls) good ts chars e he) starts ends
+    covers-place-put p e (entries (lexicon cs ls) ts) (entries-put (lexicon cs ls) good ts chars he) starts ends

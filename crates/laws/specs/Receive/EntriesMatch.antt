@@ -70,26 +70,26 @@ module _ (s : List ℕ) where
 
     -- If the string stands one period before, it is enough that the last characters are equal, as many as the period.
     pub stand-again :
-        (d : ℕ) → Period s d → d ≤ p → Stand s ts (p - d) → Equal-part s (length s - d) (length s) ts (p - 1) → Stand s ts p
-    stand-again d period back before h = stand-all (λ i lo b. each i b (le-or-lt (length s - d) i))
+        {d : ℕ} → Period s d → d ≤ p → Stand s ts (p - d) → Equal-part s (length s - d) (length s) ts (p - 1) → Stand s ts p
+    stand-again {d} period back before h = stand-all (λ i lo b. each i b (le-or-lt (length s - d) i))
       where
         each : (i : ℕ) → i < length s → (length s - d ≤ i) ⊎ (i < length s - d) → getD s i 0 ≡ getD ts (p - 1 + i) 0
         each i b (inl late) = h i late b
         each i b (inr early) =
             let z : p - d + (d + i) - 1 ≡ p - 1 + i = omega arith in
             sym (period .equal i (omega arith))
-            ∙ stand-at s ts (p - d) (d + i) before (omega arith)
+            ∙ stand-at (d + i) before (omega arith)
             ∙ ap (λ (j : ℕ). getD ts j 0) z
 
 -- if the string stands, every part of it is equal
-pub stand-part : (s ts : List ℕ) (p : ℕ) → Stand s ts p → (a : ℕ) → Equal-part s a (length s) ts (p - 1)
-stand-part s ts p st a x lo hi =
+pub stand-part : {s ts : List ℕ} {p : ℕ} → Stand s ts p → (a : ℕ) → Equal-part s a (length s) ts (p - 1)
+stand-part {s} {ts} {p} st a x lo hi =
     let z : p + x - 1 ≡ p - 1 + x = omega (arith, st .from) in
-    stand-at s ts p x st hi ∙ ap (λ (j : ℕ). getD ts j 0) z
+    stand-at x st hi ∙ ap (λ (j : ℕ). getD ts j 0) z
 
 -- from b back to a
-pub stand-back : (s ts : List ℕ) (a b : ℕ) → a ≤ b → Stand s ts a → Stand s ts (b - (b - a))
-stand-back s ts a b lo h = let z : b - (b - a) ≡ a = omega arith in rw z h
+pub stand-back : {s ts : List ℕ} {a : ℕ} (b : ℕ) → a ≤ b → Stand s ts a → Stand s ts (b - (b - a))
+stand-back {a} b lo h = let z : b - (b - a) ≡ a = omega arith in rw z h
 
 -- AT EACH POSITION OF A LIST
 
@@ -120,7 +120,7 @@ stand-character m ts p lo hi e =
 pub character-stands : (m : ℕ) (ts : List ℕ) (p : ℕ) → Stand (m ∷ []) ts p → getD ts (p - 1) 0 ≡ m
 character-stands m ts p st =
     let z : p + 0 - 1 ≡ p - 1 = omega arith in
-    ap (λ (j : ℕ). getD ts j 0) (sym z) ∙ sym (stand-at (m ∷ []) ts p 0 st (omega arith))
+    ap (λ (j : ℕ). getD ts j 0) (sym z) ∙ sym (stand-at 0 st (omega arith))
 
 -- ascending positions
 rise-next : (a : ℕ) (ps : List ℕ) → Rise a ps → (i : ℕ) → suc i < length ps → getD ps i 0 < getD ps (suc i) 0
@@ -160,15 +160,15 @@ module _ (lex : Lexicon) (xs ts : List ℕ) where
   unfolding counts-from
   matching-start = record { within = omega arith; at-is = omega arith; left = λ h. h }
 
-  module _ (at i : ℕ) (h : Matching lex xs ts at i) where
+  module _ {at i : ℕ} (h : Matching lex xs ts at i) where
     pub matching-lies : i < keys-of xs → Line-lies xs i at (at + count-at xs i)
     matching-lies below = record { below = below; begin-is = h .at-is; end-is = refl }
 
     pub matching-step :
-        (end : ℕ) → Line-lies xs i at end → Stand-each (spells lex (key-at xs i)) ts (take (end - at) (drop at xs)) →
+        {end : ℕ} → Line-lies xs i at end → Stand-each (spells lex (key-at xs i)) ts (take (end - at) (drop at xs)) →
         Matching lex xs ts end (i + 1)
     unfolding line
-    matching-step end lies here =
+    matching-step {end} lies here =
         record {
           within = omega (arith, lies .below);
           at-is = omega (arith, h .at-is, lies .end-is, counts-next i xs);
@@ -176,7 +176,7 @@ module _ (lex : Lexicon) (xs ts : List ℕ) where
               λ later.
               h .left
               (rw (lines-next xs i (lies .below))
-              (all-stand-line lex ts (line-of xs i) (drop (i + 1) (lines-in xs)) (rw (lies-positions xs i at end lies) at here) later));
+              (all-stand-line lex ts (line-of xs i) (drop (i + 1) (lines-in xs)) (rw (lies-positions lies) at here) later));
         }
 
     pub matching-end : keys-of xs ≤ i → All-stand lex (lines-in xs) ts
@@ -185,13 +185,13 @@ module _ (lex : Lexicon) (xs ts : List ℕ) where
 
 -- the entries of one line, if all stand
 pub line-matches :
-    (lex : Lexicon) (xs ts : List ℕ) (at i end : ℕ) → Line-lies xs i at end → All-stand lex (lines-in xs) ts →
+    (lex : Lexicon) {xs : List ℕ} (ts : List ℕ) {at i end : ℕ} → Line-lies xs i at end → All-stand lex (lines-in xs) ts →
     Stand-each (spells lex (key-at xs i)) ts (take (end - at) (drop at xs))
 unfolding line
-line-matches lex xs ts at i end lies all =
+line-matches lex {xs} ts {at} {i} {end} lies all =
     let here : In (line-of xs i) (lines-in xs) =
     subst (λ (l : Line). In l (lines-in xs)) (line-of-is xs i (lies .below)) (line-of-in xs i (lies .below)) in
-    rw (lies-positions xs i at end lies)
+    rw (lies-positions lies)
     (λ j b.
     let p : ℕ = getD (line-of xs i .positions) j 0 in
     all (posting lex (key-at xs i) p)

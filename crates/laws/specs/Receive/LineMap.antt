@@ -62,7 +62,7 @@ unfolding all-mapped
 all-mapped-put line-for xs [] h = refl
 all-mapped-put line-for xs (f ∷ es) h = and-put (h f (inl refl)) (all-mapped-put line-for xs es (λ e m. h e (inr m)))
 
-module _ (lex : Lexicon) (xs : List ℕ) (line-for : ℕ → ℕ) (mapped : Line-map xs line-for) where
+module _ (lex : Lexicon) {xs : List ℕ} {line-for : ℕ → ℕ} (mapped : Line-map xs line-for) where
   -- an entry mapped to its key is an entry of the slice
   mapped-right-get :
       (e : Entry) → 1 ≤ e .at → e .len ≡ length (spells lex (e .key-of)) → mapped-right line-for xs e ≡ true →
@@ -100,21 +100,21 @@ module _ (lex : Lexicon) (xs : List ℕ) (line-for : ℕ → ℕ) (mapped : Line
       and-put (lt-ltb 0 (line-for (e .at)) is)
       (same-key-put (key-at xs (line-for (e .at) - 1)) (e .key-of) (sym (line-of-key xs (line-for (e .at) - 1) (here .0)) ∙ keys))
 
-module _ (lex : Lexicon) (good : Good-lexicon lex) (g : ℕ) (xs : List ℕ) (can : readable g lex xs ≡ true) (line-for : ℕ → ℕ)
+module _ {lex : Lexicon} (good : Good-lexicon lex) (g : ℕ) {xs : List ℕ} (can : readable g lex xs ≡ true) {line-for : ℕ → ℕ}
     (mapped : Line-map xs line-for) where
   -- If the test passes, the slice is the index of the characters scanned, whatever they are.
   pub verify-index : (us : List ℕ) → Chars us → length us ≡ n-of xs → verify lex line-for xs us ≡ true → index-of lex us ≡ xs
   unfolding verify
   verify-index us chars len t =
-      counted-index lex good g xs can us chars len each
-      (sym (scan-count lex good us chars)
+      counted-index good g xs can us chars len each
+      (sym (scan-count good us chars)
       ∙ eqb-true (length (make-index lex us)) (entries-of xs)
       (and-right (all-mapped line-for xs (make-index lex us)) (eqb (length (make-index lex us)) (entries-of xs)) t))
     where
       each : (e : Entry) → In e (entries lex us) → In e (flat lex (lines-in xs))
       each e m =
           let h = entries-sound lex good us chars e m in
-          mapped-right-get lex xs line-for mapped e (h .from) (h .len-is)
+          mapped-right-get lex mapped e (h .from) (h .len-is)
           (all-mapped-get line-for xs (make-index lex us)
           (and-left (all-mapped line-for xs (make-index lex us)) (eqb (length (make-index lex us)) (entries-of xs)) t) e
           (make-index-put lex good us chars e m))
@@ -122,24 +122,24 @@ module _ (lex : Lexicon) (good : Good-lexicon lex) (g : ℕ) (xs : List ℕ) (ca
   pub verify-is-index :
       (us : List ℕ) → Chars us → length us ≡ n-of xs → verify lex line-for xs us ≡ true →
       (is-index g lex xs ≡ true) × (recovered lex xs ≡ us)
-  verify-is-index us chars len t = index-taken lex good g xs can us chars len (verify-index us chars len t)
+  verify-is-index us chars len t = index-taken good g xs can us chars len (verify-index us chars len t)
 
   pub is-index-verify : is-index g lex xs ≡ true → verify lex line-for xs (recovered lex xs) ≡ true
   unfolding verify
   is-index-verify r =
       and-put (all-mapped-put line-for xs (make-index lex (recovered lex xs)) each)
       (eq-eqb (length (make-index lex (recovered lex xs))) (entries-of xs)
-      (scan-count lex good (recovered lex xs) chars ∙ is-index-count lex good g xs r))
+      (scan-count good (recovered lex xs) chars ∙ is-index-count good g xs r))
     where
       chars : Chars (recovered lex xs)
-      chars = readable-chars lex good g xs can
+      chars = readable-chars good g xs can
 
       each : (e : Entry) → In e (make-index lex (recovered lex xs)) → mapped-right line-for xs e ≡ true
       each e m =
           let i = make-index-get lex good (recovered lex xs) chars e m in
-          let here = is-index-all lex good g xs r e i in
-          mapped-right-put lex xs line-for mapped e (entries-sound lex good (recovered lex xs) chars e i .from) here
-          (λ f n a. is-index-own-positions lex good g xs r f e n here a)
+          let here = is-index-all good g xs r e i in
+          mapped-right-put lex mapped e (entries-sound lex good (recovered lex xs) chars e i .from) here
+          (λ f n a. is-index-own-positions good g xs r f e n here a)
 
   -- The test passes exactly if the numbers are the index of the text recovered from them, for any characters that are then the recovered
   -- text.
@@ -169,10 +169,10 @@ module _ (lex : Lexicon) (line-for : ℕ → ℕ) (xs us : List ℕ) where
   unfolding verify-from scan all-mapped
   verify-ends p last count = let z : count + 0 ≡ count = omega arith in rw z
 
-  module _ (good : Good-lexicon lex) (chars : Chars us) (n p last count : ℕ) (lo : 1 ≤ p) (hi : p ≤ length us) (e : Entry)
+  module _ (good : Good-lexicon lex) (chars : Chars us) (n : ℕ) {p : ℕ} (last count : ℕ) (lo : 1 ≤ p) (hi : p ≤ length us) {e : Entry}
       (longest : Longest-at lex us p e) where
     is-longest : longest-at lex us p ≡ e
-    is-longest = sym (longest-at-unique lex good us chars p e lo hi longest)
+    is-longest = sym (longest-at-unique lex good us chars lo hi longest)
 
     pub verify-passes :
         p + e .len ≤ last → verify-from lex line-for xs us (suc n) p last count ≡ verify-from lex line-for xs us n (suc p) last count

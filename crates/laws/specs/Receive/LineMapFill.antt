@@ -125,10 +125,10 @@ fill-line-map-put i (l ∷ ls) ns p (suc j) lo hi b m =
 
 -- The line map of all lines of a readable slice, on a list where no position was mapped.
 pub line-map-mapped :
-    (lex : Lexicon) → Good-lexicon lex → (g : ℕ) (xs : List ℕ) → readable g lex xs ≡ true → (ns : List ℕ) → n-of xs ≤ length ns →
+    {lex : Lexicon} → Good-lexicon lex → (g : ℕ) (xs : List ℕ) → readable g lex xs ≡ true → (ns : List ℕ) → n-of xs ≤ length ns →
     ((p : ℕ) → 1 ≤ p → mapped-at ns p ≡ 0) → Line-map xs (mapped-at (fill-line-map 0 (lines-in xs) ns))
 unfolding line-of
-line-map-mapped lex good g xs can ns room clear = record { real = λ p i. real p i; each = λ p i. each p i }
+line-map-mapped {lex} good g xs can ns room clear = record { real = λ p i. real p i; each = λ p i. each p i }
   where
     good-line : (l : Line) → In l (lines-in xs) → Good-line lex (n-of xs) l
     good-line l m = readable-get g lex xs can .lines .each l m
@@ -152,5 +152,5 @@ line-map-mapped lex good g xs can ns room clear = record { real = λ p i. real p
         let here : In (line-of xs i) (lines-in xs) = line-of-in xs i b in
         let h : Good-line lex (n-of xs) (line-of xs i) = good-line (line-of xs i) here in
         fill-line-map-put 0 (lines-in xs) ns p i (from (line-of xs i) here p m)
-        (omega (arith, h .fits p m, spells-some lex good (line-of xs i .key-of) (h .is-key)))
+        (omega (arith, h .fits p m, spells-some good (line-of xs i .key-of) (h .is-key)))
         (omega (arith, length-lines-in xs)) m

@@ -30,9 +30,9 @@ pub record Can-map (xs : List ℕ) (m : ℕ) : Type 0 where
   pub each : (i : ℕ) → i < keys-of xs → Lie-within 1 m (line-of xs i .positions)
 
 pub readable-line-map :
-    (lex : Lexicon) → Good-lexicon lex → (g : ℕ) (xs : List ℕ) → readable g lex xs ≡ true → (m : ℕ) → n-of xs ≤ m → Can-map xs m
+    {lex : Lexicon} → Good-lexicon lex → (g : ℕ) (xs : List ℕ) → readable g lex xs ≡ true → (m : ℕ) → n-of xs ≤ m → Can-map xs m
 unfolding line
-readable-line-map lex good g xs can m room =
+readable-line-map {lex} good g xs can m room =
     record { fits = readable-fits g lex xs can; each = λ i b. each i b }
   where
     good-line : (i : ℕ) → i < keys-of xs → Good-line lex (n-of xs) (line-of xs i)
@@ -45,7 +45,7 @@ readable-line-map lex good g xs can m room =
         let lie = good-lie lex (n-of xs) (line-of xs i) (good-line i b) in
         record {
           from = lie .from;
-          to = λ j h. omega (arith, lie .to j h, spells-some lex good (key-at xs i) (good-line i b .is-key));
+          to = λ j h. omega (arith, lie .to j h, spells-some good (key-at xs i) (good-line i b .is-key));
         }
 
 -- THE LINES
@@ -59,20 +59,20 @@ module _ (xs old : List ℕ) where
   mapping-start = passing-start fill-line-map xs old
 
   module _ (now : List ℕ) (at i : ℕ) (h : Filling-lines xs old now at i) where
-    pub mapping-room : Can-map xs (length old) → (end : ℕ) → Line-lies xs i at end → Lie-within 1 (length now) (take (end - at) (drop at xs))
-    mapping-room can end lies = rw (h .len, lies-positions xs i at end lies) (can .each i (lies .below))
+    pub mapping-room : Can-map xs (length old) → {end : ℕ} → Line-lies xs i at end → Lie-within 1 (length now) (take (end - at) (drop at xs))
+    mapping-room can {end} lies = rw (h .len, lies-positions lies) (can .each i (lies .below))
 
     pub mapping-step :
-        (end : ℕ) → Line-lies xs i at end → (next : List ℕ) → next ≡ fill-positions (i + 1) (take (end - at) (drop at xs)) now →
+        {end : ℕ} → Line-lies xs i at end → (next : List ℕ) → next ≡ fill-positions (i + 1) (take (end - at) (drop at xs)) now →
         Filling-lines xs old next end (i + 1)
     unfolding fill-line-map line
-    mapping-step end lies next e =
-        let positions : take (end - at) (drop at xs) ≡ line-of xs i .positions = lies-positions xs i at end lies in
+    mapping-step {end} lies next e =
+        let positions : take (end - at) (drop at xs) ≡ line-of xs i .positions = lies-positions lies in
         rw (lies .end-is)
-        (passing-step fill-line-map xs old now at i h (lies .below) next
+        (passing-step fill-line-map xs old h (lies .below) next
         (ap length e ∙ length-fill-positions (i + 1) (take (end - at) (drop at xs)) now)
         (rw (e, positions, add-one i)))
 
     pub mapping-end : keys-of xs ≤ i → now ≡ fill-line-map 0 (lines-in xs) old
     unfolding fill-line-map
-    mapping-end past = passing-end fill-line-map xs old now at i h past refl
+    mapping-end past = passing-end fill-line-map xs old h past refl

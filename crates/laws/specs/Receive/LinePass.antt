@@ -18,7 +18,7 @@ pub record Line-lies (xs : List ℕ) (i begin end : ℕ) : Type 0 where
   pub begin-is : begin ≡ list-start xs i
   pub end-is : end ≡ begin + count-at xs i
 
-module _ (xs : List ℕ) (i begin end : ℕ) (h : Line-lies xs i begin end) where
+module _ {xs : List ℕ} {i begin end : ℕ} (h : Line-lies xs i begin end) where
   pub lies-room : Fits xs → end ≤ length xs
   lies-room fits = omega (arith, h .begin-is, h .end-is, list-room xs i (h .below) fits)
 
@@ -43,7 +43,7 @@ module _ (make : ℕ → List Line → List ℕ → List ℕ) (xs old : List ℕ
   unfolding counts-from
   passing-start = record { within = omega arith; at-is = omega arith; left = refl; len = refl }
 
-  module _ (now : List ℕ) (at i : ℕ) (h : Passing make xs old now at i) where
+  module _ {now : List ℕ} {at i : ℕ} (h : Passing make xs old now at i) where
     pub passing-lies : i < keys-of xs → Line-lies xs i at (at + count-at xs i)
     passing-lies below = record { below = below; begin-is = h .at-is; end-is = refl }
 

@@ -23,7 +23,7 @@ module _ (s : List ℕ) (at : ℕ) (old : List ℕ) where
       let z : at + 0 ≡ at = omega arith in
       record { within = omega arith; left = rw z; len = refl }
 
-  module _ (now : List ℕ) (j : ℕ) (h : Setting s at old now j) where
+  module _ {now : List ℕ} {j : ℕ} (h : Setting s at old now j) where
     pub setting-step : j < length s → Setting s at old (set now (at + j) (getD s j 0)) (j + 1)
     setting-step below =
         let z : at + (j + 1) ≡ suc (at + j) = omega arith in
@@ -69,7 +69,7 @@ module _ (s ps old : List ℕ) where
   pub reconstructed-start : Reconstructed s ps old old 0
   reconstructed-start = record { within = omega arith; left = refl; len = refl }
 
-  module _ (now : List ℕ) (j : ℕ) (h : Reconstructed s ps old now j) where
+  module _ {now : List ℕ} {j : ℕ} (h : Reconstructed s ps old now j) where
     pub reconstructed-step : j < length ps → (next : List ℕ) → next ≡ sets now (getD ps j 0 - 1) s → Reconstructed s ps old next (j + 1)
     unfolding reconstruct-positions
     reconstructed-step below next e =
@@ -84,9 +84,9 @@ module _ (s ps old : List ℕ) where
     reconstructed-end past = rw (drop-of-length-le ps past) at (h .left)
 
 -- the same with a single value
-module _ (m : ℕ) (ps old now : List ℕ) (j : ℕ) (h : Reconstructed (m ∷ []) ps old now j) where
+module _ (m : ℕ) {ps old now : List ℕ} {j : ℕ} (h : Reconstructed (m ∷ []) ps old now j) where
   pub filled-step : j < length ps → Reconstructed (m ∷ []) ps old (set now (getD ps j 0 - 1) m) (j + 1)
-  filled-step below = reconstructed-step (m ∷ []) ps old now j h below (set now (getD ps j 0 - 1) m) refl
+  filled-step below = reconstructed-step (m ∷ []) ps old h below (set now (getD ps j 0 - 1) m) refl
 
   pub filled-end : length ps ≤ j → now ≡ fill-positions m ps old
-  filled-end past = reconstructed-end (m ∷ []) ps old now j h past ∙ reconstruct-character m ps old
+  filled-end past = reconstructed-end (m ∷ []) ps old h past ∙ reconstruct-character m ps old

@@ -62,11 +62,11 @@ received-put g lex xs h = and-put (h .is-own) (not-put (plain-put (recovered lex
 pub received-reads : (g : ℕ) (lex : Lexicon) (xs : List ℕ) → received g lex xs ≡ true → readable g lex xs ≡ true
 received-reads g lex xs t = is-index-get g lex xs (received-get g lex xs t .is-own) .can-read
 
-module _ (lex : Lexicon) (good : Good-lexicon lex) where
+module _ {lex : Lexicon} (good : Good-lexicon lex) where
   -- the text recovered from readable numbers consists of characters
   pub readable-chars : (g : ℕ) (xs : List ℕ) → readable g lex xs ≡ true → Chars (recovered lex xs)
   readable-chars g xs t =
-      recovered-is-chars lex xs (λ l m. spells-chars lex good (l .key-of) (readable-get g lex xs t .lines .each l m .is-key))
+      recovered-is-chars lex xs (λ l m. spells-chars good (l .key-of) (readable-get g lex xs t .lines .each l m .is-key))
 
   pub readable-small : (g : ℕ) (xs : List ℕ) → readable g lex xs ≡ true → length (recovered lex xs) ≤ g
   readable-small g xs t = omega (arith, length-recovered lex xs, readable-get g lex xs t .length-allowed)
@@ -75,7 +75,7 @@ module _ (lex : Lexicon) (good : Good-lexicon lex) where
 
   module _ (ts : List ℕ) (chars : Chars ts) where
     pub index-recovered : recovered lex (index-of lex ts) ≡ ts
-    index-recovered = recovered-text lex (index-of lex ts) ts (index-match lex good ts chars) (n-of-index lex ts)
+    index-recovered = recovered-text (index-of lex ts) (index-match lex good ts chars) (n-of-index lex ts)
 
     pub index-can-read : (g : ℕ) → length ts ≤ g → readable g lex (index-of lex ts) ≡ true
     index-can-read g small = index-readable lex good ts chars g small
@@ -99,7 +99,7 @@ module _ (lex : Lexicon) (good : Good-lexicon lex) where
         (record { is-own = equal-own-index g xs small e; plain = subst Plain (sym (is-index-recovered xs e)) plain })
 
     pub index-find : (s : List ℕ) → 1 ≤ length s → find lex (index-of lex ts) s ≡ positions s ts
-    index-find s some = find-positions lex (index-of lex ts) ts s (index-match lex good ts chars) (n-of-index lex ts) some
+    index-find s some = find-positions (index-of lex ts) s (index-match lex good ts chars) (n-of-index lex ts) some
 
   -- no two texts have the same index
   pub index-injective : (ts us : List ℕ) → Chars ts → Chars us → index-of lex ts ≡ index-of lex us → ts ≡ us

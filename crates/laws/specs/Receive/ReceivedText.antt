@@ -47,9 +47,9 @@ module _ (cs ls xs : List ℕ) (w : ℕ) (chars : Chars cs) (none : delivery-ref
   pub delivered-lexicon : Good-lexicon (lexicon cs ls)
   delivered-lexicon = reached-lexicon cs ls chars (delivered cs ls xs w none .admits)
 
-  pub delivered-room : (heads links starts : List ℕ) → Blank heads links starts → Room cs ls heads links starts
-  delivered-room heads links starts b =
-      blank-room cs ls [] 0 heads links starts chars
+  pub delivered-room : {heads links starts : List ℕ} → Blank heads links starts → Room cs ls heads links starts
+  delivered-room {heads} {links} {starts} b =
+      blank-room cs ls [] 0 chars
       (early-none cs ls [] 0 (delivered cs ls xs w none .admits) (omega arith) (omega arith)) b
 
 -- w is the work slice before the reconstruction, u after it, v after the line map is filled
@@ -74,7 +74,7 @@ module _ (cs ls xs w : List ℕ) (chars : Chars cs) (work : Chars w) (none : del
   pub tried-mapped : Line-map xs (mapped-at ns)
   tried-mapped =
       rw line-map
-      (line-map-mapped (lexicon cs ls) good longest-text xs can (replicate (n-of xs) 0) line-map-long
+      (line-map-mapped good longest-text xs can (replicate (n-of xs) 0) line-map-long
       (λ p lo. cleared-line-map (n-of xs) p))
 
   pub read-back : (r : Bool) → r ≡ verify (lexicon cs ls) (mapped-at ns) xs (take (n-of xs) v) → Read-back (lexicon cs ls) xs r v
@@ -84,18 +84,18 @@ module _ (cs ls xs w : List ℕ) (chars : Chars cs) (work : Chars w) (none : del
       exact =
           e
           ∙ rw (line-map, reconstructed)
-          (reception-exact (lexicon cs ls) good longest-text xs can (take (n-of xs) w) (replicate (n-of xs) 0)
+          (reception-exact good longest-text xs can (take (n-of xs) w) (replicate (n-of xs) 0)
           (chars-take (n-of xs) w work) text-long line-map-long (λ p lo. cleared-line-map (n-of xs) p))
 
       recovers :
           is-index longest-text (lexicon cs ls) xs ≡ true →
           reconstruct (lexicon cs ls) (flat (lexicon cs ls) (lines-in xs)) (take (n-of xs) w) ≡ recovered (lexicon cs ls) xs
       recovers =
-          reception-recovers (lexicon cs ls) good longest-text xs can (take (n-of xs) w) (replicate (n-of xs) 0)
+          reception-recovers good longest-text xs can (take (n-of xs) w) (replicate (n-of xs) 0)
           (chars-take (n-of xs) w work) text-long line-map-long (λ p lo. cleared-line-map (n-of xs) p)
 
 -- the index is received if that text has no full-width form
-module _ (lex : Lexicon) (xs v : List ℕ) (shown : Bool) (h : Read-back lex xs shown v) where
+module _ {lex : Lexicon} {xs v : List ℕ} {shown : Bool} (h : Read-back lex xs shown v) where
   pub not-tried : shown ≡ false → Tried lex xs false v
   unfolding received
   not-tried f = record { exact = rw (← h .exact, f) refl; text = λ t. clash t refl }

@@ -148,9 +148,9 @@ module _ (n : ℕ) (r : Answer) (o w v : List ℕ) where
       }
 
 -- a text that was written from index 0 on
-pub text-put : (text old now : List ℕ) (end : ℕ) → Wrote text 0 old end now → now ≡ in-front text old
+pub text-put : {text old now : List ℕ} {end : ℕ} → Wrote text 0 old end now → now ≡ in-front text old
 unfolding in-front placed
-text-put text old now end h = let same : 0 + length text ≡ length text = omega arith in h .content ∙ rw same
+text-put {text} h = let same : 0 + length text ≡ length text = omega arith in h .content ∙ rw same
 
 -- slices of the same length are the same once cleared
 pub zeros-alike : (w u : List ℕ) → length u ≡ length w → zeros u ≡ zeros w
@@ -160,9 +160,9 @@ zeros-alike w u e = rw e
 -- w is the work slice as it was lent, u before it is cleared, and v after that
 module _ (cs ls xs : List ℕ) (r : Answer) (w u v : List ℕ) (same : length u ≡ length w) where
   pub receive-refused :
-      (number : ℕ) → number ≡ delivery-refusal cs ls xs (length w) → (number ≡ 0 → ⊥) → Refuses number r u v → Receive-says cs ls xs r w v
+      {number : ℕ} → number ≡ delivery-refusal cs ls xs (length w) → (number ≡ 0 → ⊥) → Refuses number r u v → Receive-says cs ls xs r w v
   unfolding Receive-says
-  receive-refused number e some h =
+  receive-refused {number} e some h =
       let early : reception-refusal cs ls xs (length w) ≡ number = reception-early cs ls xs (length w) number e some in (
         answers-refused (reception-refusal cs ls xs (length w)) (n-of xs) r (h .is ∙ sym early)
             (λ (z : reception-refusal cs ls xs (length w) ≡ 0). some (sym early ∙ z)) (h .nothing),
@@ -190,36 +190,36 @@ module _ (cs ls xs : List ℕ) (r : Answer) (w u v : List ℕ) (same : length u 
 
 module _ (cs ls xs : List ℕ) (r : Answer) (o w u v : List ℕ) (same : length u ≡ length w) where
   refusing :
-      (number : ℕ) → recovery-refusal cs ls xs (length o) (length w) ≡ number → (number ≡ 0 → ⊥) → Refuses number r u v →
+      {number : ℕ} → recovery-refusal cs ls xs (length o) (length w) ≡ number → (number ≡ 0 → ⊥) → Refuses number r u v →
       Recover-says cs ls xs r o o w v
   unfolding Recover-says
-  refusing number e some h = (
+  refusing e some h = (
     puts-refused (recovery-refusal cs ls xs (length o) (length w)) (recovered (lexicon cs ls) xs) r o o (h .is ∙ sym e)
         (λ (z : recovery-refusal cs ls xs (length o) (length w) ≡ 0). some (sym e ∙ z)) (h .nothing) refl,
     h .cleared ∙ zeros-alike w u same,
   )
 
   pub recover-refused :
-      (number : ℕ) → number ≡ delivery-refusal cs ls xs (length w) → (number ≡ 0 → ⊥) → Refuses number r u v →
+      {number : ℕ} → number ≡ delivery-refusal cs ls xs (length w) → (number ≡ 0 → ⊥) → Refuses number r u v →
       Recover-says cs ls xs r o o w v
-  recover-refused number e some h =
+  recover-refused {number} e some h =
       let early : reception-refusal cs ls xs (length w) ≡ number = reception-early cs ls xs (length w) number e some in
-      refusing number
+      refusing
       (recovery-early cs ls xs (length w) (length o) (λ (z : reception-refusal cs ls xs (length w) ≡ 0). some (sym early ∙ z)) ∙ early) some h
 
   module _ (none : delivery-refusal cs ls xs (length w) ≡ 0) where
     pub recover-unreceived : received longest-text (lexicon cs ls) xs ≡ false → Refuses 9 r u v → Recover-says cs ls xs r o o w v
     recover-unreceived f h =
         let nine : reception-refusal cs ls xs (length w) ≡ 9 = reception-unreceived cs ls xs (length w) none f in
-        refusing 9
+        refusing
         (recovery-early cs ls xs (length w) (length o) (λ (z : reception-refusal cs ls xs (length w) ≡ 0). omega arith) ∙ nine)
         (λ (z : 9 ≡ 0). omega arith) h
 
     pub recover-received :
-        received longest-text (lexicon cs ls) xs ≡ true → take (n-of xs) u ≡ recovered (lexicon cs ls) xs → (z : List ℕ) →
+        received longest-text (lexicon cs ls) xs ≡ true → take (n-of xs) u ≡ recovered (lexicon cs ls) xs → {z : List ℕ} →
         Gives (n-of xs) r o z u v → Recover-says cs ls xs r o z w v
     unfolding Recover-says
-    recover-received t text z h =
+    recover-received t text h =
         let late : recovery-refusal cs ls xs (length o) (length w) ≡ output-refusal (n-of xs) (length o) =
         recovery-late cs ls xs (length w) (length o) (reception-received cs ls xs (length w) none t) in
         (rw (late, ← text) (h .puts), h .cleared ∙ zeros-alike w u same)

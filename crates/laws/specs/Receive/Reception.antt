@@ -47,7 +47,7 @@ reconstruct-chars lex (e ∷ es) us chars spelt =
 
 -- THE WHOLE OF RECEPTION
 
-module _ (lex : Lexicon) (good : Good-lexicon lex) (g : ℕ) (xs : List ℕ) (can : readable g lex xs ≡ true) (us ns : List ℕ)
+module _ {lex : Lexicon} (good : Good-lexicon lex) (g : ℕ) (xs : List ℕ) (can : readable g lex xs ≡ true) (us ns : List ℕ)
     (chars : Chars us) (len : length us ≡ n-of xs) (room : n-of xs ≤ length ns) (clear : (p : ℕ) → 1 ≤ p → mapped-at ns p ≡ 0) where
   reconstructing : List ℕ
   reconstructing = reconstruct lex (flat lex (lines-in xs)) us
@@ -57,14 +57,14 @@ module _ (lex : Lexicon) (good : Good-lexicon lex) (g : ℕ) (xs : List ℕ) (ca
 
   mapped : Line-map xs line-map
   unfolding line-map
-  mapped = line-map-mapped lex good g xs can ns room clear
+  mapped = line-map-mapped good g xs can ns room clear
 
   reconstructing-chars : Chars reconstructing
   unfolding reconstructing
   reconstructing-chars =
       reconstruct-chars lex (flat lex (lines-in xs)) us chars
       (λ e m.
-      spells-chars lex good (e .key-of)
+      spells-chars good (e .key-of)
       (good-flat-sound lex (n-of xs) (lines-in xs) (readable-get g lex xs can .lines) e m .is-key))
 
   reconstructing-long : length reconstructing ≡ n-of xs
@@ -75,7 +75,7 @@ module _ (lex : Lexicon) (good : Good-lexicon lex) (g : ℕ) (xs : List ℕ) (ca
       verify lex (mapped-at (fill-line-map 0 (lines-in xs) ns)) xs (reconstruct lex (flat lex (lines-in xs)) us) ≡ is-index g lex xs
   unfolding reconstructing line-map
   reception-exact =
-      verify-exact lex good g xs can line-map mapped reconstructing reconstructing-chars reconstructing-long
+      verify-exact good g can mapped reconstructing reconstructing-chars reconstructing-long
       (λ r. reconstruct-recovered lex good g xs r (flat lex (lines-in xs)) us len (λ e m. m) (λ e m. m))
 
   pub reception-recovers : is-index g lex xs ≡ true → reconstruct lex (flat lex (lines-in xs)) us ≡ recovered lex xs

@@ -24,7 +24,7 @@ use Rattle.laws.specs.Receive.Received.{is-index-get, readable-chars, eq
 
 -- ENTRIES AND THEIR NUMBER
 
-module _ (lex : Lexicon) (good : Good-lexicon lex) (g : ℕ) (xs : List ℕ) (can : readable g lex xs ≡ true) where
+module _ {lex : Lexicon} (good : Good-lexicon lex) (g : ℕ) (xs : List ℕ) (can : readable g lex xs ≡ true) where
   flat-count : length (flat lex (lines-in xs)) ≡ entries-of xs
   flat-count = length-flat lex (lines-in xs) ∙ sym (entries-of-positions g lex xs can)
 
@@ -39,7 +39,7 @@ module _ (lex : Lexicon) (good : Good-lexicon lex) (g : ℕ) (xs : List ℕ) (ca
     where
       equal : sorted (entries lex us) ≡ flat lex (lines-in xs)
       equal =
-          ascend-counted entry-before entry-before-strict (sorted (entries lex us)) (flat lex (lines-in xs))
+          ascend-counted entry-before-strict (sorted (entries lex us)) (flat lex (lines-in xs))
           (sorted-entries-ascend lex us)
           (good-flat-ascends lex (n-of xs) (lines-in xs) (readable-get g lex xs can .lines))
           (λ e m. each e (in-sorted-get e (entries lex us) m))
@@ -49,14 +49,14 @@ module _ (lex : Lexicon) (good : Good-lexicon lex) (g : ℕ) (xs : List ℕ) (ca
   pub index-taken :
       (us : List ℕ) → Chars us → length us ≡ n-of xs → index-of lex us ≡ xs → (is-index g lex xs ≡ true) × (recovered lex xs ≡ us)
   index-taken us chars len is = (
-    equal-own-index lex good us chars g xs (omega (arith, readable-get g lex xs can .length-allowed)) is,
-    is-index-recovered lex good us chars xs is,
+    equal-own-index good us chars g xs (omega (arith, readable-get g lex xs can .length-allowed)) is,
+    is-index-recovered good us chars xs is,
   )
 
 -- conversely, if numbers are the index of the text recovered from them
-module _ (lex : Lexicon) (good : Good-lexicon lex) (g : ℕ) (xs : List ℕ) (taken : is-index g lex xs ≡ true) where
+module _ {lex : Lexicon} (good : Good-lexicon lex) (g : ℕ) (xs : List ℕ) (taken : is-index g lex xs ≡ true) where
   text-chars : Chars (recovered lex xs)
-  text-chars = readable-chars lex good g xs (is-index-get g lex xs taken .can-read)
+  text-chars = readable-chars good g xs (is-index-get g lex xs taken .can-read)
 
   index-is : index-of lex (recovered lex xs) ≡ xs
   index-is = is-index-get g lex xs taken .index-is

@@ -30,7 +30,7 @@ use Rattle.laws.specs.Receive.LinePass.{Line-lies, lies-positions, Passi
 -- WHAT IS READ
 
 -- a readable index and an admitted dictionary, with the table of starts
-module _ (cs ls starts : List ℕ) (started : Started cs ls starts) where
+module _ {cs ls starts : List ℕ} (started : Started cs ls starts) where
   pub started-words : Word-starts ls (length ls) starts
   unfolding start-of
   started-words =
@@ -78,35 +78,35 @@ pub reconstruct-line :
 unfolding flat
 reconstruct-line lex l ls us = reconstruct-run lex (l .key-of) (l .positions) (flat lex ls) us
 
-module _ (cs ls xs : List ℕ) (can : Can-read cs ls xs) (i begin end : ℕ) (lies : Line-lies xs i begin end) (us : List ℕ)
+module _ {cs ls xs : List ℕ} (can : Can-read cs ls xs) {i begin end : ℕ} (lies : Line-lies xs i begin end) (us : List ℕ)
     (len : length us ≡ n-of xs) where
   -- the key of line i fits at each of its positions
   key-room :
       Lie-within (length (spells (lexicon cs ls) (key-at xs i))) (length us) (take (end - begin) (drop begin xs))
   unfolding line
   key-room =
-      rw (lies-positions xs i begin end lies, len)
-      (good-lie (lexicon cs ls) (n-of xs) (line-of xs i) (line-is-good cs ls xs can i (lies .below)))
+      rw (lies-positions lies, len)
+      (good-lie (lexicon cs ls) (n-of xs) (line-of xs i) (line-is-good can i (lies .below)))
 
   line-good : Good-line (lexicon cs ls) (n-of xs) (line-of xs i)
-  line-good = line-is-good cs ls xs can i (lies .below)
+  line-good = line-is-good can i (lies .below)
 
   pub positions-some : 1 ≤ length (take (end - begin) (drop begin xs))
   unfolding line
-  positions-some = rw (lies-positions xs i begin end lies) (line-good .some)
+  positions-some = rw (lies-positions lies) (line-good .some)
 
   pub positions-rise : Rise 1 (take (end - begin) (drop begin xs))
   unfolding line
-  positions-rise = rw (lies-positions xs i begin end lies) (line-good .rise)
+  positions-rise = rw (lies-positions lies) (line-good .rise)
 
   -- a word, read from its part of the dictionary's characters
-  module _ (word : kind-at xs i ≡ 0) (ws : List ℕ) (table : Word-starts ls (length ls) ws) where
+  module _ (word : kind-at xs i ≡ 0) {ws : List ℕ} (table : Word-starts ls (length ls) ws) where
     abbrev part : List ℕ
     part =
         take (getD ws (value-at xs i) 0 + getD ls (value-at xs i) 0 - getD ws (value-at xs i) 0) (drop (getD ws (value-at xs i) 0) cs)
 
     spelt : part ≡ spells (lexicon cs ls) (key-at xs i)
-    spelt = word-spelt cs ls xs can i (lies .below) word ws table
+    spelt = word-spelt can i (lies .below) word table
 
     pub word-reconstructs : Lie-within (length part) (length us) (take (end - begin) (drop begin xs))
     word-reconstructs = rw spelt key-room
@@ -117,16 +117,16 @@ module _ (cs ls xs : List ℕ) (can : Can-read cs ls xs) (i begin end : ℕ) (li
     word-reconstructed next e = e ∙ ap (λ (s : List ℕ). reconstruct-positions s (take (end - begin) (drop begin xs)) us) spelt
 
     pub word-stood :
-        (ts : List ℕ) (r : Bool) → Reflects r (Stand-each part ts (take (end - begin) (drop begin xs))) →
+        (ts : List ℕ) {r : Bool} → Reflects r (Stand-each part ts (take (end - begin) (drop begin xs))) →
         Reflects r (Stand-each (spells (lexicon cs ls) (key-at xs i)) ts (take (end - begin) (drop begin xs)))
-    word-stood ts r h = rw spelt at h
+    word-stood ts h = rw spelt at h
 
   -- a lone character, which is a single value
   module _ (lone : kind-at xs i ≡ 0 → ⊥) where
     spelt-lone : spells (lexicon cs ls) (key-at xs i) ≡ value-at xs i ∷ []
     unfolding key
     spelt-lone =
-        let kind : kind-at xs i ≡ 1 = omega (arith, key-is cs ls xs can i (lies .below) .kind-small, lone) in
+        let kind : kind-at xs i ≡ 1 = omega (arith, key-is can i (lies .below) .kind-small, lone) in
         spells-lone (lexicon cs ls) (key-at xs i) kind
 
     pub lone-reconstructs : Lie-within 1 (length us) (take (end - begin) (drop begin xs))
@@ -138,9 +138,9 @@ module _ (cs ls xs : List ℕ) (can : Can-read cs ls xs) (i begin end : ℕ) (li
     lone-reconstructed next e = rw spelt-lone (e ∙ sym (reconstruct-character (value-at xs i) (take (end - begin) (drop begin xs)) us))
 
     pub lone-stood :
-        (ts : List ℕ) (r : Bool) → Reflects r (Stand-each (value-at xs i ∷ []) ts (take (end - begin) (drop begin xs))) →
+        (ts : List ℕ) {r : Bool} → Reflects r (Stand-each (value-at xs i ∷ []) ts (take (end - begin) (drop begin xs))) →
         Reflects r (Stand-each (spells (lexicon cs ls) (key-at xs i)) ts (take (end - begin) (drop begin xs)))
-    lone-stood ts r h = rw spelt-lone h
+    lone-stood ts h = rw spelt-lone h
 
 -- THE LINES
 
@@ -158,21 +158,21 @@ module _ (lex : Lexicon) (xs old : List ℕ) where
 
   module _ (now : List ℕ) (at i : ℕ) (h : Reconstructing-lines lex xs old now at i) where
     pub reconstructing-lies : i < keys-of xs → Line-lies xs i at (at + count-at xs i)
-    reconstructing-lies below = passing-lies (reconstruct-lines lex) xs old now at i h below
+    reconstructing-lies below = passing-lies (reconstruct-lines lex) xs old h below
 
     pub reconstructing-step :
-        (end : ℕ) → Line-lies xs i at end → (next : List ℕ) →
+        {end : ℕ} → Line-lies xs i at end → (next : List ℕ) →
         next ≡ reconstruct-positions (spells lex (key-at xs i)) (take (end - at) (drop at xs)) now →
         Reconstructing-lines lex xs old next end (i + 1)
     unfolding line
-    reconstructing-step end lies next e =
+    reconstructing-step {end} lies next e =
         rw (lies .end-is)
-        (passing-step (reconstruct-lines lex) xs old now at i h (lies .below) next
+        (passing-step (reconstruct-lines lex) xs old h (lies .below) next
         (ap length e ∙ length-reconstruct-positions (spells lex (key-at xs i)) (take (end - at) (drop at xs)) now)
         (reconstruct-line lex (line-of xs i) (drop (i + 1) (lines-in xs)) now
         ∙ ap (λ (us : List ℕ). reconstruct lex (flat lex (drop (i + 1) (lines-in xs))) us)
-        (sym (e ∙ ap (λ (ps : List ℕ). reconstruct-positions (spells lex (key-at xs i)) ps now) (lies-positions xs i at end lies)))))
+        (sym (e ∙ ap (λ (ps : List ℕ). reconstruct-positions (spells lex (key-at xs i)) ps now) (lies-positions lies)))))
 
     pub reconstructing-end : keys-of xs ≤ i → now ≡ reconstruct lex (flat lex (lines-in xs)) old
     unfolding reconstruct flat
-    reconstructing-end past = passing-end (reconstruct-lines lex) xs old now at i h past refl
+    reconstructing-end past = passing-end (reconstruct-lines lex) xs old h past refl

@@ -158,7 +158,7 @@ module _ (lex : Lexicon) (xs us ns : List ℕ) where
           exact =
               rw (s .passed (passed none) .1, add-one (q + 1))
               (sym
-              (verify-passes lex (mapped-at ns) xs us good chars (length us - (q + 1)) (q + 1) (e + 1) count (omega arith) (omega arith) (longest-at lex us (q + 1)) is-longest (passed none))
+              (verify-passes lex (mapped-at ns) xs us good chars (length us - (q + 1)) (e + 1) count (omega arith) (omega arith) is-longest (passed none))
               ∙ more);
         }
 
@@ -172,7 +172,7 @@ module _ (lex : Lexicon) (xs us ns : List ℕ) where
           exact =
               rw (s .registered (registered some) .1, add-one (q + 1), add-one count)
               (sym
-              (verify-registers lex (mapped-at ns) xs us good chars (length us - (q + 1)) (q + 1) (e + 1) count (omega arith) (omega arith) (longest-at lex us (q + 1)) is-longest (registered some) (right-line some ∙ right))
+              (verify-registers lex (mapped-at ns) xs us good chars (length us - (q + 1)) (e + 1) count (omega arith) (omega arith) is-longest (registered some) (right-line some ∙ right))
               ∙ more);
         }
 
@@ -180,13 +180,13 @@ module _ (lex : Lexicon) (xs us ns : List ℕ) where
         (token ≡ 0 → ⊥) → token-mapped xs (getD ns q 0) token (getD us q 0) ≡ false → false ≡ verify lex (mapped-at ns) xs us
     testing-fails some wrong =
         sym
-        (verify-fails lex (mapped-at ns) xs us good chars (length us - (q + 1)) (q + 1) (e + 1) count (omega arith) (omega arith) (longest-at lex us (q + 1)) is-longest (registered some) (right-line some ∙ wrong))
+        (verify-fails lex (mapped-at ns) xs us good chars (length us - (q + 1)) (e + 1) count (omega arith) (omega arith) is-longest (registered some) (right-line some ∙ wrong))
         ∙ more
 
   pub testing-ends :
-      (q e count : ℕ) → Testing lex xs us ns q e count → length us ≤ q → Fits xs →
+      {q e count : ℕ} → Testing lex xs us ns q e count → length us ≤ q → Fits xs →
       eqb (header + 3 * keys-of xs + count) (length xs) ≡ verify lex (mapped-at ns) xs us
-  testing-ends q e count t past fits =
+  testing-ends {q} {e} {count} t past fits =
       iff-eq (eqb (header + 3 * keys-of xs + count) (length xs)) (eqb count (entries-of xs))
       (λ b.
       eq-eqb count (entries-of xs) (omega (arith, fits .is-long, eqb-true (header + 3 * keys-of xs + count) (length xs) b)))

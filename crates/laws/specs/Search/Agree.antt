@@ -109,8 +109,8 @@ agree-first s k o h =
 
 -- agreement depends only on the difference of the positions
 pub agree-move :
-    (s : List ℕ) (a : ℕ) (e : List ℕ) (b c d : ℕ) → a + d ≡ c + b → Agree s a e b → Agree s c e d
-agree-move s a e b c d z h =
+    {s : List ℕ} {a : ℕ} {e : List ℕ} {b : ℕ} (c d : ℕ) → a + d ≡ c + b → Agree s a e b → Agree s c e d
+agree-move {s} {a} {e} {b} c d z h =
     record {
       shared = (h .shared + c) - a;
       string-from = omega arith;
@@ -133,5 +133,5 @@ pub agrees-move :
 agrees-move s a e b c d z =
     let y : c + b ≡ a + d = omega arith in
     iff-eq (agrees s a e b) (agrees s c e d)
-    (λ t. agrees-put s c e d (agree-move s a e b c d z (agrees-get s a e b t)))
-    (λ t. agrees-put s a e b (agree-move s c e d a b y (agrees-get s c e d t)))
+    (λ t. agrees-put s c e d (agree-move c d z (agrees-get s a e b t)))
+    (λ t. agrees-put s a e b (agree-move a b y (agrees-get s c e d t)))

@@ -37,8 +37,8 @@ pub record Extends (lex : Lexicon) (ls : List Line) (s : List ℕ) (p : ℕ) (Ta
 
 module _ (lex : Lexicon) (ls : List Line) (s : List ℕ) (p : ℕ) where
   -- A reach that no entry can extend comes to the string's end exactly if all of it is covered.
-  pub reached-exact : (r : ℕ) → Reached lex ls s p r → leb (length s) r ≡ all-covered (length s) p lex ls s p
-  reached-exact r h =
+  pub reached-exact : {r : ℕ} → Reached lex ls s p r → leb (length s) r ≡ all-covered (length s) p lex ls s p
+  reached-exact {r} h =
       iff-eq (leb (length s) r) (all-covered (length s) p lex ls s p)
       (λ t.
       let far : length s ≤ r = leb-true (length s) r t in
@@ -58,9 +58,9 @@ module _ (lex : Lexicon) (ls : List Line) (s : List ℕ) (p : ℕ) where
 
   -- one extension after another
   pub extends-then :
-      {A B : Entry → Type 0} (C : Entry → Type 0) (r t u : ℕ) → ((e : Entry) → C e → A e ⊎ B e) →
+      {A B : Entry → Type 0} (C : Entry → Type 0) {r t u : ℕ} → ((e : Entry) → C e → A e ⊎ B e) →
       Extends lex ls s p A r t → Extends lex ls s p B t u → Extends lex ls s p C r u
-  extends-then {A} {B} C r t u split one two =
+  extends-then {A} {B} C {r} {t} {u} split one two =
       record {
         grows = omega (arith, one .grows, two .grows);
         keeps = λ h. two .keeps (one .keeps h);
@@ -92,13 +92,13 @@ module _ (lex : Lexicon) (ls : List Line) (s : List ℕ) (p : ℕ) where
           (p + r ≤ x) ⊎ (x < p + r) → covered lex ls s p x ≡ true
       on h x lo hi inside (inr old) = h x lo old inside
       on h x lo hi inside (inl new) =
-          covered-put lex ls s p x f (record { among = m; from = omega arith; to = omega arith; agree = agree })
+          covered-put lex ls s p x (record { among = m; from = omega arith; to = omega arith; agree = agree })
 
   -- it is enough to take the entries that agree
   pub extends-fewer :
-      {A : Entry → Type 0} (B : Entry → Type 0) (r t : ℕ) →
+      {A : Entry → Type 0} (B : Entry → Type 0) {r t : ℕ} →
       ((e : Entry) → B e → Agree s p (spells lex (e .key-of)) (e .at) → A e) → Extends lex ls s p A r t → Extends lex ls s p B r t
-  extends-fewer B r t fewer h =
+  extends-fewer B fewer h =
       record { grows = h .grows; keeps = h .keeps; ends = λ e taken agree start. h .ends e (fewer e taken agree) agree start }
 
   -- entries that start after the end of the reach change nothing
@@ -127,9 +127,9 @@ module _ (lex : Lexicon) (ls : List Line) (s : List ℕ) (p : ℕ) where
 
   -- the offset o, then those after it; a reach below o is unchanged
   pub at-offsets-then :
-      (n o r t u : ℕ) → Extends lex ls s p (λ e. In e (flat lex ls) × (e .at ≡ p + o)) r t → At-offsets lex ls s p n (suc o) t u →
+      {n : ℕ} (o : ℕ) {r t u : ℕ} → Extends lex ls s p (λ e. In e (flat lex ls) × (e .at ≡ p + o)) r t → At-offsets lex ls s p n (suc o) t u →
       (r < o → u ≡ r) → At-offsets lex ls s p (suc n) o r u
-  at-offsets-then n o r t u offset later stop =
+  at-offsets-then {n} o {r} {t} {u} offset later stop =
       record {
         grows = omega (arith, offset .grows, later .grows);
         keeps = λ h. later .keeps (offset .keeps h);
@@ -148,9 +148,9 @@ module _ (lex : Lexicon) (ls : List Line) (s : List ℕ) (p : ℕ) where
 
   -- The leading keys from a reach of 0, and the offsets above 0 after them, leave a reach that no entry can extend.
   pub at-offsets-reached :
-      (t u : ℕ) → Extends lex ls s p (λ e. In e (flat lex ls) × (e .at ≤ p)) 0 t → At-offsets lex ls s p (length s - 1) 1 t u →
+      {t u : ℕ} → Extends lex ls s p (λ e. In e (flat lex ls) × (e .at ≤ p)) 0 t → At-offsets lex ls s p (length s - 1) 1 t u →
       Reached lex ls s p u
-  at-offsets-reached t u first offsets =
+  at-offsets-reached {t} {u} first offsets =
       record {
         covered-to = offsets .keeps (first .keeps (λ x lo hi inside. absurd (omega arith)));
         closed = λ e m agree start. closed e m agree start (le-or-lt (e .at) p);

@@ -127,8 +127,8 @@ module _ (a b : List ℕ) where
 -- AGREEMENT
 
 module _ (a b : List ℕ) where
-  pub stand-agree : (p : ℕ) → 1 ≤ length a → Stand a b p → Agree a p b 1
-  stand-agree p some st =
+  pub stand-agree : {p : ℕ} → 1 ≤ length a → Stand a b p → Agree a p b 1
+  stand-agree {p} some st =
       record {
         shared = p;
         string-from = omega arith;
@@ -139,9 +139,9 @@ module _ (a b : List ℕ) where
       }
 
   -- a string that agrees, starts no earlier and ends no later is contained in the other
-  pub agree-stand : (p q : ℕ) → Agree a p b q → q ≤ p → p + length a ≤ q + length b → Stand a b (suc (p - q))
-  agree-stand p q h lo hi =
-      let moved = agree-move a p b q (suc (p - q)) 1 (omega arith) h in
+  pub agree-stand : {p q : ℕ} → Agree a p b q → q ≤ p → p + length a ≤ q + length b → Stand a b (suc (p - q))
+  agree-stand {p} {q} h lo hi =
+      let moved = agree-move (suc (p - q)) 1 (omega arith) h in
       record {
         from = omega arith;
         within = omega arith;
@@ -160,9 +160,9 @@ module _ (a b : List ℕ) where
       }
 
   -- a string that agrees, starts no later and ends no later has a suffix that is a prefix of the other
-  pub agree-join : (p q : ℕ) → Agree a p b q → p ≤ q → p + length a ≤ q + length b → Join a b (q - p)
-  agree-join p q h lo hi =
-      let moved = agree-move a p b q 0 (q - p) (omega arith) h in
+  pub agree-join : {p q : ℕ} → Agree a p b q → p ≤ q → p + length a ≤ q + length b → Join a b (q - p)
+  agree-join {p} {q} h lo hi =
+      let moved = agree-move 0 (q - p) (omega arith) h in
       record {
         inside = omega (arith, h .string-to, h .entry-from);
         room = omega arith;

@@ -49,8 +49,8 @@ module _ (s ts : List ℕ) where
   pub positions-get : (p : ℕ) → In p (positions s ts) → Stand s ts p
   positions-get p m = stands-get s ts p (those-from-get (length ts) 1 (stands s ts) p (rw positions-those at m) .2)
 
-  pub positions-put : 1 ≤ length s → (p : ℕ) → Stand s ts p → In p (positions s ts)
-  positions-put some p st =
+  pub positions-put : 1 ≤ length s → {p : ℕ} → Stand s ts p → In p (positions s ts)
+  positions-put some {p} st =
       rw positions-those
       (those-from-put (length ts) 1 (stands s ts) p (st .from) (omega (arith, st .within)) (stands-put s ts p st))
 
@@ -88,8 +88,8 @@ module _ (lex : Lexicon) (xs s : List ℕ) where
         each = all-covered-get lex (lines-in xs) s p (length s) p (h .2);
       }
 
-  pub find-put : (p : ℕ) → Is-found lex (lines-in xs) (n-of xs) s p → In p (find lex xs s)
+  pub find-put : {p : ℕ} → Is-found lex (lines-in xs) (n-of xs) s p → In p (find lex xs s)
   unfolding find
-  find-put p h =
+  find-put {p} h =
       found-from-put lex (lines-in xs) s (suc (n-of xs) - length s) 1 p (h .from) (omega (arith, h .within))
       (all-covered-put lex (lines-in xs) s p (length s) p (h .each))

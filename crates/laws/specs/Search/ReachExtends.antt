@@ -26,10 +26,10 @@ At-offset lex p i o k bs e = In e (entries-at lex k bs) × (e .at + i ≡ p + o)
 
 module _ (lex : Lexicon) (ls : List Line) (s : List ℕ) (p : ℕ) where
   pub extend-extends :
-      (i o : ℕ) (k : Key) (b r : ℕ) → min i o ≡ 0 → Agree s i (spells lex k) o → In (posting lex k b) (flat lex ls) →
+      {i o : ℕ} (k : Key) (b r : ℕ) → min i o ≡ 0 → Agree s i (spells lex k) o → In (posting lex k b) (flat lex ls) →
       Extends lex ls s p (λ e. (e ≡ posting lex k b) × (e .at + i ≡ p + o)) r (extend i o (length (spells lex k)) p b r)
   unfolding extend
-  extend-extends i o k b r one agree m = by-offset (eqb (b + i) (p + o)) refl
+  extend-extends {i} {o} k b r one agree m = by-offset (eqb (b + i) (p + o)) refl
     where
       Taken : Entry → Type 0
       Taken e = (e ≡ posting lex k b) × (e .at + i ≡ p + o)
@@ -40,8 +40,8 @@ module _ (lex : Lexicon) (ls : List Line) (s : List ℕ) (p : ℕ) where
           let near : o ≤ r = leb-true o r t in
           let end : (o + length (spells lex k)) - i ≡ (b + length (spells lex k)) - p = omega arith in
           rw end
-          (extends-fewer lex ls s p Taken r (max r ((b + length (spells lex k)) - p)) (λ e taken a. taken .0)
-          (extends-by lex ls s p (posting lex k b) m (agree-move s i (spells lex k) o p b (omega arith) agree) r (omega arith)))
+          (extends-fewer lex ls s p Taken (λ e taken a. taken .0)
+          (extends-by lex ls s p (posting lex k b) m (agree-move p b (omega arith) agree) r (omega arith)))
       by-reach z false t =
           let far : r < o = leb-false o r t in
           extends-later lex ls s p Taken r (λ e taken. let at : e .at + i ≡ p + o = taken .1 in omega arith)
@@ -51,7 +51,7 @@ module _ (lex : Lexicon) (ls : List Line) (s : List ℕ) (p : ℕ) where
           Extends lex ls s p Taken r (cond t (cond (leb o r) (max r ((o + length (spells lex k)) - i)) r) r)
       by-offset true t = by-reach (eqb-true (b + i) (p + o) t) (leb o r) refl
       by-offset false t =
-          extends-fewer lex ls s p Taken r r
+          extends-fewer lex ls s p Taken
           (λ e taken a.
           let at : e .at ≡ b = ap (λ (f : Entry). f .at) (taken .0) in
           let z : b + i ≡ p + o = omega (arith, taken .1) in
@@ -59,19 +59,19 @@ module _ (lex : Lexicon) (ls : List Line) (s : List ℕ) (p : ℕ) where
           (extends-none lex ls s p r)
 
   pub reach-positions-extends :
-      (i o : ℕ) (k : Key) (bs : List ℕ) (r : ℕ) → min i o ≡ 0 → Agree s i (spells lex k) o →
+      {i o : ℕ} (k : Key) (bs : List ℕ) (r : ℕ) → min i o ≡ 0 → Agree s i (spells lex k) o →
       ((e : Entry) → In e (entries-at lex k bs) → In e (flat lex ls)) →
       Extends lex ls s p (At-offset lex p i o k bs) r (reach-positions i o (length (spells lex k)) p bs r)
   unfolding reach-positions entries-at entry
-  reach-positions-extends i o k [] r one agree kept =
-      extends-fewer lex ls s p (At-offset lex p i o k []) r r (λ e taken a. taken .0) (extends-none lex ls s p r)
-  reach-positions-extends i o k (b ∷ bs) r one agree kept =
+  reach-positions-extends {i} {o} k [] r one agree kept =
+      extends-fewer lex ls s p (At-offset lex p i o k []) (λ e taken a. taken .0) (extends-none lex ls s p r)
+  reach-positions-extends {i} {o} k (b ∷ bs) r one agree kept =
       let len = length (spells lex k) in
       let t = extend i o len p b r in
-      extends-then lex ls s p (At-offset lex p i o k (b ∷ bs)) r t (reach-positions i o len p bs t)
+      extends-then lex ls s p (At-offset lex p i o k (b ∷ bs))
       (λ e taken. split e (taken .0) (taken .1))
-      (extend-extends i o k b r one agree (kept (posting lex k b) (inl refl)))
-      (reach-positions-extends i o k bs t one agree (λ e m. kept e (inr m)))
+      (extend-extends k b r one agree (kept (posting lex k b) (inl refl)))
+      (reach-positions-extends k bs t one agree (λ e m. kept e (inr m)))
     where
       split :
           (e : Entry) → In e (posting lex k b ∷ entries-at lex k bs) → e .at + i ≡ p + o →
@@ -89,14 +89,14 @@ module _ (lex : Lexicon) (ls : List Line) (s : List ℕ) (p : ℕ) where
       by-test :
           (t : Bool) → agrees s i (spells lex k) o ≡ t →
           Extends lex ls s p (At-offset lex p i o k bs) r (cond t (reach-positions i o (length (spells lex k)) p bs r) r)
-      by-test true t = reach-positions-extends i o k bs r one (agrees-get s i (spells lex k) o t) kept
+      by-test true t = reach-positions-extends k bs r one (agrees-get s i (spells lex k) o t) kept
       by-test false t =
-          extends-fewer lex ls s p (At-offset lex p i o k bs) r r
+          extends-fewer lex ls s p (At-offset lex p i o k bs)
           (λ e taken a.
           let b = entries-at-get lex k bs e (taken .0) in
           let key : e .key-of ≡ k = ap (λ (f : Entry). f .key-of) (b .2) in
           let agree : Agree s p (spells lex k) (e .at) = rw key at a in
-          clash (agrees-put s i (spells lex k) o (agree-move s p (spells lex k) (e .at) i o (omega (arith, taken .1)) agree)) t)
+          clash (agrees-put s i (spells lex k) o (agree-move i o (omega (arith, taken .1)) agree)) t)
           (extends-none lex ls s p r)
 
   -- one key at n offsets from −i down
@@ -106,12 +106,12 @@ module _ (lex : Lexicon) (ls : List Line) (s : List ℕ) (p : ℕ) where
       (reach-back n i s (spells lex k) p bs r)
   unfolding reach-back
   reach-back-extends zero i k bs r kept =
-      extends-fewer lex ls s p (λ e. In e (entries-at lex k bs) × (e .at + i ≤ p) × (p < e .at + i + 0)) r r
+      extends-fewer lex ls s p (λ e. In e (entries-at lex k bs) × (e .at + i ≤ p) × (p < e .at + i + 0))
       (λ e taken a. omega arith) (extends-none lex ls s p r)
   reach-back-extends (suc n) i k bs r kept =
       let t = reach-key i 0 s (spells lex k) p bs r in
-      extends-then lex ls s p (λ e. In e (entries-at lex k bs) × (e .at + i ≤ p) × (p < e .at + i + suc n)) r t
-      (reach-back n (suc i) s (spells lex k) p bs t) (λ e taken. split e (taken .0) (taken .1) (taken .2) (le-or-lt p (e .at + i)))
+      extends-then lex ls s p (λ e. In e (entries-at lex k bs) × (e .at + i ≤ p) × (p < e .at + i + suc n))
+      (λ e taken. split e (taken .0) (taken .1) (taken .2) (le-or-lt p (e .at + i)))
       (reach-key-extends i 0 k bs r (omega arith) kept) (reach-back-extends n (suc i) k bs t kept)
     where
       split :
@@ -126,9 +126,9 @@ module _ (lex : Lexicon) (ls : List Line) (s : List ℕ) (p : ℕ) where
       Extends lex ls s p (λ e. In e (flat lex ks) × (e .at ≤ p)) r (reach-leading lex ks s p r)
   unfolding reach-leading flat
   reach-leading-extends [] r kept =
-      extends-fewer lex ls s p (λ e. ⊥ × (e .at ≤ p)) r r (λ e taken a. taken .0) (extends-none lex ls s p r)
+      extends-fewer lex ls s p (λ e. ⊥ × (e .at ≤ p)) (λ e taken a. taken .0) (extends-none lex ls s p r)
   reach-leading-extends (l ∷ ks) r kept =
-      extends-then lex ls s p (λ e. In e (flat lex (l ∷ ks)) × (e .at ≤ p)) r t (reach-leading lex ks s p t)
+      extends-then lex ls s p (λ e. In e (flat lex (l ∷ ks)) × (e .at ≤ p))
       (λ e taken. split e (taken .1) (in-append-get e (entries-at lex (l .key-of) (l .positions)) (flat lex ks) (taken .0)))
       line
       (reach-leading-extends ks t (λ e m. kept e (in-append-right e (entries-at lex (l .key-of) (l .positions)) (flat lex ks) m)))
@@ -144,7 +144,7 @@ module _ (lex : Lexicon) (ls : List Line) (s : List ℕ) (p : ℕ) where
 
       line : Extends lex ls s p Here r t
       line =
-          extends-fewer lex ls s p Here r t
+          extends-fewer lex ls s p Here
           (λ e taken a.
           let b = entries-at-get lex (l .key-of) (l .positions) e (taken .0) in
           let key : e .key-of ≡ l .key-of = ap (λ (f : Entry). f .key-of) (b .2) in
@@ -165,10 +165,10 @@ module _ (lex : Lexicon) (ls : List Line) (s : List ℕ) (p : ℕ) where
       Extends lex ls s p (λ e. In e (flat lex ks) × (e .at ≡ p + o)) r (reach-offset o lex ks s p r)
   unfolding reach-offset flat
   reach-offset-extends [] o r kept =
-      extends-fewer lex ls s p (λ e. ⊥ × (e .at ≡ p + o)) r r (λ e taken a. taken .0) (extends-none lex ls s p r)
+      extends-fewer lex ls s p (λ e. ⊥ × (e .at ≡ p + o)) (λ e taken a. taken .0) (extends-none lex ls s p r)
   reach-offset-extends (l ∷ ks) o r kept =
       let t = reach-key 0 o s (spells lex (l .key-of)) p (l .positions) r in
-      extends-then lex ls s p (λ e. In e (flat lex (l ∷ ks)) × (e .at ≡ p + o)) r t (reach-offset o lex ks s p t)
+      extends-then lex ls s p (λ e. In e (flat lex (l ∷ ks)) × (e .at ≡ p + o))
       (λ e taken. split e (taken .1) (in-append-get e (entries-at lex (l .key-of) (l .positions)) (flat lex ks) (taken .0)))
       (reach-key-extends 0 o (l .key-of) (l .positions) r (omega arith)
       (λ e m. kept e (in-append-left e (entries-at lex (l .key-of) (l .positions)) (flat lex ks) m)))

@@ -39,14 +39,14 @@ covers-get s a p e (b ∷ bs) t =
     (or-get (lies-on b (length e) p && agrees s a e b) (covers s a p e bs) t)
 
 covers-put :
-    (s : List ℕ) (a p : ℕ) (e bs : List ℕ) (b : ℕ) → In b bs → b ≤ p → p < b + length e → Agree s a e b → covers s a p e bs ≡ true
+    {s : List ℕ} {a : ℕ} (p : ℕ) {e : List ℕ} (bs : List ℕ) {b : ℕ} → In b bs → b ≤ p → p < b + length e → Agree s a e b → covers s a p e bs ≡ true
 unfolding covers
-covers-put s a p e [] b m lo hi h = absurd m
-covers-put s a p e (c ∷ bs) b (inl z) lo hi h =
+covers-put p [] m lo hi h = absurd m
+covers-put {s} {a} p {e} (c ∷ bs) {b} (inl z) lo hi h =
     or-left (covers s a p e bs)
     (rw z at (and-put (lies-on-put b (length e) p lo hi) (agrees-put s a e b h)))
-covers-put s a p e (c ∷ bs) b (inr m) lo hi h =
-    or-right (lies-on c (length e) p && agrees s a e c) (covers-put s a p e bs b m lo hi h)
+covers-put {s} {a} p {e} (c ∷ bs) {b} (inr m) lo hi h =
+    or-right (lies-on c (length e) p && agrees s a e c) (covers-put p bs m lo hi h)
 
 -- an entry that lies on p and agrees with the string laid at a
 pub record Covers (lex : Lexicon) (ls : List Line) (s : List ℕ) (a p : ℕ) (e : Entry) : Type 0 where
@@ -85,14 +85,14 @@ module _ (lex : Lexicon) (ls : List Line) (s : List ℕ) (a p : ℕ) where
         record { among = flat-put lex ls (l .0) (b .0) (l .1) (b .1); from = b .2; to = b .3; agree = b .4 },
       )
 
-  pub covered-put : (e : Entry) → Covers lex ls s a p e → covered lex ls s a p ≡ true
-  covered-put e h =
+  pub covered-put : {e : Entry} → Covers lex ls s a p e → covered lex ls s a p ≡ true
+  covered-put {e} h =
       let l = flat-get lex ls e (h .among) in
       let key : e .key-of ≡ l .0 .key-of = ap (λ (f : Entry). f .key-of) (l .3) in
       let len : e .len ≡ length (spells lex (l .0 .key-of)) = ap (λ (f : Entry). f .len) (l .3) in
       let agree : Agree s a (spells lex (l .0 .key-of)) (e .at) = rw key at (h .agree) in
       covered-line-put lex ls s a p (l .0) (l .1)
-      (covers-put s a p (spells lex (l .0 .key-of)) (l .0 .positions) (e .at) (l .2) (h .from) (omega arith) agree)
+      (covers-put p (l .0 .positions) (l .2) (h .from) (omega arith) agree)
 
 -- each of n positions from p on
 module _ (lex : Lexicon) (ls : List Line) (s : List ℕ) (a : ℕ) where
@@ -162,7 +162,7 @@ module _ (lex : Lexicon) (ls : List Line) (ts : List ℕ) (all : All-stand lex l
       covered-at st x l h =
           let over = cover p st x l h in
           let len = flat-long lex ls (over .0) (over .1) in
-          covered-put lex ls s p x (over .0)
+          covered-put lex ls s p x
           (record {
             among = over .1;
             from = over .2;
@@ -218,7 +218,7 @@ module _ (lex : Lexicon) (ls : List Line) (ts : List ℕ) (show : Lines-match le
 
 -- Lines that match a text find exactly the positions at which a string stands in it.
 pub find-positions :
-    (lex : Lexicon) (xs ts s : List ℕ) → Lines-match lex (lines-in xs) ts → n-of xs ≡ length ts → 1 ≤ length s →
+    {lex : Lexicon} (xs : List ℕ) {ts : List ℕ} (s : List ℕ) → Lines-match lex (lines-in xs) ts → n-of xs ≡ length ts → 1 ≤ length s →
     find lex xs s ≡ positions s ts
 unfolding find
-find-positions lex xs ts s show len some = rw len (found-positions lex (lines-in xs) ts show s some)
+find-positions {lex} xs {ts} s show len some = rw len (found-positions lex (lines-in xs) ts show s some)

@@ -72,12 +72,12 @@ tally-all n lex (l ∷ ls) h =
 
 -- "Their sum is M."
 pub tally-sums :
-    (g : ℕ) (lex : Lexicon) (xs : List ℕ) → Good-lexicon lex → readable g lex xs ≡ true → total (tally lex xs) ≡ entries-of xs
+    (g : ℕ) {lex : Lexicon} (xs : List ℕ) → Good-lexicon lex → readable g lex xs ≡ true → total (tally lex xs) ≡ entries-of xs
 unfolding tally
-tally-sums g lex xs good t =
+tally-sums g {lex} xs good t =
     tally-all 32 lex (lines-in xs) lengths ∙ sym (entries-of-positions g lex xs t)
   where
     lengths : (l : Line) → In l (lines-in xs) → (1 ≤ length (spells lex (l .key-of))) × (length (spells lex (l .key-of)) ≤ 32)
     lengths l m =
         let is : Is-key lex (l .key-of) = readable-get g lex xs t .lines .each l m .is-key in
-        (spells-some lex good (l .key-of) is, spells-short lex good (l .key-of) is)
+        (spells-some good (l .key-of) is, spells-short good (l .key-of) is)

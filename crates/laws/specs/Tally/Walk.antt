@@ -132,7 +132,7 @@ tally-start lex xs given len small =
       summed = λ j b. let z : keys-of xs - 0 ≡ keys-of xs = omega arith in rw z;
     }
 
-module _ (lex : Lexicon) (xs given counts : List ℕ) (i : ℕ) (h : Tallied lex xs given counts i) where
+module _ {lex : Lexicon} {xs given counts : List ℕ} {i : ℕ} (h : Tallied lex xs given counts i) where
   module _ (position : ℕ) (below : i < keys-of xs) (small : count-at xs i ≤ 65535) (room : position < 32) (len : length (spells lex (key-at xs i)) ≡ position + 1) where
     raised : List ℕ
     raised = set counts position (getD counts position 0 + count-at xs i)

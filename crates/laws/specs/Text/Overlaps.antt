@@ -8,8 +8,8 @@ use lib.Seq.{ext-getD}
 use Rattle.laws.specs.Text.Strings.{Stand}
 
 -- the character of a string that stands in a text, by its index in the string
-pub stand-at : (s ts : List ℕ) (p i : ℕ) → Stand s ts p → i < length s → getD s i 0 ≡ getD ts (p + i - 1) 0
-stand-at s ts p i h b =
+pub stand-at : {s ts : List ℕ} {p : ℕ} (i : ℕ) → Stand s ts p → i < length s → getD s i 0 ≡ getD ts (p + i - 1) 0
+stand-at {s} {p} i h b =
     let back : p + i - p ≡ i = omega arith in
     ap (λ (j : ℕ). getD s j 0) (sym back) ∙ h .equal (p + i) (omega arith) (omega arith)
 
@@ -38,18 +38,18 @@ stand-char ts i b = stand-put (getD ts i 0 ∷ []) ts (suc i) (omega arith) (ome
     same (suc j) c = absurd (omega arith)
 
 -- strings of equal length at the same position are equal
-pub stand-unique : (r s ts : List ℕ) (p : ℕ) → Stand r ts p → Stand s ts p → length r ≡ length s → r ≡ s
-stand-unique r s ts p h k e =
-    ext-getD 0 r s e (λ i b. stand-at r ts p i h b ∙ sym (stand-at s ts p i k (omega arith)))
+pub stand-unique : {r s ts : List ℕ} {p : ℕ} → Stand r ts p → Stand s ts p → length r ≡ length s → r ≡ s
+stand-unique {r} {s} {ts} {p} h k e =
+    ext-getD 0 r s e (λ i b. stand-at i h b ∙ sym (stand-at i k (omega arith)))
 
 -- a string that lies within another's occurrence stands in that string
 pub stand-within :
-    (r s ts : List ℕ) (q p : ℕ) → Stand r ts q → Stand s ts p → p ≤ q → q + length r ≤ p + length s → Stand r s (suc (q - p))
-stand-within r s ts q p h k lo hi = stand-put r s (suc (q - p)) (omega arith) (omega arith) same
+    {r s ts : List ℕ} {q p : ℕ} → Stand r ts q → Stand s ts p → p ≤ q → q + length r ≤ p + length s → Stand r s (suc (q - p))
+stand-within {r} {s} {ts} {q} {p} h k lo hi = stand-put r s (suc (q - p)) (omega arith) (omega arith) same
   where
     same : (i : ℕ) → i < length r → getD r i 0 ≡ getD s (suc (q - p) + i - 1) 0
     same i b =
         let at : q + i - 1 ≡ p + (suc (q - p) + i - 1) - 1 = omega (arith, k .from) in
-        stand-at r ts q i h b
+        stand-at i h b
         ∙ ap (λ (j : ℕ). getD ts j 0) at
-        ∙ sym (stand-at s ts p (suc (q - p) + i - 1) k (omega arith))
+        ∙ sym (stand-at (suc (q - p) + i - 1) k (omega arith))

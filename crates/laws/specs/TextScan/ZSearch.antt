@@ -34,8 +34,8 @@ pub record Longest-prefix-at (s ts : List ℕ) (at limit n : ℕ) : Type 0 where
   pub longest : n < limit → getD ts (at + n) 0 ≡ getD s n 0 → ⊥
 
 -- there is only one such n
-pub longest-one : (s ts : List ℕ) (at limit n k : ℕ) → Longest-prefix-at s ts at limit n → Longest-prefix-at s ts at limit k → n ≡ k
-longest-one s ts at limit n k p q =
+pub longest-one : {s ts : List ℕ} {at limit n k : ℕ} → Longest-prefix-at s ts at limit n → Longest-prefix-at s ts at limit k → n ≡ k
+longest-one {n} {k} p q =
     ⊎-elim
     (λ (a : n ≤ k).
     ⊎-elim (λ (b : k ≤ n). omega arith) (λ (b : n < k). absurd (p .longest (omega (arith, q .bound)) (q .lies .equal n b))) (le-or-lt k n))
@@ -71,8 +71,8 @@ module _ (s ts : List ℕ) (at : ℕ) where
 
   -- one more character
   pub prefix-more :
-      (n : ℕ) → Prefix-at s ts at n → n < length s → at + n < length ts → getD ts (at + n) 0 ≡ getD s n 0 → Prefix-at s ts at (n + 1)
-  prefix-more n h short within same =
+      {n : ℕ} → Prefix-at s ts at n → n < length s → at + n < length ts → getD ts (at + n) 0 ≡ getD s n 0 → Prefix-at s ts at (n + 1)
+  prefix-more {n} h short within same =
       record {
         short = omega arith;
         within = omega arith;
@@ -81,8 +81,8 @@ module _ (s ts : List ℕ) (at : ℕ) where
 
 -- a string stands where its longest prefix is all of it
 pub longest-stands :
-    (s ts : List ℕ) (j n : ℕ) → Longest-prefix-at s ts j (length s) n → j + length s ≤ length ts → leb (length s) n ≡ stands s ts (suc j)
-longest-stands s ts j n h within = iff-eq (leb (length s) n) (stands s ts (suc j)) whole back
+    {s ts : List ℕ} {j n : ℕ} → Longest-prefix-at s ts j (length s) n → j + length s ≤ length ts → leb (length s) n ≡ stands s ts (suc j)
+longest-stands {s} {ts} {j} {n} h within = iff-eq (leb (length s) n) (stands s ts (suc j)) whole back
   where
     whole : leb (length s) n ≡ true → stands s ts (suc j) ≡ true
     whole t =
@@ -95,7 +95,7 @@ longest-stands s ts j n h within = iff-eq (leb (length s) n) (stands s ts (suc j
     same : Stand s ts (suc j) → n < length s → ⊥
     same st b =
         let z : suc j + n - 1 ≡ j + n = omega arith in
-        h .longest b (sym (stand-at s ts (suc j) n st b ∙ ap (λ (k : ℕ). getD ts k 0) z))
+        h .longest b (sym (stand-at n st b ∙ ap (λ (k : ℕ). getD ts k 0) z))
 
     back : stands s ts (suc j) ≡ true → leb (length s) n ≡ true
     back t =
@@ -110,7 +110,7 @@ found-prefixes s ts rs room told =
     found-in-those (length s) 1 rs (λ p. stands s ts p)
     (λ j b.
     let z : suc j ≡ 1 + j = omega arith in
-    longest-stands s ts j (getD rs j 0) (told j b) (omega (arith, b, room)) ∙ ap (λ (p : ℕ). stands s ts p) z)
+    longest-stands (told j b) (omega (arith, b, room)) ∙ ap (λ (p : ℕ). stands s ts p) z)
 
 -- THE Z-BOX
 
@@ -137,8 +137,8 @@ module _ (first : ℕ) (s ts : List ℕ) where
 
   module _ (at : ℕ) where
     -- a new Z-box
-    pub zbox-new : (n : ℕ) → first ≤ at → Prefix-at s ts at n → Z-box first s ts (at + 1) at (at + n)
-    zbox-new n from h =
+    pub zbox-new : {n : ℕ} → first ≤ at → Prefix-at s ts at n → Z-box first s ts (at + 1) at (at + n)
+    zbox-new {n} from h =
         let z : n ≡ at + n - at = omega arith in
         record {
           ordered = omega arith;
@@ -146,7 +146,7 @@ module _ (first : ℕ) (s ts : List ℕ) where
           lies = subst (Prefix-at s ts at) z h;
         }
 
-    module _ (left right : ℕ) (h : Z-box first s ts at left right) where
+    module _ {left right : ℕ} (h : Z-box first s ts at left right) where
       pub zbox-on : Z-box first s ts (at + 1) left right
       zbox-on =
           record {
@@ -161,9 +161,9 @@ module _ (first : ℕ) (s ts : List ℕ) where
 
       -- this part lies there: the Z-box has the string's own characters, and these start with its prefix again
       pub known-lies :
-          (k : ℕ) (zs : List ℕ) (n : ℕ) → ((j : ℕ) → j < k → Z-value s j (getD zs j 0)) → (at < right → at - left < k) →
+          (k : ℕ) {zs : List ℕ} {n : ℕ} → ((j : ℕ) → j < k → Z-value s j (getD zs j 0)) → (at < right → at - left < k) →
           at ≤ length ts → Known zs at left right n → Prefix-at s ts at n
-      known-lies k zs n told inside within known =
+      known-lies k {zs} {n} told inside within known =
           ⊎-elim
           (λ (b : right ≤ at). subst (Prefix-at s ts at) (sym (known .none b)) (prefix-none s ts at within))
           (λ (b : at < right). repeated b (told (at - left) (inside b) (omega (arith, h .begun b .1)) .lies)) (le-or-lt right at)
@@ -196,8 +196,8 @@ module _ (first : ℕ) (s ts : List ℕ) (P : ℕ → ℕ → Type 0) (old : Lis
   filling-start h = record { from = omega arith; zbox = zbox-start first s ts; told = h; rest = λ j b. refl; len = refl }
 
   module _
-      (xs : List ℕ)
-      (at left right n : ℕ)
+      {xs : List ℕ}
+      {at left right : ℕ} (n : ℕ)
       (h : Filling first s ts P old xs at left right)
       (room : at < length old)
       (here : P at n)
@@ -210,8 +210,8 @@ module _ (first : ℕ) (s ts : List ℕ) (P : ℕ → ℕ → Type 0) (old : Lis
       still j (inl b) = inl b
       still j (inr b) = inr (omega arith)
 
-      kept : (a b : ℕ) → Z-box first s ts (at + 1) a b → Filling first s ts P old (set xs at n) (at + 1) a b
-      kept a b st =
+      kept : {a b : ℕ} → Z-box first s ts (at + 1) a b → Filling first s ts P old (set xs at n) (at + 1) a b
+      kept st =
           record {
             from = omega (arith, h .from);
             zbox = st;
@@ -222,16 +222,16 @@ module _ (first : ℕ) (s ts : List ℕ) (P : ℕ → ℕ → Type 0) (old : Lis
 
       -- the Z-box stays, or the prefix found here is the new one
       pub filling-on : Filling first s ts P old (set xs at n) (at + 1) left right
-      filling-on = kept left right (zbox-on first s ts at left right (h .zbox))
+      filling-on = kept (zbox-on first s ts at (h .zbox))
 
       pub filling-new : Prefix-at s ts at n → Filling first s ts P old (set xs at n) (at + 1) at (at + n)
-      filling-new f = kept at (at + n) (zbox-new first s ts at n (h .from) f)
+      filling-new f = kept (zbox-new first s ts at (h .from) f)
 
 -- a table over the string's own indexes is unchanged outside them
 pub filled-rest :
-    (s ts : List ℕ) (P : ℕ → ℕ → Type 0) (old xs : List ℕ) (at left right : ℕ) → Filling 1 s ts P old xs at left right →
+    {s ts : List ℕ} {P : ℕ → ℕ → Type 0} {old xs : List ℕ} {at left right : ℕ} → Filling 1 s ts P old xs at left right →
     (1 < at → at ≤ length s) → Kept-but 1 (length s) old xs
-filled-rest s ts P old xs at left right h short j (inl b) = h .rest j (inl b)
-filled-rest s ts P old xs at left right h short j (inr b) =
+filled-rest h short j (inl b) = h .rest j (inl b)
+filled-rest {at} h short j (inr b) =
     ⊎-elim (λ (one : at ≤ 1). ⊎-elim (λ (c : 1 ≤ j). h .rest j (inr (omega arith))) (λ (c : j < 1). h .rest j (inl c)) (le-or-lt 1 j))
     (λ (more : 1 < at). h .rest j (inr (omega (arith, short more)))) (le-or-lt at 1)

@@ -47,10 +47,10 @@ pub extending-start :
 extending-start bs l i o q old max-reach w =
     record { within = omega arith; way = progress-start (positions-all i o l q bs) old max-reach w; top-small = omega arith }
 
-module _ (bs : List ℕ) (l i o q : ℕ) (old : List ℕ) (max-reach : ℕ) (rs : List ℕ) (highest j : ℕ) (h : Extending bs l i o q old max-reach rs highest j) where
+module _ {bs : List ℕ} {l i o q : ℕ} {old : List ℕ} {max-reach : ℕ} {rs : List ℕ} {highest j : ℕ} (h : Extending bs l i o q old max-reach rs highest j) where
   pub extending-end : length bs ≤ j → Reaches (positions-all i o l q bs old) rs highest
   extending-end past =
-      progress-end (positions-all i o l q (drop j bs)) (positions-all i o l q bs old) old rs highest (h .way) (positions-none i o l q bs j past rs)
+      progress-end (h .way) (positions-none i o l q bs j past rs)
 
   -- positions outside the window are skipped
   pub extending-skip :
@@ -61,39 +61,39 @@ module _ (bs : List ℕ) (l i o q : ℕ) (old : List ℕ) (max-reach : ℕ) (rs 
       record {
         within = within;
         way =
-            progress-pass (positions-all i o l q (drop j bs)) (positions-all i o l q (drop k bs)) (positions-all i o l q bs old) old rs highest
+            progress-pass (positions-all i o l q (drop k bs))
             (h .way) (positions-skip i o l q bs rs j k order within outside);
         top-small = h .top-small;
       }
 
   module _ (some : j < length bs) where
     step :
-        (now : List ℕ) (peak : ℕ) → length now ≡ length rs → Reaches (extend-all i o l q (getD bs j 0) rs) now peak →
+        {now : List ℕ} {peak : ℕ} → length now ≡ length rs → Reaches (extend-all i o l q (getD bs j 0) rs) now peak →
         peak ≤ max max-reach (max o (o + l - i)) → Extending bs l i o q old max-reach now peak (j + 1)
-    step now peak kept r small =
+    step {now} {peak} kept r small =
         record {
           within = omega arith;
           way =
-              progress-step (positions-all i o l q (drop j bs)) (positions-all i o l q (drop (j + 1) bs)) (positions-all i o l q bs old) old rs
-              now highest peak (extend-all i o l q (getD bs j 0) rs) (h .way) (positions-next i o l q bs j some rs) kept r;
+              progress-step (positions-all i o l q (drop (j + 1) bs))
+              (h .way) (positions-next i o l q bs j some rs) kept r;
           top-small = small;
         }
 
     -- the position at j belongs to no start of the window
     pub extending-outside : (q + o ≤ getD bs j 0 + i → length rs + (q + o) ≤ getD bs j 0 + i) → Extending bs l i o q old max-reach rs highest (j + 1)
     extending-outside outside =
-        step rs highest refl (record { is = sym (extend-outside i o l q (getD bs j 0) rs outside); bounded = h .way .bounded }) (h .top-small)
+        step refl (record { is = sym (extend-outside i o l q (getD bs j 0) rs outside); bounded = h .way .bounded }) (h .top-small)
 
     -- it belongs to the start p
     module _
-        (p : ℕ) (own : p + (q + o) ≡ getD bs j 0 + i) (inside : p < length rs) (end : ℕ) (is : end ≡ max o (o + l - i)) (r : Bool)
-        (now : List ℕ) (done : Extends o end rs p r now) where
+        {p : ℕ} (own : p + (q + o) ≡ getD bs j 0 + i) (inside : p < length rs) {end : ℕ} (is : end ≡ max o (o + l - i)) {r : Bool}
+        {now : List ℕ} (done : Extends o end rs p r now) where
       pub extending-extended : r ≡ true → (peak : ℕ) → peak ≡ max max-reach end → Extending bs l i o q old max-reach now peak (j + 1)
       extending-extended t peak greatest = rw (done .extended t .2) extended
         where
           extended : Extending bs l i o q old max-reach (set rs p end) peak (j + 1)
           extended =
-              step (set rs p end) peak (length-set rs p end)
+              step (length-set rs p end)
               (record {
                 is =
                     ap (set rs p) is
@@ -107,7 +107,7 @@ module _ (bs : List ℕ) (l i o q : ℕ) (old : List ℕ) (max-reach : ℕ) (rs 
       pub extending-passed : r ≡ false → Extending bs l i o q old max-reach now highest (j + 1)
       extending-passed f =
           rw (done .passed f .1)
-          (step rs highest refl
+          (step refl
           (record {
             is =
                 sym
@@ -118,16 +118,16 @@ module _ (bs : List ℕ) (l i o q : ℕ) (old : List ℕ) (max-reach : ℕ) (rs 
 
 -- THE PASS OVER A WINDOW'S RANGE
 
-module _ (bs : List ℕ) (l i o q : ℕ) (old : List ℕ) (max-reach a b : ℕ) (r : Window-range bs i o q (length old) a b) where
+module _ {bs : List ℕ} (l : ℕ) {i o q : ℕ} (old : List ℕ) (max-reach : ℕ) {a b : ℕ} (r : Window-range bs i o q (length old) a b) where
   pub range-start : Within max-reach old → Extending bs l i o q old max-reach old max-reach a
   range-start w =
-      extending-skip bs l i o q old max-reach old max-reach 0 (extending-start bs l i o q old max-reach w) a (omega arith) (r .from)
+      extending-skip (extending-start bs l i o q old max-reach w) a (omega arith) (r .from)
       (λ x m h from. absurd (omega (arith, r .below x h)))
 
   pub range-end :
-      (rs : List ℕ) (highest j : ℕ) → Extending bs l i o q old max-reach rs highest j → b ≤ j → Reaches (positions-all i o l q bs old) rs highest
-  range-end rs highest j h past =
-      extending-end bs l i o q old max-reach rs highest (length bs)
-      (extending-skip bs l i o q old max-reach rs highest j h (length bs) (h .within) (omega arith)
+      {rs : List ℕ} {highest j : ℕ} → Extending bs l i o q old max-reach rs highest j → b ≤ j → Reaches (positions-all i o l q bs old) rs highest
+  range-end {rs} {highest} {j} h past =
+      extending-end
+      (extending-skip h (length bs) (h .within) (omega arith)
       (λ x m below from. omega (arith, h .way .len, r .above x (omega arith) below)))
       (omega arith)

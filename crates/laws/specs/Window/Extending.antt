@@ -20,9 +20,9 @@ module _ (i o : ℕ) (s k : List ℕ) (q : ℕ) (bs old : List ℕ) where
   extends-none f max-reach w = record { is = sym (key-apart i o s k q bs old f); bounded = w }
 
   pub extends-all :
-      agrees s i k o ≡ true → (rs : List ℕ) (max-reach : ℕ) → Reaches (positions-all i o (length k) q bs old) rs max-reach →
+      agrees s i k o ≡ true → {rs : List ℕ} {max-reach : ℕ} → Reaches (positions-all i o (length k) q bs old) rs max-reach →
       Reaches (key-all i o s k q bs old) rs max-reach
-  extends-all t rs max-reach r = record { is = r .is ∙ sym (key-agrees i o s k q bs old t); bounded = r .bounded }
+  extends-all t r = record { is = r .is ∙ sym (key-agrees i o s k q bs old t); bounded = r .bounded }
 
 -- ONE KEY AT THE OFFSETS OF 0 AND BELOW
 
@@ -44,27 +44,27 @@ module _ (s k : List ℕ) (q : ℕ) (bs old : List ℕ) where
             };
       }
 
-  module _ (rs : List ℕ) (highest i : ℕ) (h : Backing s k q bs old rs highest i) where
+  module _ {rs : List ℕ} {highest i : ℕ} (h : Backing s k q bs old rs highest i) where
     pub backing-step :
-        i < length k → (now : List ℕ) (max-reach : ℕ) → length now ≡ length rs → Reaches (key-all i 0 s k q bs rs) now max-reach →
+        i < length k → {now : List ℕ} {max-reach : ℕ} → length now ≡ length rs → Reaches (key-all i 0 s k q bs rs) now max-reach →
         Backing s k q bs old now max-reach (i + 1)
-    backing-step some now max-reach kept r =
+    backing-step some {now} {max-reach} kept r =
         record {
           within = omega arith;
           way =
-              progress-step (back-all (length k - i) i s k q bs) (back-all (length k - (i + 1)) (i + 1) s k q bs)
-              (back-all (length k) 0 s k q bs old) old rs now highest max-reach (key-all i 0 s k q bs rs) (h .way)
+              progress-step (back-all (length k - (i + 1)) (i + 1) s k q bs)
+              (h .way)
               (back-next s k q bs i some rs) kept r;
         }
 
     -- at an offset at which the key does not have the string's first character
     pub backing-pass : i < length k → (getD k i 0 ≡ getD s 0 0 → ⊥) → Backing s k q bs old rs highest (i + 1)
     backing-pass some other =
-        backing-step some rs highest refl (extends-none i 0 s k q bs rs (key-starts-apart i s k some other) highest (h .way .bounded))
+        backing-step some refl (extends-none i 0 s k q bs rs (key-starts-apart i s k some other) highest (h .way .bounded))
 
     pub backing-end : length k ≤ i → Reaches (back-all (length k) 0 s k q bs old) rs highest
     backing-end past =
-        progress-end (back-all (length k - i) i s k q bs) (back-all (length k) 0 s k q bs old) old rs highest (h .way)
+        progress-end (h .way)
         (back-none s k q bs i past rs)
 
 -- THE OFFSETS ABOVE 0
@@ -79,34 +79,34 @@ module _ (lex : Lexicon) (ls : List Line) (s : List ℕ) (q : ℕ) (old : List �
   offsets-start max-reach some w =
       record { within = some; way = progress-start (offsets-all (length s - 1) 1 lex ls s q) old max-reach w }
 
-  module _ (rs : List ℕ) (highest o : ℕ) (h : Offsets lex ls s q old rs highest o) where
+  module _ {rs : List ℕ} {highest o : ℕ} (h : Offsets lex ls s q old rs highest o) where
     pub offsets-step :
-        o < length s → (now : List ℕ) (max-reach : ℕ) → length now ≡ length rs → Reaches (offset-all o lex ls s q rs) now max-reach →
+        o < length s → {now : List ℕ} {max-reach : ℕ} → length now ≡ length rs → Reaches (offset-all o lex ls s q rs) now max-reach →
         Offsets lex ls s q old now max-reach (o + 1)
-    offsets-step below now max-reach kept r =
+    offsets-step below {now} {max-reach} kept r =
         record {
           within = omega arith;
           way =
-              progress-step (offsets-all (length s - o) o lex ls s q) (offsets-all (length s - (o + 1)) (o + 1) lex ls s q)
-              (offsets-all (length s - 1) 1 lex ls s q old) old rs now highest max-reach (offset-all o lex ls s q rs) (h .way)
+              progress-step (offsets-all (length s - (o + 1)) (o + 1) lex ls s q)
+              (h .way)
               (offsets-next lex ls s q o below rs) kept r;
         }
 
     -- all offsets are done, or no start reaches the next one
     pub offsets-end : length s ≤ o → Reaches (offsets-all (length s - 1) 1 lex ls s q old) rs highest
     offsets-end past =
-        progress-end (offsets-all (length s - o) o lex ls s q) (offsets-all (length s - 1) 1 lex ls s q old) old rs highest (h .way)
+        progress-end (h .way)
         (offsets-none lex ls s q o past rs)
 
     pub offsets-early : highest < o → Reaches (offsets-all (length s - 1) 1 lex ls s q old) rs highest
     offsets-early early =
-        progress-end (offsets-all (length s - o) o lex ls s q) (offsets-all (length s - 1) 1 lex ls s q old) old rs highest (h .way)
+        progress-end (h .way)
         (offsets-stop lex ls s q (length s - o) o highest rs (h .way .bounded) early)
 
 -- all offsets above 0, after the leading keys
 pub offsets-after :
-    (lex : Lexicon) (ls : List Line) (s : List ℕ) (q : ℕ) (old mid now : List ℕ) (highest max-reach : ℕ) → Reaches (leading-all lex ls s q old) mid highest →
+    (lex : Lexicon) (ls : List Line) (s : List ℕ) (q : ℕ) (old : List ℕ) {mid now : List ℕ} {highest max-reach : ℕ} → Reaches (leading-all lex ls s q old) mid highest →
     Reaches (offsets-all (length s - 1) 1 lex ls s q mid) now max-reach →
     Reaches (offsets-all (length s - 1) 1 lex ls s q (leading-all lex ls s q old)) now max-reach
-offsets-after lex ls s q old mid now highest max-reach p r =
+offsets-after lex ls s q old p r =
     record { is = r .is ∙ ap (offsets-all (length s - 1) 1 lex ls s q) (p .is); bounded = r .bounded }

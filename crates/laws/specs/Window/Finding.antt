@@ -102,7 +102,7 @@ module _ (m : ℕ) (rs : List ℕ) (from : ℕ) where
   pub passing-start : 1 ≤ count-in m (drop from rs) → Passing m rs from from
   passing-start some = record { onward = omega arith; some = some; passed = λ q. refl }
 
-  module _ (i : ℕ) (h : Passing m rs from i) where
+  module _ {i : ℕ} (h : Passing m rs from i) where
     pub passing-below : i < length rs
     unfolding count-in
     passing-below = ⊎-elim (λ (past : length rs ≤ i). absurd (none past)) (λ (b : i < length rs). b) (le-or-lt (length rs) i)
@@ -158,13 +158,13 @@ module _ (m q : ℕ) (rs old : List ℕ) where
         left = rw (add-zero q) (zero-add (length (found-in m q rs)));
       }
 
-  module _ (out : List ℕ) (written i : ℕ) (h : Finding m q rs old out written i) where
+  module _ {out : List ℕ} {written i : ℕ} (h : Finding m q rs old out written i) where
     -- if a start is still to be written, one is still to come
     pub finding-more : written < length (found-in m q rs) → 1 ≤ count-in m (drop i rs)
     finding-more some = omega (arith, h .left, count-found m (q + i) (drop i rs))
 
-    pub finding-next : (r : ℕ) → Next-found m rs i r → Finding m q rs old out written r
-    finding-next r n =
+    pub finding-next : {r : ℕ} → Next-found m rs i r → Finding m q rs old out written r
+    finding-next n =
         record {
           within = omega (arith, n .within);
           ahead = ap (λ (l : List ℕ). take written out ++ l) (sym (n .passed q)) ∙ h .ahead;

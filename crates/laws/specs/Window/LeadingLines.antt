@@ -128,9 +128,9 @@ module _ (lex : Lexicon) (xs s : List ℕ) where
   leading-run q w rs = rw (sub-zero w) (run-those (leading-at lex xs s q) (is-leading lex xs s) (leading-apart q) w 0 rs)
 
   pub leading-reaches :
-      (q w : ℕ) (is old now : List ℕ) (max-reach : ℕ) → is ≡ leading-lines lex xs s w → Reaches (run-list (leading-at lex xs s q) is old) now max-reach →
+      (q w : ℕ) (is old : List ℕ) {now : List ℕ} {max-reach : ℕ} → is ≡ leading-lines lex xs s w → Reaches (run-list (leading-at lex xs s q) is old) now max-reach →
       Reaches (run (leading-at lex xs s q) 0 w old) now max-reach
-  leading-reaches q w is old now max-reach e r =
+  leading-reaches q w is old e r =
       record {
         is = r .is ∙ ap (λ (js : List ℕ). run-list (leading-at lex xs s q) js old) e ∙ leading-run q w old;
         bounded = r .bounded;
@@ -160,11 +160,11 @@ module _ (f : ℕ → List ℕ → List ℕ) (is old : List ℕ) where
 
   module _ (rs : List ℕ) (highest j : ℕ) (h : Listed f is old rs highest j) where
     pub listed-step :
-        j < length is → (now : List ℕ) (max-reach : ℕ) → length now ≡ length rs → Reaches (f (getD is j 0) rs) now max-reach →
+        j < length is → {now : List ℕ} {max-reach : ℕ} → length now ≡ length rs → Reaches (f (getD is j 0) rs) now max-reach →
         Listed f is old now max-reach (j + 1)
     unfolding run-list
-    listed-step some now max-reach kept r =
-        progress-step (run-list f (drop j is)) (run-list f (drop (j + 1) is)) (run-list f is old) old rs now highest max-reach (f (getD is j 0) rs) h
+    listed-step some {now} {max-reach} kept r =
+        progress-step (run-list f (drop (j + 1) is)) h
         next kept r
       where
         next : run-list f (drop j is) rs ≡ run-list f (drop (j + 1) is) (f (getD is j 0) rs)
@@ -172,7 +172,7 @@ module _ (f : ℕ → List ℕ → List ℕ) (is old : List ℕ) where
 
     pub listed-end : length is ≤ j → Reaches (run-list f is old) rs highest
     unfolding run-list
-    listed-end past = progress-end (run-list f (drop j is)) (run-list f is old) old rs highest h (rw (drop-of-length-le is past))
+    listed-end past = progress-end h (rw (drop-of-length-le is past))
 
 -- FILLING THE LIST
 
@@ -203,11 +203,11 @@ module _ (lex : Lexicon) (xs s : List ℕ) (w : ℕ) (old : List ℕ) where
 
         pub leading-room : count < length now
         leading-room =
-            has-room (leading-lines lex xs s w) old now i (those-from (w - (i + 1)) (i + 1) (is-leading lex xs s)) count here
+            has-room i (those-from (w - (i + 1)) (i + 1) (is-leading lex xs s)) here
 
         pub leading-listed : Leading lex xs s w old (set now count i) (count + 1) (i + 1)
         leading-listed =
-            writes (leading-lines lex xs s w) old now i (those-from (w - (i + 1)) (i + 1) (is-leading lex xs s)) count here
+            writes i (those-from (w - (i + 1)) (i + 1) (is-leading lex xs s)) here
 
     module _ (past : w ≤ i) where
       last : Writing (leading-lines lex xs s w) old now [] count

@@ -52,7 +52,7 @@ pub record Split (xs : List ℕ) (w : ℕ) : Type 0 where
   pub words : (i : ℕ) → i < w → kind-at xs i ≡ 0
   pub lone : (i : ℕ) → w ≤ i → i < keys-of xs → kind-at xs i ≡ 1
 
-module _ (cs ls xs : List ℕ) (can : Can-read cs ls xs) where
+module _ {cs ls xs : List ℕ} (can : Can-read cs ls xs) where
   keys-before : (i j : ℕ) → i < j → j < keys-of xs → Key-before (key-at xs i) (key-at xs j)
   unfolding line
   keys-before i j h b =
@@ -85,18 +85,18 @@ module _ (cs ls xs : List ℕ) (can : Can-read cs ls xs) where
             (λ (p : i < j). kinds-before i j p c) (le-or-lt j i));
       }
 
-  pub split-found : (w : ℕ) → Lower-bound (number-at xs 0) 0 (keys-of xs) 1 w → Split xs w
+  pub split-found : {w : ℕ} → Lower-bound (number-at xs 0) 0 (keys-of xs) 1 w → Split xs w
   unfolding key
-  split-found w h =
+  split-found h =
       record {
         within = h .to;
         words = λ i b. omega (arith, rw (add-zero (header + 3 * i)) at (h .below i (omega arith) b));
         lone =
             λ i a b.
-            omega (arith, rw (add-zero (header + 3 * i)) at (h .above i a b), key-is cs ls xs can i b .kind-small);
+            omega (arith, rw (add-zero (header + 3 * i)) at (h .above i a b), key-is can i b .kind-small);
       }
 
-  module _ (w : ℕ) (split : Split xs w) where
+  module _ {w : ℕ} (split : Split xs w) where
     -- WORDS
 
     pub word-lines-rise :
@@ -109,7 +109,7 @@ module _ (cs ls xs : List ℕ) (can : Can-read cs ls xs) where
         let r : j < keys-of xs = omega (arith, split .within) in
         rw (spells-word (lexicon cs ls) (key-at xs i) p, spells-word (lexicon cs ls) (key-at xs j) q)
         (ascend-get (lexicon cs ls .words) (can .words-rise) (value-at xs i) (value-at xs j) (values-before i j h r (p ∙ sym q))
-        (omega (arith, word-below cs ls xs can j r q, length-words ls cs)))
+        (omega (arith, word-below can j r q, length-words ls cs)))
 
     value-least : (i : ℕ) → i < w → i ≤ value-at xs i
     value-least zero b = omega arith
@@ -129,7 +129,7 @@ module _ (cs ls xs : List ℕ) (can : Can-read cs ls xs) where
             omega (
               arith,
               value-least (w - 1) (omega arith),
-              word-below cs ls xs can (w - 1) (omega (arith, split .within)) (split .words (w - 1) (omega arith)),
+              word-below can (w - 1) (omega (arith, split .within)) (split .words (w - 1) (omega arith)),
               can .few-words,
             )
 
@@ -178,14 +178,14 @@ module _ (cs ls xs : List ℕ) (can : Can-read cs ls xs) where
       -- so extending at its positions is the step of its line
       pub lone-done :
           (i : ℕ) → w ≤ i → i < keys-of xs → value-at xs i ≡ c → o < length s → (q : ℕ) (bs : List ℕ) → bs ≡ positions-at xs i →
-          (old now : List ℕ) (max-reach : ℕ) → Reaches (positions-all 0 o 1 q bs old) now max-reach →
+          (old : List ℕ) {now : List ℕ} {max-reach : ℕ} → Reaches (positions-all 0 o 1 q bs old) now max-reach →
           Reaches (offset-at o (lexicon cs ls) xs s q i old) now max-reach
-      lone-done i a b e below q bs positions old now max-reach r =
+      lone-done i a b e below q bs positions old {now} {max-reach} r =
           offset-done (lexicon cs ls) xs s q i (spells (lexicon cs ls) (key-at xs i)) bs refl positions old now max-reach o
-          (extends-all 0 o s (spells (lexicon cs ls) (key-at xs i)) q bs old (lone-agrees i a b e below) now max-reach
+          (extends-all 0 o s (spells (lexicon cs ls) (key-at xs i)) q bs old (lone-agrees i a b e below)
           (rw (lone-single i a b) r))
 
-      module _ (r : ℕ) (cut : Lower-bound (number-at xs 1) w (keys-of xs) c r) where
+      module _ {r : ℕ} (cut : Lower-bound (number-at xs 1) w (keys-of xs) c r) where
         -- of all these lines only the one found can agree
         pub lone-others :
             (i : ℕ) → w ≤ i → i < keys-of xs → (i ≡ r → ⊥) → agrees s 0 (spells (lexicon cs ls) (key-at xs i)) o ≡ false
@@ -216,10 +216,10 @@ module _ (cs ls xs : List ℕ) (can : Can-read cs ls xs) where
 
           -- the character has a line, and that alone can agree
           pub lone-found :
-              r < keys-of xs → (old now : List ℕ) (max-reach : ℕ) → Reaches (offset-at o (lexicon cs ls) xs s q r old) now max-reach →
+              r < keys-of xs → (old : List ℕ) {now : List ℕ} {max-reach : ℕ} → Reaches (offset-at o (lexicon cs ls) xs s q r old) now max-reach →
               Reaches (run (offset-at o (lexicon cs ls) xs s q) w (keys-of xs) old) now max-reach
           unfolding step
-          lone-found some old now max-reach done =
+          lone-found some old done =
               record {
                 is =
                     done .is

@@ -104,21 +104,21 @@ module _ (f : ℕ → List ℕ → List ℕ) (a b : ℕ) (old : List ℕ) where
   module _ (rs : List ℕ) (highest lo hi : ℕ) (h : Left f a b old rs highest lo hi) where
     -- the first of them is done
     pub left-step :
-        lo < hi → (now : List ℕ) (max-reach : ℕ) → length now ≡ length rs → Reaches (f lo rs) now max-reach → Left f a b old now max-reach (lo + 1) hi
-    left-step some now max-reach kept r =
-        progress-step (run f lo hi) (run f (lo + 1) hi) (run f a b old) old rs now highest max-reach (f lo rs) h (run-next f lo hi some rs) kept r
+        lo < hi → {now : List ℕ} {max-reach : ℕ} → length now ≡ length rs → Reaches (f lo rs) now max-reach → Left f a b old now max-reach (lo + 1) hi
+    left-step some {now} {max-reach} kept r =
+        progress-step (run f (lo + 1) hi) h (run-next f lo hi some rs) kept r
 
     -- those at both ends are skipped
     pub left-narrow : (r t : ℕ) → lo ≤ r → r ≤ t → t ≤ hi → Unchanged f lo r → Unchanged f t hi → Left f a b old rs highest r t
     left-narrow r t p q s front back =
-        progress-pass (run f lo hi) (run f r t) (run f a b old) old rs highest h (run-skip f lo r t hi p q s front back rs)
+        progress-pass (run f r t) h (run-skip f lo r t hi p q s front back rs)
 
     pub left-end : hi ≤ lo → Reaches (run f a b old) rs highest
-    left-end past = progress-end (run f lo hi) (run f a b old) old rs highest h (run-none f lo hi past rs)
+    left-end past = progress-end h (run-none f lo hi past rs)
 
     -- all of them are done
-    pub left-all : (now : List ℕ) (max-reach : ℕ) → Reaches (run f lo hi rs) now max-reach → Reaches (run f a b old) now max-reach
-    left-all now max-reach r = record { is = r .is ∙ h .left; bounded = r .bounded }
+    pub left-all : {now : List ℕ} {max-reach : ℕ} → Reaches (run f lo hi rs) now max-reach → Reaches (run f a b old) now max-reach
+    left-all r = record { is = r .is ∙ h .left; bounded = r .bounded }
 
 -- THE LINES OF AN INDEX
 
@@ -186,9 +186,9 @@ module _ (lex : Lexicon) (xs s : List ℕ) (q : ℕ) where
 
   -- two walks one after the other, over the lines before w and those from it on
   pub offset-both :
-      (o w : ℕ) → w ≤ keys-of xs → (old mid now : List ℕ) (highest max-reach : ℕ) → Reaches (run (offset-at o lex xs s q) 0 w old) mid highest →
+      (o w : ℕ) → w ≤ keys-of xs → (old : List ℕ) {mid now : List ℕ} {highest max-reach : ℕ} → Reaches (run (offset-at o lex xs s q) 0 w old) mid highest →
       Reaches (run (offset-at o lex xs s q) w (keys-of xs) mid) now max-reach → Reaches (offset-all o lex (lines-in xs) s q old) now max-reach
-  offset-both o w within old mid now highest max-reach p r =
+  offset-both o w within old p r =
       record {
         is =
             r .is
@@ -201,9 +201,9 @@ module _ (lex : Lexicon) (xs s : List ℕ) (q : ℕ) where
   -- the leading keys, if the keys from w on have one character
   pub leading-both :
       (w : ℕ) → w ≤ keys-of xs → ((i : ℕ) → w ≤ i → i < keys-of xs → length (spells lex (key-at xs i)) ≡ 1) →
-      (old mid now : List ℕ) (highest max-reach : ℕ) → Reaches (run (leading-at lex xs s q) 0 w old) mid highest →
+      (old : List ℕ) {mid now : List ℕ} {highest max-reach : ℕ} → Reaches (run (leading-at lex xs s q) 0 w old) mid highest →
       Reaches (run (offset-at 0 lex xs s q) w (keys-of xs) mid) now max-reach → Reaches (leading-all lex (lines-in xs) s q old) now max-reach
-  leading-both w within single old mid now highest max-reach p r =
+  leading-both w within single old {mid} p r =
       record {
         is =
             r .is

@@ -34,10 +34,10 @@ rise-order a (p ∷ ps) r (suc i) (suc j) l h = rise-order (suc p) ps (r .1) i j
 pub rise-ascending : (a : ℕ) (ps : List ℕ) → Rise a ps → Ascending ps
 rise-ascending a ps r = record { order = omega arith; rises = λ i j from l h. rise-order a ps r i j l h }
 
-module _ (cs ls xs : List ℕ) (can : Can-read cs ls xs) (i : ℕ) (below : i < keys-of xs) where
+module _ {cs ls xs : List ℕ} (can : Can-read cs ls xs) (i : ℕ) (below : i < keys-of xs) where
   pub positions-rise : Ascending (positions-at xs i)
   unfolding line
-  positions-rise = rise-ascending 1 (positions-at xs i) (line-is-good cs ls xs can i below .rise)
+  positions-rise = rise-ascending 1 (positions-at xs i) (line-is-good can i below .rise)
 
   pub listed-rise : (bs : List ℕ) → bs ≡ positions-at xs i → Ascending bs
   listed-rise bs e = rw e positions-rise

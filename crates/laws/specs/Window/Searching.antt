@@ -37,7 +37,7 @@ module _ (lex : Lexicon) (xs s : List ℕ) (n q : ℕ) (o : List ℕ) where
   found : List ℕ
   found = found-from n q lex (lines-in xs) s
 
-  module _ (rs : List ℕ) (max-reach : ℕ) (old : List ℕ) (clear : old ≡ replicate n 0)
+  module _ {rs : List ℕ} {max-reach : ℕ} (old : List ℕ) (clear : old ≡ replicate n 0)
       (done : Reaches (offsets-all (length s - 1) 1 lex (lines-in xs) s q (leading-all lex (lines-in xs) s q old)) rs max-reach) where
     -- what the window has found is what the starts find
     pub in-window : found-in (length s) q rs ≡ found-from n q lex (lines-in xs) s

@@ -107,21 +107,21 @@ progress-start rest rs max-reach w = record { left = refl; len = refl; bounded =
 
 -- one step, by what it does to the window
 pub progress-step :
-    (rest next : List ℕ → List ℕ) (goal old rs now : List ℕ) (max-reach highest : ℕ) (stepped : List ℕ) → Progress rest goal old rs max-reach →
+    {rest : List ℕ → List ℕ} (next : List ℕ → List ℕ) {goal old rs now : List ℕ} {max-reach highest : ℕ} {stepped : List ℕ} → Progress rest goal old rs max-reach →
     rest rs ≡ next stepped → length now ≡ length rs → Reaches stepped now highest → Progress next goal old now highest
-progress-step rest next goal old rs now max-reach highest stepped m cut kept r =
+progress-step next m cut kept r =
     record { left = ap next (r .is) ∙ sym cut ∙ m .left; len = kept ∙ m .len; bounded = r .bounded }
 
 -- a step that changes nothing
 pub progress-pass :
-    (rest next : List ℕ → List ℕ) (goal old rs : List ℕ) (max-reach : ℕ) → Progress rest goal old rs max-reach → rest rs ≡ next rs →
+    {rest : List ℕ → List ℕ} (next : List ℕ → List ℕ) {goal old rs : List ℕ} {max-reach : ℕ} → Progress rest goal old rs max-reach → rest rs ≡ next rs →
     Progress next goal old rs max-reach
-progress-pass rest next goal old rs max-reach m cut = record { left = sym cut ∙ m .left; len = m .len; bounded = m .bounded }
+progress-pass next m cut = record { left = sym cut ∙ m .left; len = m .len; bounded = m .bounded }
 
 -- nothing is left
 pub progress-end :
-    (rest : List ℕ → List ℕ) (goal old rs : List ℕ) (max-reach : ℕ) → Progress rest goal old rs max-reach → rest rs ≡ rs → Reaches goal rs max-reach
-progress-end rest goal old rs max-reach m done = record { is = sym done ∙ m .left; bounded = m .bounded }
+    {rest : List ℕ → List ℕ} {goal old rs : List ℕ} {max-reach : ℕ} → Progress rest goal old rs max-reach → rest rs ≡ rs → Reaches goal rs max-reach
+progress-end m done = record { is = sym done ∙ m .left; bounded = m .bounded }
 
 -- WHAT IS FOUND
 

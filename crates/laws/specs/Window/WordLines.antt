@@ -22,8 +22,8 @@ use Rattle.laws.specs.Window.LineSteps.{Unchanged, offset-at, offset-apa
 use Rattle.laws.specs.Window.LineRanges.{Split, word-lines-rise}
 
 -- a key that agrees at an offset within the string has the string's characters on the overlap
-agree-deep : (s k : List ℕ) (o d : ℕ) → Agree s 0 k o → d < length k → o + d < length s → getD s (o + d) 0 ≡ getD k d 0
-agree-deep s k o d h l r =
+agree-deep : {s k : List ℕ} {o : ℕ} (d : ℕ) → Agree s 0 k o → d < length k → o + d < length s → getD s (o + d) 0 ≡ getD k d 0
+agree-deep {o} d h l r =
     let y : o + d - 0 ≡ o + d = omega arith in
     let z : o + d - o ≡ d = omega arith in
     rw (y, z) at (h .equal (o + d) (omega arith) (omega arith) (omega arith) (omega arith))
@@ -40,10 +40,10 @@ pub record Word-column (cs xs ws : List ℕ) (lo hi d : ℕ) : Type 0 where
   pub room : (i : ℕ) → lo ≤ i → i < hi → getD ws (value-at xs i) 0 + d < length cs
 
 pub column-part :
-    (cs xs ws : List ℕ) (lo hi d from : ℕ) → Word-column cs xs ws lo hi d → lo ≤ from → from ≤ hi → Word-column cs xs ws from hi d
-column-part cs xs ws lo hi d from h l r =
+    {cs xs ws : List ℕ} {lo hi d : ℕ} (from : ℕ) → Word-column cs xs ws lo hi d → lo ≤ from → from ≤ hi → Word-column cs xs ws from hi d
+column-part {cs} {xs} {ws} {lo} {hi} {d} from h l r =
     record {
-      rising = rising-part (word-char cs xs ws d) lo hi (h .rising) from hi l r (omega arith);
+      rising = rising-part (h .rising) from hi l r (omega arith);
       line = λ i a b. h .line i (omega arith) b;
       word = λ i a b. h .word i (omega arith) b;
       room = λ i a b. h .room i (omega arith) b;
@@ -66,8 +66,8 @@ shared-prefix-start cs ls xs s o w =
     }
 
 module _
-    (cs ls xs : List ℕ) (can : Can-read cs ls xs) (w : ℕ) (split : Split xs w) (ws : List ℕ) (table : Word-starts ls (length ls) ws)
-    (s : List ℕ) (o lo hi d : ℕ) (h : Shared-prefix cs ls xs s o w lo hi d) where
+    {cs ls xs : List ℕ} (can : Can-read cs ls xs) {w : ℕ} (split : Split xs w) {ws : List ℕ} (table : Word-starts ls (length ls) ws)
+    {s : List ℕ} {o lo hi d : ℕ} (h : Shared-prefix cs ls xs s o w lo hi d) where
   abbrev word-of : ℕ → List ℕ
   word-of i = spells (lexicon cs ls) (key-at xs i)
 
@@ -86,15 +86,15 @@ module _
     shared-line = omega (arith, h .within, split .within)
 
     pub shared-word : value-at xs i < length ls
-    shared-word = word-below cs ls xs can i shared-line (split .words i (omega (arith, h .within)))
+    shared-word = word-below can i shared-line (split .words i (omega (arith, h .within)))
 
     spelt :
         take (getD ws (value-at xs i) 0 + getD ls (value-at xs i) 0 - getD ws (value-at xs i) 0) (drop (getD ws (value-at xs i) 0) cs)
         ≡ word-of i
-    spelt = word-spelt cs ls xs can i shared-line (split .words i (omega (arith, h .within))) ws table
+    spelt = word-spelt can i shared-line (split .words i (omega (arith, h .within))) table
 
     room : getD ws (value-at xs i) 0 + getD ls (value-at xs i) 0 ≤ length cs
-    room = word-room cs ls xs can i shared-line (split .words i (omega (arith, h .within))) ws table
+    room = word-room can i shared-line (split .words i (omega (arith, h .within))) table
 
     -- its length is in the list of lengths
     pub shared-long : length (word-of i) ≡ getD ls (value-at xs i) 0
@@ -122,7 +122,7 @@ module _
   shared-prefix-agrees below i a b done =
       sym
       (together s (word-of i) o d below
-      (λ (z : length (word-of i) ≡ 0). omega (arith, key-some cs ls xs can i (shared-line i a b)))
+      (λ (z : length (word-of i) ≡ 0). omega (arith, key-some can i (shared-line i a b)))
       (⊎-elim (λ (p : length s ≤ o + d). omega arith)
       (λ (p : getD ls (value-at xs i) 0 ≡ d). omega (arith, shared-long i a b)) done)
       (λ j l. sym (h .share i j a b l)))
@@ -141,20 +141,20 @@ module _
             ⊎-elim
             (λ (q : i ≤ lo). let here : i ≡ lo = omega arith in omega (arith, first, ap (λ (x : ℕ). length (word-of x)) here))
             (λ (q : lo < i).
-            prefix-not-before (word-of i) (word-of lo) (word-lines-rise cs ls xs can w split lo i q (omega (arith, h .within)))
+            prefix-not-before (word-of i) (word-of lo) (word-lines-rise can split lo i q (omega (arith, h .within)))
             (omega (arith, first))
             (λ j c. h .share lo j (omega arith) some (omega arith) ∙ sym (h .share i j a b (omega arith))))
             (le-or-lt i lo)
 
     -- a word has at most 32 characters, so the refinement ends
     pub shared-deep : d < 32
-    shared-deep = omega (arith, longer lo (omega arith) some, key-short cs ls xs can lo (shared-line lo (omega arith) some))
+    shared-deep = omega (arith, longer lo (omega arith) some, key-short can lo (shared-line lo (omega arith) some))
 
     rises : (i j : ℕ) → lo ≤ i → i ≤ j → j < hi → getD (word-of i) d 0 ≤ getD (word-of j) d 0
     rises i j a b c =
         ⊎-elim (λ (q : j ≤ i). let here : i ≡ j = omega arith in omega (arith, ap (λ (x : ℕ). getD (word-of x) d 0) here))
         (λ (q : i < j).
-        next-rises (word-of i) (word-of j) d (word-lines-rise cs ls xs can w split i j q (omega (arith, h .within)))
+        next-rises (word-of i) (word-of j) d (word-lines-rise can split i j q (omega (arith, h .within)))
         (longer i a (omega arith)) (longer j (omega arith) c)
         (λ k l. h .share i k a (omega arith) l ∙ sym (h .share j k (omega arith) c l)))
         (le-or-lt j i)
@@ -175,14 +175,14 @@ module _
                       rises i j a b c,
                     );
               };
-          line = λ i a b. line-room cs ls xs can i (shared-line i a b);
+          line = λ i a b. line-room can i (shared-line i a b);
           word = λ i a b. omega (arith, shared-word i a b, table .room);
           room = λ i a b. omega (arith, room i a b, shared-long i a b, longer i a b);
         }
 
     -- the equal range of the string's next character shares one character more
     module _
-        (c from to : ℕ) (is : c ≡ getD s (o + d) 0) (below : o + d < length s)
+        {c from to : ℕ} (is : c ≡ getD s (o + d) 0) (below : o + d < length s)
         (low : Lower-bound (word-char cs xs ws d) lo hi c from) (high : Lower-bound (word-char cs xs ws d) from hi (c + 1) to) where
       pub shared-prefix-deeper : Shared-prefix cs ls xs s o w from to (d + 1)
       shared-prefix-deeper =
@@ -211,7 +211,7 @@ module _
           (λ t.
           other
           (char-at i a b d (longer i a b)
-          ∙ sym (agree-deep s (word-of i) o d (agrees-get s 0 (word-of i) o t) (longer i a b) below)
+          ∙ sym (agree-deep d (agrees-get s 0 (word-of i) o t) (longer i a b) below)
           ∙ sym is))
 
       pub apart-front : (i : ℕ) → lo ≤ i → i < from → agrees s 0 (spells (lexicon cs ls) (key-at xs i)) o ≡ false
@@ -233,5 +233,5 @@ module _
 abbrev pub Words-at : (lengths numbers : List ℕ) → (w : ℕ) → Type 0
 Words-at ls xs w = (i : ℕ) → i < w → value-at xs i < length ls
 
-pub words-at : (cs ls xs : List ℕ) → Can-read cs ls xs → (w : ℕ) → Split xs w → Words-at ls xs w
-words-at cs ls xs can w split i b = word-below cs ls xs can i (omega (arith, split .within)) (split .words i b)
+pub words-at : {cs ls xs : List ℕ} → Can-read cs ls xs → {w : ℕ} → Split xs w → Words-at ls xs w
+words-at {cs} {ls} {xs} can split i b = word-below can i (omega (arith, split .within)) (split .words i b)

@@ -11,7 +11,7 @@ count-word-lines-requires : tie.Need-count-word-lines-requires
 count-word-lines-requires c κs =
     let s = c .before .before .before .before .before .before in
     let a = s .args in
-    (s .pre .0 .fits, kinds-rise (a .chars .now) (a .lengths .now) (a .index .now) (s .pre .0))
+    (s .pre .0 .fits, kinds-rise (s .pre .0))
 
 flag-before-requires : tie.Need-flag-before-requires
 flag-before-requires c κs =
@@ -23,7 +23,7 @@ flag-within-requires : tie.Need-flag-within-requires
 flag-within-requires c κs =
     let s = c .before .before .before .before .before .before .before .before .before .before .before .before in
     let a = s .args in
-    (s .pre .0, s .pre .1, split-found (a .chars .now) (a .lengths .now) (a .index .now) (s .pre .0) (c .before .before .before .before .before .count-word-lines .result) (c .before .before .before .before .before .count-word-lines .ensures), s .pre .2, c .before .before .before .flag-before .ensures .way .flags)
+    (s .pre .0, s .pre .1, split-found (s .pre .0) (c .before .before .before .before .before .count-word-lines .ensures), s .pre .2, c .before .before .before .flag-before .ensures .way .flags)
 
 same-length : tie.Need-same-length
 same-length c = search needs
@@ -34,8 +34,8 @@ returns c =
     let a = s .args in
     let back = c .before .before .before .before .before .before .flag-before in
     let within = c .before .before .flag-within in
-    flags-exact-flags (a .chars .now) (a .lengths .now) (a .index .now) (s .pre .0) (c .before .before .before .before .before .before .before .before .count-word-lines .result)
-    (split-found (a .chars .now) (a .lengths .now) (a .index .now) (s .pre .0) (c .before .before .before .before .before .before .before .before .count-word-lines .result) (c .before .before .before .before .before .before .before .before .count-word-lines .ensures)) (a .string .now) (s .pre .2) (a .flags .now) (back .last .1 .1 .1 .1 .1 .1 .0) (within .last .1 .1 .1 .1 .1 .1 .0) (back .ensures) (within .ensures)
+    flags-exact-flags (s .pre .0)
+    (split-found (s .pre .0) (c .before .before .before .before .before .before .before .before .count-word-lines .ensures)) (s .pre .2) (back .ensures) (within .ensures)
 
 pub flag-bearing-spec : {M : Type 1} → statement M
 flag-bearing-spec =

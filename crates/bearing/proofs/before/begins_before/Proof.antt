@@ -65,7 +65,7 @@ returns : tie.Need-returns Inv-loop μ-loop
 returns c =
     let a = c .before .before .before .before .before .before .before .before .before .args in
     let i = c .before .before .before .before .before .loop .i in (
-      λ t. bears-put (a .key .now) (a .string .now) i 0 (agrees-get (a .string .now) i (a .key .now) 0 (agreed (c .before) ∙ c .if2 .taken)),
+      λ t. bears-put (a .key .now) (a .string .now) (agrees-get (a .string .now) i (a .key .now) 0 (agreed (c .before) ∙ c .if2 .taken)),
       λ f. clash refl f,
     )
 
@@ -76,7 +76,7 @@ loop-again : tie.Need-loop-again Inv-loop μ-loop
 loop-again c =
     let a = c .before .before .before .before .before .before .before .before .before .args in
     let l = c .before .before .before .before .before .loop in
-    before-next (a .key .now) (a .string .now) (l .i) (l .inv) (agreed (c .before) ∙ c .if2 .left)
+    before-next (a .key .now) (a .string .now) (l .inv) (agreed (c .before) ∙ c .if2 .left)
 
 loop-less-2 : tie.Need-loop-less-2 Inv-loop μ-loop
 loop-less-2 c = search needs
@@ -85,13 +85,13 @@ loop-again-2 : tie.Need-loop-again-2 Inv-loop μ-loop
 loop-again-2 c =
     let a = c .before .before .before .before .before .before .before .args in
     let l = c .before .before .before .loop in
-    before-next (a .key .now) (a .string .now) (l .i) (l .inv) (key-starts-apart (l .i) (a .string .now) (a .key .now) (c .before .before .loop-test .taken) (c .if1 .left))
+    before-next (a .key .now) (a .string .now) (l .inv) (key-starts-apart (l .i) (a .string .now) (a .key .now) (c .before .before .loop-test .taken) (c .if1 .left))
 
 returns-2 : tie.Need-returns-2 Inv-loop μ-loop
 returns-2 c =
     let a = c .before .before .before .before .before .args in
     let l = c .before .loop in
-    (λ t. clash t refl, λ f. before-end (a .key .now) (a .string .now) (l .i) (l .inv) (c .loop-test .left))
+    (λ t. clash t refl, λ f. before-end (a .key .now) (a .string .now) (l .inv) (c .loop-test .left))
 
 pub begins-before-spec : {M : Type 1} → statement M
 begins-before-spec =

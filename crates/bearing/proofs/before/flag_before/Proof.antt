@@ -22,7 +22,7 @@ loop-holds : tie.Need-loop-holds Inv-loop μ-loop
 loop-holds c =
     let s = c .before .before .before .before .before .before in
     let a = s .args in
-    (omega arith, backs-start (lexicon (a .chars .now) (a .lengths .now)) (a .index .now) (a .string .now) (a .flags .now) (s .pre .4))
+    (omega arith, backs-start (lexicon (a .chars .now) (a .lengths .now)) (a .index .now) (a .string .now) (s .pre .4))
 
 key-of-requires : tie.Need-key-of-requires Inv-loop μ-loop
 key-of-requires c κs =
@@ -38,7 +38,7 @@ begins-before-requires : tie.Need-begins-before-requires Inv-loop μ-loop
 begins-before-requires c κs =
     let s = c .before .before .before .before .before .before .before .before .before in
     let a = s .args in
-    (spelt-short (a .chars .now) (a .lengths .now) (a .index .now) (s .pre .0) (c .before .before .loop .line) (omega (arith, c .before .loop-test .taken, s .pre .3)) (c .key-of .result .now) (c .key-of .ensures), s .pre .2)
+    (spelt-short (s .pre .0) (c .before .before .loop .line) (omega (arith, c .before .loop-test .taken, s .pre .3)) (c .key-of .result .now) (c .key-of .ensures), s .pre .2)
 
 slice-write-flags : tie.Need-slice-write-flags Inv-loop μ-loop
 slice-write-flags c =
@@ -54,7 +54,7 @@ loop-again c =
     let a = s .args in
     let l = c .before .before .before .before .loop in (
       omega (arith, c .before .before .before .loop-test .taken),
-      backs-next (lexicon (a .chars .now) (a .lengths .now)) (a .index .now) (a .string .now) (a .flags .now) (l .flags) (l .line) (l .inv .1) (omega (arith, c .before .before .before .loop-test .taken, s .pre .3))
+      backs-next (lexicon (a .chars .now) (a .lengths .now)) (a .index .now) (a .string .now) (l .inv .1) (omega (arith, c .before .before .before .loop-test .taken, s .pre .3))
           (ap (λ (k : List ℕ). bears k (a .string .now)) (sym (c .before .before .key-of .ensures)) ∙ c .before .begins-before .ensures .0 (c .if1 .taken)),
     )
 
@@ -67,7 +67,7 @@ loop-again-2 c =
     let a = s .args in
     let l = c .before .before .before .before .loop in (
       omega (arith, c .before .before .before .loop-test .taken),
-      backs-pass (lexicon (a .chars .now) (a .lengths .now)) (a .index .now) (a .string .now) (a .flags .now) (l .flags) (l .line) (l .inv .1)
+      backs-pass (lexicon (a .chars .now) (a .lengths .now)) (a .index .now) (a .string .now) (l .inv .1)
           (λ p some. ap (λ (k : List ℕ). agrees (a .string .now) p k 0) (sym (c .before .before .key-of .ensures)) ∙ c .before .begins-before .ensures .1 (c .if1 .left) p some),
     )
 

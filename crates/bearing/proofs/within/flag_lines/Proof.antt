@@ -30,7 +30,7 @@ loop-again : tie.Need-loop-again Inv-loop μ-loop
 loop-again c =
     let a = c .before .before .args in
     let l = c .before .loop in
-    (omega arith, ones-next (a .from) (l .line) (a .flags .now) (l .flags) (l .inv .1) (omega (arith, l .inv .1 .len, c .before .before .pre .1)))
+    (omega arith, ones-next (l .inv .1) (omega (arith, l .inv .1 .len, c .before .before .pre .1)))
 
 same-length : tie.Need-same-length Inv-loop μ-loop
 same-length c = c .before .loop .inv .1 .len

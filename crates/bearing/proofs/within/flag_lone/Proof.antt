@@ -29,7 +29,7 @@ line-lower-bound-requires : tie.Need-line-lower-bound-requires
 line-lower-bound-requires c κs =
     let s = c .before .before .before .before .before .before .before in
     let a = s .args in
-    (s .pre .0 .fits .has-directory, omega arith, lone-rise (a .chars .now) (a .lengths .now) (a .index .now) (s .pre .0) (a .word-lines) (s .pre .1))
+    (s .pre .0 .fits .has-directory, omega arith, lone-rise (s .pre .0) (s .pre .1))
 
 mul-if2 : tie.Need-mul-if2
 mul-if2 c = search needs
@@ -59,9 +59,9 @@ returns c =
     let found = c .before .before .before .line-lower-bound in
     flagged-one (lexicon (a .chars .now) (a .lengths .now)) (a .index .now) (a .string .now) (a .key-start) (a .word-lines) (keys-of (a .index .now)) (a .flags .now) (s .pre .4)
     (found .result) (c .before .before .if1 .taken)
-    (lone-agrees (a .chars .now) (a .lengths .now) (a .index .now) (s .pre .0) (a .word-lines) (s .pre .1) (a .string .now) (a .key-start) (getD (a .string .now) (a .key-start) 0) refl
+    (lone-agrees (s .pre .0) (s .pre .1) (a .string .now) (a .key-start) (getD (a .string .now) (a .key-start) 0) refl
     (found .result) (found .ensures .from) (c .before .before .if1 .taken) (c .if2 .taken) (s .pre .3))
-    (lone-others (a .chars .now) (a .lengths .now) (a .index .now) (s .pre .0) (a .word-lines) (s .pre .1) (a .string .now) (a .key-start) (getD (a .string .now) (a .key-start) 0) refl (found .result) (found .ensures))
+    (lone-others (s .pre .0) (s .pre .1) (a .string .now) (a .key-start) (getD (a .string .now) (a .key-start) 0) refl (found .ensures))
 
 returns-2 : tie.Need-returns-2
 returns-2 c =
@@ -69,7 +69,7 @@ returns-2 c =
     let a = s .args in
     let found = c .before .before .before .line-lower-bound in
     flagged-none (lexicon (a .chars .now) (a .lengths .now)) (a .index .now) (a .string .now) (a .key-start) (a .word-lines) (keys-of (a .index .now)) (a .flags .now) (s .pre .4)
-    (lone-all (a .chars .now) (a .lengths .now) (a .index .now) (s .pre .0) (a .word-lines) (s .pre .1) (a .string .now) (a .key-start) (getD (a .string .now) (a .key-start) 0) refl (found .result) (found .ensures) (λ some. c .if2 .left))
+    (lone-all (s .pre .0) (s .pre .1) (a .string .now) (a .key-start) (getD (a .string .now) (a .key-start) 0) refl (found .ensures) (λ some. c .if2 .left))
 
 returns-3 : tie.Need-returns-3
 returns-3 c =
@@ -77,7 +77,7 @@ returns-3 c =
     let a = s .args in
     let found = c .before .line-lower-bound in
     flagged-none (lexicon (a .chars .now) (a .lengths .now)) (a .index .now) (a .string .now) (a .key-start) (a .word-lines) (keys-of (a .index .now)) (a .flags .now) (s .pre .4)
-    (lone-all (a .chars .now) (a .lengths .now) (a .index .now) (s .pre .0) (a .word-lines) (s .pre .1) (a .string .now) (a .key-start) (getD (a .string .now) (a .key-start) 0) refl (found .result) (found .ensures) (λ some e. omega (arith, c .if1 .left)))
+    (lone-all (s .pre .0) (s .pre .1) (a .string .now) (a .key-start) (getD (a .string .now) (a .key-start) 0) refl (found .ensures) (λ some e. omega (arith, c .if1 .left)))
 
 pub flag-lone-spec : {M : Type 1} → statement M
 flag-lone-spec =

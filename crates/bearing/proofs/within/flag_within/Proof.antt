@@ -24,7 +24,7 @@ loop-holds : tie.Need-loop-holds Inv-loop μ-loop
 loop-holds c =
     let s = c .before .before .before .before .before .before in
     let a = s .args in
-    (omega arith, offsets-start (lexicon (a .chars .now) (a .lengths .now)) (a .index .now) (a .string .now) (a .flags .now) (s .pre .4))
+    (omega arith, offsets-start (lexicon (a .chars .now) (a .lengths .now)) (a .index .now) (a .string .now) (s .pre .4))
 
 flag-offset-requires : tie.Need-flag-offset-requires Inv-loop μ-loop
 flag-offset-requires c κs =
@@ -43,7 +43,7 @@ loop-again c =
     let a = s .args in
     let l = c .before .before .before .before .before .loop in
     let now = c .before .before .flag-offset in
-    (omega (arith, c .before .before .before .before .loop-test .taken, s .pre .3 .some), offsets-next (lexicon (a .chars .now) (a .lengths .now)) (a .index .now) (a .string .now) (a .flags .now) (l .flags) (now .last .1 .1 .1 .1 .1 .1 .1 .0) (l .key-start) (l .inv .1) (now .ensures))
+    (omega (arith, c .before .before .before .before .loop-test .taken, s .pre .3 .some), offsets-next (lexicon (a .chars .now) (a .lengths .now)) (a .index .now) (a .string .now) (now .last .1 .1 .1 .1 .1 .1 .1 .0) (l .inv .1) (now .ensures))
 
 same-length : tie.Need-same-length Inv-loop μ-loop
 same-length c = c .before .loop .inv .1 .way .len

@@ -32,7 +32,7 @@ loop-holds : tie.Need-loop-holds Inv-loop μ-loop
 loop-holds c =
     let s = c .before .before .before .before .before .before in
     let a = s .args in (
-      left-start (lexicon (a .chars .now) (a .lengths .now)) (a .index .now) (a .string .now) (a .key-start) (a .word-lines) (a .flags .now) (s .pre .5) (s .pre .2 .within),
+      left-start (lexicon (a .chars .now) (a .lengths .now)) (a .index .now) (a .string .now) (a .key-start) (a .word-lines) (s .pre .5) (s .pre .2 .within),
       shared-prefix-start (a .chars .now) (a .lengths .now) (a .index .now) (a .string .now) (a .key-start) (a .word-lines),
     )
 
@@ -52,16 +52,16 @@ returns c =
     let a = s .args in
     let l = c .before .before .before .before .before .before .loop in
     let now = c .before .before .flag-lines in
-    left-end (lexicon (a .chars .now) (a .lengths .now)) (a .index .now) (a .string .now) (a .key-start) (a .word-lines) (a .flags .now) (now .last .1 .1 .0) (l .high) (l .high)
-    (left-ones (lexicon (a .chars .now) (a .lengths .now)) (a .index .now) (a .string .now) (a .key-start) (a .word-lines) (a .flags .now) (l .flags) (l .low) (l .high) (l .inv .0) (l .high) (now .last .1 .1 .0) (omega arith) (l .inv .1 .within) (now .ensures)
-    (λ i x y. shared-prefix-agrees (a .chars .now) (a .lengths .now) (a .index .now) (s .pre .0) (a .word-lines) (s .pre .2) (a .word-starts .now) (s .pre .1) (a .string .now) (a .key-start) (l .low) (l .high) (l .depth) (l .inv .1) (s .pre .4) i x y (inl (omega (arith, c .before .before .before .before .if1 .taken))))) refl
+    left-end (lexicon (a .chars .now) (a .lengths .now)) (a .index .now) (a .string .now)
+    (left-ones (lexicon (a .chars .now) (a .lengths .now)) (a .index .now) (a .string .now) (l .inv .0) (omega arith) (l .inv .1 .within) (now .ensures)
+    (λ i x y. shared-prefix-agrees (s .pre .0) (s .pre .2) (s .pre .1) (l .inv .1) (s .pre .4) i x y (inl (omega (arith, c .before .before .before .before .if1 .taken))))) refl
 
 word-length-requires : tie.Need-word-length-requires Inv-loop μ-loop
 word-length-requires c κs =
     let s = c .before .before .before .before .before .before .before .before .before in
     let a = s .args in
     let l = c .before .before .loop in
-    (omega (arith, c .before .loop-test .taken, l .inv .1 .within, s .pre .2 .within, s .pre .0 .fits .has-directory), shared-word (a .chars .now) (a .lengths .now) (a .index .now) (s .pre .0) (a .word-lines) (s .pre .2) (a .word-starts .now) (s .pre .1) (a .string .now) (a .key-start) (l .low) (l .high) (l .depth) (l .inv .1) (l .low) (omega arith) (c .before .loop-test .taken))
+    (omega (arith, c .before .loop-test .taken, l .inv .1 .within, s .pre .2 .within, s .pre .0 .fits .has-directory), shared-word (s .pre .0) (s .pre .2) (s .pre .1) (l .inv .1) (l .low) (omega arith) (c .before .loop-test .taken))
 
 slice-write-flags : tie.Need-slice-write-flags Inv-loop μ-loop
 slice-write-flags c =
@@ -85,10 +85,10 @@ loop-again c =
     let s = c .before .before .before .before .before .before .before .before .before .before .before in
     let a = s .args in
     let l = c .before .before .before .before .loop in (
-      left-ones (lexicon (a .chars .now) (a .lengths .now)) (a .index .now) (a .string .now) (a .key-start) (a .word-lines) (a .flags .now) (l .flags) (l .low) (l .high) (l .inv .0) (l .low + 1) (set (l .flags) (l .low) 1) (omega (arith, c .before .before .before .loop-test .taken)) (l .inv .1 .within)
+      left-ones (lexicon (a .chars .now) (a .lengths .now)) (a .index .now) (a .string .now) (l .inv .0) (omega (arith, c .before .before .before .loop-test .taken)) (l .inv .1 .within)
           (ones-one (l .low) (l .flags) (omega (arith, c .before .before .before .loop-test .taken, l .inv .1 .within, s .pre .2 .within, l .inv .0 .way .flags .room)))
-          (λ i x y. let e : i ≡ l .low = omega arith in shared-prefix-agrees (a .chars .now) (a .lengths .now) (a .index .now) (s .pre .0) (a .word-lines) (s .pre .2) (a .word-starts .now) (s .pre .1) (a .string .now) (a .key-start) (l .low) (l .high) (l .depth) (l .inv .1) (s .pre .4) i x (omega (arith, c .before .before .before .loop-test .taken)) (inr (ap (λ (j : ℕ). getD (a .lengths .now) (value-at (a .index .now) j) 0) e ∙ sym (c .before .word-length .ensures) ∙ c .if2 .taken))),
-      shared-prefix-next (a .chars .now) (a .lengths .now) (a .index .now) (s .pre .0) (a .word-lines) (s .pre .2) (a .word-starts .now) (s .pre .1) (a .string .now) (a .key-start) (l .low) (l .high) (l .depth) (l .inv .1) (c .before .before .before .loop-test .taken),
+          (λ i x y. let e : i ≡ l .low = omega arith in shared-prefix-agrees (s .pre .0) (s .pre .2) (s .pre .1) (l .inv .1) (s .pre .4) i x (omega (arith, c .before .before .before .loop-test .taken)) (inr (ap (λ (j : ℕ). getD (a .lengths .now) (value-at (a .index .now) j) 0) e ∙ sym (c .before .word-length .ensures) ∙ c .if2 .taken))),
+      shared-prefix-next (s .pre .0) (s .pre .2) (s .pre .1) (l .inv .1) (c .before .before .before .loop-test .taken),
     )
 
 add-character : tie.Need-add-character Inv-loop μ-loop
@@ -105,7 +105,7 @@ equal-range-requires c κs =
     let s = c .before .before .before .before .before .before .before .before .before .before .before .before in
     let a = s .args in
     let l = c .before .before .before .before .before .loop in
-    shared-prefix-column (a .chars .now) (a .lengths .now) (a .index .now) (s .pre .0) (a .word-lines) (s .pre .2) (a .word-starts .now) (s .pre .1) (a .string .now) (a .key-start) (l .low) (l .high) (l .depth) (l .inv .1) (c .before .before .before .before .loop-test .taken) (λ e. c .before .if2 .left (c .before .before .word-length .ensures ∙ e))
+    shared-prefix-column (s .pre .0) (s .pre .2) (s .pre .1) (l .inv .1) (c .before .before .before .before .loop-test .taken) (λ e. c .before .if2 .left (c .before .before .word-length .ensures ∙ e))
 
 add-depth : tie.Need-add-depth Inv-loop μ-loop
 add-depth c = omega (arith, below (c .before .before .before .before), c .before .before .before .before .before .before .before .before .before .before .before .before .before .pre .3 .short)
@@ -115,20 +115,20 @@ loop-less-2 c =
     let s = c .before .before .before .before .before .before .before .before .before .before .before .before .before in
     let a = s .args in
     let l = c .before .before .before .before .before .before .loop in
-    omega (arith, shared-deep (a .chars .now) (a .lengths .now) (a .index .now) (s .pre .0) (a .word-lines) (s .pre .2) (a .word-starts .now) (s .pre .1) (a .string .now) (a .key-start) (l .low) (l .high) (l .depth) (l .inv .1) (c .before .before .before .before .before .loop-test .taken) (λ e. c .before .before .if2 .left (c .before .before .before .word-length .ensures ∙ e)), c .before .before .before .before .before .loop-test .taken, c .equal-range .ensures .0 .from, c .equal-range .ensures .1 .to)
+    omega (arith, shared-deep (s .pre .0) (s .pre .2) (s .pre .1) (l .inv .1) (c .before .before .before .before .before .loop-test .taken) (λ e. c .before .before .if2 .left (c .before .before .before .word-length .ensures ∙ e)), c .before .before .before .before .before .loop-test .taken, c .equal-range .ensures .0 .from, c .equal-range .ensures .1 .to)
 
 loop-again-2 : tie.Need-loop-again-2 Inv-loop μ-loop
 loop-again-2 c =
     let s = c .before .before .before .before .before .before .before .before .before .before .before .before .before in
     let a = s .args in
     let l = c .before .before .before .before .before .before .loop in (
-      left-narrow (lexicon (a .chars .now) (a .lengths .now)) (a .index .now) (a .string .now) (a .key-start) (a .word-lines) (a .flags .now) (l .flags) (l .low) (l .high) (l .inv .0) (c .equal-range .result .from) (c .equal-range .result .to)
-          (apart-front (a .chars .now) (a .lengths .now) (a .index .now) (s .pre .0) (a .word-lines) (s .pre .2) (a .word-starts .now) (s .pre .1) (a .string .now) (a .key-start) (l .low) (l .high) (l .depth) (l .inv .1) (c .before .before .before .before .before .loop-test .taken) (λ e. c .before .before .if2 .left (c .before .before .before .word-length .ensures ∙ e))
-          (getD (a .string .now) (a .key-start + l .depth) 0) (c .equal-range .result .from) (c .equal-range .result .to) refl (below (c .before .before .before .before)) (c .equal-range .ensures .0) (c .equal-range .ensures .1))
-          (apart-back (a .chars .now) (a .lengths .now) (a .index .now) (s .pre .0) (a .word-lines) (s .pre .2) (a .word-starts .now) (s .pre .1) (a .string .now) (a .key-start) (l .low) (l .high) (l .depth) (l .inv .1) (c .before .before .before .before .before .loop-test .taken) (λ e. c .before .before .if2 .left (c .before .before .before .word-length .ensures ∙ e))
-          (getD (a .string .now) (a .key-start + l .depth) 0) (c .equal-range .result .from) (c .equal-range .result .to) refl (below (c .before .before .before .before)) (c .equal-range .ensures .0) (c .equal-range .ensures .1)),
-      shared-prefix-deeper (a .chars .now) (a .lengths .now) (a .index .now) (s .pre .0) (a .word-lines) (s .pre .2) (a .word-starts .now) (s .pre .1) (a .string .now) (a .key-start) (l .low) (l .high) (l .depth) (l .inv .1) (c .before .before .before .before .before .loop-test .taken) (λ e. c .before .before .if2 .left (c .before .before .before .word-length .ensures ∙ e))
-          (getD (a .string .now) (a .key-start + l .depth) 0) (c .equal-range .result .from) (c .equal-range .result .to) refl (below (c .before .before .before .before)) (c .equal-range .ensures .0) (c .equal-range .ensures .1),
+      left-narrow (lexicon (a .chars .now) (a .lengths .now)) (a .index .now) (a .string .now) (l .inv .0) (c .equal-range .result .from) (c .equal-range .result .to)
+          (apart-front (s .pre .0) (s .pre .2) (s .pre .1) (l .inv .1) (c .before .before .before .before .before .loop-test .taken) (λ e. c .before .before .if2 .left (c .before .before .before .word-length .ensures ∙ e))
+          refl (below (c .before .before .before .before)) (c .equal-range .ensures .0) (c .equal-range .ensures .1))
+          (apart-back (s .pre .0) (s .pre .2) (s .pre .1) (l .inv .1) (c .before .before .before .before .before .loop-test .taken) (λ e. c .before .before .if2 .left (c .before .before .before .word-length .ensures ∙ e))
+          refl (below (c .before .before .before .before)) (c .equal-range .ensures .0) (c .equal-range .ensures .1)),
+      shared-prefix-deeper (s .pre .0) (s .pre .2) (s .pre .1) (l .inv .1) (c .before .before .before .before .before .loop-test .taken) (λ e. c .before .before .if2 .left (c .before .before .before .word-length .ensures ∙ e))
+          refl (below (c .before .before .before .before)) (c .equal-range .ensures .0) (c .equal-range .ensures .1),
     )
 
 same-length-2 : tie.Need-same-length-2 Inv-loop μ-loop
@@ -139,7 +139,7 @@ returns-2 c =
     let s = c .before .before .before .before .before .before .before .before in
     let a = s .args in
     let l = c .before .loop in
-    left-end (lexicon (a .chars .now) (a .lengths .now)) (a .index .now) (a .string .now) (a .key-start) (a .word-lines) (a .flags .now) (l .flags) (l .low) (l .high) (l .inv .0) (omega (arith, l .inv .1 .order, c .loop-test .left))
+    left-end (lexicon (a .chars .now) (a .lengths .now)) (a .index .now) (a .string .now) (l .inv .0) (omega (arith, l .inv .1 .order, c .loop-test .left))
 
 pub flag-words-spec : {M : Type 1} → statement M
 flag-words-spec =

@@ -30,29 +30,29 @@ returns : tie.Need-returns
 returns c =
     let start = c .before .before .before .before .before .before .before .before .before .before .before .before .before .before .before .before .before in
     let k = c .before .before .before .before .before .before .before .before .chain-positions in
-    token-entry-refused (replaced (start .args .text .now)) (start .args .tokens .now) (k .last .1 .0) (k .last .1 .1 .0)
-    (k .last .1 .1 .1 .0) (k .result .keys)
-    (k .result .entries) (start .pre .0) (k .ensures) (start .args .output .now) (c .if1 .taken)
+    token-entry-refused
+   
+    (start .pre .0) (k .ensures) (start .args .output .now) (c .if1 .taken)
 
 write-index-requires : tie.Need-write-index-requires
 write-index-requires c κs =
     let start = c .before .before .before .before .before .before .before .before .before .before .before .before .before .before .before .before .before .before .before .before .before in
     let k = c .before .before .before .before .before .before .before .before .before .before .before .before .chain-positions in (
-      linked-listable (replaced (start .args .text .now)) (start .args .tokens .now) (k .last .1 .0) (k .last .1 .1 .0)
-          (k .last .1 .1 .1 .0) (k .result .keys)
-          (k .result .entries) (start .pre .0) (k .ensures),
+      linked-listable
+         
+          (start .pre .0) (k .ensures),
       (
         (
-          linked-keys (replaced (start .args .text .now)) (start .args .tokens .now) (k .last .1 .0) (k .last .1 .1 .0)
-              (k .last .1 .1 .1 .0) (k .result .keys)
-              (k .result .entries) (start .pre .0) (k .ensures),
-          few-keys (replaced (start .args .text .now)) (start .args .tokens .now) (k .last .1 .0) (k .last .1 .1 .0)
-              (k .last .1 .1 .1 .0) (k .result .keys)
-              (k .result .entries) (start .pre .0) (k .ensures),
+          linked-keys
+             
+              (start .pre .0) (k .ensures),
+          few-keys
+             
+              (start .pre .0) (k .ensures),
         ),
-        linked-room (replaced (start .args .text .now)) (start .args .tokens .now) (k .last .1 .0) (k .last .1 .1 .0)
-            (k .last .1 .1 .1 .0) (k .result .keys)
-            (k .result .entries) (start .pre .0) (k .ensures) (start .args .output .now) (c .before .before .before .before .if1 .left),
+        linked-room
+           
+            (start .pre .0) (k .ensures) (start .args .output .now) (c .before .before .before .before .if1 .left),
       ),
     )
 
@@ -72,9 +72,9 @@ returns-2 : tie.Need-returns-2
 returns-2 c =
     let start = c .before .before .before .before .before .before .before .before .before .before .before .before .before .before .before .before .before .before .before .before .before .before .before .before in
     let k = c .before .before .before .before .before .before .before .before .before .before .before .before .before .before .before .chain-positions in
-    token-entry-put (replaced (start .args .text .now)) (start .args .tokens .now) (k .last .1 .0) (k .last .1 .1 .0) (k .last .1 .1 .1 .0)
-    (k .result .keys)
-    (k .result .entries) (start .pre .0) (k .ensures) (start .args .output .now) (c .before .before .write-index .last .1 .1 .1 .1 .0) (c .before .before .before .before .before .before .before .if1 .left) (c .before .before .write-index .ensures)
+    token-entry-put
+   
+    (start .pre .0) (k .ensures) (start .args .output .now) (c .before .before .write-index .last .1 .1 .1 .1 .0) (c .before .before .before .before .before .before .before .if1 .left) (c .before .before .write-index .ensures)
 
 pub index-by-spec : {M : Type 1} → statement M
 index-by-spec =

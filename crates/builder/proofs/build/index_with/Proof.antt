@@ -14,7 +14,7 @@ fill-match-table-requires c κs =
     let ls = start .args .lengths .now in
     let ts = start .args .text .now in
     let w = length (start .args .work .now) in
-    blank-room cs ls ts w (start .args .heads .now) (start .args .links .now) (start .args .word-starts .now)
+    blank-room cs ls ts w
     (λ i h. omega (arith, c .before .before .before .before .before .before .before .before .before .before .shared-slice-known .given i)) (start .pre .0) (start .pre .1)
 
 scan-replaced-requires : tie.Need-scan-replaced-requires
@@ -66,7 +66,7 @@ returns c =
     let work = c .before .before .before .before .before .before .before .before .before .scan-replaced .last .1 .1 .1 .1 .1 .1 .0 in
     build-tokens cs ls ts w (start .args .output .now)
     (λ i h. omega (arith, c .before .before .before .before .before .before .before .before .before .before .before .before .before .before .before .before .before .before .before .before .before .before .before .before .before .before .before .before .before .before .before .shared-slice-known .given i)) (λ i h. omega (arith, c .before .before .before .before .before .before .before .before .before .before .before .before .before .before .before .before .before .before .before .before .before .before .before .before .before .before .before .before .before .shared-slice-known3 .given i))
-    (start .pre .0) (take (length ts) work)
+    (start .pre .0)
     (c .before .before .before .before .before .before .before .before .before .scan-replaced .ensures)
     (c .before .before .before .before .finish .result) (c .before .before .before .before .finish .last .1 .0)
     (c .before .before .before .before .finish .ensures)

@@ -87,8 +87,8 @@ loop-again c =
     let p = c .before .before .before .before .before .before .wrapping-sub-usize .result in
     let end = c .before .before .before .before .before .before .before .before .before .before .before .greater in
     let done = c .before .before .before .extend-start in
-    extending-extended (a .positions .now) (a .len) (a .string-start) (a .key-start) (a .first) (a .reach .now) (a .max-reach) (l .reach) (l .highest) (l .i) (l .inv) (c .before .before .before .before .before .before .before .before .loop-test .taken)
-    p (own (c .before .before .before .before .before)) (c .before .before .before .before .before .if1 .taken) (end .result) (end .ensures) (done .result) (done .last .0) (done .ensures) (c .if2 .taken) (c .before .before .before .before .before .before .before .before .before .before .greater2 .result) (c .before .before .before .before .before .before .before .before .before .before .greater2 .ensures)
+    extending-extended (l .inv) (c .before .before .before .before .before .before .before .before .loop-test .taken)
+    (own (c .before .before .before .before .before)) (c .before .before .before .before .before .if1 .taken) (end .ensures) (done .ensures) (c .if2 .taken) (c .before .before .before .before .before .before .before .before .before .before .greater2 .result) (c .before .before .before .before .before .before .before .before .before .before .greater2 .ensures)
 
 loop-less-2 : tie.Need-loop-less-2 Inv-loop μ-loop
 loop-less-2 c = search needs
@@ -101,8 +101,8 @@ loop-again-2 c =
     let p = c .before .before .before .before .before .before .wrapping-sub-usize .result in
     let end = c .before .before .before .before .before .before .before .before .before .before .before .greater in
     let done = c .before .before .before .extend-start in
-    extending-passed (a .positions .now) (a .len) (a .string-start) (a .key-start) (a .first) (a .reach .now) (a .max-reach) (l .reach) (l .highest) (l .i) (l .inv) (c .before .before .before .before .before .before .before .before .loop-test .taken)
-    p (own (c .before .before .before .before .before)) (c .before .before .before .before .before .if1 .taken) (end .result) (end .ensures) (done .result) (done .last .0) (done .ensures) (c .if2 .left)
+    extending-passed (l .inv) (c .before .before .before .before .before .before .before .before .loop-test .taken)
+    (own (c .before .before .before .before .before)) (c .before .before .before .before .before .if1 .taken) (end .ensures) (done .ensures) (c .if2 .left)
 
 loop-less-3 : tie.Need-loop-less-3 Inv-loop μ-loop
 loop-less-3 c = search needs
@@ -113,7 +113,7 @@ loop-again-3 c =
     let a = s .args in
     let l = c .before .before .before .before .loop in
     let w = c .before .wrapping-sub-usize in
-    extending-outside (a .positions .now) (a .len) (a .string-start) (a .key-start) (a .first) (a .reach .now) (a .max-reach) (l .reach) (l .highest) (l .i) (l .inv) (c .before .before .before .loop-test .taken)
+    extending-outside (l .inv) (c .before .before .before .loop-test .taken)
     (λ from. wrap-above (w .result) (getD (a .positions .now) (l .i) 0 + a .string-start) (a .first + a .key-start) (length (l .reach)) (w .ensures) (w .ok)
     (omega (arith, s .pre .0)) from (c .if1 .left))
 
@@ -124,7 +124,7 @@ returns : tie.Need-returns Inv-loop μ-loop
 returns c =
     let a = c .before .before .before .before .before .before .args in
     let l = c .before .loop in
-    extending-end (a .positions .now) (a .len) (a .string-start) (a .key-start) (a .first) (a .reach .now) (a .max-reach) (l .reach) (l .highest) (l .i) (l .inv) (c .loop-test .left)
+    extending-end (l .inv) (c .loop-test .left)
 
 pub extend-at-all-spec : {M : Type 1} → statement M
 extend-at-all-spec =

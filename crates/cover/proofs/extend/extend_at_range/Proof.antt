@@ -56,7 +56,7 @@ loop-holds : tie.Need-loop-holds Inv-loop μ-loop
 loop-holds c =
     let s = c .before .before .before .before in
     let a = s .args in
-    (omega arith, range-start (a .positions .now) (a .len) (a .string-start) (a .key-start) (a .first) (a .reach .now) (a .max-reach) (a .from) (a .to) (s .pre .2) (s .pre .1))
+    (omega arith, range-start (a .len) (a .reach .now) (a .max-reach) (s .pre .2) (s .pre .1))
 
 mul-p : tie.Need-mul-p Inv-loop μ-loop
 mul-p c = search needs
@@ -93,9 +93,9 @@ loop-again c =
     let end = c .before .before .before .before .before .before .before .before .before .greater in
     let done = c .before .before .before .extend-start in (
       omega (arith, l .inv .0),
-      extending-extended (a .positions .now) (a .len) (a .string-start) (a .key-start) (a .first) (a .reach .now) (a .max-reach) (l .reach) (l .highest) (l .i) (l .inv .1)
-          (omega (arith, c .before .before .before .before .before .before .loop-test .taken, s .pre .2 .to)) (start (c .before .before .before .before .before .before .before)) (own (c .before .before .before .before .before .before))
-          (inside (c .before .before .before .before .before .before)) (end .result) (end .ensures) (done .result) (done .last .0) (done .ensures) (c .if1 .taken)
+      extending-extended (l .inv .1)
+          (omega (arith, c .before .before .before .before .before .before .loop-test .taken, s .pre .2 .to)) (own (c .before .before .before .before .before .before))
+          (inside (c .before .before .before .before .before .before)) (end .ensures) (done .ensures) (c .if1 .taken)
           (c .before .before .before .before .before .before .before .before .greater2 .result) (c .before .before .before .before .before .before .before .before .greater2 .ensures),
     )
 
@@ -110,9 +110,9 @@ loop-again-2 c =
     let end = c .before .before .before .before .before .before .before .before .before .greater in
     let done = c .before .before .before .extend-start in (
       omega (arith, l .inv .0),
-      extending-passed (a .positions .now) (a .len) (a .string-start) (a .key-start) (a .first) (a .reach .now) (a .max-reach) (l .reach) (l .highest) (l .i) (l .inv .1)
-          (omega (arith, c .before .before .before .before .before .before .loop-test .taken, s .pre .2 .to)) (start (c .before .before .before .before .before .before .before)) (own (c .before .before .before .before .before .before))
-          (inside (c .before .before .before .before .before .before)) (end .result) (end .ensures) (done .result) (done .last .0) (done .ensures) (c .if1 .left),
+      extending-passed (l .inv .1)
+          (omega (arith, c .before .before .before .before .before .before .loop-test .taken, s .pre .2 .to)) (own (c .before .before .before .before .before .before))
+          (inside (c .before .before .before .before .before .before)) (end .ensures) (done .ensures) (c .if1 .left),
     )
 
 same-length : tie.Need-same-length Inv-loop μ-loop
@@ -123,7 +123,7 @@ returns c =
     let s = c .before .before .before .before .before .before in
     let a = s .args in
     let l = c .before .loop in
-    range-end (a .positions .now) (a .len) (a .string-start) (a .key-start) (a .first) (a .reach .now) (a .max-reach) (a .from) (a .to) (s .pre .2) (l .reach) (l .highest) (l .i) (l .inv .1) (c .loop-test .left)
+    range-end (a .len) (a .reach .now) (a .max-reach) (s .pre .2) (l .inv .1) (c .loop-test .left)
 
 pub extend-at-range-spec : {M : Type 1} → statement M
 extend-at-range-spec =

@@ -43,7 +43,7 @@ returns : tie.Need-returns
 returns c =
     let a = c .before .before .before .before .before .before .before .before .before .before .args in
     extends-all (a .string-start) (a .key-start) (a .string .now) (a .key .now) (a .first) (a .positions .now) (a .reach .now)
-    (agreed (c .before .before .before .before .before) ∙ c .before .before .before .before .if1 .taken) (c .before .before .extend-at-positions .last .1 .1 .1 .1 .1 .0) (c .before .before .extend-at-positions .result)
+    (agreed (c .before .before .before .before .before) ∙ c .before .before .before .before .if1 .taken)
     (c .before .before .extend-at-positions .ensures)
 
 returns-2 : tie.Need-returns-2

@@ -44,8 +44,8 @@ loop-again : tie.Need-loop-again Inv-loop μ-loop
 loop-again c =
     let a = c .before .before .before .before .before .before .before .before .before .before .before .before .before .args in
     let l = c .before .before .before .before .before .before .before .before .loop in
-    backing-step (a .string .now) (a .key .now) (a .first) (a .positions .now) (a .reach .now) (l .reach) (l .highest) (l .i) (l .inv)
-    (c .before .before .before .before .before .before .before .loop-test .taken) (c .before .before .extend-key .last .1 .1 .1 .1 .1 .1 .0) (c .before .before .extend-key .result)
+    backing-step (a .string .now) (a .key .now) (a .first) (a .positions .now) (a .reach .now) (l .inv)
+    (c .before .before .before .before .before .before .before .loop-test .taken)
     (c .before .before .extend-key .kept .1 .1 .1 .1 .1 .1 .0) (c .before .before .extend-key .ensures)
 
 loop-less-2 : tie.Need-loop-less-2 Inv-loop μ-loop
@@ -55,7 +55,7 @@ loop-again-2 : tie.Need-loop-again-2 Inv-loop μ-loop
 loop-again-2 c =
     let a = c .before .before .before .before .before .before .before .before .before .args in
     let l = c .before .before .before .before .loop in
-    backing-pass (a .string .now) (a .key .now) (a .first) (a .positions .now) (a .reach .now) (l .reach) (l .highest) (l .i) (l .inv)
+    backing-pass (a .string .now) (a .key .now) (a .first) (a .positions .now) (a .reach .now) (l .inv)
     (c .before .before .before .loop-test .taken) (c .if1 .left)
 
 same-length : tie.Need-same-length Inv-loop μ-loop
@@ -65,7 +65,7 @@ returns : tie.Need-returns Inv-loop μ-loop
 returns c =
     let a = c .before .before .before .before .before .before .args in
     let l = c .before .loop in
-    backing-end (a .string .now) (a .key .now) (a .first) (a .positions .now) (a .reach .now) (l .reach) (l .highest) (l .i) (l .inv)
+    backing-end (a .string .now) (a .key .now) (a .first) (a .positions .now) (a .reach .now) (l .inv)
     (c .loop-test .left)
 
 pub extend-back-spec : {M : Type 1} → statement M

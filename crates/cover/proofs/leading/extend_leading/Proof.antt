@@ -31,10 +31,10 @@ returns c =
     let word-starts = c .before .before .before .before .before .before .extend-words-back in
     let lone = c .before .before .extend-lone in
     leading-both (lexicon (a .chars .now) (a .lengths .now)) (a .index .now) (a .string .now) (a .first) (a .word-lines) (s .pre .1 .within)
-    (lone-single (a .chars .now) (a .lengths .now) (a .index .now) (s .pre .0 .can) (a .word-lines) (s .pre .1))
-    (a .reach .now) (word-starts .last .1 .1 .1 .1 .1 .1 .1 .1 .0) (lone .last .1 .1 .1 .1 .1 .1 .1 .1 .1 .0) (word-starts .result) (lone .result)
+    (lone-single (s .pre .0 .can) (s .pre .1))
+    (a .reach .now)
     (leading-reaches (lexicon (a .chars .now) (a .lengths .now)) (a .index .now) (a .string .now) (a .first) (a .word-lines) (a .lines .now) (a .reach .now)
-    (word-starts .last .1 .1 .1 .1 .1 .1 .1 .1 .0) (word-starts .result) (s .pre .2) (word-starts .ensures))
+    (s .pre .2) (word-starts .ensures))
     (lone .ensures)
 
 pub extend-leading-spec : {M : Type 1} → statement M

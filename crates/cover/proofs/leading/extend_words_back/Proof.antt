@@ -49,12 +49,12 @@ extend-back-requires c κs =
     let s = c .before .before .before .before .before .before .before .before .before .before .before .before .before .before in
     let a = s .args in
     let l = c .before .before .before .before .before .loop in (
-      spelt-short (a .chars .now) (a .lengths .now) (a .index .now) (s .pre .0 .can) (getD (a .lines .now) (l .i) 0)
+      spelt-short (s .pre .0 .can) (getD (a .lines .now) (l .i) 0)
           (s .pre .1 (l .i) (c .before .before .before .before .loop-test .taken)) (c .before .before .key-of .result .now) (c .before .before .key-of .ensures),
       s .pre .2,
       s .pre .3,
       l .inv .bounded,
-      listed-rise (a .chars .now) (a .lengths .now) (a .index .now) (s .pre .0 .can) (getD (a .lines .now) (l .i) 0)
+      listed-rise (s .pre .0 .can) (getD (a .lines .now) (l .i) 0)
           (s .pre .1 (l .i) (c .before .before .before .before .loop-test .taken)) (c .before .positions-of .result .now) (c .before .positions-of .ensures),
     )
 
@@ -71,7 +71,7 @@ loop-again c =
     let l = c .before .before .before .before .before .before .before .before .loop in
     let extended = c .before .before .extend-back in
     listed-step (leading-at (lexicon (a .chars .now) (a .lengths .now)) (a .index .now) (a .string .now) (a .first)) (a .lines .now) (a .reach .now) (l .reach) (l .highest) (l .i) (l .inv)
-    (c .before .before .before .before .before .before .before .loop-test .taken) (extended .last .1 .1 .1 .1 .0) (extended .result) (extended .kept .1 .1 .1 .1 .0)
+    (c .before .before .before .before .before .before .before .loop-test .taken) (extended .kept .1 .1 .1 .1 .0)
     (leading-done (lexicon (a .chars .now) (a .lengths .now)) (a .index .now) (a .string .now) (a .first) (getD (a .lines .now) (l .i) 0)
     (c .before .before .before .before .before .key-of .result .now) (c .before .before .before .before .positions-of .result .now) (c .before .before .before .before .before .key-of .ensures) (c .before .before .before .before .positions-of .ensures) (l .reach)
     (extended .last .1 .1 .1 .1 .0) (extended .result) (extended .ensures))

@@ -51,7 +51,7 @@ agrees-leading-requires : tie.Need-agrees-leading-requires Inv-loop μ-loop
 agrees-leading-requires c κs =
     let s = c .before .before .before .before .before .before .before .before .before in
     let a = s .args in (
-      spelt-short (a .chars .now) (a .lengths .now) (a .index .now) (s .pre .0) (c .before .before .loop .line) (omega (arith, s .pre .3, c .before .loop-test .taken))
+      spelt-short (s .pre .0) (c .before .before .loop .line) (omega (arith, s .pre .3, c .before .loop-test .taken))
           (c .key-of .result .now) (c .key-of .ensures),
       s .pre .2,
     )

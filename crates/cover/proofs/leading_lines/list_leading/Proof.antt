@@ -15,20 +15,20 @@ split : (c : tie.After-count-word-lines) → Split (c .before .before .before .b
 split c =
     let s = c .before .before .before .before .before .before .before in
     let a = s .args in
-    split-found (a .chars .now) (a .lengths .now) (a .index .now) (s .pre .0) (c .count-word-lines .result) (c .count-word-lines .ensures)
+    split-found (s .pre .0) (c .count-word-lines .ensures)
 
 -- and there is room for all of them
 few : (c : tie.After-count-word-lines) → c .count-word-lines .result ≤ length (c .before .before .before .before .before .before .before .args .lines .now)
 few c =
     let s = c .before .before .before .before .before .before .before in
     let a = s .args in
-    omega (arith, s .pre .3, word-lines-few (a .chars .now) (a .lengths .now) (a .index .now) (s .pre .0) (c .count-word-lines .result) (split c))
+    omega (arith, s .pre .3, word-lines-few (s .pre .0) (split c))
 
 count-word-lines-requires : tie.Need-count-word-lines-requires
 count-word-lines-requires c κs =
     let s = c .before .before .before .before .before .before in
     let a = s .args in
-    (s .pre .0 .fits, kinds-rise (a .chars .now) (a .lengths .now) (a .index .now) (s .pre .0))
+    (s .pre .0 .fits, kinds-rise (s .pre .0))
 
 fill-leading-requires : tie.Need-fill-leading-requires
 fill-leading-requires c κs =

@@ -24,10 +24,10 @@ extend-key-requires c κs =
     let s = c .before .before .before .before .before .before .before .before .before .before in
     let a = s .args in (
       offset-fits (length (c .before .before .key-of .result .now)) (a .key-start) (a .first)
-          (spelt-short (a .chars .now) (a .lengths .now) (a .index .now) (s .pre .0 .can) (a .line) (s .pre .2) (c .before .before .key-of .result .now) (c .before .before .key-of .ensures))
+          (spelt-short (s .pre .0 .can) (a .line) (s .pre .2) (c .before .before .key-of .result .now) (c .before .before .key-of .ensures))
           (s .pre .1) (s .pre .3),
       s .pre .4,
-      listed-rise (a .chars .now) (a .lengths .now) (a .index .now) (s .pre .0 .can) (a .line) (s .pre .2) (c .before .positions-of .result .now) (c .before .positions-of .ensures),
+      listed-rise (s .pre .0 .can) (a .line) (s .pre .2) (c .before .positions-of .result .now) (c .before .positions-of .ensures),
     )
 
 same-length : tie.Need-same-length

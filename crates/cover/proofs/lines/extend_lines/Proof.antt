@@ -38,7 +38,7 @@ loop-again c =
     let a = c .before .before .before .before .before .before .before .before .before .before .before .before .before .args in
     let l = c .before .before .before .before .before .loop in
     left-step (offset-at (a .key-start) (lexicon (a .chars .now) (a .lengths .now)) (a .index .now) (a .string .now) (a .first)) (a .from) (a .to) (a .reach .now) (l .reach) (l .highest) (l .line) (a .to) (l .inv) (c .before .before .before .before .loop-test .taken)
-    (c .before .before .extend-line .last .1 .1 .1 .1 .1 .1 .1 .1 .1 .0) (c .before .before .extend-line .result) (c .before .before .extend-line .kept .1 .1 .1 .1 .1 .1 .1 .1 .1 .0) (c .before .before .extend-line .ensures)
+    (c .before .before .extend-line .kept .1 .1 .1 .1 .1 .1 .1 .1 .1 .0) (c .before .before .extend-line .ensures)
 
 same-length : tie.Need-same-length Inv-loop μ-loop
 same-length c = c .before .loop .inv .len

@@ -27,7 +27,7 @@ cast-line-lower-bound c = omega (arith, c .shared-slice-known8 .given (c .before
 line-lower-bound-requires : tie.Need-line-lower-bound-requires
 line-lower-bound-requires c κs =
     let s = c .before .before .before .before .before .before .before .before .before in
-    (s .pre .0 .can .fits .has-directory, omega arith, lone-rise (s .args .chars .now) (s .args .lengths .now) (s .args .index .now) (s .pre .0 .can) (s .args .word-lines) (s .pre .1))
+    (s .pre .0 .can .fits .has-directory, omega arith, lone-rise (s .pre .0 .can) (s .pre .1))
 
 mul-if2 : tie.Need-mul-if2
 mul-if2 c = search needs
@@ -53,7 +53,7 @@ extend-at-positions-requires c κs =
     let a = s .args in (
       offset-fits 1 (a .key-start) (a .first) (omega arith) (omega (arith, s .pre .2, s .pre .3)) (s .pre .4),
       s .pre .5,
-      listed-rise (a .chars .now) (a .lengths .now) (a .index .now) (s .pre .0 .can) (c .before .before .before .before .before .line-lower-bound .result)
+      listed-rise (s .pre .0 .can) (c .before .before .before .before .before .line-lower-bound .result)
           (c .before .before .before .before .if1 .taken) (c .before .positions-of .result .now) (c .before .positions-of .ensures),
     )
 
@@ -68,26 +68,26 @@ returns c =
     let some = c .before .before .before .before .before .before .before .if1 .taken in
     let positions = c .before .before .before .before .positions-of in
     let done = c .before .before .extend-at-positions in
-    lone-found (a .chars .now) (a .lengths .now) (a .index .now) (s .pre .0 .can) (a .word-lines) (s .pre .1) (a .string .now) (a .key-start)
-    (getD (a .string .now) (a .key-start) 0) refl (line .result) (line .ensures) (a .first) some (a .reach .now) (done .last .1 .1 .1 .1 .1 .0) (done .result)
-    (lone-done (a .chars .now) (a .lengths .now) (a .index .now) (s .pre .0 .can) (a .word-lines) (s .pre .1) (a .string .now) (a .key-start)
+    lone-found (s .pre .0 .can) (s .pre .1) (a .string .now) (a .key-start)
+    (getD (a .string .now) (a .key-start) 0) refl (line .ensures) (a .first) some (a .reach .now)
+    (lone-done (s .pre .0 .can) (s .pre .1) (a .string .now) (a .key-start)
     (getD (a .string .now) (a .key-start) 0) refl (line .result) (line .ensures .from) some (c .before .before .before .before .before .if2 .taken) (s .pre .2) (a .first)
-    (positions .result .now) (positions .ensures) (a .reach .now) (done .last .1 .1 .1 .1 .1 .0) (done .result) (done .ensures))
+    (positions .result .now) (positions .ensures) (a .reach .now) (done .ensures))
 
 returns-2 : tie.Need-returns-2
 returns-2 c =
     let s = c .before .before .before .before .before .before .before .before .before .before .before .before .before in
     let a = s .args in
-    lone-none (a .chars .now) (a .lengths .now) (a .index .now) (s .pre .0 .can) (a .word-lines) (s .pre .1) (a .string .now) (a .key-start)
-    (getD (a .string .now) (a .key-start) 0) refl (c .before .before .before .line-lower-bound .result) (c .before .before .before .line-lower-bound .ensures) (a .first) (λ some. c .if2 .left)
+    lone-none (s .pre .0 .can) (s .pre .1) (a .string .now) (a .key-start)
+    (getD (a .string .now) (a .key-start) 0) refl (c .before .before .before .line-lower-bound .ensures) (a .first) (λ some. c .if2 .left)
     (a .reach .now) (a .max-reach) (s .pre .5)
 
 returns-3 : tie.Need-returns-3
 returns-3 c =
     let s = c .before .before .before .before .before .before .before .before .before .before .before in
     let a = s .args in
-    lone-none (a .chars .now) (a .lengths .now) (a .index .now) (s .pre .0 .can) (a .word-lines) (s .pre .1) (a .string .now) (a .key-start)
-    (getD (a .string .now) (a .key-start) 0) refl (c .before .line-lower-bound .result) (c .before .line-lower-bound .ensures) (a .first) (λ some e. omega (arith, c .if1 .left))
+    lone-none (s .pre .0 .can) (s .pre .1) (a .string .now) (a .key-start)
+    (getD (a .string .now) (a .key-start) 0) refl (c .before .line-lower-bound .ensures) (a .first) (λ some e. omega (arith, c .if1 .left))
     (a .reach .now) (a .max-reach) (s .pre .5)
 
 pub extend-lone-spec : {M : Type 1} → statement M

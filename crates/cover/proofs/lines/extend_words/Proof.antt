@@ -63,8 +63,8 @@ word-length-requires c κs =
     let a = s .args in
     let l = c .before .before .loop in (
       omega (arith, some c, l .inv .1 .within, s .pre .1 .within, s .pre .0 .can .fits .has-directory),
-      shared-word (a .chars .now) (a .lengths .now) (a .index .now) (s .pre .0 .can) (a .word-lines) (s .pre .1) (a .word-starts .now) (s .pre .0 .word-starts) (a .string .now) (a .key-start)
-          (l .low) (l .high) (l .depth) (l .inv .1) (l .low) (omega arith) (some c),
+      shared-word (s .pre .0 .can) (s .pre .1) (s .pre .0 .word-starts)
+          (l .inv .1) (l .low) (omega arith) (some c),
     )
 
 extend-line-requires : tie.Need-extend-line-requires Inv-loop μ-loop
@@ -88,9 +88,9 @@ loop-again c =
     let a = s .args in
     let l = c .before .before .before .before .before .before .before .before .loop in (
       left-step (offset-at (a .key-start) (lexicon (a .chars .now) (a .lengths .now)) (a .index .now) (a .string .now) (a .first)) 0 (a .word-lines) (a .reach .now) (l .reach) (l .highest) (l .low) (l .high) (l .inv .0) (some (c .before .before .before .before .before .before))
-          (c .before .before .extend-line .last .1 .1 .1 .1 .1 .1 .1 .1 .1 .0) (c .before .before .extend-line .result) (c .before .before .extend-line .kept .1 .1 .1 .1 .1 .1 .1 .1 .1 .0) (c .before .before .extend-line .ensures),
-      shared-prefix-next (a .chars .now) (a .lengths .now) (a .index .now) (s .pre .0 .can) (a .word-lines) (s .pre .1) (a .word-starts .now) (s .pre .0 .word-starts) (a .string .now) (a .key-start)
-          (l .low) (l .high) (l .depth) (l .inv .1) (some (c .before .before .before .before .before .before)),
+          (c .before .before .extend-line .kept .1 .1 .1 .1 .1 .1 .1 .1 .1 .0) (c .before .before .extend-line .ensures),
+      shared-prefix-next (s .pre .0 .can) (s .pre .1) (s .pre .0 .word-starts)
+          (l .inv .1) (some (c .before .before .before .before .before .before)),
       l .inv .2,
     )
 
@@ -108,8 +108,8 @@ equal-range-requires c κs =
     let s = c .before .before .before .before .before .before .before .before .before .before .before .before .before in
     let a = s .args in
     let l = c .before .before .before .before .before .loop in
-    shared-prefix-column (a .chars .now) (a .lengths .now) (a .index .now) (s .pre .0 .can) (a .word-lines) (s .pre .1) (a .word-starts .now) (s .pre .0 .word-starts) (a .string .now) (a .key-start)
-    (l .low) (l .high) (l .depth) (l .inv .1) (some (c .before .before .before)) (λ e. c .before .if2 .left (c .before .before .word-length .ensures ∙ e))
+    shared-prefix-column (s .pre .0 .can) (s .pre .1) (s .pre .0 .word-starts)
+    (l .inv .1) (some (c .before .before .before)) (λ e. c .before .if2 .left (c .before .before .word-length .ensures ∙ e))
 
 add-depth : tie.Need-add-depth Inv-loop μ-loop
 add-depth c = omega (arith, below (c .before .before .before .before), c .before .before .before .before .before .before .before .before .before .before .before .before .before .before .pre .3)
@@ -121,8 +121,8 @@ loop-less-2 c =
     let l = c .before .before .before .before .before .before .loop in
     omega (
       arith,
-      shared-deep (a .chars .now) (a .lengths .now) (a .index .now) (s .pre .0 .can) (a .word-lines) (s .pre .1) (a .word-starts .now) (s .pre .0 .word-starts) (a .string .now) (a .key-start)
-          (l .low) (l .high) (l .depth) (l .inv .1) (some (c .before .before .before .before)) (λ e. c .before .before .if2 .left (c .before .before .before .word-length .ensures ∙ e)),
+      shared-deep (s .pre .0 .can) (s .pre .1) (s .pre .0 .word-starts)
+          (l .inv .1) (some (c .before .before .before .before)) (λ e. c .before .before .if2 .left (c .before .before .before .word-length .ensures ∙ e)),
       some (c .before .before .before .before),
       c .equal-range .ensures .0 .from,
       c .equal-range .ensures .1 .to,
@@ -135,15 +135,15 @@ loop-again-2 c =
     let l = c .before .before .before .before .before .before .loop in (
       left-narrow (offset-at (a .key-start) (lexicon (a .chars .now) (a .lengths .now)) (a .index .now) (a .string .now) (a .first)) 0 (a .word-lines) (a .reach .now) (l .reach) (l .highest) (l .low) (l .high) (l .inv .0)
           (c .equal-range .result .from) (c .equal-range .result .to) (c .equal-range .ensures .0 .from) (c .equal-range .ensures .1 .from) (c .equal-range .ensures .1 .to)
-          (unchanged-front (a .chars .now) (a .lengths .now) (a .index .now) (s .pre .0 .can) (a .word-lines) (s .pre .1) (a .word-starts .now) (s .pre .0 .word-starts) (a .string .now) (a .key-start)
-          (l .low) (l .high) (l .depth) (l .inv .1) (some (c .before .before .before .before)) (λ e. c .before .before .if2 .left (c .before .before .before .word-length .ensures ∙ e))
-          (getD (a .string .now) (a .key-start + l .depth) 0) (c .equal-range .result .from) (c .equal-range .result .to) refl (below (c .before .before .before .before)) (c .equal-range .ensures .0) (c .equal-range .ensures .1) (a .first))
-          (unchanged-back (a .chars .now) (a .lengths .now) (a .index .now) (s .pre .0 .can) (a .word-lines) (s .pre .1) (a .word-starts .now) (s .pre .0 .word-starts) (a .string .now) (a .key-start)
-          (l .low) (l .high) (l .depth) (l .inv .1) (some (c .before .before .before .before)) (λ e. c .before .before .if2 .left (c .before .before .before .word-length .ensures ∙ e))
-          (getD (a .string .now) (a .key-start + l .depth) 0) (c .equal-range .result .from) (c .equal-range .result .to) refl (below (c .before .before .before .before)) (c .equal-range .ensures .0) (c .equal-range .ensures .1) (a .first)),
-      shared-prefix-deeper (a .chars .now) (a .lengths .now) (a .index .now) (s .pre .0 .can) (a .word-lines) (s .pre .1) (a .word-starts .now) (s .pre .0 .word-starts) (a .string .now) (a .key-start)
-          (l .low) (l .high) (l .depth) (l .inv .1) (some (c .before .before .before .before)) (λ e. c .before .before .if2 .left (c .before .before .before .word-length .ensures ∙ e))
-          (getD (a .string .now) (a .key-start + l .depth) 0) (c .equal-range .result .from) (c .equal-range .result .to) refl (below (c .before .before .before .before)) (c .equal-range .ensures .0) (c .equal-range .ensures .1),
+          (unchanged-front (s .pre .0 .can) (s .pre .1) (s .pre .0 .word-starts)
+          (l .inv .1) (some (c .before .before .before .before)) (λ e. c .before .before .if2 .left (c .before .before .before .word-length .ensures ∙ e))
+          refl (below (c .before .before .before .before)) (c .equal-range .ensures .0) (c .equal-range .ensures .1) (a .first))
+          (unchanged-back (s .pre .0 .can) (s .pre .1) (s .pre .0 .word-starts)
+          (l .inv .1) (some (c .before .before .before .before)) (λ e. c .before .before .if2 .left (c .before .before .before .word-length .ensures ∙ e))
+          refl (below (c .before .before .before .before)) (c .equal-range .ensures .0) (c .equal-range .ensures .1) (a .first)),
+      shared-prefix-deeper (s .pre .0 .can) (s .pre .1) (s .pre .0 .word-starts)
+          (l .inv .1) (some (c .before .before .before .before)) (λ e. c .before .before .if2 .left (c .before .before .before .word-length .ensures ∙ e))
+          refl (below (c .before .before .before .before)) (c .equal-range .ensures .0) (c .equal-range .ensures .1),
       l .inv .2,
     )
 
@@ -162,7 +162,7 @@ returns c =
     let a = s .args in
     let l = c .before .before .before .before .before .before .loop in
     left-all (offset-at (a .key-start) (lexicon (a .chars .now) (a .lengths .now)) (a .index .now) (a .string .now) (a .first)) 0 (a .word-lines) (a .reach .now) (l .reach) (l .highest) (l .low) (l .high) (l .inv .0)
-    (c .before .before .extend-lines .last .1 .1 .1 .1 .1 .1 .1 .1 .1 .1 .0) (c .before .before .extend-lines .result) (c .before .before .extend-lines .ensures)
+    (c .before .before .extend-lines .ensures)
 
 pub extend-words-spec : {M : Type 1} → statement M
 extend-words-spec =

@@ -20,7 +20,7 @@ returns-2 : tie.Need-returns-2
 returns-2 c =
     let s = c .before .before .before .before in
     let bs = s .args .positions .now in
-    bound-first (λ i. getD bs i 0) 0 (length bs) (s .pre) (s .args .least) (omega arith) (c .if2 .taken)
+    bound-first (s .pre) (s .args .least) (omega arith) (c .if2 .taken)
 
 sub-if3 : tie.Need-sub-if3
 sub-if3 c = search needs
@@ -38,7 +38,7 @@ returns-3 : tie.Need-returns-3
 returns-3 c =
     let s = c .before .before .before .before .before .before in
     let bs = s .args .positions .now in
-    bound-last (λ i. getD bs i 0) 0 (length bs) (s .pre) (s .args .least) (omega arith) (c .if3 .taken)
+    bound-last (s .pre) (s .args .least) (omega arith) (c .if3 .taken)
 
 search-positions-requires : tie.Need-search-positions-requires
 search-positions-requires c κs = search needs

@@ -18,7 +18,7 @@ abbrev middle : (l : tie.At-loop Inv-loop μ-loop) → ℕ
 middle l = l .loop .a + (l .loop .b - l .loop .a) / 2
 
 loop-holds : tie.Need-loop-holds Inv-loop μ-loop
-loop-holds c = bisected-start (λ i. getD (c .args .positions .now) i 0) 0 (length (c .args .positions .now)) (c .pre) (c .args .least)
+loop-holds c = bisected-start (c .pre) (c .args .least)
 
 sub-middle : tie.Need-sub-middle Inv-loop μ-loop
 sub-middle c = search needs
@@ -46,7 +46,7 @@ loop-again c =
     let s = c .before .before .before .before in
     let bs = s .args .positions .now in
     let l = c .before .before .before .loop in
-    bisected-up (λ i. getD bs i 0) 0 (length bs) (s .pre) (s .args .least) (l .a) (l .b) (l .inv) (middle (c .before .before .before)) (omega arith) (omega arith)
+    bisected-up (s .pre) (s .args .least) (l .inv) (middle (c .before .before .before)) (omega arith) (omega arith)
     (c .if1 .taken)
 
 loop-less-2 : tie.Need-loop-less-2 Inv-loop μ-loop
@@ -57,7 +57,7 @@ loop-again-2 c =
     let s = c .before .before .before .before in
     let bs = s .args .positions .now in
     let l = c .before .before .before .loop in
-    bisected-down (λ i. getD bs i 0) 0 (length bs) (s .pre) (s .args .least) (l .a) (l .b) (l .inv) (middle (c .before .before .before)) (omega arith) (omega arith)
+    bisected-down (s .pre) (s .args .least) (l .inv) (middle (c .before .before .before)) (omega arith) (omega arith)
     (c .if1 .left)
 
 returns : tie.Need-returns Inv-loop μ-loop
@@ -65,7 +65,7 @@ returns c =
     let s = c .before .before in
     let bs = s .args .positions .now in
     let l = c .before .loop in
-    bisected-end (λ i. getD bs i 0) 0 (length bs) (s .pre) (s .args .least) (l .a) (l .b) (l .inv) (c .loop-test .left)
+    bisected-end (s .pre) (s .args .least) (l .inv) (c .loop-test .left)
 
 pub search-positions-spec : {M : Type 1} → statement M
 search-positions-spec =

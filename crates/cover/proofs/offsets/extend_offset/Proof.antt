@@ -21,7 +21,7 @@ returns c =
     let word-starts = c .before .before .before .before .before .before .extend-words in
     let lone = c .before .before .extend-lone in
     offset-both (lexicon (a .chars .now) (a .lengths .now)) (a .index .now) (a .string .now) (a .first) (a .key-start) (a .word-lines) (s .pre .1 .within)
-    (a .reach .now) (word-starts .last .1 .1 .1 .1 .1 .1 .1 .1 .1 .0) (lone .last .1 .1 .1 .1 .1 .1 .1 .1 .1 .0) (word-starts .result) (lone .result) (word-starts .ensures) (lone .ensures)
+    (a .reach .now) (word-starts .ensures) (lone .ensures)
 
 pub extend-offset-spec : {M : Type 1} → statement M
 extend-offset-spec =

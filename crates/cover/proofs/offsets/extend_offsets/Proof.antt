@@ -29,7 +29,7 @@ returns : tie.Need-returns Inv-loop μ-loop
 returns c =
     let a = c .before .before .before .before .before .before .before .before .before .before .args in
     let l = c .before .before .loop in
-    offsets-early (lexicon (a .chars .now) (a .lengths .now)) (lines-in (a .index .now)) (a .string .now) (a .first) (a .reach .now) (l .reach) (l .highest) (l .key-start) (l .inv) (c .if1 .taken)
+    offsets-early (lexicon (a .chars .now) (a .lengths .now)) (lines-in (a .index .now)) (a .string .now) (a .first) (a .reach .now) (l .inv) (c .if1 .taken)
 
 extend-offset-requires : tie.Need-extend-offset-requires Inv-loop μ-loop
 extend-offset-requires c κs =
@@ -46,8 +46,8 @@ loop-again : tie.Need-loop-again Inv-loop μ-loop
 loop-again c =
     let a = c .before .before .before .before .before .before .before .before .before .before .before .before .before .before .args in
     let l = c .before .before .before .before .before .before .loop in
-    offsets-step (lexicon (a .chars .now) (a .lengths .now)) (lines-in (a .index .now)) (a .string .now) (a .first) (a .reach .now) (l .reach) (l .highest) (l .key-start) (l .inv)
-    (c .before .before .before .before .before .loop-test .taken) (c .before .before .extend-offset .last .1 .1 .1 .1 .1 .1 .1 .1 .1 .0) (c .before .before .extend-offset .result)
+    offsets-step (lexicon (a .chars .now) (a .lengths .now)) (lines-in (a .index .now)) (a .string .now) (a .first) (a .reach .now) (l .inv)
+    (c .before .before .before .before .before .loop-test .taken)
     (c .before .before .extend-offset .kept .1 .1 .1 .1 .1 .1 .1 .1 .1 .0) (c .before .before .extend-offset .ensures)
 
 same-length-2 : tie.Need-same-length-2 Inv-loop μ-loop
@@ -57,7 +57,7 @@ returns-2 : tie.Need-returns-2 Inv-loop μ-loop
 returns-2 c =
     let a = c .before .before .before .before .before .before .before .before .before .args in
     let l = c .before .loop in
-    offsets-end (lexicon (a .chars .now) (a .lengths .now)) (lines-in (a .index .now)) (a .string .now) (a .first) (a .reach .now) (l .reach) (l .highest) (l .key-start) (l .inv) (c .loop-test .left)
+    offsets-end (lexicon (a .chars .now) (a .lengths .now)) (lines-in (a .index .now)) (a .string .now) (a .first) (a .reach .now) (l .inv) (c .loop-test .left)
 
 pub extend-offsets-spec : {M : Type 1} → statement M
 extend-offsets-spec =

@@ -21,7 +21,7 @@ returns c =
     let firsts = c .before .before .before .before .before .before .extend-leading in
     let offsets = c .before .before .extend-offsets in
     offsets-after (lexicon (a .chars .now) (a .lengths .now)) (lines-in (a .index .now)) (a .string .now) (a .first) (a .reach .now)
-    (firsts .last .1 .1 .1 .1 .1 .1 .1 .1 .1 .0) (offsets .last .1 .1 .1 .1 .1 .1 .1 .1 .0) (firsts .result) (offsets .result) (firsts .ensures) (offsets .ensures)
+    (firsts .ensures) (offsets .ensures)
 
 pub extend-window-spec : {M : Type 1} → statement M
 extend-window-spec =

@@ -67,8 +67,8 @@ loop-again c =
     let s = c .before .before .before .before .before .before in
     let a = s .args in
     let l = c .before .before .before .before .loop in
-    counting-bears (lexicon (a .chars .now) (a .lengths .now)) (a .index .now) (a .string .now) (l .keys) (l .entries) (l .line) (l .inv) (c .before .before .before .loop-test .taken)
-    (exact-flags-get (lexicon (a .chars .now) (a .lengths .now)) (a .index .now) (a .string .now) (keys-of (a .index .now)) (a .flags .now) (s .pre .1) (l .line) (c .before .before .before .loop-test .taken) (c .before .if1 .taken))
+    counting-bears (lexicon (a .chars .now) (a .lengths .now)) (a .index .now) (a .string .now) (l .inv) (c .before .before .before .loop-test .taken)
+    (exact-flags-get (lexicon (a .chars .now) (a .lengths .now)) (a .index .now) (a .string .now) (s .pre .1) (l .line) (c .before .before .before .loop-test .taken) (c .before .if1 .taken))
     (omega (arith, c .shared-slice-known3 .given (2 + 3 * l .line + 2))) (s .pre .0)
 
 loop-less-2 : tie.Need-loop-less-2 Inv-loop μ-loop
@@ -79,15 +79,15 @@ loop-again-2 c =
     let s = c .before .before .before .before .before in
     let a = s .args in
     let l = c .before .before .before .loop in
-    counting-passes (lexicon (a .chars .now) (a .lengths .now)) (a .index .now) (a .string .now) (l .keys) (l .entries) (l .line) (l .inv) (c .before .before .loop-test .taken)
-    (exact-flags-none (lexicon (a .chars .now) (a .lengths .now)) (a .index .now) (a .string .now) (keys-of (a .index .now)) (a .flags .now) (s .pre .1) (l .line) (c .before .before .loop-test .taken) (c .if1 .left))
+    counting-passes (lexicon (a .chars .now) (a .lengths .now)) (a .index .now) (a .string .now) (l .inv) (c .before .before .loop-test .taken)
+    (exact-flags-none (lexicon (a .chars .now) (a .lengths .now)) (a .index .now) (a .string .now) (s .pre .1) (l .line) (c .before .before .loop-test .taken) (c .if1 .left))
 
 returns : tie.Need-returns Inv-loop μ-loop
 returns c =
     let s = c .before .before .before in
     let a = s .args in
     let l = c .before .loop in
-    counting-end (lexicon (a .chars .now) (a .lengths .now)) (a .index .now) (a .string .now) (l .keys) (l .entries) (l .line) (l .inv) (c .loop-test .left) (omega (arith, c .before .before .shared-slice-known .given 1))
+    counting-end (l .inv) (c .loop-test .left) (omega (arith, c .before .before .shared-slice-known .given 1))
 
 pub size-flagged-spec : {M : Type 1} → statement M
 size-flagged-spec =

@@ -68,7 +68,7 @@ slice-write-output c =
     let s = c .before .before .before .before .before .before in
     let a = s .args in
     let l = c .before .before .before .before .loop in
-    omega (arith, listing-room (lexicon (a .chars .now) (a .lengths .now)) (a .index .now) (a .string .now) (a .from) (a .output .now) (l .output) (l .at) (l .line) (l .inv) (c .before .before .before .loop-test .taken) (exact-flags-get (lexicon (a .chars .now) (a .lengths .now)) (a .index .now) (a .string .now) (keys-of (a .index .now)) (a .flags .now) (s .pre .1) (l .line) (c .before .before .before .loop-test .taken) (c .before .if1 .taken)) (s .pre .0))
+    omega (arith, listing-room (lexicon (a .chars .now) (a .lengths .now)) (a .index .now) (a .string .now) (l .inv) (c .before .before .before .loop-test .taken) (exact-flags-get (lexicon (a .chars .now) (a .lengths .now)) (a .index .now) (a .string .now) (s .pre .1) (l .line) (c .before .before .before .loop-test .taken) (c .before .if1 .taken)) (s .pre .0))
 
 mul-output-4 : tie.Need-mul-output-4 Inv-loop μ-loop
 mul-output-4 c = search needs
@@ -102,7 +102,7 @@ add-output-4 c =
     let s = c .before .before .before .before .before .before .before in
     let a = s .args in
     let l = c .before .before .before .before .before .loop in
-    omega (arith, s .good, l .inv .way .len, listing-room (lexicon (a .chars .now) (a .lengths .now)) (a .index .now) (a .string .now) (a .from) (a .output .now) (l .output) (l .at) (l .line) (l .inv) (c .before .before .before .before .loop-test .taken) (exact-flags-get (lexicon (a .chars .now) (a .lengths .now)) (a .index .now) (a .string .now) (keys-of (a .index .now)) (a .flags .now) (s .pre .1) (l .line) (c .before .before .before .before .loop-test .taken) (c .before .before .if1 .taken)) (s .pre .0))
+    omega (arith, s .good, l .inv .way .len, listing-room (lexicon (a .chars .now) (a .lengths .now)) (a .index .now) (a .string .now) (l .inv) (c .before .before .before .before .loop-test .taken) (exact-flags-get (lexicon (a .chars .now) (a .lengths .now)) (a .index .now) (a .string .now) (s .pre .1) (l .line) (c .before .before .before .before .loop-test .taken) (c .before .before .if1 .taken)) (s .pre .0))
 
 mul-output-6 : tie.Need-mul-output-6 Inv-loop μ-loop
 mul-output-6 c = search needs
@@ -112,7 +112,7 @@ slice-write-output-2 c =
     let s = c .before .before .before .before .before .before .before in
     let a = s .args in
     let l = c .before .before .before .before .before .loop in
-    simp length-set (omega (arith, listing-room (lexicon (a .chars .now) (a .lengths .now)) (a .index .now) (a .string .now) (a .from) (a .output .now) (l .output) (l .at) (l .line) (l .inv) (c .before .before .before .before .loop-test .taken) (exact-flags-get (lexicon (a .chars .now) (a .lengths .now)) (a .index .now) (a .string .now) (keys-of (a .index .now)) (a .flags .now) (s .pre .1) (l .line) (c .before .before .before .before .loop-test .taken) (c .before .before .if1 .taken)) (s .pre .0)))
+    simp length-set (omega (arith, listing-room (lexicon (a .chars .now) (a .lengths .now)) (a .index .now) (a .string .now) (l .inv) (c .before .before .before .before .loop-test .taken) (exact-flags-get (lexicon (a .chars .now) (a .lengths .now)) (a .index .now) (a .string .now) (s .pre .1) (l .line) (c .before .before .before .before .loop-test .taken) (c .before .before .if1 .taken)) (s .pre .0)))
 
 mul-output-7 : tie.Need-mul-output-7 Inv-loop μ-loop
 mul-output-7 c = search needs
@@ -146,7 +146,7 @@ add-output-7 c =
     let s = c .before .before .before .before .before .before .before .before in
     let a = s .args in
     let l = c .before .before .before .before .before .before .loop in
-    omega (arith, s .good, l .inv .way .len, listing-room (lexicon (a .chars .now) (a .lengths .now)) (a .index .now) (a .string .now) (a .from) (a .output .now) (l .output) (l .at) (l .line) (l .inv) (c .before .before .before .before .before .loop-test .taken) (exact-flags-get (lexicon (a .chars .now) (a .lengths .now)) (a .index .now) (a .string .now) (keys-of (a .index .now)) (a .flags .now) (s .pre .1) (l .line) (c .before .before .before .before .before .loop-test .taken) (c .before .before .before .if1 .taken)) (s .pre .0))
+    omega (arith, s .good, l .inv .way .len, listing-room (lexicon (a .chars .now) (a .lengths .now)) (a .index .now) (a .string .now) (l .inv) (c .before .before .before .before .before .loop-test .taken) (exact-flags-get (lexicon (a .chars .now) (a .lengths .now)) (a .index .now) (a .string .now) (s .pre .1) (l .line) (c .before .before .before .before .before .loop-test .taken) (c .before .before .before .if1 .taken)) (s .pre .0))
 
 mul-output-9 : tie.Need-mul-output-9 Inv-loop μ-loop
 mul-output-9 c = search needs
@@ -156,14 +156,14 @@ slice-write-output-3 c =
     let s = c .before .before .before .before .before .before .before .before in
     let a = s .args in
     let l = c .before .before .before .before .before .before .loop in
-    simp length-set (omega (arith, listing-room (lexicon (a .chars .now) (a .lengths .now)) (a .index .now) (a .string .now) (a .from) (a .output .now) (l .output) (l .at) (l .line) (l .inv) (c .before .before .before .before .before .loop-test .taken) (exact-flags-get (lexicon (a .chars .now) (a .lengths .now)) (a .index .now) (a .string .now) (keys-of (a .index .now)) (a .flags .now) (s .pre .1) (l .line) (c .before .before .before .before .before .loop-test .taken) (c .before .before .before .if1 .taken)) (s .pre .0)))
+    simp length-set (omega (arith, listing-room (lexicon (a .chars .now) (a .lengths .now)) (a .index .now) (a .string .now) (l .inv) (c .before .before .before .before .before .loop-test .taken) (exact-flags-get (lexicon (a .chars .now) (a .lengths .now)) (a .index .now) (a .string .now) (s .pre .1) (l .line) (c .before .before .before .before .before .loop-test .taken) (c .before .before .before .if1 .taken)) (s .pre .0)))
 
 add-at : tie.Need-add-at Inv-loop μ-loop
 add-at c =
     let s = c .before .before .before .before .before .before .before .before in
     let a = s .args in
     let l = c .before .before .before .before .before .before .loop in
-    omega (arith, s .good, l .inv .way .len, listing-room (lexicon (a .chars .now) (a .lengths .now)) (a .index .now) (a .string .now) (a .from) (a .output .now) (l .output) (l .at) (l .line) (l .inv) (c .before .before .before .before .before .loop-test .taken) (exact-flags-get (lexicon (a .chars .now) (a .lengths .now)) (a .index .now) (a .string .now) (keys-of (a .index .now)) (a .flags .now) (s .pre .1) (l .line) (c .before .before .before .before .before .loop-test .taken) (c .before .before .before .if1 .taken)) (s .pre .0))
+    omega (arith, s .good, l .inv .way .len, listing-room (lexicon (a .chars .now) (a .lengths .now)) (a .index .now) (a .string .now) (l .inv) (c .before .before .before .before .before .loop-test .taken) (exact-flags-get (lexicon (a .chars .now) (a .lengths .now)) (a .index .now) (a .string .now) (s .pre .1) (l .line) (c .before .before .before .before .before .loop-test .taken) (c .before .before .before .if1 .taken)) (s .pre .0))
 
 loop-less : tie.Need-loop-less Inv-loop μ-loop
 loop-less c = search needs
@@ -173,8 +173,8 @@ loop-again c =
     let s = c .before .before .before .before .before .before .before .before in
     let a = s .args in
     let l = c .before .before .before .before .before .before .loop in
-    listing-step (lexicon (a .chars .now) (a .lengths .now)) (a .index .now) (a .string .now) (a .from) (a .output .now) (l .output) (l .at) (l .line) (l .inv) (c .before .before .before .before .before .loop-test .taken)
-    (exact-flags-get (lexicon (a .chars .now) (a .lengths .now)) (a .index .now) (a .string .now) (keys-of (a .index .now)) (a .flags .now) (s .pre .1) (l .line) (c .before .before .before .before .before .loop-test .taken) (c .before .before .before .if1 .taken)) (s .pre .0)
+    listing-step (lexicon (a .chars .now) (a .lengths .now)) (a .index .now) (a .string .now) (l .inv) (c .before .before .before .before .before .loop-test .taken)
+    (exact-flags-get (lexicon (a .chars .now) (a .lengths .now)) (a .index .now) (a .string .now) (s .pre .1) (l .line) (c .before .before .before .before .before .loop-test .taken) (c .before .before .before .if1 .taken)) (s .pre .0)
 
 loop-less-2 : tie.Need-loop-less-2 Inv-loop μ-loop
 loop-less-2 c = search needs
@@ -184,8 +184,8 @@ loop-again-2 c =
     let s = c .before .before .before .before .before in
     let a = s .args in
     let l = c .before .before .before .loop in
-    listing-pass (lexicon (a .chars .now) (a .lengths .now)) (a .index .now) (a .string .now) (a .from) (a .output .now) (l .output) (l .at) (l .line) (l .inv) (c .before .before .loop-test .taken)
-    (exact-flags-none (lexicon (a .chars .now) (a .lengths .now)) (a .index .now) (a .string .now) (keys-of (a .index .now)) (a .flags .now) (s .pre .1) (l .line) (c .before .before .loop-test .taken) (c .if1 .left))
+    listing-pass (lexicon (a .chars .now) (a .lengths .now)) (a .index .now) (a .string .now) (l .inv) (c .before .before .loop-test .taken)
+    (exact-flags-none (lexicon (a .chars .now) (a .lengths .now)) (a .index .now) (a .string .now) (s .pre .1) (l .line) (c .before .before .loop-test .taken) (c .if1 .left))
 
 same-length : tie.Need-same-length Inv-loop μ-loop
 same-length c = c .before .loop .inv .way .len
@@ -195,7 +195,7 @@ returns c =
     let s = c .before .before .before in
     let a = s .args in
     let l = c .before .loop in
-    listing-end (lexicon (a .chars .now) (a .lengths .now)) (a .index .now) (a .string .now) (a .from) (a .output .now) (l .output) (l .at) (l .line) (l .inv) (c .loop-test .left)
+    listing-end (lexicon (a .chars .now) (a .lengths .now)) (a .index .now) (a .string .now) (l .inv) (c .loop-test .left)
 
 pub write-directory-spec : {M : Type 1} → statement M
 write-directory-spec =

@@ -62,7 +62,7 @@ add-end-3 c =
     let s = c .before .before .before .before .before .before .before .before .before .before in
     let a = s .args in
     let l = c .before .before .loop in
-    omega (arith, s .good, placing-there (lexicon (a .chars .now) (a .lengths .now)) (a .index .now) (a .string .now) (a .part .now) (l .part) (l .start) (l .at) (l .line) (l .inv) (c .before .loop-test .taken) (s .pre .0))
+    omega (arith, s .good, placing-there (lexicon (a .chars .now) (a .lengths .now)) (a .index .now) (a .string .now) (l .inv) (c .before .loop-test .taken) (s .pre .0))
 
 add-line : tie.Need-add-line Inv-loop μ-loop
 add-line c = omega (arith, c .before .before .before .shared-slice-known6 .given 1)
@@ -79,7 +79,7 @@ mul-write-list c =
     let s = c .before .before .before .before .before .before .before .before .before .before .before .before in
     let a = s .args in
     let l = c .before .before .before .before .loop in
-    omega (arith, s .good, placing-there (lexicon (a .chars .now) (a .lengths .now)) (a .index .now) (a .string .now) (a .part .now) (l .part) (l .start) (l .at) (l .line) (l .inv) (c .before .before .before .loop-test .taken) (s .pre .0))
+    omega (arith, s .good, placing-there (lexicon (a .chars .now) (a .lengths .now)) (a .index .now) (a .string .now) (l .inv) (c .before .before .before .loop-test .taken) (s .pre .0))
 
 sub-write-list : tie.Need-sub-write-list Inv-loop μ-loop
 sub-write-list c = omega arith
@@ -92,14 +92,14 @@ part-write-list-end c =
     let s = c .before .before .before .before .before .before .before .before .before .before .before .before in
     let a = s .args in
     let l = c .before .before .before .before .loop in
-    placing-there (lexicon (a .chars .now) (a .lengths .now)) (a .index .now) (a .string .now) (a .part .now) (l .part) (l .start) (l .at) (l .line) (l .inv) (c .before .before .before .loop-test .taken) (s .pre .0)
+    placing-there (lexicon (a .chars .now) (a .lengths .now)) (a .index .now) (a .string .now) (l .inv) (c .before .before .before .loop-test .taken) (s .pre .0)
 
 write-list-requires : tie.Need-write-list-requires Inv-loop μ-loop
 write-list-requires c κs =
     let s = c .before .before .before .before .before .before .before .before .before .before .before .before .before .before in
     let a = s .args in
     let l = c .before .before .before .before .before .before .loop in
-    placing-room (lexicon (a .chars .now) (a .lengths .now)) (a .index .now) (a .string .now) (a .part .now) (l .part) (l .start) (l .at) (l .line) (l .inv) (c .before .before .before .before .before .loop-test .taken) (s .pre .0) (exact-flags-get (lexicon (a .chars .now) (a .lengths .now)) (a .index .now) (a .string .now) (keys-of (a .index .now)) (a .flags .now) (s .pre .1) (l .line) (c .before .before .before .before .before .loop-test .taken) (c .before .before .if1 .taken))
+    placing-room (lexicon (a .chars .now) (a .lengths .now)) (a .index .now) (a .string .now) (l .inv) (c .before .before .before .before .before .loop-test .taken) (s .pre .0) (exact-flags-get (lexicon (a .chars .now) (a .lengths .now)) (a .index .now) (a .string .now) (s .pre .1) (l .line) (c .before .before .before .before .before .loop-test .taken) (c .before .before .if1 .taken))
 
 sub-at : tie.Need-sub-at Inv-loop μ-loop
 sub-at c = omega arith
@@ -109,7 +109,7 @@ add-at c =
     let s = c .before .before .before .before .before .before .before .before .before .before .before .before .before .before .before .before .before in
     let a = s .args in
     let l = c .before .before .before .before .before .before .before .before .before .loop in
-    omega (arith, s .good, l .inv .way .len, placing-room (lexicon (a .chars .now) (a .lengths .now)) (a .index .now) (a .string .now) (a .part .now) (l .part) (l .start) (l .at) (l .line) (l .inv) (c .before .before .before .before .before .before .before .before .loop-test .taken) (s .pre .0) (exact-flags-get (lexicon (a .chars .now) (a .lengths .now)) (a .index .now) (a .string .now) (keys-of (a .index .now)) (a .flags .now) (s .pre .1) (l .line) (c .before .before .before .before .before .before .before .before .loop-test .taken) (c .before .before .before .before .before .if1 .taken)), placing-counted (lexicon (a .chars .now) (a .lengths .now)) (a .index .now) (a .string .now) (a .part .now) (l .part) (l .start) (l .at) (l .line) (l .inv) (c .before .before .before .before .before .before .before .before .loop-test .taken) (s .pre .0))
+    omega (arith, s .good, l .inv .way .len, placing-room (lexicon (a .chars .now) (a .lengths .now)) (a .index .now) (a .string .now) (l .inv) (c .before .before .before .before .before .before .before .before .loop-test .taken) (s .pre .0) (exact-flags-get (lexicon (a .chars .now) (a .lengths .now)) (a .index .now) (a .string .now) (s .pre .1) (l .line) (c .before .before .before .before .before .before .before .before .loop-test .taken) (c .before .before .before .before .before .if1 .taken)), placing-counted (lexicon (a .chars .now) (a .lengths .now)) (a .index .now) (a .string .now) (l .inv) (c .before .before .before .before .before .before .before .before .loop-test .taken) (s .pre .0))
 
 loop-less : tie.Need-loop-less Inv-loop μ-loop
 loop-less c = search needs
@@ -119,8 +119,8 @@ loop-again c =
     let s = c .before .before .before .before .before .before .before .before .before .before .before .before .before .before .before .before .before in
     let a = s .args in
     let l = c .before .before .before .before .before .before .before .before .before .loop in
-    placing-step (lexicon (a .chars .now) (a .lengths .now)) (a .index .now) (a .string .now) (a .part .now) (l .part) (l .start) (l .at) (l .line) (l .inv) (c .before .before .before .before .before .before .before .before .loop-test .taken) (s .pre .0)
-    (exact-flags-get (lexicon (a .chars .now) (a .lengths .now)) (a .index .now) (a .string .now) (keys-of (a .index .now)) (a .flags .now) (s .pre .1) (l .line) (c .before .before .before .before .before .before .before .before .loop-test .taken) (c .before .before .before .before .before .if1 .taken))
+    placing-step (lexicon (a .chars .now) (a .lengths .now)) (a .index .now) (a .string .now) (l .inv) (c .before .before .before .before .before .before .before .before .loop-test .taken) (s .pre .0)
+    (exact-flags-get (lexicon (a .chars .now) (a .lengths .now)) (a .index .now) (a .string .now) (s .pre .1) (l .line) (c .before .before .before .before .before .before .before .before .loop-test .taken) (c .before .before .before .before .before .if1 .taken))
     (c .before .before .write-list .last .1 .1 .0) (c .before .before .write-list .ensures)
 
 loop-less-2 : tie.Need-loop-less-2 Inv-loop μ-loop
@@ -131,8 +131,8 @@ loop-again-2 c =
     let s = c .before .before .before .before .before .before .before .before .before .before .before .before in
     let a = s .args in
     let l = c .before .before .before .before .loop in
-    placing-pass (lexicon (a .chars .now) (a .lengths .now)) (a .index .now) (a .string .now) (a .part .now) (l .part) (l .start) (l .at) (l .line) (l .inv) (c .before .before .before .loop-test .taken) (s .pre .0)
-    (exact-flags-none (lexicon (a .chars .now) (a .lengths .now)) (a .index .now) (a .string .now) (keys-of (a .index .now)) (a .flags .now) (s .pre .1) (l .line) (c .before .before .before .loop-test .taken) (c .if1 .left))
+    placing-pass (lexicon (a .chars .now) (a .lengths .now)) (a .index .now) (a .string .now) (l .inv) (c .before .before .before .loop-test .taken) (s .pre .0)
+    (exact-flags-none (lexicon (a .chars .now) (a .lengths .now)) (a .index .now) (a .string .now) (s .pre .1) (l .line) (c .before .before .before .loop-test .taken) (c .if1 .left))
 
 same-length : tie.Need-same-length Inv-loop μ-loop
 same-length c = c .before .loop .inv .way .len
@@ -142,7 +142,7 @@ returns c =
     let s = c .before .before .before .before .before .before .before .before .before in
     let a = s .args in
     let l = c .before .loop in
-    placing-end (lexicon (a .chars .now) (a .lengths .now)) (a .index .now) (a .string .now) (a .part .now) (l .part) (l .start) (l .at) (l .line) (l .inv) (c .loop-test .left)
+    placing-end (lexicon (a .chars .now) (a .lengths .now)) (a .index .now) (a .string .now) (l .inv) (c .loop-test .left)
 
 pub write-positions-spec : {M : Type 1} → statement M
 write-positions-spec =

@@ -13,12 +13,12 @@ returns c =
     let start = c .before .before in
     sym
     (neighbours-less
-    (start .args .chars .now)
-    (start .args .at)
-    (start .args .next)
-    (start .args .end)
-    (start .args .at-code)
-    (start .args .next-code)
+   
+   
+   
+   
+   
+   
     (λ (i : ℕ). omega (arith, c .before .shared-slice-known .given i))
     (start .pre)
     (c .if1 .taken))
@@ -28,12 +28,12 @@ returns-2 c =
     let start = c .before .before .before in
     sym
     (neighbours-more
-    (start .args .chars .now)
-    (start .args .at)
-    (start .args .next)
-    (start .args .end)
-    (start .args .at-code)
-    (start .args .next-code)
+   
+   
+   
+   
+   
+   
     (λ (i : ℕ). omega (arith, c .before .before .shared-slice-known .given i))
     (start .pre)
     (c .if2 .taken))

@@ -43,7 +43,7 @@ mul-start c = omega (arith, c .shared-slice-known2 .given (2 + 3 * c .before .be
 shared-slice-read-start : tie.Need-shared-slice-read-start
 shared-slice-read-start c =
     let s = c .before .before .before .before in
-    omega (arith, s .pre .1 .room, word-below (s .args .chars .now) (s .args .lengths .now) (s .args .index .now) (s .pre .0) (s .args .line) (s .pre .2) (c .before .before .if1 .taken))
+    omega (arith, s .pre .1 .room, word-below (s .pre .0) (s .args .line) (s .pre .2) (c .before .before .if1 .taken))
 
 cast-start : tie.Need-cast-start
 cast-start c =
@@ -56,7 +56,7 @@ mul-end c = omega (arith, c .before .shared-slice-known2 .given (2 + 3 * c .befo
 shared-slice-read-end : tie.Need-shared-slice-read-end
 shared-slice-read-end c =
     let s = c .before .before .before .before .before in
-    word-below (s .args .chars .now) (s .args .lengths .now) (s .args .index .now) (s .pre .0) (s .args .line) (s .pre .2) (c .before .before .before .if1 .taken)
+    word-below (s .pre .0) (s .args .line) (s .pre .2) (c .before .before .before .if1 .taken)
 
 cast-end : tie.Need-cast-end
 cast-end c =
@@ -66,12 +66,12 @@ cast-end c =
 add-end : tie.Need-add-end
 add-end c =
     let s = c .before .before .before .before .before in
-    omega (arith, s .pre .1 .room, word-room (s .args .chars .now) (s .args .lengths .now) (s .args .index .now) (s .pre .0) (s .args .line) (s .pre .2) (c .before .before .before .if1 .taken) (s .args .word-starts .now) (s .pre .1), s .pre .0 .few-chars)
+    omega (arith, s .pre .1 .room, word-room (s .pre .0) (s .args .line) (s .pre .2) (c .before .before .before .if1 .taken) (s .pre .1), s .pre .0 .few-chars)
 
 mul-result : tie.Need-mul-result
 mul-result c =
     let s = c .before .before .before .before .before in
-    omega (arith, s .pre .1 .room, word-room (s .args .chars .now) (s .args .lengths .now) (s .args .index .now) (s .pre .0) (s .args .line) (s .pre .2) (c .before .before .before .if1 .taken) (s .args .word-starts .now) (s .pre .1), s .pre .0 .few-chars)
+    omega (arith, s .pre .1 .room, word-room (s .pre .0) (s .args .line) (s .pre .2) (c .before .before .before .if1 .taken) (s .pre .1), s .pre .0 .few-chars)
 
 sub-result : tie.Need-sub-result
 sub-result c = search needs
@@ -82,7 +82,7 @@ part-result-start c = search needs
 part-result-end : tie.Need-part-result-end
 part-result-end c =
     let s = c .before .before .before .before .before in
-    word-room (s .args .chars .now) (s .args .lengths .now) (s .args .index .now) (s .pre .0) (s .args .line) (s .pre .2) (c .before .before .before .if1 .taken) (s .args .word-starts .now) (s .pre .1)
+    word-room (s .pre .0) (s .args .line) (s .pre .2) (c .before .before .before .if1 .taken) (s .pre .1)
 
 mul-start-2 : tie.Need-mul-start-2
 mul-start-2 c = search needs
@@ -117,12 +117,12 @@ part-result-end-2 c = search needs
 returns : tie.Need-returns
 returns c =
     let s = c .before .before .before .before .before .before in
-    word-spelt (s .args .chars .now) (s .args .lengths .now) (s .args .index .now) (s .pre .0) (s .args .line) (s .pre .2) (c .before .before .before .before .if1 .taken) (s .args .word-starts .now) (s .pre .1)
+    word-spelt (s .pre .0) (s .args .line) (s .pre .2) (c .before .before .before .before .if1 .taken) (s .pre .1)
 
 returns-2 : tie.Need-returns-2
 returns-2 c =
     let s = c .before .before .before in
-    lone-spelt (s .args .chars .now) (s .args .lengths .now) (s .args .index .now) (s .pre .0) (s .args .line) (s .pre .2)
+    lone-spelt (s .pre .0) (s .args .line) (s .pre .2)
     (c .before .if1 .left)
 
 pub key-of-spec : {M : Type 1} → statement M

@@ -30,7 +30,7 @@ cast-start-2 c = omega (arith, c .shared-slice-known2 .given (c .before .before 
 add-start-2 : tie.Need-add-start-2
 add-start-2 c =
     let s = c .before .before in
-    omega (arith, positions-room (s .args .index .now) (s .pre .0) (s .args .line) (s .pre .2) (s .args .list-starts .now) (s .pre .1))
+    omega (arith, positions-room (s .pre .0) (s .args .line) (s .pre .2) (s .pre .1))
 
 mul-end : tie.Need-mul-end
 mul-end c = search needs
@@ -53,12 +53,12 @@ cast-end c = omega (arith, c .shared-slice-known3 .given (2 + 3 * c .before .bef
 add-end-3 : tie.Need-add-end-3
 add-end-3 c =
     let s = c .before .before .before in
-    omega (arith, positions-room (s .args .index .now) (s .pre .0) (s .args .line) (s .pre .2) (s .args .list-starts .now) (s .pre .1))
+    omega (arith, positions-room (s .pre .0) (s .args .line) (s .pre .2) (s .pre .1))
 
 mul-result : tie.Need-mul-result
 mul-result c =
     let s = c .before .before .before in
-    omega (arith, positions-room (s .args .index .now) (s .pre .0) (s .args .line) (s .pre .2) (s .args .list-starts .now) (s .pre .1), s .good)
+    omega (arith, positions-room (s .pre .0) (s .args .line) (s .pre .2) (s .pre .1), s .good)
 
 sub-result : tie.Need-sub-result
 sub-result c = search needs
@@ -69,12 +69,12 @@ part-result-start c = search needs
 part-result-end : tie.Need-part-result-end
 part-result-end c =
     let s = c .before .before .before in
-    positions-room (s .args .index .now) (s .pre .0) (s .args .line) (s .pre .2) (s .args .list-starts .now) (s .pre .1)
+    positions-room (s .pre .0) (s .args .line) (s .pre .2) (s .pre .1)
 
 returns : tie.Need-returns
 returns c =
     let s = c .before .before .before .before in
-    positions-are (s .args .index .now) (s .pre .0) (s .args .line) (s .pre .2) (s .args .list-starts .now) (s .pre .1)
+    positions-are (s .pre .0) (s .args .line) (s .pre .2) (s .pre .1)
 
 pub positions-of-spec : {M : Type 1} → statement M
 positions-of-spec =

@@ -27,9 +27,9 @@ returns : tie.Need-returns
 returns c =
     let s = c .before .before .before .before .before .before .before .before in
     let a = s .args in (
-      bound-first (word-char (a .chars .now) (a .index .now) (a .word-starts .now) (a .depth)) (a .low) (a .high) (s .pre .rising) (a .character) (omega arith)
+      bound-first (s .pre .rising) (a .character) (omega arith)
           (omega (arith, c .before .before .before .char-at .ensures, c .before .before .if2 .taken)),
-      bound-last (word-char (a .chars .now) (a .index .now) (a .word-starts .now) (a .depth)) (a .low) (a .high) (s .pre .rising) (a .character + 1) (omega arith)
+      bound-last (s .pre .rising) (a .character + 1) (omega arith)
           (omega (arith, c .before .char-at2 .ensures, c .if3 .taken)),
     )
 
@@ -43,7 +43,7 @@ word-lower-bound-requires-2 : tie.Need-word-lower-bound-requires-2
 word-lower-bound-requires-2 c κs =
     let s = c .before .before .before .before .before in
     let a = s .args in
-    column-part (a .chars .now) (a .index .now) (a .word-starts .now) (a .low) (a .high) (a .depth) (c .word-lower-bound .result) (s .pre)
+    column-part (c .word-lower-bound .result) (s .pre)
     (c .word-lower-bound .ensures .from) (c .word-lower-bound .ensures .to)
 
 returns-2 : tie.Need-returns-2

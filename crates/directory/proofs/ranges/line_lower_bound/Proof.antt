@@ -15,7 +15,7 @@ abbrev μ-loop : tie.MeasureT-loop
 μ-loop index low high field least a₀ b₀ a b = b - a
 
 loop-holds : tie.Need-loop-holds Inv-loop μ-loop
-loop-holds c = bisected-start (number-at (c .args .index .now) (c .args .field)) (c .args .low) (c .args .high) (c .pre .2) (c .args .least)
+loop-holds c = bisected-start (c .pre .2) (c .args .least)
 
 sub-middle : tie.Need-sub-middle Inv-loop μ-loop
 sub-middle c = search needs
@@ -49,20 +49,20 @@ loop-less c = omega arith
 
 loop-again : tie.Need-loop-again Inv-loop μ-loop
 loop-again c =
-    bisected-up (number-at (c .before .before .before .before .args .index .now) (c .before .before .before .before .args .field)) (c .before .before .before .before .args .low) (c .before .before .before .before .args .high) (c .before .before .before .before .pre .2) (c .before .before .before .before .args .least)
-    (c .before .before .before .loop .a) (c .before .before .before .loop .b) (c .before .before .before .loop .inv) (c .before .before .before .loop .a + (c .before .before .before .loop .b - c .before .before .before .loop .a) / 2) (omega arith) (omega arith) (c .if1 .taken)
+    bisected-up (c .before .before .before .before .pre .2) (c .before .before .before .before .args .least)
+    (c .before .before .before .loop .inv) (c .before .before .before .loop .a + (c .before .before .before .loop .b - c .before .before .before .loop .a) / 2) (omega arith) (omega arith) (c .if1 .taken)
 
 loop-less-2 : tie.Need-loop-less-2 Inv-loop μ-loop
 loop-less-2 c = omega arith
 
 loop-again-2 : tie.Need-loop-again-2 Inv-loop μ-loop
 loop-again-2 c =
-    bisected-down (number-at (c .before .before .before .before .args .index .now) (c .before .before .before .before .args .field)) (c .before .before .before .before .args .low) (c .before .before .before .before .args .high) (c .before .before .before .before .pre .2) (c .before .before .before .before .args .least)
-    (c .before .before .before .loop .a) (c .before .before .before .loop .b) (c .before .before .before .loop .inv) (c .before .before .before .loop .a + (c .before .before .before .loop .b - c .before .before .before .loop .a) / 2) (omega arith) (omega arith) (c .if1 .left)
+    bisected-down (c .before .before .before .before .pre .2) (c .before .before .before .before .args .least)
+    (c .before .before .before .loop .inv) (c .before .before .before .loop .a + (c .before .before .before .loop .b - c .before .before .before .loop .a) / 2) (omega arith) (omega arith) (c .if1 .left)
 
 returns : tie.Need-returns Inv-loop μ-loop
 returns c =
-    bisected-end (number-at (c .before .before .args .index .now) (c .before .before .args .field)) (c .before .before .args .low) (c .before .before .args .high) (c .before .before .pre .2) (c .before .before .args .least) (c .before .loop .a) (c .before .loop .b) (c .before .loop .inv) (c .loop-test .left)
+    bisected-end (c .before .before .pre .2) (c .before .before .args .least) (c .before .loop .inv) (c .loop-test .left)
 
 pub line-lower-bound-spec : {M : Type 1} → statement M
 line-lower-bound-spec =

@@ -28,7 +28,7 @@ loop-holds : tie.Need-loop-holds Inv-loop μ-loop
 loop-holds c =
     let s = c .before .before .before in
     let a = s .args in
-    bisected-start (word-char (a .chars .now) (a .index .now) (a .word-starts .now) (a .depth)) (a .low) (a .high) (s .pre .rising) (a .least)
+    bisected-start (s .pre .rising) (a .least)
 
 sub-middle : tie.Need-sub-middle Inv-loop μ-loop
 sub-middle c = search needs
@@ -57,7 +57,7 @@ loop-again c =
     let s = c .before .before .before .before .before .before .before in
     let a = s .args in
     let l = c .before .before .before .loop in
-    bisected-up (word-char (a .chars .now) (a .index .now) (a .word-starts .now) (a .depth)) (a .low) (a .high) (s .pre .rising) (a .least) (l .a) (l .b) (l .inv) (middle (c .before .before)) (omega arith) (omega arith)
+    bisected-up (s .pre .rising) (a .least) (l .inv) (middle (c .before .before)) (omega arith) (omega arith)
     (omega (arith, c .before .char-at .ensures, c .if1 .taken))
 
 loop-less-2 : tie.Need-loop-less-2 Inv-loop μ-loop
@@ -68,14 +68,14 @@ loop-again-2 c =
     let s = c .before .before .before .before .before .before .before in
     let a = s .args in
     let l = c .before .before .before .loop in
-    bisected-down (word-char (a .chars .now) (a .index .now) (a .word-starts .now) (a .depth)) (a .low) (a .high) (s .pre .rising) (a .least) (l .a) (l .b) (l .inv) (middle (c .before .before)) (omega arith) (omega arith)
+    bisected-down (s .pre .rising) (a .least) (l .inv) (middle (c .before .before)) (omega arith) (omega arith)
     (omega (arith, c .before .char-at .ensures, c .if1 .left))
 
 returns : tie.Need-returns Inv-loop μ-loop
 returns c =
     let s = c .before .before .before .before .before in
     let a = s .args in
-    bisected-end (word-char (a .chars .now) (a .index .now) (a .word-starts .now) (a .depth)) (a .low) (a .high) (s .pre .rising) (a .least) (c .before .loop .a) (c .before .loop .b) (c .before .loop .inv) (c .loop-test .left)
+    bisected-end (s .pre .rising) (a .least) (c .before .loop .inv) (c .loop-test .left)
 
 pub word-lower-bound-spec : {M : Type 1} → statement M
 word-lower-bound-spec =

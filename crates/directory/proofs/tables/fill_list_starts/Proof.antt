@@ -71,7 +71,7 @@ loop-again : tie.Need-loop-again Inv-loop μ-loop
 loop-again c =
     let a = c .before .before .before .args in
     let l = c .before .before .loop in (
-      list-starts-next (a .index .now) (l .i) (l .list-starts) (l .inv .0) (omega (arith, c .before .loop-test .taken, l .inv .4)) (l .at) (l .inv .2),
+      list-starts-next (a .index .now) (l .inv .0) (omega (arith, c .before .loop-test .taken, l .inv .4)) (l .at) (l .inv .2),
       length-set (l .list-starts) (l .i) (l .at) ∙ l .inv .1,
       omega (arith, l .inv .2, counts-next (l .i) (a .index .now)),
       omega (arith, l .inv .3, c .shared-slice-known .given (2 + 3 * l .i + 2)),
@@ -87,7 +87,7 @@ returns : tie.Need-returns Inv-loop μ-loop
 returns c =
     let a = c .before .before .args in
     let l = c .before .loop in
-    list-starts-all (a .index .now) (l .i) (l .list-starts) (l .inv .0) (omega (arith, c .loop-test .left, l .inv .4))
+    list-starts-all (l .inv .0) (omega (arith, c .loop-test .left, l .inv .4))
 
 pub fill-list-starts-spec : {M : Type 1} → statement M
 fill-list-starts-spec =

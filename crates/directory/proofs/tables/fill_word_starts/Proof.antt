@@ -65,7 +65,7 @@ loop-again : tie.Need-loop-again Inv-loop μ-loop
 loop-again c =
     let a = c .before .before .before .args in
     let l = c .before .before .loop in (
-      word-starts-next (a .lengths .now) (l .i) (l .word-starts) (l .inv .0) (c .before .loop-test .taken) (l .at) (l .inv .2),
+      word-starts-next (a .lengths .now) (l .inv .0) (c .before .loop-test .taken) (l .at) (l .inv .2),
       length-set (l .word-starts) (l .i) (l .at) ∙ l .inv .1,
       omega (arith, l .inv .2, word-start-next (a .lengths .now) (l .i) (c .before .loop-test .taken)),
     )
@@ -77,7 +77,7 @@ returns : tie.Need-returns Inv-loop μ-loop
 returns c =
     let a = c .before .before .args in
     let l = c .before .loop in
-    word-starts-all (a .lengths .now) (l .i) (l .word-starts) (l .inv .0) (c .loop-test .left)
+    word-starts-all (l .inv .0) (c .loop-test .left)
 
 pub fill-word-starts-spec : {M : Type 1} → statement M
 fill-word-starts-spec =

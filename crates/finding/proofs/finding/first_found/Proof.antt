@@ -32,7 +32,7 @@ returns : tie.Need-returns Inv-loop μ-loop
 returns c =
     let a = c .before .before .before .before .args in
     let l = c .before .before .before .loop in
-    first-here (a .len) (a .first) (a .reach .now) (l .i) (l .inv) (c .before .before .loop-test .taken) (c .if1 .taken)
+    first-here (a .len) (a .first) (a .reach .now) (l .inv) (c .before .before .loop-test .taken) (c .if1 .taken)
 
 add-i : tie.Need-add-i Inv-loop μ-loop
 add-i c = search needs
@@ -44,13 +44,13 @@ loop-again : tie.Need-loop-again Inv-loop μ-loop
 loop-again c =
     let a = c .before .before .before .before .args in
     let l = c .before .before .before .loop in
-    none-before-step (a .len) (a .first) (a .reach .now) (l .i) (l .inv) (c .before .before .loop-test .taken) (c .if1 .left)
+    none-before-step (a .len) (a .first) (a .reach .now) (l .inv) (c .before .before .loop-test .taken) (c .if1 .left)
 
 returns-2 : tie.Need-returns-2 Inv-loop μ-loop
 returns-2 c =
     let a = c .before .before .args in
     let l = c .before .loop in
-    first-none (a .len) (a .first) (a .reach .now) (l .i) (l .inv) (c .loop-test .left)
+    first-none (a .len) (a .first) (a .reach .now) (l .inv) (c .loop-test .left)
 
 pub first-found-spec : {M : Type 1} → statement M
 first-found-spec =

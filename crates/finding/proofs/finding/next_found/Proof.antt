@@ -17,7 +17,7 @@ loop-holds : tie.Need-loop-holds Inv-loop μ-loop
 loop-holds c = passing-start (c .args .len) (c .args .reach .now) (c .args .from) (c .pre)
 
 below : (c : tie.At-loop Inv-loop μ-loop) → c .loop .i < length (c .before .args .reach .now)
-below c = passing-below (c .before .args .len) (c .before .args .reach .now) (c .before .args .from) (c .loop .i) (c .loop .inv)
+below c = passing-below (c .before .args .len) (c .before .args .reach .now) (c .before .args .from) (c .loop .inv)
 
 mul-if1 : tie.Need-mul-if1 Inv-loop μ-loop
 mul-if1 c = omega (arith, c .before .good, below c)
@@ -38,13 +38,13 @@ loop-again : tie.Need-loop-again Inv-loop μ-loop
 loop-again c =
     let a = c .before .before .before .args in
     let l = c .before .before .loop in
-    passing-step (a .len) (a .reach .now) (a .from) (l .i) (l .inv) (c .if1 .taken)
+    passing-step (a .len) (a .reach .now) (a .from) (l .inv) (c .if1 .taken)
 
 returns : tie.Need-returns Inv-loop μ-loop
 returns c =
     let a = c .before .before .before .args in
     let l = c .before .before .loop in
-    passing-end (a .len) (a .reach .now) (a .from) (l .i) (l .inv) (c .if1 .left)
+    passing-end (a .len) (a .reach .now) (a .from) (l .inv) (c .if1 .left)
 
 pub next-found-spec : {M : Type 1} → statement M
 next-found-spec =

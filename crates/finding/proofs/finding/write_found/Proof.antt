@@ -25,7 +25,7 @@ next-found-requires c κs =
     let s = c .before .before .before .before in
     let a = s .args in
     let l = c .before .loop in
-    finding-more (a .len) (a .first) (a .reach .now) (a .output .now) (l .output) (l .written) (l .i) (l .inv) (omega (arith, s .pre .0, c .loop-test .taken))
+    finding-more (a .len) (a .first) (a .reach .now) (a .output .now) (l .inv) (omega (arith, s .pre .0, c .loop-test .taken))
 
 add-output : tie.Need-add-output Inv-loop μ-loop
 add-output c =
@@ -64,8 +64,8 @@ loop-again c =
     let a = s .args in
     let l = c .before .before .loop in
     let n = c .next-found in
-    let next = finding-next (a .len) (a .first) (a .reach .now) (a .output .now) (l .output) (l .written) (l .i) (l .inv) (n .result) (n .ensures) in
-    finding-write (a .len) (a .first) (a .reach .now) (a .output .now) (l .output) (l .written) (n .result) next (n .ensures .within) (n .ensures .near)
+    let next = finding-next (a .len) (a .first) (a .reach .now) (a .output .now) (l .inv) (n .ensures) in
+    finding-write (a .len) (a .first) (a .reach .now) (a .output .now) next (n .ensures .within) (n .ensures .near)
     (omega (arith, s .pre .0, s .pre .1))
 
 same-length : tie.Need-same-length Inv-loop μ-loop
@@ -76,7 +76,7 @@ returns c =
     let s = c .before .before .before .before in
     let a = s .args in
     let l = c .before .loop in
-    finding-end (a .len) (a .first) (a .reach .now) (a .output .now) (l .output) (l .written) (l .i) (l .inv) (omega (arith, s .pre .0, c .loop-test .left))
+    finding-end (a .len) (a .first) (a .reach .now) (a .output .now) (l .inv) (omega (arith, s .pre .0, c .loop-test .left))
 
 pub write-found-spec : {M : Type 1} → statement M
 write-found-spec =

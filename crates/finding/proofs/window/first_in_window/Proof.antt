@@ -23,7 +23,7 @@ returns c =
     let a = s .args in
     let window = c .before .before .before .extend-window in
     laws.first-in-none (lexicon (a .chars .now) (a .lengths .now)) (a .index .now) (a .string .now) (length (a .reach .now)) (a .first)
-    (window .last .1 .1 .1 .1 .1 .1 .1 .1 .1 .0) (window .result) (a .reach .now) (s .pre .5) (window .ensures) (c .if1 .taken)
+    (a .reach .now) (s .pre .5) (window .ensures) (c .if1 .taken)
 
 first-found-requires : tie.Need-first-found-requires
 first-found-requires c κs = search needs
@@ -37,7 +37,7 @@ returns-2 c =
     let a = s .args in
     let window = c .before .before .before .before .before .extend-window in
     laws.first-in-window (lexicon (a .chars .now) (a .lengths .now)) (a .index .now) (a .string .now) (length (a .reach .now)) (a .first)
-    (window .last .1 .1 .1 .1 .1 .1 .1 .1 .1 .0) (window .result) (a .reach .now) (s .pre .5) (window .ensures) (c .first-found .result) (c .first-found .ensures)
+    (a .reach .now) (s .pre .5) (window .ensures) (c .first-found .result) (c .first-found .ensures)
 
 pub first-in-window-spec : {M : Type 1} → statement M
 first-in-window-spec =

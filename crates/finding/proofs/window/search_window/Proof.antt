@@ -26,7 +26,7 @@ returns c =
     let a = s .args in
     let window = c .before .before .before .before .extend-listing in
     says-none (lexicon (a .chars .now) (a .lengths .now)) (a .index .now) (a .string .now) (length (a .reach .now)) (a .first) (a .output .now)
-    (window .last .1 .1 .1 .1 .1 .1 .1 .1 .0) (window .result) (a .reach .now) (s .pre .3) (window .ensures) (c .if1 .taken) (record { refusal = 0; count = 0 }) refl refl
+    (a .reach .now) (s .pre .3) (window .ensures) (c .if1 .taken) (record { refusal = 0; count = 0 }) refl refl
 
 answer-window-requires : tie.Need-answer-window-requires
 answer-window-requires c κs = search needs
@@ -44,7 +44,7 @@ returns-2 c =
     let window = c .before .before .before .before .before .before .before .before .before .extend-listing in
     let answered = c .before .before .answer-window in
     says-answered (lexicon (a .chars .now) (a .lengths .now)) (a .index .now) (a .string .now) (length (a .reach .now)) (a .first) (a .output .now)
-    (window .last .1 .1 .1 .1 .1 .1 .1 .1 .0) (window .result) (a .reach .now) (s .pre .3) (window .ensures) (answered .result) (answered .last .1 .1 .1 .0) (answered .ensures)
+    (a .reach .now) (s .pre .3) (window .ensures) (answered .result) (answered .last .1 .1 .1 .0) (answered .ensures)
 
 pub search-window-spec : {M : Type 1} → statement M
 search-window-spec =

@@ -66,7 +66,7 @@ returns : tie.Need-returns Inv-loop μ-loop
 returns c =
     let start = c .before .before .before .before in
     let turn = c .before .loop in
-    text-put (replaced (start .args .text .now)) (start .args .slots .now) (turn .slots) (turn .i)
+    text-put
     (copy-end (replaced (start .args .text .now)) (turn .i) (turn .inv .1)
     (omega (arith, c .loop-test .left, length-replaced (start .args .text .now))))
 

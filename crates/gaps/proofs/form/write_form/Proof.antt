@@ -27,14 +27,14 @@ add-first c = search needs
 slice-aggregate-write-list : tie.Need-slice-aggregate-write-list
 slice-aggregate-write-list c =
     let start = c .before .before .before .before in
-    front-long gaps (length-gaps 0) (start .args .index .now) (start .pre .0 .fits) (2 + 3 * keys-of (start .args .index .now)) refl
+    front-long gaps (length-gaps 0) (start .pre .0 .fits) (2 + 3 * keys-of (start .args .index .now)) refl
 
 write-list-requires : tie.Need-write-list-requires
 write-list-requires c κs =
     let start = c .before .before .before .before .before in
     let xs = start .args .index .now in
     let fits = start .pre .0 .fits in
-    omega (arith, front-long gaps (length-gaps 0) xs fits (2 + 3 * keys-of xs) refl, start .pre .1, fits .has-directory)
+    omega (arith, front-long gaps (length-gaps 0) fits (2 + 3 * keys-of xs) refl, start .pre .1, fits .has-directory)
 
 mul-write-positions : tie.Need-mul-write-positions
 mul-write-positions c = search needs
@@ -55,7 +55,7 @@ write-positions-requires c κs =
     let can = subst (λ (b : Bool). Writable b xs) (c .before .if1 .taken) (start .pre .0) in (
       can,
       refl,
-      part-long prefix-sums (length-sums 0) xs (can .fits) (2 + 3 * keys-of xs) refl (start .args .form .now) _ (start .pre .1)
+      part-long prefix-sums (length-sums 0) (can .fits) (2 + 3 * keys-of xs) refl (start .args .form .now) _ (start .pre .1)
           (c .before .before .before .before .write-list .ensures),
     )
 
@@ -78,7 +78,7 @@ write-gaps-requires c κs =
     let can = subst (λ (b : Bool). Writable b xs) (c .before .if1 .left) (start .pre .0) in (
       can,
       refl,
-      part-long gaps (length-gaps 0) xs (can .fits) (2 + 3 * keys-of xs) refl (start .args .form .now) _ (start .pre .1)
+      part-long gaps (length-gaps 0) (can .fits) (2 + 3 * keys-of xs) refl (start .args .form .now) _ (start .pre .1)
           (c .before .before .before .before .write-list .ensures),
     )
 
@@ -90,7 +90,7 @@ returns c =
     let start = c .before .before .before .before .before .before .before .before .before .before .before .before .before in
     let xs = start .args .index .now in
     let copied = c .before .before .before .before .before .before .before .write-list .ensures in
-    form-written prefix-sums (length-sums 0) xs (start .pre .0 .fits) (2 + 3 * keys-of xs) refl (start .args .form .now) _ (start .pre .1)
+    form-written prefix-sums (length-sums 0) (start .pre .0 .fits) (2 + 3 * keys-of xs) refl (start .args .form .now) _ (start .pre .1)
     copied _ (c .before .before .write-positions .ensures)
     ∙ ap (λ (b : Bool). with-lists (write-as b) xs) (sym (c .before .before .before .before .if1 .taken))
 
@@ -102,7 +102,7 @@ returns-2 c =
     let start = c .before .before .before .before .before .before .before .before .before .before .before .before .before in
     let xs = start .args .index .now in
     let copied = c .before .before .before .before .before .before .before .write-list .ensures in
-    form-written gaps (length-gaps 0) xs (start .pre .0 .fits) (2 + 3 * keys-of xs) refl (start .args .form .now) _ (start .pre .1)
+    form-written gaps (length-gaps 0) (start .pre .0 .fits) (2 + 3 * keys-of xs) refl (start .args .form .now) _ (start .pre .1)
     copied _ (c .before .before .write-gaps .ensures)
     ∙ ap (λ (b : Bool). with-lists (write-as b) xs) (sym (c .before .before .before .before .if1 .left))
 

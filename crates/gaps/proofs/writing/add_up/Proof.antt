@@ -36,7 +36,7 @@ add-sum c =
     omega (
       arith,
       start .pre .1 (walk .i),
-      next-is (start .args .part .now) (start .args .gaps .now) (start .pre .0) (walk .part) (walk .sum) (walk .i) (walk .inv)
+      next-is (start .args .part .now) (start .args .gaps .now) (start .pre .0) (walk .inv)
           (c .before .before .loop-test .taken),
     )
 
@@ -56,7 +56,7 @@ loop-again : tie.Need-loop-again Inv-loop μ-loop
 loop-again c =
     let start = c .before .before .before .before in
     let walk = c .before .before .before .loop in
-    adding-step (start .args .part .now) (start .args .gaps .now) (start .pre .0) (walk .part) (walk .sum) (walk .i) (walk .inv)
+    adding-step (start .args .part .now) (start .args .gaps .now) (start .pre .0) (walk .inv)
     (c .before .before .loop-test .taken)
 
 same-length : tie.Need-same-length Inv-loop μ-loop
@@ -66,7 +66,7 @@ returns : tie.Need-returns Inv-loop μ-loop
 returns c =
     let start = c .before .before in
     let walk = c .before .loop in
-    adding-end (start .args .part .now) (start .args .gaps .now) (start .pre .0) (walk .part) (walk .sum) (walk .i) (walk .inv)
+    adding-end (start .args .part .now) (start .args .gaps .now) (start .pre .0) (walk .inv)
     (c .loop-test .left)
 
 pub add-up-spec : {M : Type 1} → statement M

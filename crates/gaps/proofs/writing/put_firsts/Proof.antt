@@ -39,7 +39,7 @@ add-first-number c =
     let walk = c .before .loop in
     let a = start .args in
     let below : walk .i < keys-of (a .index .now) = omega (arith, c .loop-test .taken, start .pre .1) in
-    let there = line-there (a .restore) (a .index .now) (walk .part) (walk .i) (walk .at) (start .pre .0) (walk .inv) below in
+    let there = line-there (start .pre .0) (walk .inv) below in
     omega (arith, there .read, start .pre .1, start .good)
 
 mul-first-number : tie.Need-mul-first-number Inv-loop μ-loop
@@ -48,7 +48,7 @@ mul-first-number c =
     let walk = c .before .loop in
     let a = start .args in
     let below : walk .i < keys-of (a .index .now) = omega (arith, c .loop-test .taken, start .pre .1) in
-    let there = line-there (a .restore) (a .index .now) (walk .part) (walk .i) (walk .at) (start .pre .0) (walk .inv) below in
+    let there = line-there (start .pre .0) (walk .inv) below in
     omega (arith, there .read, start .pre .1, start .good)
 
 shared-slice-read-first-number : tie.Need-shared-slice-read-first-number Inv-loop μ-loop
@@ -57,7 +57,7 @@ shared-slice-read-first-number c =
     let walk = c .before .before .loop in
     let a = start .args in
     let below : walk .i < keys-of (a .index .now) = omega (arith, c .before .loop-test .taken, start .pre .1) in
-    let there = line-there (a .restore) (a .index .now) (walk .part) (walk .i) (walk .at) (start .pre .0) (walk .inv) below in
+    let there = line-there (start .pre .0) (walk .inv) below in
     omega (arith, there .read, start .pre .1)
 
 first-number-requires : tie.Need-first-number-requires Inv-loop μ-loop
@@ -69,7 +69,7 @@ mul-part c =
     let walk = c .before .before .before .loop in
     let a = start .args in
     let below : walk .i < keys-of (a .index .now) = omega (arith, c .before .before .loop-test .taken, start .pre .1) in
-    let there = line-there (a .restore) (a .index .now) (walk .part) (walk .i) (walk .at) (start .pre .0) (walk .inv) below in
+    let there = line-there (start .pre .0) (walk .inv) below in
     omega (arith, there .write, walk .inv .len, length-drop (header + 3 * keys-of (a .index .now)) (a .index .now), start .good)
 
 slice-write-part : tie.Need-slice-write-part Inv-loop μ-loop
@@ -78,7 +78,7 @@ slice-write-part c =
     let walk = c .before .before .before .loop in
     let a = start .args in
     let below : walk .i < keys-of (a .index .now) = omega (arith, c .before .before .loop-test .taken, start .pre .1) in
-    let there = line-there (a .restore) (a .index .now) (walk .part) (walk .i) (walk .at) (start .pre .0) (walk .inv) below in
+    let there = line-there (start .pre .0) (walk .inv) below in
     there .write
 
 mul-at : tie.Need-mul-at Inv-loop μ-loop
@@ -105,7 +105,7 @@ add-at-3 c =
     let walk = c .before .before .before .before .loop in
     let a = start .args in
     let below : walk .i < keys-of (a .index .now) = omega (arith, c .before .before .before .loop-test .taken, start .pre .1) in
-    let there = line-there (a .restore) (a .index .now) (walk .part) (walk .i) (walk .at) (start .pre .0) (walk .inv) below in
+    let there = line-there (start .pre .0) (walk .inv) below in
     omega (arith, there .next, start .good)
 
 add-i : tie.Need-add-i Inv-loop μ-loop
@@ -120,7 +120,7 @@ loop-again c =
     let walk = c .before .before .before .before .loop in
     let a = start .args in
     let below : walk .i < keys-of (a .index .now) = omega (arith, c .before .before .before .loop-test .taken, start .pre .1) in
-    let there = line-there (a .restore) (a .index .now) (walk .part) (walk .i) (walk .at) (start .pre .0) (walk .inv) below in
+    let there = line-there (start .pre .0) (walk .inv) below in
     let xs = a .index .now in
     let ps = drop (header + 3 * keys-of xs) xs in
     let first : c .before .first-number .result ≡ first-as (a .restore) (getD ps (walk .at) 0) =

@@ -50,7 +50,7 @@ loop-again c =
     let start = c .before .before .before .before .before .before .before in
     let walk = c .before .before .before .before .loop in
     rw (c .distance .ensures)
-    (distances-step (start .args .run .now) (start .args .part .now) (start .pre) (walk .part) (walk .i) (walk .inv)
+    (distances-step (start .args .run .now) (start .args .part .now) (start .pre) (walk .inv)
     (c .before .before .before .loop-test .taken))
 
 same-length : tie.Need-same-length Inv-loop μ-loop
@@ -60,7 +60,7 @@ returns : tie.Need-returns Inv-loop μ-loop
 returns c =
     let start = c .before .before .before .before in
     let walk = c .before .loop in
-    distances-end (start .args .run .now) (start .args .part .now) (start .pre) (walk .part) (walk .i) (walk .inv) (c .loop-test .left)
+    distances-end (start .args .run .now) (start .args .part .now) (start .pre) (walk .inv) (c .loop-test .left)
 
 pub write-distances-spec : {M : Type 1} → statement M
 write-distances-spec =

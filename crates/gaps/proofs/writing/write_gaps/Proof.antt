@@ -27,14 +27,14 @@ part-write-distances-end c = search needs
 write-distances-requires : tie.Need-write-distances-requires
 write-distances-requires c κs =
     let start = c .before .before .before .before in
-    omega (arith, run-long (start .args .index .now) (start .pre .0 .fits) (start .args .keys) (start .pre .1), start .pre .2)
+    omega (arith, run-long (start .pre .0 .fits) (start .args .keys) (start .pre .1), start .pre .2)
 
 put-firsts-requires : tie.Need-put-firsts-requires
 put-firsts-requires c κs =
     let start = c .before .before .before .before .before .before .before .before in (
       start .pre .0,
       start .pre .1,
-      distances-ready (start .args .index .now) (start .pre .0 .fits) (start .args .keys) (start .pre .1) _
+      distances-ready (start .pre .0 .fits) (start .args .keys) (start .pre .1) _
           (c .before .before .before .write-distances .ensures),
     )
 
@@ -45,7 +45,7 @@ returns : tie.Need-returns
 returns c =
     let start = c .before .before .before .before .before .before .before .before .before .before .before in
     c .before .before .put-firsts .ensures
-    ∙ gaps-written (start .args .index .now) (start .pre .0 .fits) (start .args .keys) (start .pre .1)
+    ∙ gaps-written (start .pre .0 .fits) (start .args .keys) (start .pre .1)
 
 pub write-gaps-spec : {M : Type 1} → statement M
 write-gaps-spec =

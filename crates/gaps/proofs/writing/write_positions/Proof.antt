@@ -25,7 +25,7 @@ put-firsts-requires c κs =
     let filled = c .before .before .before .fill in (
       start .pre .0,
       start .pre .1,
-      masks-ready (start .args .index .now) (start .pre .0 .fits) (start .args .keys) (start .pre .1) (start .args .part .now) _
+      masks-ready (start .pre .0 .fits) (start .args .keys) (start .pre .1) (start .args .part .now) _
           (start .pre .2) (filled .ensures),
     )
 
@@ -47,8 +47,8 @@ add-up-requires c κs =
     let can = start .pre .0 in
     let xs = start .args .index .now in
     let masked = c .before .before .before .before .put-firsts .ensures in
-    let sums = sums-written xs (can .fits) (start .args .keys) (start .pre .1) (can .totals refl) _ masked in (
-      masks-long xs (can .fits) (start .args .keys) (start .pre .1) (can .totals refl) _ masked,
+    let sums = sums-written (can .fits) (start .args .keys) (start .pre .1) (can .totals refl) _ masked in (
+      masks-long (can .fits) (start .args .keys) (start .pre .1) (can .totals refl) _ masked,
       λ j. subst (λ (l : List ℕ). getD l j 0 ≤ carry) (sym sums) (can .sums refl j),
     )
 
@@ -61,7 +61,7 @@ returns c =
     let can = start .pre .0 in
     let masked = c .before .before .before .before .before .before .before .put-firsts .ensures in
     c .before .before .add-up .ensures
-    ∙ sums-written (start .args .index .now) (can .fits) (start .args .keys) (start .pre .1) (can .totals refl) _ masked
+    ∙ sums-written (can .fits) (start .args .keys) (start .pre .1) (can .totals refl) _ masked
 
 pub write-positions-spec : {M : Type 1} → statement M
 write-positions-spec =

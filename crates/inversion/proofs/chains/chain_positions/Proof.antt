@@ -22,7 +22,7 @@ below : (c : tie.In-loop Inv-loop μ-loop) → c .before .loop .p - 1 < length (
 below c =
     let start = c .before .before .before .before .before .before in
     let l = c .before .loop in
-    links-below (replaced (start .args .text .now)) (start .args .tokens .now) (l .tokens) (l .heads) (l .pages) (l .keys) (l .entries) (l .p)
+    links-below
     (l .p - 1) (omega (arith, c .loop-test .taken)) (l .inv)
 
 text-below :
@@ -40,7 +40,7 @@ text-below c =
 loop-holds : tie.Need-loop-holds Inv-loop μ-loop
 loop-holds c =
     let start = c .before .before .before .before in
-    links-start (replaced (start .args .text .now)) (start .args .tokens .now) (start .args .heads .now) (start .args .pages .now)
+    links-start (replaced (start .args .text .now)) (start .args .tokens .now)
     (start .pre .1)
 
 sub-p : tie.Need-sub-p Inv-loop μ-loop
@@ -63,7 +63,7 @@ code-of-requires c κs =
     let start = c .before .before .before .before .before .before .before .before .before in
     let l = c .before .before .before .before .loop in
     let same : getD (l .tokens) (l .p - 1) 0 ≡ getD (start .args .tokens .now) (l .p - 1) 0 =
-    links-token (replaced (start .args .text .now)) (start .args .tokens .now) (l .tokens) (l .heads) (l .pages) (l .keys) (l .entries) (l .p)
+    links-token
     (l .p - 1) (omega (arith, c .before .before .before .loop-test .taken)) (l .inv) in
     (omega (arith, c .before .if1 .taken), omega (arith, start .pre .0 .small (l .p - 1) (omega (arith, below (c .before .before .before), l .inv .linked .len))))
 
@@ -107,8 +107,8 @@ loop-again : tie.Need-loop-again Inv-loop μ-loop
 loop-again c =
     let start = c .before .before .before .before .before .before .before .before .before .before .before .before in
     let l = c .before .before .before .before .before .before .before .loop in
-    links-new (replaced (start .args .text .now)) (start .args .tokens .now) (l .tokens) (l .heads) (l .pages) (l .keys) (l .entries)
-    (l .p) (l .p - 1)
+    links-new
+    (l .p - 1)
     (omega (arith, c .before .before .before .before .before .before .loop-test .taken)) (l .inv) (c .before .before .code-of .result)
     (rw (← getD-replaced (start .args .text .now) (l .p - 1)) at (c .before .before .code-of .ensures .0))
     (c .before .before .code-of .ensures .1) (c .if2 .taken)
@@ -120,8 +120,8 @@ loop-again-2 : tie.Need-loop-again-2 Inv-loop μ-loop
 loop-again-2 c =
     let start = c .before .before .before .before .before .before .before .before .before .before .before .before in
     let l = c .before .before .before .before .before .before .before .loop in
-    links-more (replaced (start .args .text .now)) (start .args .tokens .now) (l .tokens) (l .heads) (l .pages) (l .keys) (l .entries)
-    (l .p) (l .p - 1)
+    links-more
+    (l .p - 1)
     (omega (arith, c .before .before .before .before .before .before .loop-test .taken)) (l .inv) (c .before .before .code-of .result)
     (rw (← getD-replaced (start .args .text .now) (l .p - 1)) at (c .before .before .code-of .ensures .0))
     (c .before .before .code-of .ensures .1) (c .if2 .left)
@@ -133,8 +133,8 @@ loop-again-3 : tie.Need-loop-again-3 Inv-loop μ-loop
 loop-again-3 c =
     let start = c .before .before .before .before .before .before .before .before in
     let l = c .before .before .before .loop in
-    links-passed (replaced (start .args .text .now)) (start .args .tokens .now) (l .tokens) (l .heads) (l .pages) (l .keys) (l .entries)
-    (l .p) (l .p - 1)
+    links-passed
+    (l .p - 1)
     (omega (arith, c .before .before .loop-test .taken)) (l .inv)
     (coded-none (getD (l .tokens) (l .p - 1) 0) (getD (replaced (start .args .text .now)) (l .p - 1) 0) (c .if1 .left))
 

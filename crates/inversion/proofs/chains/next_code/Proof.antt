@@ -15,8 +15,8 @@ abbrev μ-loop : tie.MeasureT-loop
 
 page : (c : tie.Then2 Inv-loop μ-loop) → Passed (c .before .before .before .before .before .args .heads .now) (c .before .before .before .before .before .args .from) (c .before .before .before .before .loop .code + 64)
 page c =
-    passed-page (c .before .before .before .before .before .args .heads .now) (c .before .before .before .before .before .args .from) (c .before .before .before .before .loop .code) (c .before .before .before .before .loop .inv)
-    (c .before .before .before .before .before .args .pages .now) (c .before .before .before .before .before .pre .0) (c .before .before .before .loop-test .taken) (c .before .before .if1 .taken) (c .if2 .taken)
+    passed-page (c .before .before .before .before .loop .inv)
+    (c .before .before .before .before .before .pre .0) (c .before .before .before .loop-test .taken) (c .before .before .if1 .taken) (c .if2 .taken)
 
 loop-holds : tie.Need-loop-holds Inv-loop μ-loop
 loop-holds c = passed-start (c .args .heads .now) (c .args .from) (c .pre .1)
@@ -40,7 +40,7 @@ shared-slice-read-if3 : tie.Need-shared-slice-read-if3 Inv-loop μ-loop
 shared-slice-read-if3 c = search needs
 
 returns : tie.Need-returns Inv-loop μ-loop
-returns c = next-found (c .before .before .before .before .before .args .heads .now) (c .before .before .before .before .before .args .from) (c .before .before .before .before .loop .code) (c .before .before .before .before .loop .inv) (c .if3 .taken)
+returns c = next-found (c .before .before .before .before .loop .inv) (c .if3 .taken)
 
 add-code-2 : tie.Need-add-code-2 Inv-loop μ-loop
 add-code-2 c = omega arith
@@ -49,10 +49,10 @@ loop-less-2 : tie.Need-loop-less-2 Inv-loop μ-loop
 loop-less-2 c = omega arith
 
 loop-again-2 : tie.Need-loop-again-2 Inv-loop μ-loop
-loop-again-2 c = passed-one (c .before .before .before .before .before .args .heads .now) (c .before .before .before .before .before .args .from) (c .before .before .before .before .loop .code) (c .before .before .before .before .loop .inv) (omega arith) (c .if3 .left)
+loop-again-2 c = passed-one (c .before .before .before .before .loop .inv) (omega arith) (c .if3 .left)
 
 returns-2 : tie.Need-returns-2 Inv-loop μ-loop
-returns-2 c = next-none (c .before .before .args .heads .now) (c .before .before .args .from) (c .before .loop .code) (c .before .loop .inv) (c .loop-test .left)
+returns-2 c = next-none (c .before .loop .inv) (c .loop-test .left)
 
 pub next-code-spec : {M : Type 1} → statement M
 next-code-spec =

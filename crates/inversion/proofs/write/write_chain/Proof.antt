@@ -19,13 +19,13 @@ hand :
     (c : tie.In-loop Inv-loop μ-loop) →
     Copy-in-hand (c .before .before .args .links .now) (c .before .before .args .head) (c .before .before .args .part .now) (c .before .loop .part) (c .before .before .args .at) (c .before .loop .here) (c .before .loop .member)
 hand c =
-    copy-member (c .before .before .args .links .now) (c .before .before .args .head) (c .before .before .args .part .now) (c .before .loop .part) (c .before .before .args .at) (c .before .loop .here) (c .before .loop .member) (c .before .loop .inv) (c .before .before .pre .0) (c .loop-test .taken)
+    copy-member (c .before .loop .inv) (c .before .before .pre .0) (c .loop-test .taken)
 
 len : (c : tie.In-loop Inv-loop μ-loop) → length (c .before .loop .part) ≡ length (c .before .before .args .part .now)
 len c = c .before .loop .inv .writing .len
 
 loop-holds : tie.Need-loop-holds Inv-loop μ-loop
-loop-holds c = copy-start (c .args .links .now) (c .args .head) (c .args .part .now) (c .args .at) (c .pre .0) (c .pre .1)
+loop-holds c = copy-start (c .args .part .now) (c .args .at) (c .pre .0) (c .pre .1)
 
 mul-part : tie.Need-mul-part Inv-loop μ-loop
 mul-part c = omega (arith, hand c .room, len c)
@@ -59,8 +59,8 @@ same-length c = c .before .loop .inv .writing .len
 
 returns : tie.Need-returns Inv-loop μ-loop
 returns c = (
-  copy-end-at (c .before .before .args .links .now) (c .before .before .args .head) (c .before .before .args .part .now) (c .before .loop .part) (c .before .before .args .at) (c .before .loop .here) (c .before .loop .member) (c .before .loop .inv) (c .loop-test .left),
-  copy-end (c .before .before .args .links .now) (c .before .before .args .head) (c .before .before .args .part .now) (c .before .loop .part) (c .before .before .args .at) (c .before .loop .here) (c .before .loop .member) (c .before .loop .inv) (c .loop-test .left),
+  copy-end-at (c .before .loop .inv) (c .loop-test .left),
+  copy-end (c .before .loop .inv) (c .loop-test .left),
 )
 
 pub write-chain-spec : {M : Type 1} → statement M

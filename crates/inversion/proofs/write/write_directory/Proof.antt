@@ -22,9 +22,9 @@ room : (c : tie.In-loop Inv-loop μ-loop) → c .before .loop .here + 3 ≤ leng
 room c =
     let start = c .before .before .before .before .before .before .before in
     let l = c .before .loop in
-    let fits = listing-room directory line-numbers directory-by-line (start .args .heads .now) (start .args .links .now) (start .args .output .now)
-    (take (start .args .at) (start .args .output .now) ++ directory (lines-at (start .args .heads .now) (start .args .links .now) 0))
-    (l .output) (l .code) (l .here) (l .inv) (start .pre .0 .threads) (c .loop-test .taken) in
+    let fits = listing-room directory-by-line (start .args .heads .now) (start .args .links .now) (start .args .output .now)
+   
+    (l .inv) (start .pre .0 .threads) (c .loop-test .taken) in
     omega (
       arith,
       fits,
@@ -37,8 +37,8 @@ next-code-requires c κs = (c .before .before .before .before .pre .0 .paged, om
 loop-holds : tie.Need-loop-holds Inv-loop μ-loop
 loop-holds c =
     let start = c .before .before .before .before .before in
-    listing-start directory line-numbers directory-by-line (start .args .heads .now) (start .args .links .now) (start .args .output .now)
-    (start .args .at) (c .next-code .result) (start .pre .1) (c .next-code .ensures)
+    listing-start directory-by-line (start .args .heads .now) (start .args .links .now) (start .args .output .now)
+    (start .args .at) (start .pre .1) (c .next-code .ensures)
 
 mul-chain-length : tie.Need-mul-chain-length Inv-loop μ-loop
 mul-chain-length c = omega (arith, c .loop-test .taken, c .before .before .before .before .before .before .before .pre .0 .codes)
@@ -78,10 +78,10 @@ loop-again : tie.Need-loop-again Inv-loop μ-loop
 loop-again c =
     let start = c .before .before .before .before .before .before .before .before .before .before .before .before .before .before in
     let l = c .before .before .before .before .before .before .before .before .loop in
-    listing-step directory line-numbers directory-by-line (start .args .heads .now) (start .args .links .now) (start .args .output .now)
-    (take (start .args .at) (start .args .output .now) ++ directory (lines-at (start .args .heads .now) (start .args .links .now) 0))
-    (l .output) (l .code) (l .here) (l .inv)
-    (start .pre .0 .threads) (c .before .before .before .before .before .before .before .loop-test .taken) (c .next-code2 .result) (c .next-code2 .ensures)
+    listing-step directory-by-line (start .args .heads .now) (start .args .links .now) (start .args .output .now)
+   
+    (l .inv)
+    (start .pre .0 .threads) (c .before .before .before .before .before .before .before .loop-test .taken) (c .next-code2 .ensures)
     (code-key (l .code) .kind ∷ code-key (l .code) .value ∷ c .before .before .before .before .before .chain-length .result ∷ []) (c .before .before .before .put-line .last .0)
     (line-numbers-are (l .code) (c .before .before .before .before .before .chain-length .result) (chain (start .args .links .now) (getD (start .args .heads .now) (l .code) 0))
     (c .before .before .before .before .before .chain-length .ensures))
@@ -94,9 +94,9 @@ returns : tie.Need-returns Inv-loop μ-loop
 returns c =
     let start = c .before .before .before .before .before .before .before in
     let l = c .before .loop in
-    listing-end directory line-numbers directory-by-line (start .args .heads .now) (start .args .links .now) (start .args .output .now)
-    (take (start .args .at) (start .args .output .now) ++ directory (lines-at (start .args .heads .now) (start .args .links .now) 0))
-    (l .output) (l .code) (l .here) (l .inv) (c .loop-test .left)
+    listing-end directory-by-line (start .args .heads .now) (start .args .links .now) (start .args .output .now)
+   
+    (l .inv) (c .loop-test .left)
 
 pub write-directory-spec : {M : Type 1} → statement M
 write-directory-spec =

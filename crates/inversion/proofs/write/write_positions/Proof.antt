@@ -24,8 +24,8 @@ room :
 room c =
     let start = c .before .before .before .before .before .before .before in
     let l = c .before .loop in
-    let fits = listing-room all-positions line-positions positions-by-line (start .args .heads .now) (start .args .links .now) (start .args .part .now)
-    (all-positions (lines-at (start .args .heads .now) (start .args .links .now) 0)) (l .part) (l .code) (l .here) (l .inv) (start .pre .0 .threads) (c .loop-test .taken) in
+    let fits = listing-room positions-by-line (start .args .heads .now) (start .args .links .now) (start .args .part .now)
+    (l .inv) (start .pre .0 .threads) (c .loop-test .taken) in
     omega (
       arith,
       fits,
@@ -38,8 +38,8 @@ next-code-requires c κs = (c .before .before .before .before .pre .0 .paged, om
 loop-holds : tie.Need-loop-holds Inv-loop μ-loop
 loop-holds c =
     let start = c .before .before .before .before .before in
-    listing-start all-positions line-positions positions-by-line (start .args .heads .now) (start .args .links .now) (start .args .part .now) 0
-    (c .next-code .result) (omega (arith, start .pre .1)) (c .next-code .ensures)
+    listing-start positions-by-line (start .args .heads .now) (start .args .links .now) (start .args .part .now) 0
+    (omega (arith, start .pre .1)) (c .next-code .ensures)
 
 mul-write-chain : tie.Need-mul-write-chain Inv-loop μ-loop
 mul-write-chain c = omega (arith, c .loop-test .taken, c .before .before .before .before .before .before .before .pre .0 .codes)
@@ -67,9 +67,9 @@ loop-again c =
     let start = c .before .before .before .before .before .before .before .before .before .before .before .before .before in
     let l = c .before .before .before .before .before .before .before .loop in
     rw (c .before .before .before .write-chain .ensures .0)
-    (listing-step all-positions line-positions positions-by-line (start .args .heads .now) (start .args .links .now) (start .args .part .now)
-    (all-positions (lines-at (start .args .heads .now) (start .args .links .now) 0)) (l .part) (l .code) (l .here) (l .inv)
-    (start .pre .0 .threads) (c .before .before .before .before .before .before .loop-test .taken) (c .next-code2 .result) (c .next-code2 .ensures)
+    (listing-step positions-by-line (start .args .heads .now) (start .args .links .now) (start .args .part .now)
+    (l .inv)
+    (start .pre .0 .threads) (c .before .before .before .before .before .before .loop-test .taken) (c .next-code2 .ensures)
     (chain (start .args .links .now) (getD (start .args .heads .now) (l .code) 0)) (c .before .before .before .write-chain .last .1 .1 .0)
     (line-positions-are (l .code) (chain (start .args .links .now) (getD (start .args .heads .now) (l .code) 0)))
     (c .before .before .before .write-chain .ensures .1))
@@ -81,8 +81,8 @@ returns : tie.Need-returns Inv-loop μ-loop
 returns c =
     let start = c .before .before .before .before .before .before .before in
     let l = c .before .loop in
-    listing-end all-positions line-positions positions-by-line (start .args .heads .now) (start .args .links .now) (start .args .part .now)
-    (all-positions (lines-at (start .args .heads .now) (start .args .links .now) 0)) (l .part) (l .code) (l .here) (l .inv) (c .loop-test .left)
+    listing-end positions-by-line (start .args .heads .now) (start .args .links .now) (start .args .part .now)
+    (l .inv) (c .loop-test .left)
 
 pub write-positions-spec : {M : Type 1} → statement M
 write-positions-spec =

@@ -27,7 +27,7 @@ shared-slice-read-if2-2 : tie.Need-shared-slice-read-if2-2 Inv-loop μ-loop
 shared-slice-read-if2-2 c = omega arith
 
 returns-2 : tie.Need-returns-2 Inv-loop μ-loop
-returns-2 c = sym (head-stop (c .before .before .before .before .before .before .args .line .now) (c .before .before .before .before .before .before .args .head .now) (c .before .before .before .before .loop .i) (c .before .before .before .before .loop .inv) (c .before .before .before .loop-test .taken) (c .if2 .taken))
+returns-2 c = sym (head-stop (c .before .before .before .before .loop .inv) (c .before .before .before .loop-test .taken) (c .if2 .taken))
 
 add-i : tie.Need-add-i Inv-loop μ-loop
 add-i c = omega arith
@@ -36,10 +36,10 @@ loop-less : tie.Need-loop-less Inv-loop μ-loop
 loop-less c = omega arith
 
 loop-again : tie.Need-loop-again Inv-loop μ-loop
-loop-again c = head-step (c .before .before .before .before .before .before .args .line .now) (c .before .before .before .before .before .before .args .head .now) (c .before .before .before .before .loop .i) (c .before .before .before .before .loop .inv) (c .before .before .before .loop-test .taken) (c .if2 .left)
+loop-again c = head-step (c .before .before .before .before .loop .inv) (c .before .before .before .loop-test .taken) (c .if2 .left)
 
 returns-3 : tie.Need-returns-3 Inv-loop μ-loop
-returns-3 c = sym (head-end (c .before .before .before .args .line .now) (c .before .before .before .args .head .now) (c .before .loop .i) (c .before .loop .inv) (c .loop-test .left))
+returns-3 c = sym (head-end (c .before .loop .inv) (c .loop-test .left))
 
 pub has-head-spec : {M : Type 1} → statement M
 has-head-spec =

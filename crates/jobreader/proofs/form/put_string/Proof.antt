@@ -20,16 +20,16 @@ add-loop : tie.Need-add-loop Inv-loop μ-loop
 add-loop c = omega (arith, c .loop .inv .within)
 
 character-requires : tie.Need-character-requires Inv-loop μ-loop
-character-requires c κs = (c .loop-test .taken, spaced-here (c .before .before .before .before .args .line .now) (c .before .before .before .before .args .at) (c .before .before .before .before .args .out .now) (c .before .loop .from) (c .before .loop .end) (c .before .loop .out) (c .before .loop .inv) (c .loop-test .taken))
+character-requires c κs = (c .loop-test .taken, spaced-here (c .before .loop .inv) (c .loop-test .taken))
 
 mul-out : tie.Need-mul-out Inv-loop μ-loop
-mul-out c = omega (arith, string-room (c .before .before .before .before .before .args .line .now) (c .before .before .before .before .before .args .at) (c .before .before .before .before .before .args .out .now) (c .before .before .loop .from) (c .before .before .loop .end) (c .before .before .loop .out) (c .before .before .loop .inv) (c .before .loop-test .taken), c .before .before .loop .inv .writing .len)
+mul-out c = omega (arith, string-room (c .before .before .loop .inv) (c .before .loop-test .taken), c .before .before .loop .inv .writing .len)
 
 slice-write-out : tie.Need-slice-write-out Inv-loop μ-loop
-slice-write-out c = string-room (c .before .before .before .before .before .args .line .now) (c .before .before .before .before .before .args .at) (c .before .before .before .before .before .args .out .now) (c .before .before .loop .from) (c .before .before .loop .end) (c .before .before .loop .out) (c .before .before .loop .inv) (c .before .loop-test .taken)
+slice-write-out c = string-room (c .before .before .loop .inv) (c .before .loop-test .taken)
 
 add-end : tie.Need-add-end Inv-loop μ-loop
-add-end c = omega (arith, string-room (c .before .before .before .before .before .args .line .now) (c .before .before .before .before .before .args .at) (c .before .before .before .before .before .args .out .now) (c .before .before .loop .from) (c .before .before .loop .end) (c .before .before .loop .out) (c .before .before .loop .inv) (c .before .loop-test .taken), c .before .before .loop .inv .writing .len)
+add-end c = omega (arith, string-room (c .before .before .loop .inv) (c .before .loop-test .taken), c .before .before .loop .inv .writing .len)
 
 add-from : tie.Need-add-from Inv-loop μ-loop
 add-from c = omega arith
@@ -38,13 +38,13 @@ loop-less : tie.Need-loop-less Inv-loop μ-loop
 loop-less c = omega arith
 
 loop-again : tie.Need-loop-again Inv-loop μ-loop
-loop-again c = string-step (c .before .before .before .before .before .args .line .now) (c .before .before .before .before .before .args .at) (c .before .before .before .before .before .args .out .now) (c .before .before .loop .from) (c .before .before .loop .end) (c .before .before .loop .out) (c .before .before .loop .inv) (c .before .loop-test .taken) (c .character .result) (c .character .ensures)
+loop-again c = string-step (c .before .before .loop .inv) (c .before .loop-test .taken) (c .character .result) (c .character .ensures)
 
 same-length : tie.Need-same-length Inv-loop μ-loop
 same-length c = c .before .loop .inv .writing .len
 
 returns : tie.Need-returns Inv-loop μ-loop
-returns c = string-end (c .before .before .before .before .args .line .now) (c .before .before .before .before .args .at) (c .before .before .before .before .args .out .now) (c .before .loop .from) (c .before .loop .end) (c .before .loop .out) (c .before .loop .inv) (c .loop-test .left)
+returns c = string-end (c .before .loop .inv) (c .loop-test .left)
 
 pub put-string-spec : {M : Type 1} → statement M
 put-string-spec =

@@ -38,7 +38,7 @@ returns-2 c =
 
 contents-refusal-requires : tie.Need-contents-refusal-requires
 contents-refusal-requires c κs =
-    let parts = job-parts (c .before .before .before .before .before .before .before .before .before .before .before .before .before .before .before .args .sheet .now) (c .before .before .before .before .before .before .before .before .before .before .before .before .before .before .before .args .chars .now) (c .before .before .before .before .before .before .before .before .before .before .before .before .before .before .before .args .lengths .now) (c .before .before .before .before .before .before .before .before .read-sheet .result .good) (c .before .before .before .before .before .before .before .before .read-sheet .result .words) (c .before .before .before .before .before .before .before .before .read-sheet .result .dictionary) (c .before .before .before .before .before .before .before .before .read-sheet .result .text) (c .before .before .before .before .before .before .before .before .read-sheet .result .finds) (c .before .before .before .before .before .before .before .before .read-sheet .last .1 .0) (c .before .before .before .before .before .before .before .before .read-sheet .last .1 .1 .0) (c .before .before .before .before .before .before .before .before .read-sheet .ensures) (not-false (c .before .before .before .before .before .before .before .before .read-sheet .result .good) (c .before .before .if2 .left)) in
+    let parts = job-parts (c .before .before .before .before .before .before .before .before .read-sheet .ensures) (not-false (c .before .before .before .before .before .before .before .before .read-sheet .result .good) (c .before .before .if2 .left)) in
     (omega (arith, parts .chars-fit), parts .lengths-fit)
 
 same-length-3 : tie.Need-same-length-3
@@ -51,9 +51,9 @@ returns-3 : tie.Need-returns-3
 returns-3 c =
     let s = c .before .before .before .before .before .before .before .before .before .before .before .before .before .before .before .before .args .sheet .now in
     let good = not-false (c .before .before .before .before .before .before .before .before .before .read-sheet .result .good) (c .before .before .before .if2 .left) in
-    let parts = job-parts (c .before .before .before .before .before .before .before .before .before .before .before .before .before .before .before .before .args .sheet .now) (c .before .before .before .before .before .before .before .before .before .before .before .before .before .before .before .before .args .chars .now) (c .before .before .before .before .before .before .before .before .before .before .before .before .before .before .before .before .args .lengths .now) (c .before .before .before .before .before .before .before .before .before .read-sheet .result .good) (c .before .before .before .before .before .before .before .before .before .read-sheet .result .words) (c .before .before .before .before .before .before .before .before .before .read-sheet .result .dictionary) (c .before .before .before .before .before .before .before .before .before .read-sheet .result .text) (c .before .before .before .before .before .before .before .before .before .read-sheet .result .finds) (c .before .before .before .before .before .before .before .before .before .read-sheet .last .1 .0) (c .before .before .before .before .before .before .before .before .before .read-sheet .last .1 .1 .0) (c .before .before .before .before .before .before .before .before .before .read-sheet .ensures) good in (
+    let parts = job-parts (c .before .before .before .before .before .before .before .before .before .read-sheet .ensures) good in (
       c .contents-refusal .ensures
-          ∙ parts-tested s (c .before .before .before .before .before .before .before .before .before .read-sheet .result .words) (c .before .before .before .before .before .before .before .before .before .read-sheet .result .dictionary) (c .before .before .before .before .before .before .before .before .before .read-sheet .result .text) (c .before .before .before .before .before .before .before .before .before .read-sheet .result .finds) (c .before .before .before .before .before .before .before .before .before .read-sheet .last .1 .0) (c .before .before .before .before .before .before .before .before .before .read-sheet .last .1 .1 .0) parts
+          ∙ parts-tested parts
           ∙ sym (sheet-whole s (c .before .before .before .before .before .before .before .before .before .before .before .before .if1 .left) (sym (c .before .before .before .before .before .before .before .before .before .read-sheet .ensures .tested) ∙ good)),
       λ (none : sheet-refusal s ≡ 0). parts,
     )

@@ -9,7 +9,7 @@ line-end-requires : tie.Need-line-end-requires
 line-end-requires c κs = search needs
 
 returns : tie.Need-returns
-returns c = form-missing (c .before .before .before .before .args .head .now) (c .before .before .before .before .args .sheet .now) (c .before .before .before .before .args .at) (c .before .line-end .result) (c .before .line-end .ensures) (c .if1 .taken)
+returns c = form-missing (c .before .before .before .before .args .head .now) (c .before .line-end .ensures) (c .if1 .taken)
 
 sub-is-form : tie.Need-sub-is-form
 sub-is-form c = search needs
@@ -25,11 +25,11 @@ is-form-requires c κs = search needs
 
 returns-2 : tie.Need-returns-2
 returns-2 c =
-    form-there (c .before .before .before .before .before .before .before .args .head .now) (c .before .before .before .before .before .before .before .args .sheet .now) (c .before .before .before .before .before .before .before .args .at) (c .before .before .before .before .line-end .result) (c .before .before .before .before .line-end .ensures) (c .before .before .before .if1 .left) (sym (c .before .is-form .ensures) ∙ c .if2 .taken)
+    form-there (c .before .before .before .before .before .before .before .args .head .now) (c .before .before .before .before .line-end .ensures) (c .before .before .before .if1 .left) (sym (c .before .is-form .ensures) ∙ c .if2 .taken)
 
 returns-3 : tie.Need-returns-3
 returns-3 c =
-    form-other-line (c .before .before .before .before .before .before .before .args .head .now) (c .before .before .before .before .before .before .before .args .sheet .now) (c .before .before .before .before .before .before .before .args .at) (c .before .before .before .before .line-end .result) (c .before .before .before .before .line-end .ensures) (c .before .before .before .if1 .left) (sym (c .before .is-form .ensures) ∙ c .if2 .left) (c .before .before .before .before .before .before .before .pre .0)
+    form-other-line (c .before .before .before .before .before .before .before .args .head .now) (c .before .before .before .before .line-end .ensures) (c .before .before .before .if1 .left) (sym (c .before .is-form .ensures) ∙ c .if2 .left) (c .before .before .before .before .before .before .before .pre .0)
 
 pub form-end-spec : {M : Type 1} → statement M
 form-end-spec =

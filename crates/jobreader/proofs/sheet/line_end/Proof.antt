@@ -19,7 +19,7 @@ shared-slice-read-if1 : tie.Need-shared-slice-read-if1 Inv-loop μ-loop
 shared-slice-read-if1 c = omega arith
 
 returns : tie.Need-returns Inv-loop μ-loop
-returns c = line-ended (c .before .before .before .before .args .sheet .now) (c .before .before .before .before .args .at) (c .before .before .before .loop .i) (c .before .before .before .loop .inv) (c .before .before .loop-test .taken) (c .if1 .taken)
+returns c = line-ended (c .before .before .before .loop .inv) (c .before .before .loop-test .taken) (c .if1 .taken)
 
 add-i : tie.Need-add-i Inv-loop μ-loop
 add-i c = omega arith
@@ -28,10 +28,10 @@ loop-less : tie.Need-loop-less Inv-loop μ-loop
 loop-less c = omega arith
 
 loop-again : tie.Need-loop-again Inv-loop μ-loop
-loop-again c = line-step (c .before .before .before .before .args .sheet .now) (c .before .before .before .before .args .at) (c .before .before .before .loop .i) (c .before .before .before .loop .inv) (c .before .before .loop-test .taken) (c .if1 .left)
+loop-again c = line-step (c .before .before .before .loop .inv) (c .before .before .loop-test .taken) (c .if1 .left)
 
 returns-2 : tie.Need-returns-2 Inv-loop μ-loop
-returns-2 c = line-unended (c .before .before .args .sheet .now) (c .before .before .args .at) (c .before .loop .i) (c .before .loop .inv) (c .loop-test .left)
+returns-2 c = line-unended (c .before .loop .inv) (c .loop-test .left)
 
 pub line-end-spec : {M : Type 1} → statement M
 line-end-spec =

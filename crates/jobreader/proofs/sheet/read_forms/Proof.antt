@@ -23,7 +23,7 @@ loop-holds : tie.Need-loop-holds Inv-loop μ-loop
 loop-holds c = (
   c .before .before .before .before .before .pre .0 .short,
   c .before .before .before .before .before .pre .1,
-  forms-start (c .before .before .before .before .before .args .head .now) (c .before .before .before .before .before .args .sheet .now) (c .before .before .before .before .before .args .at) (c .before .before .before .before .before .args .used) (c .before .before .before .before .before .args .count) (c .form-end .result) (c .before .before .before .before .before .args .chars .now) (c .before .before .before .before .before .args .lengths .now) (c .before .before .before .before .before .pre .0) (c .form-end .ensures),
+  forms-start (c .before .before .before .before .before .pre .0) (c .form-end .ensures),
 )
 
 sub-put-string : tie.Need-sub-put-string Inv-loop μ-loop
@@ -37,25 +37,25 @@ part-put-string-end c = omega (arith, c .loop-test .taken)
 
 put-string-requires : tie.Need-put-string-requires Inv-loop μ-loop
 put-string-requires c κs = (
-  omega (arith, line-long (c .before .before .before .before .before .before .before .before .before .args .head .now) (c .before .before .before .before .before .before .before .before .before .args .sheet .now) (c .before .before .before .before .before .before .before .before .before .args .at) (c .before .before .before .before .before .before .before .before .before .args .used) (c .before .before .before .before .before .before .before .before .before .args .count) (c .before .before .before .before .before .before .before .before .before .args .chars .now) (c .before .before .before .before .before .before .before .before .before .args .lengths .now) (c .before .before .before .loop .from) (c .before .before .before .loop .filled) (c .before .before .before .loop .i) (c .before .before .before .loop .end) (c .before .before .before .loop .chars) (c .before .before .before .loop .lengths) (c .before .before .before .loop .inv .2) (c .before .before .loop-test .taken)),
-  line-good (c .before .before .before .before .before .before .before .before .before .args .head .now) (c .before .before .before .before .before .before .before .before .before .args .sheet .now) (c .before .before .before .before .before .before .before .before .before .args .at) (c .before .before .before .before .before .before .before .before .before .args .used) (c .before .before .before .before .before .before .before .before .before .args .count) (c .before .before .before .before .before .before .before .before .before .args .chars .now) (c .before .before .before .before .before .before .before .before .before .args .lengths .now) (c .before .before .before .loop .from) (c .before .before .before .loop .filled) (c .before .before .before .loop .i) (c .before .before .before .loop .end) (c .before .before .before .loop .chars) (c .before .before .before .loop .lengths) (c .before .before .before .loop .inv .2) (c .before .before .loop-test .taken),
-  string-fits (c .before .before .before .before .before .before .before .before .before .args .head .now) (c .before .before .before .before .before .before .before .before .before .args .sheet .now) (c .before .before .before .before .before .before .before .before .before .args .at) (c .before .before .before .before .before .before .before .before .before .args .used) (c .before .before .before .before .before .before .before .before .before .args .count) (c .before .before .before .before .before .before .before .before .before .args .chars .now) (c .before .before .before .before .before .before .before .before .before .args .lengths .now) (c .before .before .before .loop .from) (c .before .before .before .loop .filled) (c .before .before .before .loop .i) (c .before .before .before .loop .end) (c .before .before .before .loop .chars) (c .before .before .before .loop .lengths) (c .before .before .before .loop .inv .2) (c .before .before .loop-test .taken),
+  omega (arith, line-long (c .before .before .before .loop .inv .2) (c .before .before .loop-test .taken)),
+  line-good (c .before .before .before .loop .inv .2) (c .before .before .loop-test .taken),
+  string-fits (c .before .before .before .loop .inv .2) (c .before .before .loop-test .taken),
 )
 
 sub-lengths : tie.Need-sub-lengths Inv-loop μ-loop
 sub-lengths c = omega (arith, c .before .before .put-string .ensures .ends)
 
 cast-lengths : tie.Need-cast-lengths Inv-loop μ-loop
-cast-lengths c = omega (arith, c .before .before .put-string .ensures .ends, string-short (c .before .before .before .before .before .before .before .before .before .before .before .before .args .head .now) (c .before .before .before .before .before .before .before .before .before .before .before .before .args .sheet .now) (c .before .before .before .before .before .before .before .before .before .before .before .before .args .at) (c .before .before .before .before .before .before .before .before .before .before .before .before .args .used) (c .before .before .before .before .before .before .before .before .before .before .before .before .args .count) (c .before .before .before .before .before .before .before .before .before .before .before .before .args .chars .now) (c .before .before .before .before .before .before .before .before .before .before .before .before .args .lengths .now) (c .before .before .before .before .before .before .loop .from) (c .before .before .before .before .before .before .loop .filled) (c .before .before .before .before .before .before .loop .i) (c .before .before .before .before .before .before .loop .end) (c .before .before .before .before .before .before .loop .chars) (c .before .before .before .before .before .before .loop .lengths) (c .before .before .before .before .before .before .loop .inv .2) (c .before .before .before .before .before .loop-test .taken) (c .before .before .before .before .before .before .loop .inv .0))
+cast-lengths c = omega (arith, c .before .before .put-string .ensures .ends, string-short (c .before .before .before .before .before .before .loop .inv .2) (c .before .before .before .before .before .loop-test .taken) (c .before .before .before .before .before .before .loop .inv .0))
 
 mul-lengths : tie.Need-mul-lengths Inv-loop μ-loop
-mul-lengths c = omega (arith, length-fits (c .before .before .before .before .before .before .before .before .before .before .before .before .args .head .now) (c .before .before .before .before .before .before .before .before .before .before .before .before .args .sheet .now) (c .before .before .before .before .before .before .before .before .before .before .before .before .args .at) (c .before .before .before .before .before .before .before .before .before .before .before .before .args .used) (c .before .before .before .before .before .before .before .before .before .before .before .before .args .count) (c .before .before .before .before .before .before .before .before .before .before .before .before .args .chars .now) (c .before .before .before .before .before .before .before .before .before .before .before .before .args .lengths .now) (c .before .before .before .before .before .before .loop .from) (c .before .before .before .before .before .before .loop .filled) (c .before .before .before .before .before .before .loop .i) (c .before .before .before .before .before .before .loop .end) (c .before .before .before .before .before .before .loop .chars) (c .before .before .before .before .before .before .loop .lengths) (c .before .before .before .before .before .before .loop .inv .2) (c .before .before .before .before .before .loop-test .taken), c .before .before .before .before .before .before .loop .inv .2 .lengths-left .len)
+mul-lengths c = omega (arith, length-fits (c .before .before .before .before .before .before .loop .inv .2) (c .before .before .before .before .before .loop-test .taken), c .before .before .before .before .before .before .loop .inv .2 .lengths-left .len)
 
 slice-write-lengths : tie.Need-slice-write-lengths Inv-loop μ-loop
-slice-write-lengths c = length-fits (c .before .before .before .before .before .before .before .before .before .before .before .before .args .head .now) (c .before .before .before .before .before .before .before .before .before .before .before .before .args .sheet .now) (c .before .before .before .before .before .before .before .before .before .before .before .before .args .at) (c .before .before .before .before .before .before .before .before .before .before .before .before .args .used) (c .before .before .before .before .before .before .before .before .before .before .before .before .args .count) (c .before .before .before .before .before .before .before .before .before .before .before .before .args .chars .now) (c .before .before .before .before .before .before .before .before .before .before .before .before .args .lengths .now) (c .before .before .before .before .before .before .loop .from) (c .before .before .before .before .before .before .loop .filled) (c .before .before .before .before .before .before .loop .i) (c .before .before .before .before .before .before .loop .end) (c .before .before .before .before .before .before .loop .chars) (c .before .before .before .before .before .before .loop .lengths) (c .before .before .before .before .before .before .loop .inv .2) (c .before .before .before .before .before .loop-test .taken)
+slice-write-lengths c = length-fits (c .before .before .before .before .before .before .loop .inv .2) (c .before .before .before .before .before .loop-test .taken)
 
 add-i : tie.Need-add-i Inv-loop μ-loop
-add-i c = omega (arith, length-fits (c .before .before .before .before .before .before .before .before .before .before .before .before .args .head .now) (c .before .before .before .before .before .before .before .before .before .before .before .before .args .sheet .now) (c .before .before .before .before .before .before .before .before .before .before .before .before .args .at) (c .before .before .before .before .before .before .before .before .before .before .before .before .args .used) (c .before .before .before .before .before .before .before .before .before .before .before .before .args .count) (c .before .before .before .before .before .before .before .before .before .before .before .before .args .chars .now) (c .before .before .before .before .before .before .before .before .before .before .before .before .args .lengths .now) (c .before .before .before .before .before .before .loop .from) (c .before .before .before .before .before .before .loop .filled) (c .before .before .before .before .before .before .loop .i) (c .before .before .before .before .before .before .loop .end) (c .before .before .before .before .before .before .loop .chars) (c .before .before .before .before .before .before .loop .lengths) (c .before .before .before .before .before .before .loop .inv .2) (c .before .before .before .before .before .loop-test .taken), c .before .before .before .before .before .before .loop .inv .2 .lengths-left .len)
+add-i c = omega (arith, length-fits (c .before .before .before .before .before .before .loop .inv .2) (c .before .before .before .before .before .loop-test .taken), c .before .before .before .before .before .before .loop .inv .2 .lengths-left .len)
 
 add-from : tie.Need-add-from Inv-loop μ-loop
 add-from c = omega (arith, c .before .before .before .before .before .before .loop .inv .0, c .before .before .before .before .before .loop-test .taken)
@@ -70,7 +70,7 @@ loop-again : tie.Need-loop-again Inv-loop μ-loop
 loop-again c = (
   c .before .before .before .before .before .before .before .loop .inv .0,
   c .before .before .before .before .before .before .before .loop .inv .1,
-  forms-step (c .before .before .before .before .before .before .before .before .before .before .before .before .before .args .head .now) (c .before .before .before .before .before .before .before .before .before .before .before .before .before .args .sheet .now) (c .before .before .before .before .before .before .before .before .before .before .before .before .before .args .at) (c .before .before .before .before .before .before .before .before .before .before .before .before .before .args .used) (c .before .before .before .before .before .before .before .before .before .before .before .before .before .args .count) (c .before .before .before .before .before .before .before .before .before .before .before .before .before .args .chars .now) (c .before .before .before .before .before .before .before .before .before .before .before .before .before .args .lengths .now) (c .before .before .before .before .before .before .before .loop .from) (c .before .before .before .before .before .before .before .loop .filled) (c .before .before .before .before .before .before .before .loop .i) (c .before .before .before .before .before .before .before .loop .end) (c .before .before .before .before .before .before .before .loop .chars) (c .before .before .before .before .before .before .before .loop .lengths) (c .before .before .before .before .before .before .before .loop .inv .2) (c .before .before .before .before .before .before .loop-test .taken) (c .before .before .before .put-string .result) (c .before .before .before .put-string .last .1 .0) (c .before .before .before .put-string .ensures) (c .form-end2 .result) (c .form-end2 .ensures),
+  forms-step (c .before .before .before .before .before .before .before .loop .inv .2) (c .before .before .before .before .before .before .loop-test .taken) (c .before .before .before .put-string .ensures) (c .form-end2 .ensures),
 )
 
 same-length : tie.Need-same-length Inv-loop μ-loop
@@ -80,7 +80,7 @@ same-length-2 : tie.Need-same-length-2 Inv-loop μ-loop
 same-length-2 c = c .before .loop .inv .2 .lengths-left .len
 
 returns : tie.Need-returns Inv-loop μ-loop
-returns c = forms-end (c .before .before .before .before .before .before .before .args .head .now) (c .before .before .before .before .before .before .before .args .sheet .now) (c .before .before .before .before .before .before .before .args .at) (c .before .before .before .before .before .before .before .args .used) (c .before .before .before .before .before .before .before .args .count) (c .before .before .before .before .before .before .before .args .chars .now) (c .before .before .before .before .before .before .before .args .lengths .now) (c .before .loop .from) (c .before .loop .filled) (c .before .loop .i) (c .before .loop .end) (c .before .loop .chars) (c .before .loop .lengths) (c .before .loop .inv .2) (c .loop-test .left)
+returns c = forms-end (c .before .loop .inv .2) (c .loop-test .left)
 
 pub read-forms-spec : {M : Type 1} → statement M
 read-forms-spec =

@@ -37,7 +37,7 @@ slice-aggregate-read-forms c = search needs
 read-forms-requires : tie.Need-read-forms-requires
 read-forms-requires c κs =
     let s = c .before .before .before .before .before .before in
-    (stage-room (s .args .sheet .now) (s .args .chars .now) (s .args .lengths .now) [] [] (lines (s .args .sheet .now)) 0 0 0 (s .args .chars .now) (s .args .lengths .now) (stage-start (s .args .sheet .now) (s .args .chars .now) (s .args .lengths .now) (s .pre)) word-head, refl)
+    (stage-room (stage-start (s .args .sheet .now) (s .args .chars .now) (s .args .lengths .now) (s .pre)) word-head, refl)
 
 slice-aggregate-read-forms-2 : tie.Need-slice-aggregate-read-forms-2
 slice-aggregate-read-forms-2 c = search needs
@@ -46,7 +46,7 @@ read-forms-requires-2 : tie.Need-read-forms-requires-2
 read-forms-requires-2 c κs =
     let s = c .before .before .before .before .before .before .before .before .before .before .before .before .before .before in
     let w = c .before .before .before .before .before .before .before in
-    (stage-room (s .args .sheet .now) (s .args .chars .now) (s .args .lengths .now) (run-together (words-on (s .args .sheet .now))) (lengths-of (words-on (s .args .sheet .now))) (after word-head (lines (s .args .sheet .now))) (w .read-forms .result .at) (w .read-forms .result .used) (w .read-forms .result .count) (w .read-forms .last .1 .1 .1 .0) (w .read-forms .last .1 .1 .1 .1 .1 .0) (after-words w) text-head, refl)
+    (stage-room (after-words w) text-head, refl)
 
 slice-aggregate-read-forms-3 : tie.Need-slice-aggregate-read-forms-3
 slice-aggregate-read-forms-3 c = search needs
@@ -55,7 +55,7 @@ read-forms-requires-3 : tie.Need-read-forms-requires-3
 read-forms-requires-3 c κs =
     let s = c .before .before .before .before .before .before .before .before .before .before .before .before .before .before .before .before .before .before .before .before .before .before in
     let t = c .before .before .before .before .before .before .before in
-    (stage-room (s .args .sheet .now) (s .args .chars .now) (s .args .lengths .now) (run-together (words-on (s .args .sheet .now)) ++ run-together (texts-on (s .args .sheet .now))) (lengths-of (words-on (s .args .sheet .now)) ++ lengths-of (texts-on (s .args .sheet .now))) (after text-head (after word-head (lines (s .args .sheet .now)))) (t .read-forms2 .result .at) (t .read-forms2 .result .used) (t .read-forms2 .result .count) (t .read-forms2 .last .1 .1 .1 .0) (t .read-forms2 .last .1 .1 .1 .1 .1 .0) (after-texts t) find-head, refl)
+    (stage-room (after-texts t) find-head, refl)
 
 sub-text : tie.Need-sub-text
 sub-text c =

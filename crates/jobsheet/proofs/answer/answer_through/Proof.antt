@@ -14,7 +14,7 @@ answer-in-hand :
     (c : tie.After-put-answer) → In-hand (job-answer (c .before .before .before .before .before .args .sheet .now)) (c .put-answer .result) (c .put-answer .last .1 .0)
 answer-in-hand c =
     let a = c .before .before .before .before .before .args in
-    written-in-hand (job-answer (a .sheet .now)) (a .buffer .now) (c .put-answer .result) (c .put-answer .last .1 .0) (c .put-answer .ensures)
+    written-in-hand (c .put-answer .ensures)
 
 put-answer-requires : tie.Need-put-answer-requires
 put-answer-requires c κs = search needs

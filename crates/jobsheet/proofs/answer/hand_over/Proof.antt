@@ -21,7 +21,7 @@ returns-2 : tie.Need-returns-2
 returns-2 c =
     let a = c .before .before .before .before .before .before .before .args in
     let put = c .before .before .put-bytes in
-    handed-over (a .bytes .now) (record { refusal = 0; count = length (a .bytes .now) }) (a .output .now) (put .last .0) (put .result) (c .before .before .before .before .if1 .left) refl refl
+    handed-over (record { refusal = 0; count = length (a .bytes .now) }) (c .before .before .before .before .if1 .left) refl refl
     (put .ensures)
 
 pub hand-over-spec : {M : Type 1} → statement M

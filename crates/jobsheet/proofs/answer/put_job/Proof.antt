@@ -46,7 +46,7 @@ put-parts-requires c κs =
     let s = c .before .before .before .before .before .before .before .before .before .before .before .before .before .before .before in
     let read = c .before .before .before .before .before .before .before .before .read-job in
     let none : sheet-refusal (s .args .sheet .now) ≡ 0 = sym (read .ensures .0) ∙ c .before .before .before .if1 .left in (
-      parts-there (s .args .sheet .now) (read .result .words) (read .result .dictionary) (read .result .text) (read .result .finds) (read .last .1 .0) (read .last .1 .1 .0)
+      parts-there
           none (read .ensures .1 none),
       s .pre .2,
     )
@@ -67,7 +67,7 @@ returns-2 c =
     let none : sheet-refusal (a .sheet .now) ≡ 0 = sym (read .ensures .0) ∙ c .before .before .before .before .before .before .if1 .left in
     let put = c .before .before .put-parts in
     subst (λ (ys : List ℕ). Wrote ys 0 (a .out .now) (put .result) (put .last .1 .1 .1 .1 .1 .1 .0))
-    (parts-answer (a .sheet .now) (read .result .words) (read .result .dictionary) (read .result .text) (read .result .finds) (read .last .1 .0) (read .last .1 .1 .0)
+    (parts-answer
     none (read .ensures .1 none))
     (put .ensures)
 

@@ -19,7 +19,7 @@ positions-in-hand :
 positions-in-hand c =
     let s = c .before .before .before .before .before .before .before .before .before .before in
     let a = s .args in
-    found-in-hand (lexicon (a .chars .now) (a .lengths .now)) (a .index .now) (replaced (a .string .now)) (c .search-tabled .result)
+    found-in-hand (lexicon (a .chars .now) (a .lengths .now)) (a .index .now) (c .search-tabled .result)
     (a .found .now) (c .search-tabled .last .1 .1 .1 .1 .1 .1 .0)
     (record {
       some = omega (arith, s .pre .0 .1 .some, length-replaced (a .string .now));

@@ -23,7 +23,7 @@ next-fits :
 next-fits c =
     let a = c .before .before .before .before .before .before .before .before .before .before .before .args in
     let l = c .before .loop in
-    string-fits (lexicon (a .chars .now) (a .lengths .now)) (a .index .now) (a .strings .now) (a .counts .now) (a .at) (a .out .now) (l .from) (l .end) (l .i) (l .out)
+    string-fits
     (l .inv .1) (c .loop-test .taken)
 
 loop-holds : tie.Need-loop-holds Inv-loop μ-loop
@@ -67,11 +67,11 @@ put-find-requires c κs =
     let taken = c .before .before .before .before .loop-test .taken in (
       (
         s .pre .0 .0,
-        string-is (lexicon (a .chars .now) (a .lengths .now)) (a .index .now) (a .strings .now) (a .counts .now) (a .at) (a .out .now) (l .from) (l .end) (l .i) (l .out)
+        string-is
             (l .inv .1) taken,
         omega (arith, s .pre .0 .2, l .inv .0),
       ),
-      find-fits (lexicon (a .chars .now) (a .lengths .now)) (a .index .now) (a .strings .now) (a .counts .now) (a .at) (a .out .now) (l .from) (l .end) (l .i) (l .out)
+      find-fits
           (l .inv .1) taken,
     )
 
@@ -87,8 +87,8 @@ loop-again c =
     let l = c .before .before .before .before .before .before .before .before .before .before .loop in
     let put = c .before .before .before .before .put-find in (
       put .kept .1 .1 .1 .1 .1 .1 .0 ∙ l .inv .0,
-      finds-step (lexicon (a .chars .now) (a .lengths .now)) (a .index .now) (a .strings .now) (a .counts .now) (a .at) (a .out .now) (l .from) (l .end) (l .i) (l .out)
-          (l .inv .1) (c .before .before .before .before .before .before .before .before .before .loop-test .taken) (put .result) (put .last .1 .1 .1 .1 .1 .1 .1 .0) (put .ensures),
+      finds-step
+          (l .inv .1) (c .before .before .before .before .before .before .before .before .before .loop-test .taken) (put .ensures),
     )
 
 same-length : tie.Need-same-length Inv-loop μ-loop
@@ -101,7 +101,7 @@ returns : tie.Need-returns Inv-loop μ-loop
 returns c =
     let a = c .before .before .before .before .before .before .before .before .before .before .before .args in
     let l = c .before .loop in
-    finds-end (lexicon (a .chars .now) (a .lengths .now)) (a .index .now) (a .strings .now) (a .counts .now) (a .at) (a .out .now) (l .from) (l .end) (l .i) (l .out)
+    finds-end
     (l .inv .1) (c .loop-test .left)
 
 pub put-finds-spec : {M : Type 1} → statement M

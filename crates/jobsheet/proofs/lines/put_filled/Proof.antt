@@ -24,7 +24,7 @@ put-index-lines-requires c κs =
     let s = c .before .before .before .before .before .before .before .before .before .before .before .before .before .before .before .before in
     let a = s .args in (
       usable-whole (a .chars .now) (a .lengths .now) (a .index .now) (s .pre .0 .0),
-      index-lines-fit (a .chars .now) (a .lengths .now) (a .index .now) (a .strings .now) (a .counts .now) (a .out .now) (s .pre .0 .0)
+      index-lines-fit (a .out .now) (s .pre .0 .0)
           (λ i. omega (arith, c .before .before .before .before .before .before .before .before .before .before .before .before .before .shared-slice-known3 .given i)) (s .pre .1 .0) (s .pre .1 .2),
     )
 
@@ -37,9 +37,9 @@ at-finds :
 at-finds c =
     let s = c .before .before .before .before .before .before .before .before .before .before .before .before .before .before .before .before .before in
     let a = s .args in
-    then-finds (a .chars .now) (a .lengths .now) (a .index .now) (a .strings .now) (a .counts .now) (a .out .now) (s .pre .0 .0)
+    then-finds (a .out .now) (s .pre .0 .0)
     (λ i. omega (arith, c .before .before .before .before .before .before .before .before .before .before .before .before .before .before .shared-slice-known3 .given i)) (s .pre .1 .0) (s .pre .1 .2)
-    (c .put-index-lines .result) (c .put-index-lines .last .0) (c .put-index-lines .ensures)
+    (c .put-index-lines .ensures)
 
 slice-aggregate-put-finds : tie.Need-slice-aggregate-put-finds
 slice-aggregate-put-finds c = search needs

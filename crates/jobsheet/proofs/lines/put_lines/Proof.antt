@@ -137,7 +137,7 @@ module _ {M : Type 1} (𝓤 : URA M) (H : Heap 𝓤) (A : Atoms 𝓤) (W : Given
 
     goes-callee : Bounded (now x) (now y) (now z) refusal keys first → keys < 2 ^ 64 → ent 𝓤 (⋆ 𝓤 H A ((‵ (flft κ q) ⊛ ‵ ftrue) ∷ ‵ Aside ∷ [])) (Callee 𝓤 H A mem run .pre to-callee)
     goes-callee bounded keys-fit =
-        qed W ((‵ (flft κ q) ⊛ ‵ ftrue) ∷ ‵ Aside ∷ []) ∵ says ! (asked .0, opened-keys (now x) (now y) (now z) refusal keys first bounded (bounded .number ∙ asked .0 .accepts), asked .1, asked .2, asked .3) $
+        qed W ((‵ (flft κ q) ⊛ ‵ ftrue) ∷ ‵ Aside ∷ []) ∵ says ! (asked .0, opened-keys bounded (bounded .number ∙ asked .0 .accepts), asked .1, asked .2, asked .3) $
         move ! (1 ∷ []) $ fsplit ! $ move ! (1 ∷ []) $ fsplit ! $ move ! (3 ∷ []) $ split ! $ move ! (2 ∷ 1 ∷ []) $ join ! $ move ! (3 ∷ 0 ∷ []) $ join ! $ move ! (1 ∷ 0 ∷ []) $ join ! $ frame ! $
         -- [the three, s, k, t and d]
         fsplit ! $ fsplit ! $ move ! (1 ∷ []) $ fsplit ! $ move ! (1 ∷ []) $ fsplit ! $ move ! (1 ∷ []) $ drop ! $ move ! (3 ∷ []) $

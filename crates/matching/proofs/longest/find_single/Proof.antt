@@ -19,7 +19,7 @@ abbrev μ-loop : tie.MeasureT-loop
 known : (c : tie.In-loop Inv-loop μ-loop) → c .before .loop .next - 1 < length (c .before .before .before .before .before .before .before .before .before .before .before .args .lengths .now)
 known c =
     let start = c .before .before .before .before .before .before .before .before .before .before .before in
-    single-known (start .args .chars .now) (start .args .lengths .now) (start .args .heads .now) (start .args .links .now) (start .args .word-starts .now) (start .pre .0) (start .args .text .now) (start .args .at)
+    single-known (start .pre .0) (start .args .text .now) (start .args .at)
     (c .before .loop .next) (c .before .loop .inv) (c .loop-test .taken)
 
 mul-c : tie.Need-mul-c Inv-loop μ-loop
@@ -44,7 +44,7 @@ loop-holds : tie.Need-loop-holds Inv-loop μ-loop
 loop-holds c =
     let start = c .before .before .before .before .before .before .before .before .before in
     rw (c .before .bucket-of-char .ensures .0)
-    (single-start (start .args .chars .now) (start .args .lengths .now) (start .args .heads .now) (start .args .links .now) (start .args .word-starts .now) (start .pre .0) (start .args .text .now) (start .args .at))
+    (single-start (start .pre .0) (start .args .text .now) (start .args .at))
 
 sub-number : tie.Need-sub-number Inv-loop μ-loop
 sub-number c = omega (arith, c .loop-test .taken)
@@ -69,7 +69,7 @@ shared-slice-read-if1 c =
 returns : tie.Need-returns Inv-loop μ-loop
 returns c =
     let start = c .before .before .before .before .before .before .before .before .before .before .before .before .before .before in
-    single-hit (start .args .chars .now) (start .args .lengths .now) (start .args .heads .now) (start .args .links .now) (start .args .word-starts .now) (start .pre .0) (start .args .text .now) (start .args .at)
+    single-hit (start .pre .0) (start .args .text .now) (start .args .at)
     (c .before .before .before .before .loop .next) (c .before .before .before .before .loop .inv) (c .before .before .before .loop-test .taken) (start .pre .1) (c .if1 .taken)
 
 mul-next-2 : tie.Need-mul-next-2 Inv-loop μ-loop
@@ -84,19 +84,19 @@ cast-next-2 c = omega (arith, c .shared-slice-known11 .given (c .before .before 
 loop-less : tie.Need-loop-less Inv-loop μ-loop
 loop-less c =
     let start = c .before .before .before .before .before .before .before .before .before .before .before .before .before .before .before in
-    single-stop (start .args .chars .now) (start .args .lengths .now) (start .args .heads .now) (start .args .links .now) (start .args .word-starts .now) (start .pre .0) (start .args .text .now) (start .args .at)
+    single-stop (start .pre .0) (start .args .text .now) (start .args .at)
     (c .before .before .before .before .before .loop .next) (c .before .before .before .before .before .loop .inv) (c .before .before .before .before .loop-test .taken) .falls
 
 loop-again : tie.Need-loop-again Inv-loop μ-loop
 loop-again c =
     let start = c .before .before .before .before .before .before .before .before .before .before .before .before .before .before .before in
-    single-miss (start .args .chars .now) (start .args .lengths .now) (start .args .heads .now) (start .args .links .now) (start .args .word-starts .now) (start .pre .0) (start .args .text .now) (start .args .at)
+    single-miss (start .pre .0) (start .args .text .now) (start .args .at)
     (c .before .before .before .before .before .loop .next) (c .before .before .before .before .before .loop .inv) (c .before .before .before .before .loop-test .taken) (c .before .if1 .left)
 
 returns-2 : tie.Need-returns-2 Inv-loop μ-loop
 returns-2 c =
     let start = c .before .before .before .before .before .before .before .before .before .before .before in
-    single-none (start .args .chars .now) (start .args .lengths .now) (start .args .heads .now) (start .args .links .now) (start .args .word-starts .now) (start .pre .0) (start .args .text .now) (start .args .at)
+    single-none (start .pre .0) (start .args .text .now) (start .args .at)
     (rw (c .loop-test .left) at (c .before .loop .inv))
 
 pub find-single-spec : {M : Type 1} → statement M

@@ -21,7 +21,7 @@ add-if1 c = omega (arith, c .shared-slice-known5 .given (c .before .before .befo
 returns : tie.Need-returns
 returns c =
     let start = c .before .before .before .before .before .before in
-    ends-early (start .args .chars .now) (start .args .lengths .now) (start .args .word-starts .now) (start .pre .0) (start .args .text .now) (start .args .at) (start .args .end) (start .args .number) (start .pre .2) (omega arith)
+    ends-early (start .pre .0) (start .args .text .now) (start .args .at) (start .args .end) (start .args .number) (start .pre .2) (omega arith)
 
 add-if2 : tie.Need-add-if2
 add-if2 c = omega (arith, c .before .shared-slice-known5 .given (c .before .before .before .before .before .before .args .number))
@@ -29,7 +29,7 @@ add-if2 c = omega (arith, c .before .shared-slice-known5 .given (c .before .befo
 returns-2 : tie.Need-returns-2
 returns-2 c =
     let start = c .before .before .before .before .before .before .before in
-    runs-out (start .args .chars .now) (start .args .lengths .now) (start .args .word-starts .now) (start .pre .0) (start .args .text .now) (start .args .at) (start .args .end) (start .args .number) (start .pre .2) (c .if2 .taken)
+    runs-out (start .pre .0) (start .args .text .now) (start .args .at) (start .args .end) (start .args .number) (start .pre .2) (c .if2 .taken)
 
 mul-same-run : tie.Need-mul-same-run
 mul-same-run c = search needs
@@ -48,7 +48,7 @@ same-run-requires c κs =
 returns-3 : tie.Need-returns-3
 returns-3 c =
     let start = c .before .before .before .before .before .before .before .before .before in
-    compared (start .args .chars .now) (start .args .lengths .now) (start .args .word-starts .now) (start .pre .0) (start .args .text .now) (start .args .at) (start .args .end) (start .args .number) (start .pre .2) (c .same-run .result) (c .before .before .before .if1 .left) (c .before .before .if2 .left) (c .same-run .ensures)
+    compared (start .pre .0) (start .args .text .now) (start .args .at) (start .args .end) (start .args .number) (start .pre .2) (c .before .before .before .if1 .left) (c .before .before .if2 .left) (c .same-run .ensures)
 
 pub stands-after-spec : {M : Type 1} → statement M
 stands-after-spec =

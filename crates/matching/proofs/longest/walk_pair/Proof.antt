@@ -19,7 +19,7 @@ abbrev μ-loop : tie.MeasureT-loop
 known : (c : tie.In-loop Inv-loop μ-loop) → c .before .loop .next - 1 < length (c .before .before .before .before .before .before .before .before .before .before .before .before .args .lengths .now)
 known c =
     let start = c .before .before .before .before .before .before .before .before .before .before .before .before in
-    pair-known (start .args .chars .now) (start .args .lengths .now) (start .args .heads .now) (start .args .links .now) (start .args .word-starts .now) (start .pre .0) (start .args .text .now) (start .args .at) (start .args .end) (c .before .loop .next) (c .before .loop .inv) (c .loop-test .taken)
+    pair-known (start .pre .0) (start .args .text .now) (start .args .at) (start .args .end) (c .before .loop .next) (c .before .loop .inv) (c .loop-test .taken)
 
 -- its link leads to a lower one
 stop :
@@ -31,7 +31,7 @@ stop :
     (c .before .loop .next)
 stop c =
     let start = c .before .before .before .before .before .before .before .before .before .before .before .before in
-    pair-stop (start .args .chars .now) (start .args .lengths .now) (start .args .heads .now) (start .args .links .now) (start .args .word-starts .now) (start .pre .0) (start .args .text .now) (start .args .at) (start .args .end) (c .before .loop .next) (c .before .loop .inv) (c .loop-test .taken)
+    pair-stop (start .pre .0) (start .args .text .now) (start .args .at) (start .args .end) (c .before .loop .next) (c .before .loop .inv) (c .loop-test .taken)
 
 mul-x : tie.Need-mul-x Inv-loop μ-loop
 mul-x c = omega (arith, c .before .before .before .before .before .before .pre .1)
@@ -63,7 +63,7 @@ cast-next c = omega (arith, c .shared-slice-known9 .given (c .before .bucket-of-
 loop-holds : tie.Need-loop-holds Inv-loop μ-loop
 loop-holds c =
     let start = c .before .before .before .before .before .before .before .before .before .before in
-    rw (c .before .bucket-of-pair .ensures .0) (pair-start (start .args .chars .now) (start .args .lengths .now) (start .args .heads .now) (start .args .links .now) (start .args .word-starts .now) (start .pre .0) (start .args .text .now) (start .args .at) (start .args .end))
+    rw (c .before .bucket-of-pair .ensures .0) (pair-start (start .pre .0) (start .args .text .now) (start .args .at) (start .args .end))
 
 find-last-standing-requires : tie.Need-find-last-standing-requires Inv-loop μ-loop
 find-last-standing-requires c κs = (c .before .before .before .before .before .before .before .before .before .before .before .before .before .pre .0 .words, omega (arith, c .before .before .before .before .before .before .before .before .before .before .before .before .before .pre .1), stop (c .before) .below)
@@ -71,7 +71,7 @@ find-last-standing-requires c κs = (c .before .before .before .before .before .
 returns : tie.Need-returns Inv-loop μ-loop
 returns c =
     let start = c .before .before .before .before .before .before .before .before .before .before .before .before .before .before in
-    pair-narrowed (start .args .chars .now) (start .args .lengths .now) (start .args .heads .now) (start .args .links .now) (start .args .word-starts .now) (start .pre .0) (start .args .text .now) (start .args .at) (start .args .end) (c .before .before .before .loop .next) (c .before .before .before .loop .inv) (c .before .before .loop-test .taken) (c .find-last-standing .result) (c .find-last-standing .ensures)
+    pair-narrowed (start .pre .0) (start .args .text .now) (start .args .at) (start .args .end) (c .before .before .before .loop .next) (c .before .before .before .loop .inv) (c .before .before .loop-test .taken) (c .find-last-standing .ensures)
 
 sub-left : tie.Need-sub-left Inv-loop μ-loop
 sub-left c = omega (arith, c .if1 .left)
@@ -85,7 +85,7 @@ stands-after-requires c κs = (c .before .before .before .before .before .before
 returns-2 : tie.Need-returns-2 Inv-loop μ-loop
 returns-2 c =
     let start = c .before .before .before .before .before .before .before .before .before .before .before .before .before .before .before in
-    pair-hit (start .args .chars .now) (start .args .lengths .now) (start .args .heads .now) (start .args .links .now) (start .args .word-starts .now) (start .pre .0) (start .args .text .now) (start .args .at) (start .args .end) (c .before .before .before .before .loop .next) (c .before .before .before .before .loop .inv) (c .before .before .before .loop-test .taken) (c .before .stands-after .result) (c .before .stands-after .ensures) (c .if2 .taken)
+    pair-hit (start .pre .0) (start .args .text .now) (start .args .at) (start .args .end) (c .before .before .before .before .loop .next) (c .before .before .before .before .loop .inv) (c .before .before .before .loop-test .taken) (c .before .stands-after .ensures) (c .if2 .taken)
 
 mul-next-2 : tie.Need-mul-next-2 Inv-loop μ-loop
 mul-next-2 c = omega (arith, known (c .before .before .before))
@@ -102,12 +102,12 @@ loop-less c = stop (c .before .before .before .before) .falls
 loop-again : tie.Need-loop-again Inv-loop μ-loop
 loop-again c =
     let start = c .before .before .before .before .before .before .before .before .before .before .before .before .before .before .before .before in
-    pair-miss (start .args .chars .now) (start .args .lengths .now) (start .args .heads .now) (start .args .links .now) (start .args .word-starts .now) (start .pre .0) (start .args .text .now) (start .args .at) (start .args .end) (c .before .before .before .before .before .loop .next) (c .before .before .before .before .before .loop .inv) (c .before .before .before .before .loop-test .taken) (c .before .before .stands-after .result) (c .before .before .stands-after .ensures) (c .before .if2 .left)
+    pair-miss (start .pre .0) (start .args .text .now) (start .args .at) (start .args .end) (c .before .before .before .before .before .loop .next) (c .before .before .before .before .before .loop .inv) (c .before .before .before .before .loop-test .taken) (c .before .before .stands-after .ensures) (c .before .if2 .left)
 
 returns-3 : tie.Need-returns-3 Inv-loop μ-loop
 returns-3 c =
     let start = c .before .before .before .before .before .before .before .before .before .before .before .before in
-    pair-none (start .args .chars .now) (start .args .lengths .now) (start .args .heads .now) (start .args .links .now) (start .args .word-starts .now) (start .pre .0) (start .args .text .now) (start .args .at) (start .args .end) (rw (c .loop-test .left) at (c .before .loop .inv))
+    pair-none (start .pre .0) (start .args .text .now) (start .args .at) (start .args .end) (rw (c .loop-test .left) at (c .before .loop .inv))
 
 pub walk-pair-spec : {M : Type 1} → statement M
 walk-pair-spec =

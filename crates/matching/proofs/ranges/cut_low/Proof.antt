@@ -34,7 +34,7 @@ cast-if2 c = omega (arith, c .shared-slice-known4 .given (getD (c .before .befor
 returns-2 : tie.Need-returns-2
 returns-2 c =
     let start = c .before .before .before .before .before .before in
-    bound-first (start .args .chars .now) (start .args .word-starts .now) (start .args .low) (start .args .high) (start .args .depth) (start .args .least) (start .pre) (omega arith) (c .if2 .taken)
+    bound-first (start .args .least) (start .pre) (omega arith) (c .if2 .taken)
 
 lower-bound-requires : tie.Need-lower-bound-requires
 lower-bound-requires c κs = search needs

@@ -22,21 +22,21 @@ known : (c : tie.In-loop Inv-loop μ-loop) → c .before .loop .low < length (c 
 known c =
     let start = c .before .before .before .before .before .before in
     let turn = c .before .loop in
-    run-known (start .args .chars .now) (start .args .lengths .now) (start .args .word-starts .now) (start .pre .0) (start .args .text .now) (start .args .at + 1) (start .args .count) (turn .low) (turn .high) (turn .depth) (turn .best) (turn .inv) (c .loop-test .taken)
+    run-known (start .pre .0) (turn .inv) (c .loop-test .taken)
 
 -- it has more characters, so they are not all read
 deep : (c : tie.Else1 Inv-loop μ-loop) → c .before .before .before .loop .depth < 32
 deep c =
     let start = c .before .before .before .before .before .before .before .before in
     let turn = c .before .before .before .loop in
-    run-deep (start .args .chars .now) (start .args .lengths .now) (start .args .word-starts .now) (start .pre .0) (start .args .text .now) (start .args .at + 1) (start .args .count) (turn .low) (turn .high) (turn .depth) (turn .best) (turn .inv) (c .before .before .loop-test .taken) (c .if1 .left)
+    run-deep (start .pre .0) (turn .inv) (c .before .before .loop-test .taken) (c .if1 .left)
 
 -- all words that are left have a next character, and these do not fall
 column : (c : tie.Else1 Inv-loop μ-loop) → Column (c .before .before .before .before .before .before .before .before .args .chars .now) (c .before .before .before .before .before .before .before .before .args .word-starts .now) (c .before .before .before .loop .low) (c .before .before .before .loop .high) (c .before .before .before .loop .depth)
 column c =
     let start = c .before .before .before .before .before .before .before .before in
     let turn = c .before .before .before .loop in
-    run-column (start .args .chars .now) (start .args .lengths .now) (start .args .word-starts .now) (start .pre .0) (start .args .text .now) (start .args .at + 1) (start .args .count) (turn .low) (turn .high) (turn .depth) (turn .best) (turn .inv) (c .before .before .loop-test .taken) (c .if1 .left)
+    run-column (start .pre .0) (turn .inv) (c .before .before .loop-test .taken) (c .if1 .left)
 
 loop-holds : tie.Need-loop-holds Inv-loop μ-loop
 loop-holds c =
@@ -62,7 +62,7 @@ loop-again : tie.Need-loop-again Inv-loop μ-loop
 loop-again c =
     let start = c .before .before .before .before .before .before .before .before in
     let turn = c .before .before .before .loop in
-    run-hit (start .args .chars .now) (start .args .lengths .now) (start .args .word-starts .now) (start .pre .0) (start .args .text .now) (start .args .at + 1) (start .args .count) (turn .low) (turn .high) (turn .depth) (turn .best) (turn .inv) (c .before .before .loop-test .taken) (c .if1 .taken)
+    run-hit (start .pre .0) (turn .inv) (c .before .before .loop-test .taken) (c .if1 .taken)
 
 add-if2 : tie.Need-add-if2 Inv-loop μ-loop
 add-if2 c = omega (arith, deep c)
@@ -71,7 +71,7 @@ returns : tie.Need-returns Inv-loop μ-loop
 returns c =
     let start = c .before .before .before .before .before .before .before .before .before in
     let turn = c .before .before .before .before .loop in
-    run-stop (start .args .chars .now) (start .args .lengths .now) (start .args .word-starts .now) (start .pre .0) (start .args .text .now) (start .args .at + 1) (start .args .count) (turn .low) (turn .high) (turn .depth) (turn .best) (turn .inv) (c .before .before .before .loop-test .taken) (c .before .if1 .left) (omega (arith, c .if2 .taken))
+    run-stop (start .pre .0) (turn .inv) (c .before .before .before .loop-test .taken) (c .before .if1 .left) (omega (arith, c .if2 .taken))
 
 add-c : tie.Need-add-c Inv-loop μ-loop
 add-c c = omega (arith, deep (c .before))
@@ -92,7 +92,7 @@ add-cut-high : tie.Need-add-cut-high Inv-loop μ-loop
 add-cut-high c = omega (arith, c .before .shared-slice-known6 .given (c .before .before .before .before .before .before .before .before .before .before .before .args .at + c .before .before .before .before .before .before .loop .depth))
 
 cut-high-requires : tie.Need-cut-high-requires Inv-loop μ-loop
-cut-high-requires c κs = column-part (c .before .before .before .before .before .before .before .before .before .before .before .args .chars .now) (c .before .before .before .before .before .before .before .before .before .before .before .args .word-starts .now) (c .before .before .before .before .before .before .loop .low) (c .before .before .before .before .before .before .loop .high) (c .before .before .before .before .before .before .loop .depth) (c .cut-low .result) (column (c .before .before .before)) (c .cut-low .ensures .from) (c .cut-low .ensures .to)
+cut-high-requires c κs = column-part (c .cut-low .result) (column (c .before .before .before)) (c .cut-low .ensures .from) (c .cut-low .ensures .to)
 
 add-depth : tie.Need-add-depth Inv-loop μ-loop
 add-depth c = omega (arith, deep (c .before .before .before .before))
@@ -105,7 +105,7 @@ loop-again-2 c =
     let start = c .before .before .before .before .before .before .before .before .before .before .before .before in
     let turn = c .before .before .before .before .before .before .before .loop in
     let position : start .args .at + turn .depth ≡ start .args .at + 1 + turn .depth - 1 = omega arith in
-    run-step (start .args .chars .now) (start .args .lengths .now) (start .args .word-starts .now) (start .pre .0) (start .args .text .now) (start .args .at + 1) (start .args .count) (turn .low) (turn .high) (turn .depth) (turn .best) (turn .inv) (c .before .before .before .before .before .before .loop-test .taken) (c .before .before .before .before .if1 .left)
+    run-step (start .pre .0) (turn .inv) (c .before .before .before .before .before .before .loop-test .taken) (c .before .before .before .before .if1 .left)
     (getD (start .args .text .now) (start .args .at + turn .depth) 0) (c .before .cut-low .result) (c .cut-high .result)
     (ap (λ (i : ℕ). getD (start .args .text .now) i 0) position) (omega (arith, c .before .before .before .if2 .left)) (c .before .cut-low .ensures) (c .cut-high .ensures)
 
@@ -113,7 +113,7 @@ returns-2 : tie.Need-returns-2 Inv-loop μ-loop
 returns-2 c =
     let start = c .before .before .before .before .before .before in
     let turn = c .before .loop in
-    narrow-end (lexicon (start .args .chars .now) (start .args .lengths .now) .words) (start .args .text .now) (start .args .at + 1) (start .args .count) (turn .low) (turn .high) (turn .depth) (turn .best) (turn .inv) (c .loop-test .left)
+    narrow-end (lexicon (start .args .chars .now) (start .args .lengths .now) .words) (start .args .text .now) (start .args .at + 1) (start .args .count) (turn .inv) (c .loop-test .left)
 
 pub find-last-standing-spec : {M : Type 1} → statement M
 find-last-standing-spec =

@@ -22,7 +22,7 @@ room :
 room c = c .before .before .before .pre .room (c .before .before .loop .a + (c .before .before .loop .b - c .before .before .loop .a) / 2) (omega (arith, c .before .before .loop .inv .from)) (omega (arith, c .before .before .loop .inv .to))
 
 loop-holds : tie.Need-loop-holds Inv-loop μ-loop
-loop-holds c = bisected-start (c .args .chars .now) (c .args .word-starts .now) (c .args .low) (c .args .high) (c .args .depth) (c .args .least) (c .pre)
+loop-holds c = bisected-start (c .args .least) (c .pre)
 
 sub-middle : tie.Need-sub-middle Inv-loop μ-loop
 sub-middle c = search needs
@@ -60,7 +60,7 @@ loop-less c = omega arith
 loop-again : tie.Need-loop-again Inv-loop μ-loop
 loop-again c =
     let start = c .before .before .before .before .before in
-    bisected-up (start .args .chars .now) (start .args .word-starts .now) (start .args .low) (start .args .high) (start .args .depth) (start .args .least) (start .pre)
+    bisected-up (start .args .least) (start .pre)
     (c .before .before .before .before .loop .a) (c .before .before .before .before .loop .b) (c .before .before .before .before .loop .inv) (c .before .before .before .before .loop .a + (c .before .before .before .before .loop .b - c .before .before .before .before .loop .a) / 2) (omega arith) (omega arith) (c .if1 .taken)
 
 loop-less-2 : tie.Need-loop-less-2 Inv-loop μ-loop
@@ -69,13 +69,13 @@ loop-less-2 c = omega arith
 loop-again-2 : tie.Need-loop-again-2 Inv-loop μ-loop
 loop-again-2 c =
     let start = c .before .before .before .before .before in
-    bisected-down (start .args .chars .now) (start .args .word-starts .now) (start .args .low) (start .args .high) (start .args .depth) (start .args .least) (start .pre)
+    bisected-down (start .args .least) (start .pre)
     (c .before .before .before .before .loop .a) (c .before .before .before .before .loop .b) (c .before .before .before .before .loop .inv) (c .before .before .before .before .loop .a + (c .before .before .before .before .loop .b - c .before .before .before .before .loop .a) / 2) (omega arith) (omega arith) (c .if1 .left)
 
 returns : tie.Need-returns Inv-loop μ-loop
 returns c =
     let start = c .before .before in
-    bisected-end (start .args .chars .now) (start .args .word-starts .now) (start .args .low) (start .args .high) (start .args .depth) (start .args .least) (start .pre)
+    bisected-end (start .args .least) (start .pre)
     (c .before .loop .a) (c .before .loop .b) (c .before .loop .inv) (c .loop-test .left)
 
 pub lower-bound-spec : {M : Type 1} → statement M

@@ -45,7 +45,7 @@ cast-word-starts : tie.Need-cast-word-starts Inv-loop μ-loop
 cast-word-starts c =
     let start = c .before .before .before .before .before .before .before .before .before in
     let turn = c .before .before .before in
-    omega (arith, chained-small (start .args .chars .now) (start .args .lengths .now) (turn .loop .heads) (turn .loop .links) (turn .loop .word-starts) (turn .loop .at) (turn .loop .i) (turn .loop .inv .0) (start .pre .dictionary))
+    omega (arith, chained-small (start .args .chars .now) (start .args .lengths .now) (turn .loop .heads) (turn .loop .links) (turn .loop .word-starts) (turn .loop .inv .0) (start .pre .dictionary))
 
 mul-word-starts : tie.Need-mul-word-starts Inv-loop μ-loop
 mul-word-starts c = search needs
@@ -83,7 +83,7 @@ add-at : tie.Need-add-at Inv-loop μ-loop
 add-at c =
     let start = c .before .before .before .before .before .before .before .before .before .before in
     let turn = c .before .before .before .before in
-    omega (arith, chained-small (start .args .chars .now) (start .args .lengths .now) (turn .loop .heads) (turn .loop .links) (turn .loop .word-starts) (turn .loop .at) (turn .loop .i) (turn .loop .inv .0) (start .pre .dictionary), c .before .before .shared-slice-known3 .given (turn .loop .i))
+    omega (arith, chained-small (start .args .chars .now) (start .args .lengths .now) (turn .loop .heads) (turn .loop .links) (turn .loop .word-starts) (turn .loop .inv .0) (start .pre .dictionary), c .before .before .shared-slice-known3 .given (turn .loop .i))
 
 add-i : tie.Need-add-i Inv-loop μ-loop
 add-i c = search needs
@@ -96,9 +96,9 @@ loop-again c =
     let start = c .before .before .before .before .before .before .before .before .before .before in
     let turn = c .before .before .before .before in
     let room = c .before .bucket-of-word .ensures .small in (
-      chained-step (start .args .chars .now) (start .args .lengths .now) (turn .loop .heads) (turn .loop .links) (turn .loop .word-starts) (turn .loop .at) (turn .loop .i) (turn .loop .inv .0)
+      chained-step (start .args .chars .now) (start .args .lengths .now) (turn .loop .heads) (turn .loop .links) (turn .loop .word-starts) (turn .loop .inv .0)
           (c .before .bucket-of-word .result) (c .before .before .before .loop-test .taken)
-          (bucket-read (start .args .chars .now) (start .args .lengths .now) (start .pre .dictionary) (turn .loop .i) (turn .loop .at) (c .before .bucket-of-word .result) (c .before .before .before .loop-test .taken) (turn .loop .inv .0 .at-is) (c .before .bucket-of-word .ensures))
+          (bucket-read (start .args .lengths .now) (start .pre .dictionary) (turn .loop .i) (c .before .before .before .loop-test .taken) (turn .loop .inv .0 .at-is) (c .before .bucket-of-word .ensures))
           room,
       simp length-set (turn .loop .inv .1),
       simp length-set (turn .loop .inv .2),
@@ -109,7 +109,7 @@ cast-word-starts-2 : tie.Need-cast-word-starts-2 Inv-loop μ-loop
 cast-word-starts-2 c =
     let start = c .before .before .before .before .before .before .before in
     let turn = c .before in
-    omega (arith, chained-small (start .args .chars .now) (start .args .lengths .now) (turn .loop .heads) (turn .loop .links) (turn .loop .word-starts) (turn .loop .at) (turn .loop .i) (turn .loop .inv .0) (start .pre .dictionary))
+    omega (arith, chained-small (start .args .chars .now) (start .args .lengths .now) (turn .loop .heads) (turn .loop .links) (turn .loop .word-starts) (turn .loop .inv .0) (start .pre .dictionary))
 
 mul-word-starts-2 : tie.Need-mul-word-starts-2 Inv-loop μ-loop
 mul-word-starts-2 c = search needs
@@ -130,7 +130,7 @@ returns : tie.Need-returns Inv-loop μ-loop
 returns c =
     let start = c .before .before .before .before .before .before .before in
     let turn = c .before in
-    chained-end (start .args .chars .now) (start .args .lengths .now) (turn .loop .heads) (turn .loop .links) (turn .loop .word-starts) (turn .loop .at) (turn .loop .i) (turn .loop .inv .0) (start .pre .dictionary) (c .loop-test .left)
+    chained-end (start .args .chars .now) (start .args .lengths .now) (turn .loop .heads) (turn .loop .links) (turn .loop .word-starts) (turn .loop .inv .0) (start .pre .dictionary) (c .loop-test .left)
 
 pub fill-match-table-spec : {M : Type 1} → statement M
 fill-match-table-spec =

@@ -79,42 +79,42 @@ sub-position : tie.Need-sub-position Inv-loop μ-loop
 sub-position c =
     let start = c .before .before .before .before .before .before .before .before .before in
     let walk = c .before .before .before .before .before .loop in
-    let is = key-sizes (start .args .chars .now) (start .args .lengths .now) (start .pre .0) (key (getD (start .args .index .now) (2 + 3 * walk .i) 0) (getD (start .args .index .now) (2 + 3 * walk .i + 1) 0)) (line-key longest-text (lexicon (start .args .chars .now) (start .args .lengths .now)) (start .args .index .now) (start .pre .1) (walk .i) (omega (arith, c .before .before .before .before .loop-test .taken, start .pre .2))) in
+    let is = key-sizes (start .pre .0) (line-key longest-text (lexicon (start .args .chars .now) (start .args .lengths .now)) (start .args .index .now) (start .pre .1) (walk .i) (omega (arith, c .before .before .before .before .loop-test .taken, start .pre .2))) in
     omega (arith, c .key-length .ensures, is .some)
 
 mul-counts : tie.Need-mul-counts Inv-loop μ-loop
 mul-counts c =
     let start = c .before .before .before .before .before .before .before .before .before in
     let walk = c .before .before .before .before .before .loop in
-    let is = key-sizes (start .args .chars .now) (start .args .lengths .now) (start .pre .0) (key (getD (start .args .index .now) (2 + 3 * walk .i) 0) (getD (start .args .index .now) (2 + 3 * walk .i + 1) 0)) (line-key longest-text (lexicon (start .args .chars .now) (start .args .lengths .now)) (start .args .index .now) (start .pre .1) (walk .i) (omega (arith, c .before .before .before .before .loop-test .taken, start .pre .2))) in
+    let is = key-sizes (start .pre .0) (line-key longest-text (lexicon (start .args .chars .now) (start .args .lengths .now)) (start .args .index .now) (start .pre .1) (walk .i) (omega (arith, c .before .before .before .before .loop-test .taken, start .pre .2))) in
     omega (arith, c .key-length .ensures, is .short, is .some)
 
 array-read-counts : tie.Need-array-read-counts Inv-loop μ-loop
 array-read-counts c =
     let start = c .before .before .before .before .before .before .before .before .before in
     let walk = c .before .before .before .before .before .loop in
-    let is = key-sizes (start .args .chars .now) (start .args .lengths .now) (start .pre .0) (key (getD (start .args .index .now) (2 + 3 * walk .i) 0) (getD (start .args .index .now) (2 + 3 * walk .i + 1) 0)) (line-key longest-text (lexicon (start .args .chars .now) (start .args .lengths .now)) (start .args .index .now) (start .pre .1) (walk .i) (omega (arith, c .before .before .before .before .loop-test .taken, start .pre .2))) in
+    let is = key-sizes (start .pre .0) (line-key longest-text (lexicon (start .args .chars .now) (start .args .lengths .now)) (start .args .index .now) (start .pre .1) (walk .i) (omega (arith, c .before .before .before .before .loop-test .taken, start .pre .2))) in
     omega (arith, c .key-length .ensures, is .short, is .some)
 
 add-counts : tie.Need-add-counts Inv-loop μ-loop
 add-counts c =
     let start = c .before .before .before .before .before .before .before .before .before in
     let walk = c .before .before .before .before .before .loop in
-    let is = key-sizes (start .args .chars .now) (start .args .lengths .now) (start .pre .0) (key (getD (start .args .index .now) (2 + 3 * walk .i) 0) (getD (start .args .index .now) (2 + 3 * walk .i + 1) 0)) (line-key longest-text (lexicon (start .args .chars .now) (start .args .lengths .now)) (start .args .index .now) (start .pre .1) (walk .i) (omega (arith, c .before .before .before .before .loop-test .taken, start .pre .2))) in
+    let is = key-sizes (start .pre .0) (line-key longest-text (lexicon (start .args .chars .now) (start .args .lengths .now)) (start .args .index .now) (start .pre .1) (walk .i) (omega (arith, c .before .before .before .before .loop-test .taken, start .pre .2))) in
     omega (arith, c .key-length .ensures, is .short, is .some, walk .inv .bounded (c .key-length .result - 1), c .before .before .before .before .loop-test .taken, c .before .shared-slice-known6 .given (2 + 3 * walk .i + 2), c .before .shared-slice-known6 .given 1, start .pre .2)
 
 mul-counts-2 : tie.Need-mul-counts-2 Inv-loop μ-loop
 mul-counts-2 c =
     let start = c .before .before .before .before .before .before .before .before .before in
     let walk = c .before .before .before .before .before .loop in
-    let is = key-sizes (start .args .chars .now) (start .args .lengths .now) (start .pre .0) (key (getD (start .args .index .now) (2 + 3 * walk .i) 0) (getD (start .args .index .now) (2 + 3 * walk .i + 1) 0)) (line-key longest-text (lexicon (start .args .chars .now) (start .args .lengths .now)) (start .args .index .now) (start .pre .1) (walk .i) (omega (arith, c .before .before .before .before .loop-test .taken, start .pre .2))) in
+    let is = key-sizes (start .pre .0) (line-key longest-text (lexicon (start .args .chars .now) (start .args .lengths .now)) (start .args .index .now) (start .pre .1) (walk .i) (omega (arith, c .before .before .before .before .loop-test .taken, start .pre .2))) in
     omega (arith, c .key-length .ensures, is .short, is .some)
 
 array-write-counts : tie.Need-array-write-counts Inv-loop μ-loop
 array-write-counts c =
     let start = c .before .before .before .before .before .before .before .before .before in
     let walk = c .before .before .before .before .before .loop in
-    let is = key-sizes (start .args .chars .now) (start .args .lengths .now) (start .pre .0) (key (getD (start .args .index .now) (2 + 3 * walk .i) 0) (getD (start .args .index .now) (2 + 3 * walk .i + 1) 0)) (line-key longest-text (lexicon (start .args .chars .now) (start .args .lengths .now)) (start .args .index .now) (start .pre .1) (walk .i) (omega (arith, c .before .before .before .before .loop-test .taken, start .pre .2))) in
+    let is = key-sizes (start .pre .0) (line-key longest-text (lexicon (start .args .chars .now) (start .args .lengths .now)) (start .args .index .now) (start .pre .1) (walk .i) (omega (arith, c .before .before .before .before .loop-test .taken, start .pre .2))) in
     omega (arith, c .key-length .ensures, is .short, is .some)
 
 add-i : tie.Need-add-i Inv-loop μ-loop
@@ -127,13 +127,13 @@ loop-again : tie.Need-loop-again Inv-loop μ-loop
 loop-again c =
     let start = c .before .before .before .before .before .before .before .before .before in
     let walk = c .before .before .before .before .before .loop in
-    let is = key-sizes (start .args .chars .now) (start .args .lengths .now) (start .pre .0) (key (getD (start .args .index .now) (2 + 3 * walk .i) 0) (getD (start .args .index .now) (2 + 3 * walk .i + 1) 0)) (line-key longest-text (lexicon (start .args .chars .now) (start .args .lengths .now)) (start .args .index .now) (start .pre .1) (walk .i) (omega (arith, c .before .before .before .before .loop-test .taken, start .pre .2))) in
-    tally-step (lexicon (start .args .chars .now) (start .args .lengths .now)) (start .args .index .now) (start .args .counts) (walk .counts) (walk .i) (walk .inv) (c .key-length .result - 1) (omega (arith, c .before .before .before .before .loop-test .taken, start .pre .2)) (omega (arith, c .before .shared-slice-known6 .given (2 + 3 * walk .i + 2))) (omega (arith, c .key-length .ensures, is .short, is .some)) (omega (arith, c .key-length .ensures, is .some))
+    let is = key-sizes (start .pre .0) (line-key longest-text (lexicon (start .args .chars .now) (start .args .lengths .now)) (start .args .index .now) (start .pre .1) (walk .i) (omega (arith, c .before .before .before .before .loop-test .taken, start .pre .2))) in
+    tally-step (walk .inv) (c .key-length .result - 1) (omega (arith, c .before .before .before .before .loop-test .taken, start .pre .2)) (omega (arith, c .before .shared-slice-known6 .given (2 + 3 * walk .i + 2))) (omega (arith, c .key-length .ensures, is .short, is .some)) (omega (arith, c .key-length .ensures, is .some))
 
 returns : tie.Need-returns Inv-loop μ-loop
 returns c =
     let start = c .before .before .before .before .before in
-    tally-end (lexicon (start .args .chars .now) (start .args .lengths .now)) (start .args .index .now) (start .args .counts) (c .before .loop .counts) (c .before .loop .i) (c .before .loop .inv) longest-text (start .pre .1) (good-length (eInt w64) 32 (start .args .counts) _ (start .good .1 .1 .1 .1 .0)) (omega (arith, c .loop-test .left, start .pre .2))
+    tally-end (c .before .loop .inv) longest-text (start .pre .1) (good-length (eInt w64) 32 (start .args .counts) _ (start .good .1 .1 .1 .1 .0)) (omega (arith, c .loop-test .left, start .pre .2))
 
 pub raised-spec : {M : Type 1} → statement M
 raised-spec =

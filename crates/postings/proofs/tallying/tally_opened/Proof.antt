@@ -23,24 +23,24 @@ raised-requires : tie.Need-raised-requires
 raised-requires c κs =
     let start = c .before .before .before .before in
     let a = start .args in
-    let read = index-read (a .chars .now) (a .lengths .now) (a .index .now) (λ (i : ℕ). omega (arith, c .before .before .before .shared-slice-known .given i)) (opened-accepted (a .chars .now) (a .lengths .now) (a .index .now) (a .refusal) (a .keys) (a .first) (start .pre) (c .if1 .left)) in
-    let lines = opened-keys (a .chars .now) (a .lengths .now) (a .index .now) (a .refusal) (a .keys) (a .first) (start .pre) (c .if1 .left) in
+    let read = index-read (a .chars .now) (a .lengths .now) (a .index .now) (λ (i : ℕ). omega (arith, c .before .before .before .shared-slice-known .given i)) (opened-accepted (start .pre) (c .if1 .left)) in
+    let lines = opened-keys (start .pre) (c .if1 .left) in
     (read .is-admitted, read .is-readable, lines, omega (arith, lines, read .fits .has-directory), small-zeros)
 
 sub-t12 : tie.Need-sub-t12
 sub-t12 c =
     let start = c .before .before .before .before .before in
     let a = start .args in
-    let read = index-read (a .chars .now) (a .lengths .now) (a .index .now) (λ (i : ℕ). omega (arith, c .before .before .before .before .shared-slice-known .given i)) (opened-accepted (a .chars .now) (a .lengths .now) (a .index .now) (a .refusal) (a .keys) (a .first) (start .pre) (c .before .if1 .left)) in
-    omega (arith, opened-first (a .chars .now) (a .lengths .now) (a .index .now) (a .refusal) (a .keys) (a .first) (start .pre) (c .before .if1 .left), read .fits .has-directory)
+    let read = index-read (a .chars .now) (a .lengths .now) (a .index .now) (λ (i : ℕ). omega (arith, c .before .before .before .before .shared-slice-known .given i)) (opened-accepted (start .pre) (c .before .if1 .left)) in
+    omega (arith, opened-first (start .pre) (c .before .if1 .left), read .fits .has-directory)
 
 returns-2 : tie.Need-returns-2
 returns-2 c =
     let start = c .before .before .before .before .before in
     let a = start .args in
-    let none = opened-accepted (a .chars .now) (a .lengths .now) (a .index .now) (a .refusal) (a .keys) (a .first) (start .pre) (c .before .if1 .left) in
+    let none = opened-accepted (start .pre) (c .before .if1 .left) in
     let read = index-read (a .chars .now) (a .lengths .now) (a .index .now) (λ (i : ℕ). omega (arith, c .before .before .before .before .shared-slice-known .given i)) none in
-    let positions = opened-first (a .chars .now) (a .lengths .now) (a .index .now) (a .refusal) (a .keys) (a .first) (start .pre) (c .before .if1 .left) in
+    let positions = opened-first (start .pre) (c .before .if1 .left) in
     let left = entries-left longest-text (lexicon (a .chars .now) (a .lengths .now)) (a .index .now) (read .is-readable) in
     tally-accepted (a .chars .now) (a .lengths .now) (a .index .now) (record { refusal = a .refusal; count = length (a .index .now) - a .first; «by_length» = c .raised .result }) (start .pre .number) none
     (omega (arith, positions, left)) (c .raised .ensures ∙ tally-afresh (lexicon (a .chars .now) (a .lengths .now)) (a .index .now))

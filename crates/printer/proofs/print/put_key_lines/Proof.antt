@@ -30,7 +30,7 @@ loop-holds : tie.Need-loop-holds Inv-loop μ-loop
 loop-holds c = (
   refl,
   c .before .before .before .pre .0,
-  keys-start (c .before .before .before .args .numbers .now) (c .before .before .before .args .at) (c .before .before .before .args .out .now) (c .before .before .before .pre .0) (c .before .before .before .pre .1),
+  keys-start (c .before .before .before .args .at) (c .before .before .before .args .out .now) (c .before .before .before .pre .0) (c .before .before .before .pre .1),
 )
 
 mul-kind : tie.Need-mul-kind Inv-loop μ-loop
@@ -79,23 +79,23 @@ cast-next : tie.Need-cast-next Inv-loop μ-loop
 cast-next c = omega (arith, c .shared-slice-known5 .given (2 + 3 * c .before .before .before .before .loop .i + 2))
 
 add-next-3 : tie.Need-add-next-3 Inv-loop μ-loop
-add-next-3 c = omega (arith, positions-fit (c .before .before .before .before .before .before .before .before .args .numbers .now) (c .before .before .before .before .before .before .before .before .args .at) (c .before .before .before .before .before .before .before .before .args .out .now) (c .before .before .before .before .loop .position) (c .before .before .before .before .loop .end) (c .before .before .before .before .loop .i) (c .before .before .before .before .loop .out) (c .before .before .before .before .loop .inv .2) (c .before .before .before .loop-test .taken))
+add-next-3 c = omega (arith, positions-fit (c .before .before .before .before .loop .inv .2) (c .before .before .before .loop-test .taken))
 
 mul-put-key-line : tie.Need-mul-put-key-line Inv-loop μ-loop
-mul-put-key-line c = omega (arith, positions-fit (c .before .before .before .before .before .before .before .before .before .args .numbers .now) (c .before .before .before .before .before .before .before .before .before .args .at) (c .before .before .before .before .before .before .before .before .before .args .out .now) (c .before .before .before .before .before .loop .position) (c .before .before .before .before .before .loop .end) (c .before .before .before .before .before .loop .i) (c .before .before .before .before .before .loop .out) (c .before .before .before .before .before .loop .inv .2) (c .before .before .before .before .loop-test .taken))
+mul-put-key-line c = omega (arith, positions-fit (c .before .before .before .before .before .loop .inv .2) (c .before .before .before .before .loop-test .taken))
 
 sub-put-key-line : tie.Need-sub-put-key-line Inv-loop μ-loop
 sub-put-key-line c = omega arith
 
 part-put-key-line-start : tie.Need-part-put-key-line-start Inv-loop μ-loop
-part-put-key-line-start c = omega (arith, positions-fit (c .before .before .before .before .before .before .before .before .before .args .numbers .now) (c .before .before .before .before .before .before .before .before .before .args .at) (c .before .before .before .before .before .before .before .before .before .args .out .now) (c .before .before .before .before .before .loop .position) (c .before .before .before .before .before .loop .end) (c .before .before .before .before .before .loop .i) (c .before .before .before .before .before .loop .out) (c .before .before .before .before .before .loop .inv .2) (c .before .before .before .before .loop-test .taken))
+part-put-key-line-start c = omega (arith, positions-fit (c .before .before .before .before .before .loop .inv .2) (c .before .before .before .before .loop-test .taken))
 
 part-put-key-line-end : tie.Need-part-put-key-line-end Inv-loop μ-loop
-part-put-key-line-end c = omega (arith, positions-fit (c .before .before .before .before .before .before .before .before .before .args .numbers .now) (c .before .before .before .before .before .before .before .before .before .args .at) (c .before .before .before .before .before .before .before .before .before .args .out .now) (c .before .before .before .before .before .loop .position) (c .before .before .before .before .before .loop .end) (c .before .before .before .before .before .loop .i) (c .before .before .before .before .before .loop .out) (c .before .before .before .before .before .loop .inv .2) (c .before .before .before .before .loop-test .taken))
+part-put-key-line-end c = omega (arith, positions-fit (c .before .before .before .before .before .loop .inv .2) (c .before .before .before .before .loop-test .taken))
 
 put-key-line-requires : tie.Need-put-key-line-requires Inv-loop μ-loop
 put-key-line-requires c κs =
-    line-fits (c .before .before .before .before .before .before .before .before .before .before .args .numbers .now) (c .before .before .before .before .before .before .before .before .before .before .args .at) (c .before .before .before .before .before .before .before .before .before .before .args .out .now) (c .before .before .before .before .before .before .loop .position) (c .before .before .before .before .before .before .loop .end) (c .before .before .before .before .before .before .loop .i) (c .before .before .before .before .before .before .loop .out) (c .before .before .before .before .before .before .loop .inv .2) (c .before .before .before .before .before .loop-test .taken)
+    line-fits (c .before .before .before .before .before .before .loop .inv .2) (c .before .before .before .before .before .loop-test .taken)
 
 add-i : tie.Need-add-i Inv-loop μ-loop
 add-i c = omega (arith, c .before .before .before .before .before .before .before .before .before .loop .inv .1 .exact, c .before .before .before .before .before .before .before .before .loop-test .taken)
@@ -107,7 +107,7 @@ loop-again : tie.Need-loop-again Inv-loop μ-loop
 loop-again c = (
   refl,
   c .before .before .before .before .before .before .before .before .before .loop .inv .1,
-  keys-step (c .before .before .before .before .before .before .before .before .before .before .before .before .before .args .numbers .now) (c .before .before .before .before .before .before .before .before .before .before .before .before .before .args .at) (c .before .before .before .before .before .before .before .before .before .before .before .before .before .args .out .now) (c .before .before .before .before .before .before .before .before .before .loop .position) (c .before .before .before .before .before .before .before .before .before .loop .end) (c .before .before .before .before .before .before .before .before .before .loop .i) (c .before .before .before .before .before .before .before .before .before .loop .out) (c .before .before .before .before .before .before .before .before .before .loop .inv .2) (c .before .before .before .before .before .before .before .before .loop-test .taken) (c .before .before .put-key-line .result) (c .before .before .put-key-line .last .0) (c .before .before .put-key-line .ensures),
+  keys-step (c .before .before .before .before .before .before .before .before .before .loop .inv .2) (c .before .before .before .before .before .before .before .before .loop-test .taken) (c .before .before .put-key-line .ensures),
 )
 
 same-length : tie.Need-same-length Inv-loop μ-loop
@@ -115,7 +115,7 @@ same-length c = c .before .loop .inv .2 .writing .len
 
 returns : tie.Need-returns Inv-loop μ-loop
 returns c =
-    keys-end (c .before .before .before .before .before .args .numbers .now) (c .before .before .before .before .before .args .at) (c .before .before .before .before .before .args .out .now) (c .before .loop .position) (c .before .loop .end) (c .before .loop .i) (c .before .loop .out) (c .before .loop .inv .2) (c .loop-test .left)
+    keys-end (c .before .loop .inv .2) (c .loop-test .left)
 
 pub put-key-lines-spec : {M : Type 1} → statement M
 put-key-lines-spec =

@@ -41,7 +41,7 @@ loop-less c = search needs
 loop-again : tie.Need-loop-again Inv-loop μ-loop
 loop-again c =
     let walk = c .before .before .loop in
-    summed-step (c .before .before .before .args .gaps .now) (walk .good) (walk .sum) (walk .i) (walk .inv) (c .before .loop-test .taken)
+    summed-step (walk .inv) (c .before .loop-test .taken)
     (omega (arith, c .shared-slice-known .given (walk .i)))
 
 add-if1 : tie.Need-add-if1 Inv-loop μ-loop
@@ -57,14 +57,14 @@ returns : tie.Need-returns Inv-loop μ-loop
 returns c =
     let start = c .before .before .before in
     let walk = c .before .before .loop in
-    summed-late (start .args .gaps .now) (walk .good) (walk .sum) (walk .i) (walk .inv) (c .before .loop-test .left)
+    summed-late (walk .inv) (c .before .loop-test .left)
     (start .args .n) (start .args .len) (start .pre .0) (c .if1 .taken)
 
 returns-2 : tie.Need-returns-2 Inv-loop μ-loop
 returns-2 c =
     let start = c .before .before .before in
     let walk = c .before .before .loop in
-    summed-end (start .args .gaps .now) (walk .good) (walk .sum) (walk .i) (walk .inv) (c .before .loop-test .left)
+    summed-end (walk .inv) (c .before .loop-test .left)
     (start .args .n) (start .args .len) (start .pre .0) (c .if1 .left)
 
 pub gaps-good-spec : {M : Type 1} → statement M

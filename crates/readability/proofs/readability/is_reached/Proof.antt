@@ -15,7 +15,7 @@ shared-slice-read-if2 : tie.Need-shared-slice-read-if2
 shared-slice-read-if2 c = word-some (c .before .before .args .chars .now) (c .before .before .args .lengths .now) (c .before .before .args .position .word) (c .before .before .args .position .at) (c .before .before .args .value) (c .before .before .pre .passed) (c .before .if1 .left)
 
 returns-2 : tie.Need-returns-2
-returns-2 c = reached-other (c .before .before .before .args .chars .now) (c .before .before .before .args .lengths .now) (c .before .before .before .args .position .word) (c .before .before .before .args .position .at) (c .before .before .before .args .value) (c .before .before .before .pre) (c .before .before .if1 .left) (c .if2 .taken)
+returns-2 c = reached-other (c .before .before .before .pre) (c .before .before .if1 .left) (c .if2 .taken)
 
 mul-result : tie.Need-mul-result
 mul-result c = search needs
@@ -24,7 +24,7 @@ shared-slice-read-result : tie.Need-shared-slice-read-result
 shared-slice-read-result c = search needs
 
 returns-3 : tie.Need-returns-3
-returns-3 c = reached-same (c .before .before .before .before .args .chars .now) (c .before .before .before .before .args .lengths .now) (c .before .before .before .before .args .position .word) (c .before .before .before .before .args .position .at) (c .before .before .before .before .args .value) (c .before .before .before .before .pre) (c .before .before .before .if1 .left) (c .before .if2 .left)
+returns-3 c = reached-same (c .before .before .before .before .pre) (c .before .before .before .if1 .left) (c .before .if2 .left)
 
 pub is-reached-spec : {M : Type 1} → statement M
 is-reached-spec =

@@ -123,7 +123,7 @@ returns-2 c =
     let args = start .args in
     let lex = lexicon (args .chars .now) (args .lengths .now) in
     let bad = sym (c .before .word-line-good .ensures) ∙ not-true (c .before .word-line-good .result) (c .if2 .taken) in
-    word-stop (read-as (args .as-gaps)) lex (args .index .now) (walk .i) (walk .at) (walk .least) (walk .inv .0) (test .loop-test .taken)
+    word-stop (walk .inv .0) (test .loop-test .taken)
     (word .if1 .left) bad
 
 add-at-2 : tie.Need-add-at-2 Inv-loop μ-loop
@@ -136,7 +136,7 @@ add-at-2 c =
     let lex = lexicon (args .chars .now) (args .lengths .now) in
     let good = sym (c .before .word-line-good .ensures) ∙ not-false (c .before .word-line-good .result) (c .if2 .left) in
     let next =
-    word-step (read-as (args .as-gaps)) lex (args .index .now) (walk .i) (walk .at) (walk .least) (walk .inv .0) (test .loop-test .taken)
+    word-step (walk .inv .0) (test .loop-test .taken)
     (word .if1 .left) good in
     omega (arith, next .room)
 
@@ -158,7 +158,7 @@ loop-again c =
     let args = start .args in
     let lex = lexicon (args .chars .now) (args .lengths .now) in
     let good = sym (c .before .word-line-good .ensures) ∙ not-false (c .before .word-line-good .result) (c .if2 .left) in (
-      word-step (read-as (args .as-gaps)) lex (args .index .now) (walk .i) (walk .at) (walk .least) (walk .inv .0) (test .loop-test .taken)
+      word-step (walk .inv .0) (test .loop-test .taken)
           (word .if1 .left) good,
       omega (arith, c .before .before .shared-slice-known8 .given (2 + 3 * walk .i + 1)),
     )

@@ -90,7 +90,7 @@ returns c =
     let known = c .before .shared-slice-known8 in
     let args = start .args in
     let lex = lexicon (args .chars .now) (args .lengths .now) in
-    other-stop (read-as (args .as-gaps)) lex (args .index .now) (walk .i) (walk .at) (walk .least) (walk .inv .0) (test .loop-test .taken)
+    other-stop (walk .least) (walk .inv .0) (test .loop-test .taken)
     (omega (arith, known .given (2 + 3 * walk .i + 1))) (c .if1 .taken)
 
 cast-if2 : tie.Need-cast-if2 Inv-loop μ-loop
@@ -104,14 +104,14 @@ returns-2 c =
     let known = c .before .before .shared-slice-known8 in
     let args = start .args in
     let lex = lexicon (args .chars .now) (args .lengths .now) in
-    low-stop (read-as (args .as-gaps)) lex (args .index .now) (walk .i) (walk .at) (walk .least) (walk .inv .0) (test .loop-test .taken)
+    low-stop (walk .least) (walk .inv .0) (test .loop-test .taken)
     (omega (arith, known .given (2 + 3 * walk .i + 1))) (c .before .if1 .left) (c .if2 .taken)
 
 skip-below-requires : tie.Need-skip-below-requires Inv-loop μ-loop
 skip-below-requires c κs =
     let start = c .before .before .before .before .before .before .before .before .before .before .before .before in
     let walk = c .before .before .before .before .before .before .loop in
-    passed-raise (start .args .chars .now) (start .args .lengths .now) (walk .words .word) (walk .words .at) (walk .least) (getD (start .args .index .now) (2 + 3 * walk .i + 1) 0) (c .if2 .left) (walk .inv .1)
+    passed-raise (getD (start .args .index .now) (2 + 3 * walk .i + 1) 0) (c .if2 .left) (walk .inv .1)
 
 is-reached-requires : tie.Need-is-reached-requires Inv-loop μ-loop
 is-reached-requires c κs = c .skip-below .ensures
@@ -125,7 +125,7 @@ returns-3 c =
     let walk = test .before .loop in
     let args = start .args in
     let lex = lexicon (args .chars .now) (args .lengths .now) in
-    listed-stop (read-as (args .as-gaps)) lex (args .index .now) (walk .i) (walk .at) (walk .least) (walk .inv .0) (test .loop-test .taken)
+    listed-stop (walk .least) (walk .inv .0) (test .loop-test .taken)
     (omega (arith, known .given (2 + 3 * walk .i + 1))) (kind .if1 .left) (sym (c .before .is-reached .ensures) ∙ c .if3 .taken)
 
 line-list-good-requires : tie.Need-line-list-good-requires Inv-loop μ-loop
@@ -148,7 +148,7 @@ returns-4 c =
     let lex = lexicon (args .chars .now) (args .lengths .now) in
     let unlisted = sym (reached .before .is-reached .ensures) ∙ reached .if3 .left in
     let bad = sym (c .before .line-list-good .ensures) ∙ not-true (c .before .line-list-good .result) (c .if4 .taken) in
-    lone-stop (read-as (args .as-gaps)) lex (args .index .now) (walk .i) (walk .at) (walk .least) (walk .inv .0) (test .loop-test .taken)
+    lone-stop (walk .least) (walk .inv .0) (test .loop-test .taken)
     (omega (arith, known .given (2 + 3 * walk .i + 1))) (kind .if1 .left) (low .if2 .left) unlisted bad
 
 add-at : tie.Need-add-at Inv-loop μ-loop
@@ -165,7 +165,7 @@ add-at c =
     let unlisted = sym (reached .before .is-reached .ensures) ∙ reached .if3 .left in
     let good = sym (c .before .line-list-good .ensures) ∙ not-false (c .before .line-list-good .result) (c .if4 .left) in
     let next =
-    lone-step (read-as (args .as-gaps)) lex (args .index .now) (walk .i) (walk .at) (walk .least) (walk .inv .0) (test .loop-test .taken)
+    lone-step (walk .least) (walk .inv .0) (test .loop-test .taken)
     (omega (arith, known .given (2 + 3 * walk .i + 1))) (kind .if1 .left) (low .if2 .left) unlisted good in
     omega (arith, next .room)
 
@@ -194,9 +194,9 @@ loop-again c =
     let lex = lexicon (args .chars .now) (args .lengths .now) in
     let unlisted = sym (reached .before .is-reached .ensures) ∙ reached .if3 .left in
     let good = sym (c .before .line-list-good .ensures) ∙ not-false (c .before .line-list-good .result) (c .if4 .left) in (
-      lone-step (read-as (args .as-gaps)) lex (args .index .now) (walk .i) (walk .at) (walk .least) (walk .inv .0) (test .loop-test .taken)
+      lone-step (walk .least) (walk .inv .0) (test .loop-test .taken)
           (omega (arith, known .given (2 + 3 * walk .i + 1))) (kind .if1 .left) (low .if2 .left) unlisted good,
-      passed-raise (start .args .chars .now) (start .args .lengths .now) (c .before .before .before .before .skip-below .result .word) (c .before .before .before .before .skip-below .result .at) (getD (start .args .index .now) (2 + 3 * walk .i + 1) 0) ((getD (start .args .index .now) (2 + 3 * walk .i + 1) 0) + 1) (omega arith) (c .before .before .before .before .skip-below .ensures .passed),
+      passed-raise ((getD (start .args .index .now) (2 + 3 * walk .i + 1) 0) + 1) (omega arith) (c .before .before .before .before .skip-below .ensures .passed),
     )
 
 returns-5 : tie.Need-returns-5 Inv-loop μ-loop

@@ -29,10 +29,10 @@ loop-less : tie.Need-loop-less Inv-loop μ-loop
 loop-less c = search needs
 
 loop-again : tie.Need-loop-again Inv-loop μ-loop
-loop-again c = rises-step (c .before .before .before .args .positions .now) (c .before .before .loop .good) (c .before .before .loop .last) (c .before .before .loop .i) (c .before .before .loop .inv) (c .before .loop-test .taken)
+loop-again c = rises-step (c .before .before .loop .inv) (c .before .loop-test .taken)
 
 returns : tie.Need-returns Inv-loop μ-loop
-returns c = rises-end (c .before .before .args .positions .now) (c .before .loop .good) (c .before .loop .last) (c .before .loop .i) (c .before .loop .inv) (c .loop-test .left)
+returns c = rises-end (c .before .loop .inv) (c .loop-test .left)
 
 pub rise-spec : {M : Type 1} → statement M
 rise-spec =

@@ -12,14 +12,14 @@ returns : tie.Need-returns
 returns c =
     let start = c .before .before .before .before in
     let args = start .args in
-    word-low (read-as (args .as-gaps)) (args .chars .now) (args .lengths .now) (start .pre .0) (args .n) (args .least) (args .value)
+    word-low (read-as (args .as-gaps)) (start .pre .0) (args .n) (args .least) (args .value)
     (args .count) (drop (args .at) (args .index .now)) (c .if1 .taken)
 
 returns-2 : tie.Need-returns-2
 returns-2 c =
     let start = c .before .before .before .before .before in
     let args = start .args in
-    word-high (read-as (args .as-gaps)) (args .chars .now) (args .lengths .now) (start .pre .0) (args .n) (args .least) (args .value)
+    word-high (read-as (args .as-gaps)) (start .pre .0) (args .n) (args .least) (args .value)
     (args .count) (drop (args .at) (args .index .now)) (c .if2 .taken)
 
 mul-line-list-good : tie.Need-mul-line-list-good
@@ -41,7 +41,7 @@ returns-3 c =
     let start = c .before .before .before .before .before .before .before in
     let args = start .args in
     c .line-list-good .ensures
-    ∙ word-fits (read-as (args .as-gaps)) (args .chars .now) (args .lengths .now) (start .pre .0) (args .n) (args .least) (args .value)
+    ∙ word-fits (read-as (args .as-gaps)) (start .pre .0) (args .n) (args .least) (args .value)
     (args .count) (drop (args .at) (args .index .now)) (c .before .before .before .if1 .left) (c .before .before .if2 .left)
 
 pub word-line-good-spec : {M : Type 1} → statement M

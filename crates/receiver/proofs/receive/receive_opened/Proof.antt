@@ -29,7 +29,7 @@ returns c =
     let w = start .args .work .now in
     let answer = c .before .before .refuse in
     let early = c .before .before .before .before .before .delivery-refusal in
-    receive-refused cs ls xs (answer .result) w w (answer .last .0) refl (early .result) (opened-delivery cs ls xs (length w) (start .args .refusal) (early .result) (start .pre) (early .ensures)) (c .before .before .before .before .if1 .taken) (answer .ensures)
+    receive-refused cs ls xs (answer .result) w w (answer .last .0) refl (opened-delivery cs ls xs (length w) (start .args .refusal) (early .result) (start .pre) (early .ensures)) (c .before .before .before .before .if1 .taken) (answer .ensures)
 
 text-of-requires : tie.Need-text-of-requires
 text-of-requires c κs =

@@ -47,7 +47,7 @@ returns : tie.Need-returns Inv-loop μ-loop
 returns c =
     let start = c .before .before in
     let turn = c .before .loop in
-    text-put (start .args .text .now) (start .args .output .now) (turn .output) (turn .i) (copy-end (start .args .text .now) (turn .i) (turn .inv .1) (c .loop-test .left))
+    text-put (copy-end (start .args .text .now) (turn .i) (turn .inv .1) (c .loop-test .left))
 
 pub put-text-spec : {M : Type 1} → statement M
 put-text-spec =

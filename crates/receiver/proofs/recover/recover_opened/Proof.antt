@@ -29,7 +29,7 @@ returns c =
     let w = start .args .work .now in
     let answer = c .before .before .refuse in
     let early = c .before .before .before .before .before .delivery-refusal in
-    recover-refused cs ls xs (answer .result) o w w (answer .last .0) refl (early .result) (opened-delivery cs ls xs (length w) (start .args .refusal) (early .result) (start .pre) (early .ensures)) (c .before .before .before .before .if1 .taken) (answer .ensures)
+    recover-refused cs ls xs (answer .result) o w w (answer .last .0) refl (opened-delivery cs ls xs (length w) (start .args .refusal) (early .result) (start .pre) (early .ensures)) (c .before .before .before .before .if1 .taken) (answer .ensures)
 
 text-of-requires : tie.Need-text-of-requires
 text-of-requires c κs =
@@ -95,7 +95,7 @@ returns-3 c =
     let tried = c .before .before .before .before .before .before .before .before .before .before .before .text-of in
     let taken = not-false (tried .result) (c .before .before .before .before .before .before .before .before .if2 .left) in
     recover-received cs ls xs (answer .result) o w (tried .last .1 .1 .1 .0) (answer .last .1 .1 .0) (tried .kept .1 .1 .1 .0) (sym (opened-delivery cs ls xs (length w) (start .args .refusal) (c .before .before .before .before .before .before .before .before .before .before .before .before .before .before .delivery-refusal .result) (start .pre) (c .before .before .before .before .before .before .before .before .before .before .before .before .before .before .delivery-refusal .ensures)) ∙ c .before .before .before .before .before .before .before .before .before .before .before .before .before .if1 .left)
-    (sym (tried .ensures .exact) ∙ taken) (tried .ensures .text taken) (answer .last .1 .0) (answer .ensures)
+    (sym (tried .ensures .exact) ∙ taken) (tried .ensures .text taken) (answer .ensures)
 
 pub recover-opened-spec : {M : Type 1} → statement M
 recover-opened-spec =

@@ -41,7 +41,7 @@ fill-line-map-behind-requires c κs =
     let w = start .args .work .now in
     let words = delivered-lexicon cs ls xs (length w) (λ i h. omega (arith, given .shared-slice-known .given i)) (start .pre .0) in
     let met = delivered cs ls xs (length w) (start .pre .0) in (
-      readable-line-map (lexicon cs ls) words longest-text xs (met .can-read) (n-of xs) (omega arith),
+      readable-line-map words longest-text xs (met .can-read) (n-of xs) (omega arith),
       omega (arith, met .room, reconstructed .reconstruct-front .kept .1 .1 .1 .1 .1 .0),
     )
 

@@ -21,8 +21,8 @@ reconstruct-entries-requires : tie.Need-reconstruct-entries-requires
 reconstruct-entries-requires c κs =
     let start = c .before .before .before .before .before .before in
     let a = start .args in (
-      started-read (a .chars .now) (a .lengths .now) (a .word-starts .now) (start .pre .0) (a .index .now) (start .pre .1) (omega (arith, c .before .before .shared-slice-known4 .given 1)),
-      started-words (a .chars .now) (a .lengths .now) (a .word-starts .now) (start .pre .0),
+      started-read (start .pre .0) (a .index .now) (start .pre .1) (omega (arith, c .before .before .shared-slice-known4 .given 1)),
+      started-words (start .pre .0),
       length-take-le (a .n) (a .work .now) (start .pre .3) ∙ start .pre .2,
     )
 

@@ -24,8 +24,8 @@ returns : tie.Need-returns
 returns c =
     let start = c .before .before .before .before .before .before .before .before .before .before .before .before in
     let call = c .before .before .before .is-index-of-text in
-    not-tried (lexicon (start .args .chars .now) (start .args .lengths .now)) (start .args .index .now)
-    (call .last .1 .1 .1 .1 .1 .1 .0) (call .result) (call .ensures)
+    not-tried
+    (call .ensures)
     (not-true (call .result) (c .if1 .taken))
 
 room :
@@ -73,8 +73,8 @@ returns-2 : tie.Need-returns-2
 returns-2 c =
     let start = c .before .before .before .before .before .before .before .before .before .before .before .before .before .before .before in
     let call = c .before .before .before .before .before .before .is-index-of-text in
-    tried (lexicon (start .args .chars .now) (start .args .lengths .now)) (start .args .index .now) (call .last .1 .1 .1 .1 .1 .1 .0)
-    (call .result) (call .ensures)
+    tried
+    (call .ensures)
     (not-false (call .result) (c .before .before .before .if1 .left)) (c .holds-full-width .result) (c .holds-full-width .ensures)
 
 pub text-by-spec : {M : Type 1} → statement M

@@ -13,7 +13,7 @@ fill-match-table-requires c κs =
     let ls = start .args .lengths .now in
     let xs = start .args .index .now in
     let w = start .args .work .now in
-    delivered-room cs ls xs (length w) (λ i h. omega (arith, c .before .before .before .before .before .before .before .before .before .shared-slice-known .given i)) (start .pre .0) (start .args .heads .now) (start .args .links .now) (start .args .word-starts .now) (start .pre .1)
+    delivered-room cs ls xs (length w) (λ i h. omega (arith, c .before .before .before .before .before .before .before .before .before .shared-slice-known .given i)) (start .pre .0) (start .pre .1)
 
 text-by-requires : tie.Need-text-by-requires
 text-by-requires c κs = search needs

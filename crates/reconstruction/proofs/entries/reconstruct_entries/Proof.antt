@@ -62,7 +62,7 @@ add-end-3 : tie.Need-add-end-3 Inv-loop μ-loop
 add-end-3 c =
     let s = c .before .before .before .before .before .before .before .before .before in
     let l = c .before .before .loop in
-    omega (arith, s .good, lies-room (s .args .index .now) (l .line) (l .begin) (l .begin + getD (s .args .index .now) (2 + 3 * l .line + 2) 0) (reconstructing-lies (lexicon (s .args .chars .now) (s .args .lengths .now)) (s .args .index .now) (s .args .text .now) (l .text) (l .begin) (l .line) (l .inv .1) (c .before .loop-test .taken)) (l .inv .0 .fits))
+    omega (arith, s .good, lies-room (reconstructing-lies (lexicon (s .args .chars .now) (s .args .lengths .now)) (s .args .index .now) (s .args .text .now) (l .text) (l .begin) (l .line) (l .inv .1) (c .before .loop-test .taken)) (l .inv .0 .fits))
 
 reconstruct-line-requires : tie.Need-reconstruct-line-requires Inv-loop μ-loop
 reconstruct-line-requires c κs =
@@ -88,7 +88,7 @@ loop-again c =
     let l = c .before .before .before .before .before .before .loop in (
       l .inv .0,
       reconstructing-step (lexicon (s .args .chars .now) (s .args .lengths .now)) (s .args .index .now) (s .args .text .now) (l .text) (l .begin) (l .line) (l .inv .1)
-          (l .begin + getD (s .args .index .now) (2 + 3 * l .line + 2) 0) (reconstructing-lies (lexicon (s .args .chars .now) (s .args .lengths .now)) (s .args .index .now) (s .args .text .now) (l .text) (l .begin) (l .line) (l .inv .1) (c .before .before .before .before .before .loop-test .taken))
+          (reconstructing-lies (lexicon (s .args .chars .now) (s .args .lengths .now)) (s .args .index .now) (s .args .text .now) (l .text) (l .begin) (l .line) (l .inv .1) (c .before .before .before .before .before .loop-test .taken))
           (c .before .before .reconstruct-line .last .1 .1 .1 .1 .1 .1 .1 .0) (c .before .before .reconstruct-line .ensures),
     )
 

@@ -39,7 +39,7 @@ shared-slice-read-if1 c = search needs
 mul-fill-at : tie.Need-mul-fill-at
 mul-fill-at c =
     let s = c .before .before .before .before .before .before .before .before in
-    omega (arith, s .good, s .pre .2 .end-is, lies-room (s .args .index .now) (s .args .line) (s .args .begin) (s .args .end) (s .pre .2) (s .pre .0 .fits))
+    omega (arith, s .good, s .pre .2 .end-is, lies-room (s .pre .2) (s .pre .0 .fits))
 
 sub-fill-at : tie.Need-sub-fill-at
 sub-fill-at c = search needs
@@ -50,12 +50,12 @@ part-fill-at-start c = search needs
 part-fill-at-end : tie.Need-part-fill-at-end
 part-fill-at-end c =
     let s = c .before .before .before .before .before .before .before .before in
-    lies-room (s .args .index .now) (s .args .line) (s .args .begin) (s .args .end) (s .pre .2) (s .pre .0 .fits)
+    lies-room (s .pre .2) (s .pre .0 .fits)
 
 fill-at-requires : tie.Need-fill-at-requires
 fill-at-requires c κs =
     let s = c .before .before .before .before .before .before .before .before .before .before in
-    lone-reconstructs (s .args .chars .now) (s .args .lengths .now) (s .args .index .now) (s .pre .0) (s .args .line) (s .args .begin) (s .args .end) (s .pre .2) (s .args .text .now) (s .pre .3) (c .before .before .if1 .taken)
+    lone-reconstructs (s .pre .0) (s .pre .2) (s .args .text .now) (s .pre .3) (c .before .before .if1 .taken)
 
 same-length : tie.Need-same-length
 same-length c = search needs
@@ -63,7 +63,7 @@ same-length c = search needs
 returns : tie.Need-returns
 returns c =
     let s = c .before .before .before .before .before .before .before .before .before .before .before .before .before in
-    lone-reconstructed (s .args .chars .now) (s .args .lengths .now) (s .args .index .now) (s .pre .0) (s .args .line) (s .args .begin) (s .args .end) (s .pre .2) (s .args .text .now) (s .pre .3) (c .before .before .before .before .before .if1 .taken)
+    lone-reconstructed (s .pre .0) (s .pre .2) (s .args .text .now) (s .pre .3) (c .before .before .before .before .before .if1 .taken)
     (c .before .before .fill-at .last .1 .1 .0) (c .before .before .fill-at .ensures)
 
 cast-word : tie.Need-cast-word
@@ -75,7 +75,7 @@ mul-start c = omega (arith, c .before .shared-slice-known6 .given (2 + 3 * c .be
 shared-slice-read-start : tie.Need-shared-slice-read-start
 shared-slice-read-start c =
     let s = c .before .before .before .before .before .before .before .before .before in
-    omega (arith, s .pre .1 .room, word-below (s .args .chars .now) (s .args .lengths .now) (s .args .index .now) (s .pre .0) (s .args .line) (s .pre .2 .below) (c .before .if1 .left))
+    omega (arith, s .pre .1 .room, word-below (s .pre .0) (s .args .line) (s .pre .2 .below) (c .before .if1 .left))
 
 cast-start : tie.Need-cast-start
 cast-start c =
@@ -88,7 +88,7 @@ mul-stop c = omega (arith, c .before .before .shared-slice-known6 .given (2 + 3 
 shared-slice-read-stop : tie.Need-shared-slice-read-stop
 shared-slice-read-stop c =
     let s = c .before .before .before .before .before .before .before .before .before .before in
-    word-below (s .args .chars .now) (s .args .lengths .now) (s .args .index .now) (s .pre .0) (s .args .line) (s .pre .2 .below) (c .before .before .if1 .left)
+    word-below (s .pre .0) (s .args .line) (s .pre .2 .below) (c .before .before .if1 .left)
 
 cast-stop : tie.Need-cast-stop
 cast-stop c =
@@ -98,12 +98,12 @@ cast-stop c =
 add-stop : tie.Need-add-stop
 add-stop c =
     let s = c .before .before .before .before .before .before .before .before .before .before in
-    omega (arith, s .pre .0 .few-chars, word-room (s .args .chars .now) (s .args .lengths .now) (s .args .index .now) (s .pre .0) (s .args .line) (s .pre .2 .below) (c .before .before .if1 .left) (s .args .word-starts .now) (s .pre .1))
+    omega (arith, s .pre .0 .few-chars, word-room (s .pre .0) (s .args .line) (s .pre .2 .below) (c .before .before .if1 .left) (s .pre .1))
 
 mul-reconstruct-positions : tie.Need-mul-reconstruct-positions
 mul-reconstruct-positions c =
     let s = c .before .before .before .before .before .before .before .before .before .before in
-    omega (arith, s .pre .0 .few-chars, word-room (s .args .chars .now) (s .args .lengths .now) (s .args .index .now) (s .pre .0) (s .args .line) (s .pre .2 .below) (c .before .before .if1 .left) (s .args .word-starts .now) (s .pre .1))
+    omega (arith, s .pre .0 .few-chars, word-room (s .pre .0) (s .args .line) (s .pre .2 .below) (c .before .before .if1 .left) (s .pre .1))
 
 sub-reconstruct-positions : tie.Need-sub-reconstruct-positions
 sub-reconstruct-positions c = search needs
@@ -114,12 +114,12 @@ part-reconstruct-positions-start c = search needs
 part-reconstruct-positions-end : tie.Need-part-reconstruct-positions-end
 part-reconstruct-positions-end c =
     let s = c .before .before .before .before .before .before .before .before .before .before in
-    word-room (s .args .chars .now) (s .args .lengths .now) (s .args .index .now) (s .pre .0) (s .args .line) (s .pre .2 .below) (c .before .before .if1 .left) (s .args .word-starts .now) (s .pre .1)
+    word-room (s .pre .0) (s .args .line) (s .pre .2 .below) (c .before .before .if1 .left) (s .pre .1)
 
 mul-reconstruct-positions-2 : tie.Need-mul-reconstruct-positions-2
 mul-reconstruct-positions-2 c =
     let s = c .before .before .before .before .before .before .before .before .before .before .before in
-    omega (arith, s .good, s .pre .2 .end-is, lies-room (s .args .index .now) (s .args .line) (s .args .begin) (s .args .end) (s .pre .2) (s .pre .0 .fits))
+    omega (arith, s .good, s .pre .2 .end-is, lies-room (s .pre .2) (s .pre .0 .fits))
 
 sub-reconstruct-positions-2 : tie.Need-sub-reconstruct-positions-2
 sub-reconstruct-positions-2 c = search needs
@@ -130,12 +130,12 @@ part-reconstruct-positions-start-2 c = search needs
 part-reconstruct-positions-end-2 : tie.Need-part-reconstruct-positions-end-2
 part-reconstruct-positions-end-2 c =
     let s = c .before .before .before .before .before .before .before .before .before .before .before in
-    lies-room (s .args .index .now) (s .args .line) (s .args .begin) (s .args .end) (s .pre .2) (s .pre .0 .fits)
+    lies-room (s .pre .2) (s .pre .0 .fits)
 
 reconstruct-positions-requires : tie.Need-reconstruct-positions-requires
 reconstruct-positions-requires c κs =
     let s = c .before .before .before .before .before .before .before .before .before .before .before .before .before in
-    word-reconstructs (s .args .chars .now) (s .args .lengths .now) (s .args .index .now) (s .pre .0) (s .args .line) (s .args .begin) (s .args .end) (s .pre .2) (s .args .text .now) (s .pre .3) (c .before .before .before .before .before .if1 .left) (s .args .word-starts .now) (s .pre .1)
+    word-reconstructs (s .pre .0) (s .pre .2) (s .args .text .now) (s .pre .3) (c .before .before .before .before .before .if1 .left) (s .pre .1)
 
 same-length-2 : tie.Need-same-length-2
 same-length-2 c = search needs
@@ -143,7 +143,7 @@ same-length-2 c = search needs
 returns-2 : tie.Need-returns-2
 returns-2 c =
     let s = c .before .before .before .before .before .before .before .before .before .before .before .before .before .before .before .before in
-    word-reconstructed (s .args .chars .now) (s .args .lengths .now) (s .args .index .now) (s .pre .0) (s .args .line) (s .args .begin) (s .args .end) (s .pre .2) (s .args .text .now) (s .pre .3) (c .before .before .before .before .before .before .before .before .if1 .left) (s .args .word-starts .now) (s .pre .1)
+    word-reconstructed (s .pre .0) (s .pre .2) (s .args .text .now) (s .pre .3) (c .before .before .before .before .before .before .before .before .if1 .left) (s .pre .1)
     (c .before .before .reconstruct-positions .last .1 .1 .0) (c .before .before .reconstruct-positions .ensures)
 
 pub reconstruct-line-spec : {M : Type 1} → statement M

@@ -48,7 +48,7 @@ loop-again : tie.Need-loop-again Inv-loop μ-loop
 loop-again c =
     let s = c .before .before .before .before .before .before .before .before .before .before in
     let l = c .before .before .before .before .before .before .loop in
-    reconstructed-step (s .args .string .now) (s .args .positions .now) (s .args .text .now) (l .text) (l .i) (l .inv) (c .before .before .before .before .before .loop-test .taken)
+    reconstructed-step (s .args .string .now) (s .args .positions .now) (s .args .text .now) (l .inv) (c .before .before .before .before .before .loop-test .taken)
     (c .before .before .reconstruct-string .last .1 .1 .0) (c .before .before .reconstruct-string .ensures)
 
 same-length : tie.Need-same-length Inv-loop μ-loop
@@ -58,7 +58,7 @@ returns : tie.Need-returns Inv-loop μ-loop
 returns c =
     let s = c .before .before .before .before .before in
     let l = c .before .loop in
-    reconstructed-end (s .args .string .now) (s .args .positions .now) (s .args .text .now) (l .text) (l .i) (l .inv) (c .loop-test .left)
+    reconstructed-end (s .args .string .now) (s .args .positions .now) (s .args .text .now) (l .inv) (c .loop-test .left)
 
 pub reconstruct-positions-spec : {M : Type 1} → statement M
 reconstruct-positions-spec =

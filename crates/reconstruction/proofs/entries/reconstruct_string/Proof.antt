@@ -45,7 +45,7 @@ loop-again : tie.Need-loop-again Inv-loop μ-loop
 loop-again c =
     let a = c .before .before .before .args in
     let l = c .before .before .loop in
-    setting-step (a .string .now) (a .at) (a .text .now) (l .text) (l .i) (l .inv) (c .before .loop-test .taken)
+    setting-step (a .string .now) (a .at) (a .text .now) (l .inv) (c .before .loop-test .taken)
 
 same-length : tie.Need-same-length Inv-loop μ-loop
 same-length c = c .before .loop .inv .len
@@ -54,7 +54,7 @@ returns : tie.Need-returns Inv-loop μ-loop
 returns c =
     let a = c .before .before .args in
     let l = c .before .loop in
-    setting-end (a .string .now) (a .at) (a .text .now) (l .text) (l .i) (l .inv) (c .loop-test .left)
+    setting-end (a .string .now) (a .at) (a .text .now) (l .inv) (c .loop-test .left)
 
 pub reconstruct-string-spec : {M : Type 1} → statement M
 reconstruct-string-spec =

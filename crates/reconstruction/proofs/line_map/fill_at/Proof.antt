@@ -51,7 +51,7 @@ loop-again : tie.Need-loop-again Inv-loop μ-loop
 loop-again c =
     let a = c .before .before .before .args in
     let l = c .before .before .loop in
-    filled-step (a .value) (a .positions .now) (a .slots .now) (l .slots) (l .i) (l .inv) (c .before .loop-test .taken)
+    filled-step (a .value) (l .inv) (c .before .loop-test .taken)
 
 same-length : tie.Need-same-length Inv-loop μ-loop
 same-length c = c .before .loop .inv .len
@@ -60,7 +60,7 @@ returns : tie.Need-returns Inv-loop μ-loop
 returns c =
     let a = c .before .before .args in
     let l = c .before .loop in
-    filled-end (a .value) (a .positions .now) (a .slots .now) (l .slots) (l .i) (l .inv) (c .loop-test .left)
+    filled-end (a .value) (l .inv) (c .loop-test .left)
 
 pub fill-at-spec : {M : Type 1} → statement M
 fill-at-spec =

@@ -56,7 +56,7 @@ add-end-3 : tie.Need-add-end-3 Inv-loop μ-loop
 add-end-3 c =
     let s = c .before .before .before .before .before .before in
     let l = c .before .before .loop in
-    omega (arith, s .good, lies-room (s .args .index .now) (l .line) (l .begin) (l .begin + getD (s .args .index .now) (2 + 3 * l .line + 2) 0) (passing-lies fill-line-map (s .args .index .now) (s .args .line-map .now) (l .line-map) (l .begin) (l .line) (l .inv) (c .before .loop-test .taken)) (s .pre .fits))
+    omega (arith, s .good, lies-room (passing-lies fill-line-map (s .args .index .now) (s .args .line-map .now) (l .inv) (c .before .loop-test .taken)) (s .pre .fits))
 
 add-number : tie.Need-add-number Inv-loop μ-loop
 add-number c = omega (arith, c .before .loop-test .taken, c .before .before .before .shared-slice-known2 .given 1)
@@ -68,7 +68,7 @@ mul-fill-at : tie.Need-mul-fill-at Inv-loop μ-loop
 mul-fill-at c =
     let s = c .before .before .before .before .before .before in
     let l = c .before .before .loop in
-    omega (arith, s .good, lies-room (s .args .index .now) (l .line) (l .begin) (l .begin + getD (s .args .index .now) (2 + 3 * l .line + 2) 0) (passing-lies fill-line-map (s .args .index .now) (s .args .line-map .now) (l .line-map) (l .begin) (l .line) (l .inv) (c .before .loop-test .taken)) (s .pre .fits))
+    omega (arith, s .good, lies-room (passing-lies fill-line-map (s .args .index .now) (s .args .line-map .now) (l .inv) (c .before .loop-test .taken)) (s .pre .fits))
 
 sub-fill-at : tie.Need-sub-fill-at Inv-loop μ-loop
 sub-fill-at c = omega arith
@@ -80,14 +80,14 @@ part-fill-at-end : tie.Need-part-fill-at-end Inv-loop μ-loop
 part-fill-at-end c =
     let s = c .before .before .before .before .before .before in
     let l = c .before .before .loop in
-    lies-room (s .args .index .now) (l .line) (l .begin) (l .begin + getD (s .args .index .now) (2 + 3 * l .line + 2) 0) (passing-lies fill-line-map (s .args .index .now) (s .args .line-map .now) (l .line-map) (l .begin) (l .line) (l .inv) (c .before .loop-test .taken)) (s .pre .fits)
+    lies-room (passing-lies fill-line-map (s .args .index .now) (s .args .line-map .now) (l .inv) (c .before .loop-test .taken)) (s .pre .fits)
 
 fill-at-requires : tie.Need-fill-at-requires Inv-loop μ-loop
 fill-at-requires c κs =
     let s = c .before .before .before .before .before .before .before .before in
     let l = c .before .before .before .before .loop in
-    mapping-room (s .args .index .now) (s .args .line-map .now) (l .line-map) (l .begin) (l .line) (l .inv) (s .pre) (l .begin + getD (s .args .index .now) (2 + 3 * l .line + 2) 0)
-    (passing-lies fill-line-map (s .args .index .now) (s .args .line-map .now) (l .line-map) (l .begin) (l .line) (l .inv) (c .before .before .before .loop-test .taken))
+    mapping-room (s .args .index .now) (s .args .line-map .now) (l .line-map) (l .begin) (l .line) (l .inv) (s .pre)
+    (passing-lies fill-line-map (s .args .index .now) (s .args .line-map .now) (l .inv) (c .before .before .before .loop-test .taken))
 
 loop-less : tie.Need-loop-less Inv-loop μ-loop
 loop-less c = omega (arith, c .before .before .before .before .before .before .loop-test .taken)
@@ -96,8 +96,8 @@ loop-again : tie.Need-loop-again Inv-loop μ-loop
 loop-again c =
     let s = c .before .before .before .before .before .before .before .before .before .before .before in
     let l = c .before .before .before .before .before .before .before .loop in
-    mapping-step (s .args .index .now) (s .args .line-map .now) (l .line-map) (l .begin) (l .line) (l .inv) (l .begin + getD (s .args .index .now) (2 + 3 * l .line + 2) 0)
-    (passing-lies fill-line-map (s .args .index .now) (s .args .line-map .now) (l .line-map) (l .begin) (l .line) (l .inv) (c .before .before .before .before .before .before .loop-test .taken))
+    mapping-step (s .args .index .now) (s .args .line-map .now) (l .line-map) (l .begin) (l .line) (l .inv)
+    (passing-lies fill-line-map (s .args .index .now) (s .args .line-map .now) (l .inv) (c .before .before .before .before .before .before .loop-test .taken))
     (c .before .before .fill-at .last .1 .1 .0) (c .before .before .fill-at .ensures)
 
 same-length : tie.Need-same-length Inv-loop μ-loop

@@ -57,24 +57,24 @@ add-end-3 c =
     let s = c .before .before .before .before .before .before .before .before .before in
     let a = s .args in
     let l = c .before .before .loop in
-    omega (arith, s .good, lies-room (a .index .now) (l .line) (l .begin) (l .begin + getD (a .index .now) (2 + 3 * l .line + 2) 0) (matching-lies (lexicon (a .chars .now) (a .lengths .now)) (a .index .now) (a .text .now) (l .begin) (l .line) (l .inv) (c .before .loop-test .taken)) (s .pre .0 .fits))
+    omega (arith, s .good, lies-room (matching-lies (lexicon (a .chars .now) (a .lengths .now)) (a .index .now) (a .text .now) (l .inv) (c .before .loop-test .taken)) (s .pre .0 .fits))
 
 line-stands-requires : tie.Need-line-stands-requires Inv-loop μ-loop
 line-stands-requires c κs =
     let s = c .before .before .before .before .before .before .before .before .before in
     let a = s .args in
     let l = c .before .before .loop in
-    (s .pre .0, s .pre .1, matching-lies (lexicon (a .chars .now) (a .lengths .now)) (a .index .now) (a .text .now) (l .begin) (l .line) (l .inv) (c .before .loop-test .taken), s .pre .2)
+    (s .pre .0, s .pre .1, matching-lies (lexicon (a .chars .now) (a .lengths .now)) (a .index .now) (a .text .now) (l .inv) (c .before .loop-test .taken), s .pre .2)
 
 returns : tie.Need-returns Inv-loop μ-loop
 returns c =
     let a = c .before .before .before .before .before .before .before .before .before .before .before .args in
     let l = c .before .before .before .before .loop in
-    let lies = matching-lies (lexicon (a .chars .now) (a .lengths .now)) (a .index .now) (a .text .now) (l .begin) (l .line) (l .inv) (c .before .before .before .loop-test .taken) in
+    let lies = matching-lies (lexicon (a .chars .now) (a .lengths .now)) (a .index .now) (a .text .now) (l .inv) (c .before .before .before .loop-test .taken) in
     reflects-no
     (λ all.
     c .before .line-stands .ensures .fails (not-true (c .before .line-stands .result) (c .if1 .taken))
-    (line-matches (lexicon (a .chars .now) (a .lengths .now)) (a .index .now) (a .text .now) (l .begin) (l .line) (l .begin + getD (a .index .now) (2 + 3 * l .line + 2) 0) lies all))
+    (line-matches (lexicon (a .chars .now) (a .lengths .now)) (a .text .now) lies all))
 
 add-line : tie.Need-add-line Inv-loop μ-loop
 add-line c = search needs
@@ -86,14 +86,14 @@ loop-again : tie.Need-loop-again Inv-loop μ-loop
 loop-again c =
     let a = c .before .before .before .before .before .before .before .before .before .before .before .args in
     let l = c .before .before .before .before .loop in
-    matching-step (lexicon (a .chars .now) (a .lengths .now)) (a .index .now) (a .text .now) (l .begin) (l .line) (l .inv) (l .begin + getD (a .index .now) (2 + 3 * l .line + 2) 0) (matching-lies (lexicon (a .chars .now) (a .lengths .now)) (a .index .now) (a .text .now) (l .begin) (l .line) (l .inv) (c .before .before .before .loop-test .taken))
+    matching-step (lexicon (a .chars .now) (a .lengths .now)) (a .index .now) (a .text .now) (l .inv) (matching-lies (lexicon (a .chars .now) (a .lengths .now)) (a .index .now) (a .text .now) (l .inv) (c .before .before .before .loop-test .taken))
     (c .before .line-stands .ensures .holds (not-false (c .before .line-stands .result) (c .if1 .left)))
 
 returns-2 : tie.Need-returns-2 Inv-loop μ-loop
 returns-2 c =
     let a = c .before .before .before .before .before .before .before .before .args in
     let l = c .before .loop in
-    reflects-yes (matching-end (lexicon (a .chars .now) (a .lengths .now)) (a .index .now) (a .text .now) (l .begin) (l .line) (l .inv) (c .loop-test .left))
+    reflects-yes (matching-end (lexicon (a .chars .now) (a .lengths .now)) (a .index .now) (a .text .now) (l .inv) (c .loop-test .left))
 
 pub entries-match-spec : {M : Type 1} → statement M
 entries-match-spec =

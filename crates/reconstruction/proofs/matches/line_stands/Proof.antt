@@ -39,7 +39,7 @@ shared-slice-read-if1 c = search needs
 mul-holds-at-each : tie.Need-mul-holds-at-each
 mul-holds-at-each c =
     let s = c .before .before .before .before .before .before .before .before in
-    omega (arith, s .good, s .pre .2 .end-is, lies-room (s .args .index .now) (s .args .line) (s .args .begin) (s .args .end) (s .pre .2) (s .pre .0 .fits))
+    omega (arith, s .good, s .pre .2 .end-is, lies-room (s .pre .2) (s .pre .0 .fits))
 
 sub-holds-at-each : tie.Need-sub-holds-at-each
 sub-holds-at-each c = search needs
@@ -50,19 +50,19 @@ part-holds-at-each-start c = search needs
 part-holds-at-each-end : tie.Need-part-holds-at-each-end
 part-holds-at-each-end c =
     let s = c .before .before .before .before .before .before .before .before in
-    lies-room (s .args .index .now) (s .args .line) (s .args .begin) (s .args .end) (s .pre .2) (s .pre .0 .fits)
+    lies-room (s .pre .2) (s .pre .0 .fits)
 
 holds-at-each-requires : tie.Need-holds-at-each-requires
 holds-at-each-requires c κs =
     let s = c .before .before .before .before .before .before .before .before .before in
     let a = s .args in
-    lone-reconstructs (a .chars .now) (a .lengths .now) (a .index .now) (s .pre .0) (a .line) (a .begin) (a .end) (s .pre .2) (a .text .now) (s .pre .3) (c .before .if1 .taken)
+    lone-reconstructs (s .pre .0) (s .pre .2) (a .text .now) (s .pre .3) (c .before .if1 .taken)
 
 returns : tie.Need-returns
 returns c =
     let s = c .before .before .before .before .before .before .before .before .before .before in
     let a = s .args in
-    lone-stood (a .chars .now) (a .lengths .now) (a .index .now) (s .pre .0) (a .line) (a .begin) (a .end) (s .pre .2) (a .text .now) (s .pre .3) (c .before .before .if1 .taken) (a .text .now) (c .holds-at-each .result) (c .holds-at-each .ensures)
+    lone-stood (s .pre .0) (s .pre .2) (a .text .now) (s .pre .3) (c .before .before .if1 .taken) (a .text .now) (c .holds-at-each .ensures)
 
 cast-word : tie.Need-cast-word
 cast-word c = omega (arith, c .before .shared-slice-known7 .given (2 + 3 * c .before .before .before .before .before .before .before .before .args .line + 1))
@@ -73,7 +73,7 @@ mul-start c = omega (arith, c .before .shared-slice-known7 .given (2 + 3 * c .be
 shared-slice-read-start : tie.Need-shared-slice-read-start
 shared-slice-read-start c =
     let s = c .before .before .before .before .before .before .before .before .before in
-    omega (arith, s .pre .1 .room, word-below (s .args .chars .now) (s .args .lengths .now) (s .args .index .now) (s .pre .0) (s .args .line) (s .pre .2 .below) (c .before .if1 .left))
+    omega (arith, s .pre .1 .room, word-below (s .pre .0) (s .args .line) (s .pre .2 .below) (c .before .if1 .left))
 
 cast-start : tie.Need-cast-start
 cast-start c =
@@ -86,7 +86,7 @@ mul-stop c = omega (arith, c .before .before .shared-slice-known7 .given (2 + 3 
 shared-slice-read-stop : tie.Need-shared-slice-read-stop
 shared-slice-read-stop c =
     let s = c .before .before .before .before .before .before .before .before .before .before in
-    word-below (s .args .chars .now) (s .args .lengths .now) (s .args .index .now) (s .pre .0) (s .args .line) (s .pre .2 .below) (c .before .before .if1 .left)
+    word-below (s .pre .0) (s .args .line) (s .pre .2 .below) (c .before .before .if1 .left)
 
 cast-stop : tie.Need-cast-stop
 cast-stop c =
@@ -96,12 +96,12 @@ cast-stop c =
 add-stop : tie.Need-add-stop
 add-stop c =
     let s = c .before .before .before .before .before .before .before .before .before .before in
-    omega (arith, s .pre .0 .few-chars, word-room (s .args .chars .now) (s .args .lengths .now) (s .args .index .now) (s .pre .0) (s .args .line) (s .pre .2 .below) (c .before .before .if1 .left) (s .args .word-starts .now) (s .pre .1))
+    omega (arith, s .pre .0 .few-chars, word-room (s .pre .0) (s .args .line) (s .pre .2 .below) (c .before .before .if1 .left) (s .pre .1))
 
 mul-stands-at-each : tie.Need-mul-stands-at-each
 mul-stands-at-each c =
     let s = c .before .before .before .before .before .before .before .before .before .before in
-    omega (arith, s .pre .0 .few-chars, word-room (s .args .chars .now) (s .args .lengths .now) (s .args .index .now) (s .pre .0) (s .args .line) (s .pre .2 .below) (c .before .before .if1 .left) (s .args .word-starts .now) (s .pre .1))
+    omega (arith, s .pre .0 .few-chars, word-room (s .pre .0) (s .args .line) (s .pre .2 .below) (c .before .before .if1 .left) (s .pre .1))
 
 sub-stands-at-each : tie.Need-sub-stands-at-each
 sub-stands-at-each c = search needs
@@ -112,12 +112,12 @@ part-stands-at-each-start c = search needs
 part-stands-at-each-end : tie.Need-part-stands-at-each-end
 part-stands-at-each-end c =
     let s = c .before .before .before .before .before .before .before .before .before .before in
-    word-room (s .args .chars .now) (s .args .lengths .now) (s .args .index .now) (s .pre .0) (s .args .line) (s .pre .2 .below) (c .before .before .if1 .left) (s .args .word-starts .now) (s .pre .1)
+    word-room (s .pre .0) (s .args .line) (s .pre .2 .below) (c .before .before .if1 .left) (s .pre .1)
 
 mul-stands-at-each-2 : tie.Need-mul-stands-at-each-2
 mul-stands-at-each-2 c =
     let s = c .before .before .before .before .before .before .before .before .before .before .before in
-    omega (arith, s .good, s .pre .2 .end-is, lies-room (s .args .index .now) (s .args .line) (s .args .begin) (s .args .end) (s .pre .2) (s .pre .0 .fits))
+    omega (arith, s .good, s .pre .2 .end-is, lies-room (s .pre .2) (s .pre .0 .fits))
 
 sub-stands-at-each-2 : tie.Need-sub-stands-at-each-2
 sub-stands-at-each-2 c = search needs
@@ -128,22 +128,22 @@ part-stands-at-each-start-2 c = search needs
 part-stands-at-each-end-2 : tie.Need-part-stands-at-each-end-2
 part-stands-at-each-end-2 c =
     let s = c .before .before .before .before .before .before .before .before .before .before .before in
-    lies-room (s .args .index .now) (s .args .line) (s .args .begin) (s .args .end) (s .pre .2) (s .pre .0 .fits)
+    lies-room (s .pre .2) (s .pre .0 .fits)
 
 stands-at-each-requires : tie.Need-stands-at-each-requires
 stands-at-each-requires c κs =
     let s = c .before .before .before .before .before .before .before .before .before .before .before .before in
     let a = s .args in (
-      word-reconstructs (a .chars .now) (a .lengths .now) (a .index .now) (s .pre .0) (a .line) (a .begin) (a .end) (s .pre .2) (a .text .now) (s .pre .3) (c .before .before .before .before .if1 .left) (a .word-starts .now) (s .pre .1),
-      positions-some (a .chars .now) (a .lengths .now) (a .index .now) (s .pre .0) (a .line) (a .begin) (a .end) (s .pre .2) (a .text .now) (s .pre .3),
-      positions-rise (a .chars .now) (a .lengths .now) (a .index .now) (s .pre .0) (a .line) (a .begin) (a .end) (s .pre .2) (a .text .now) (s .pre .3),
+      word-reconstructs (s .pre .0) (s .pre .2) (a .text .now) (s .pre .3) (c .before .before .before .before .if1 .left) (s .pre .1),
+      positions-some (s .pre .0) (s .pre .2) (a .text .now) (s .pre .3),
+      positions-rise (s .pre .0) (s .pre .2) (a .text .now) (s .pre .3),
     )
 
 returns-2 : tie.Need-returns-2
 returns-2 c =
     let s = c .before .before .before .before .before .before .before .before .before .before .before .before .before in
     let a = s .args in
-    word-stood (a .chars .now) (a .lengths .now) (a .index .now) (s .pre .0) (a .line) (a .begin) (a .end) (s .pre .2) (a .text .now) (s .pre .3) (c .before .before .before .before .before .if1 .left) (a .word-starts .now) (s .pre .1) (a .text .now) (c .stands-at-each .result) (c .stands-at-each .ensures)
+    word-stood (s .pre .0) (s .pre .2) (a .text .now) (s .pre .3) (c .before .before .before .before .before .if1 .left) (s .pre .1) (a .text .now) (c .stands-at-each .ensures)
 
 pub line-stands-spec : {M : Type 1} → statement M
 line-stands-spec =

@@ -40,7 +40,7 @@ returns c =
     reflects-no
     (λ each.
     c .before .equal-from .ensures .fails (not-true (c .before .equal-from .result) (c .if1 .taken))
-    (stand-part (a .string .now) (a .text .now) (getD (a .positions .now) 0 0) (each 0 (s .pre .1)) 0))
+    (stand-part (each 0 (s .pre .1)) 0))
 
 loop-holds : tie.Need-loop-holds Inv-loop μ-loop
 loop-holds c =
@@ -90,7 +90,7 @@ stands-again-requires c κs =
     let below = c .before .before .before .loop-test .taken in (
       c .period-of .ensures,
       omega arith,
-      stand-back (a .string .now) (a .text .now) (getD (a .positions .now) (l .i - 1) 0) (getD (a .positions .now) (l .i) 0)
+      stand-back (getD (a .positions .now) (l .i) 0)
           (omega (arith, rise-after 1 (a .positions .now) (s .pre .2) (l .i) (l .inv .0) below)) (l .inv .2 (l .i - 1) (omega (arith, l .inv .0))),
       s .pre .0 .to (l .i) below,
     )

@@ -44,9 +44,9 @@ step-requires c κs =
     let start = c .before .before .before .before .before .before .before .before .before .before in
     let lex = lexicon (start .args .chars .now) (start .args .lengths .now) in (
       start .pre .0,
-      behind-below lex (start .args .work .now) (start .args .n) (start .pre .1) (turn .work) (turn .at) (turn .end) (turn .inv)
+      behind-below lex (start .args .work .now) (start .args .n) (start .pre .1) (turn .inv)
           (c .before .before .loop-test .taken),
-      behind-end-within lex (start .args .work .now) (start .args .n) (start .pre .1) (turn .work) (turn .at) (turn .end) (turn .inv),
+      behind-end-within lex (start .args .work .now) (start .args .n) (start .pre .1) (turn .inv),
     )
 
 mul-work : tie.Need-mul-work Inv-loop μ-loop
@@ -57,7 +57,7 @@ slice-write-work c =
     let turn = c .before .before .before .before .loop in
     let start = c .before .before .before .before .before .before .before .before .before .before .before in
     behind-room (lexicon (start .args .chars .now) (start .args .lengths .now)) (start .args .work .now) (start .args .n) (start .pre .1)
-    (turn .work) (turn .at) (turn .end) (turn .inv) (c .before .before .before .loop-test .taken)
+    (turn .inv) (c .before .before .before .loop-test .taken)
 
 add-at : tie.Need-add-at Inv-loop μ-loop
 add-at c = search needs
@@ -70,7 +70,7 @@ loop-again c =
     let turn = c .before .before .before .before .loop in
     let start = c .before .before .before .before .before .before .before .before .before .before .before in
     behind-step (lexicon (start .args .chars .now) (start .args .lengths .now)) (start .args .work .now) (start .args .n) (start .pre .1)
-    (turn .work) (turn .at) (turn .end) (turn .inv) (c .step .result .token) (c .step .result .end)
+    (turn .inv) (c .step .result .end)
     (c .before .before .before .loop-test .taken)
     (c .step .ensures)
 
@@ -82,9 +82,9 @@ returns c =
     let turn = c .before .loop in
     let start = c .before .before .before .before .before .before .before .before in
     let lex = lexicon (start .args .chars .now) (start .args .lengths .now) in (
-      behind-tokens lex (start .args .work .now) (start .args .n) (start .pre .1) (turn .work) (turn .at) (turn .end) (turn .inv)
+      behind-tokens lex (start .args .work .now) (start .args .n) (start .pre .1) (turn .inv)
           (c .loop-test .left),
-      behind-rest lex (start .args .work .now) (start .args .n) (start .pre .1) (turn .work) (turn .at) (turn .end) (turn .inv)
+      behind-rest lex (start .args .work .now) (start .args .n) (start .pre .1) (turn .inv)
           (c .loop-test .left),
     )
 

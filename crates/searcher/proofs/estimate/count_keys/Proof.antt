@@ -14,7 +14,7 @@ count-lone-requires : tie.Need-count-lone-requires
 count-lone-requires c κs =
     let s = c .before .before .before .before .before .before in
     let a = s .args in
-    (s .pre .0 .fits, lone-rise (a .chars .now) (a .lengths .now) (a .index .now) (s .pre .0) (a .word-lines) (s .pre .2), s .pre .0 .keys-small)
+    (s .pre .0 .fits, lone-rise (s .pre .0) (s .pre .2), s .pre .0 .keys-small)
 
 estimate-words-requires : tie.Need-estimate-words-requires
 estimate-words-requires c κs = search needs

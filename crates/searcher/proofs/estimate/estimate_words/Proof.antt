@@ -31,7 +31,7 @@ estimate-lines-requires c κs =
       l .inv .1 .order,
       omega (arith, l .inv .1 .within, s .pre .2 .within, s .pre .0 .fits .has-directory),
       omega (arith, l .inv .1 .within, s .pre .2 .within, s .pre .0 .keys-small),
-      λ i below. words-at (a .chars .now) (a .lengths .now) (a .index .now) (s .pre .0) (a .word-lines) (s .pre .2) i (omega (arith, l .inv .1 .within)),
+      λ i below. words-at (s .pre .0) (s .pre .2) i (omega (arith, l .inv .1 .within)),
     )
 
 add-result : tie.Need-add-result Inv-loop μ-loop
@@ -52,7 +52,7 @@ word-length-requires c κs =
     let a = s .args in
     let l = c .before .before .loop in
     let below = c .before .loop-test .taken in
-    (omega (arith, below, l .inv .1 .within, s .pre .2 .within, s .pre .0 .fits .has-directory), shared-word (a .chars .now) (a .lengths .now) (a .index .now) (s .pre .0) (a .word-lines) (s .pre .2) (a .word-starts .now) (s .pre .1) (a .string .now) (a .key-start) (l .low) (l .high) (l .depth) (l .inv .1) (l .low) (omega arith) below)
+    (omega (arith, below, l .inv .1 .within, s .pre .2 .within, s .pre .0 .fits .has-directory), shared-word (s .pre .0) (s .pre .2) (s .pre .1) (l .inv .1) (l .low) (omega arith) below)
 
 estimate-line-requires : tie.Need-estimate-line-requires Inv-loop μ-loop
 estimate-line-requires c κs =
@@ -61,7 +61,7 @@ estimate-line-requires c κs =
     let l = c .before .before .before .before .loop in
     let below = c .before .before .before .loop-test .taken in (
       omega (arith, below, l .inv .1 .within, s .pre .2 .within, s .pre .0 .fits .has-directory),
-      shared-word (a .chars .now) (a .lengths .now) (a .index .now) (s .pre .0) (a .word-lines) (s .pre .2) (a .word-starts .now) (s .pre .1) (a .string .now) (a .key-start) (l .low) (l .high) (l .depth) (l .inv .1) (l .low) (omega arith) below,
+      shared-word (s .pre .0) (s .pre .2) (s .pre .1) (l .inv .1) (l .low) (omega arith) below,
       omega (arith, below, l .inv .1 .within, s .pre .2 .within, s .pre .0 .keys-small),
     )
 
@@ -85,7 +85,7 @@ loop-again c =
     let s = c .before .before .before .before .before .before .before .before .before .before .before in
     let a = s .args in
     let l = c .before .before .before .before .before .loop in
-    (omega (arith, c .estimate-line .ensures, l .inv .0), shared-prefix-next (a .chars .now) (a .lengths .now) (a .index .now) (s .pre .0) (a .word-lines) (s .pre .2) (a .word-starts .now) (s .pre .1) (a .string .now) (a .key-start) (l .low) (l .high) (l .depth) (l .inv .1) (c .before .before .before .before .loop-test .taken))
+    (omega (arith, c .estimate-line .ensures, l .inv .0), shared-prefix-next (s .pre .0) (s .pre .2) (s .pre .1) (l .inv .1) (c .before .before .before .before .loop-test .taken))
 
 add-character : tie.Need-add-character Inv-loop μ-loop
 add-character c = omega (arith, c .before .before .if1 .left, c .before .before .before .before .before .before .before .before .before .before .pre .3 .short)
@@ -101,7 +101,7 @@ equal-range-requires c κs =
     let s = c .before .before .before .before .before .before .before .before .before .before .before in
     let a = s .args in
     let l = c .before .before .before .before .before .loop in
-    shared-prefix-column (a .chars .now) (a .lengths .now) (a .index .now) (s .pre .0) (a .word-lines) (s .pre .2) (a .word-starts .now) (s .pre .1) (a .string .now) (a .key-start) (l .low) (l .high) (l .depth) (l .inv .1) (c .before .before .before .before .loop-test .taken) (λ e. c .before .if2 .left (c .before .before .word-length .ensures ∙ e))
+    shared-prefix-column (s .pre .0) (s .pre .2) (s .pre .1) (l .inv .1) (c .before .before .before .before .loop-test .taken) (λ e. c .before .if2 .left (c .before .before .word-length .ensures ∙ e))
 
 add-depth : tie.Need-add-depth Inv-loop μ-loop
 add-depth c = omega (arith, c .before .before .before .before .if1 .left, c .before .before .before .before .before .before .before .before .before .before .before .before .pre .3 .short)
@@ -111,7 +111,7 @@ loop-less-2 c =
     let s = c .before .before .before .before .before .before .before .before .before .before .before .before in
     let a = s .args in
     let l = c .before .before .before .before .before .before .loop in
-    omega (arith, shared-deep (a .chars .now) (a .lengths .now) (a .index .now) (s .pre .0) (a .word-lines) (s .pre .2) (a .word-starts .now) (s .pre .1) (a .string .now) (a .key-start) (l .low) (l .high) (l .depth) (l .inv .1) (c .before .before .before .before .before .loop-test .taken) (λ e. c .before .before .if2 .left (c .before .before .before .word-length .ensures ∙ e)), c .before .before .before .before .before .loop-test .taken, c .equal-range .ensures .0 .from, c .equal-range .ensures .1 .to)
+    omega (arith, shared-deep (s .pre .0) (s .pre .2) (s .pre .1) (l .inv .1) (c .before .before .before .before .before .loop-test .taken) (λ e. c .before .before .if2 .left (c .before .before .before .word-length .ensures ∙ e)), c .before .before .before .before .before .loop-test .taken, c .equal-range .ensures .0 .from, c .equal-range .ensures .1 .to)
 
 loop-again-2 : tie.Need-loop-again-2 Inv-loop μ-loop
 loop-again-2 c =
@@ -119,8 +119,8 @@ loop-again-2 c =
     let a = s .args in
     let l = c .before .before .before .before .before .before .loop in (
       omega (arith, l .inv .0, c .equal-range .ensures .0 .from),
-      shared-prefix-deeper (a .chars .now) (a .lengths .now) (a .index .now) (s .pre .0) (a .word-lines) (s .pre .2) (a .word-starts .now) (s .pre .1) (a .string .now) (a .key-start) (l .low) (l .high) (l .depth) (l .inv .1) (c .before .before .before .before .before .loop-test .taken) (λ e. c .before .before .if2 .left (c .before .before .before .word-length .ensures ∙ e))
-          (getD (a .string .now) (a .key-start + l .depth) 0) (c .equal-range .result .from) (c .equal-range .result .to) refl (omega (arith, c .before .before .before .before .if1 .left)) (c .equal-range .ensures .0) (c .equal-range .ensures .1),
+      shared-prefix-deeper (s .pre .0) (s .pre .2) (s .pre .1) (l .inv .1) (c .before .before .before .before .before .loop-test .taken) (λ e. c .before .before .if2 .left (c .before .before .before .word-length .ensures ∙ e))
+          refl (omega (arith, c .before .before .before .before .if1 .left)) (c .equal-range .ensures .0) (c .equal-range .ensures .1),
     )
 
 returns-2 : tie.Need-returns-2 Inv-loop μ-loop

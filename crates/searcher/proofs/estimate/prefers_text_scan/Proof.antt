@@ -28,7 +28,7 @@ count-word-lines-requires : tie.Need-count-word-lines-requires
 count-word-lines-requires c κs =
     let s = c .before .before .before .before .before .before .before in
     let a = s .args in
-    (s .pre .0 .fits, kinds-rise (a .chars .now) (a .lengths .now) (a .index .now) (s .pre .0))
+    (s .pre .0 .fits, kinds-rise (s .pre .0))
 
 mul-cost-exceeds : tie.Need-mul-cost-exceeds
 mul-cost-exceeds c = search needs
@@ -39,7 +39,7 @@ cost-exceeds-requires c κs =
     let a = s .args in (
       s .pre .0,
       s .pre .1,
-      split-found (a .chars .now) (a .lengths .now) (a .index .now) (s .pre .0) (c .count-word-lines .result) (c .count-word-lines .ensures),
+      split-found (s .pre .0) (c .count-word-lines .ensures),
       s .pre .2,
       omega (arith, s .pre .0 .n-small),
     )

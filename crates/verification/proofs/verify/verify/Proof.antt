@@ -92,7 +92,7 @@ returns-2 : tie.Need-returns-2 Inv-loop μ-loop
 returns-2 c =
     let start = c .before .before .before .before .before .before .before .before .before .before .before in
     let turn = c .before .before .loop in
-    testing-ends (lexicon (start .args .chars .now) (start .args .lengths .now)) (start .args .index .now) (start .args .text .now) (start .args .line-map .now) (turn .at) (turn .end) (turn .count) (turn .inv) (c .before .loop-test .left) (start .pre .1)
+    testing-ends (lexicon (start .args .chars .now) (start .args .lengths .now)) (start .args .index .now) (start .args .text .now) (start .args .line-map .now) (turn .inv) (c .before .loop-test .left) (start .pre .1)
 
 pub verify-spec : {M : Type 1} → statement M
 verify-spec =

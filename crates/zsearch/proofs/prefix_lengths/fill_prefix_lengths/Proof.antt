@@ -24,7 +24,7 @@ known-from-requires c κs =
     let s = c .before .before .before .before .before .before in
     let l = c .before .loop in
     λ b.
-    let short = zbox-short 0 (s .args .string .now) (s .args .text .now) (l .at) (l .left) (l .right) (l .inv .zbox) b in
+    let short = zbox-short 0 (s .args .string .now) (s .args .text .now) (l .at) (l .inv .zbox) b in
     (omega (arith, l .inv .zbox .begun b .1), omega (arith, s .pre .2, short))
 
 extend-requires : tie.Need-extend-requires Inv-loop μ-loop
@@ -34,9 +34,9 @@ extend-requires c κs =
     let fits : l .at + length (s .args .string .now) ≤ length (s .args .text .now) =
     omega (arith, c .before .loop-test .taken, l .inv .len, s .pre .3) in
     let lies : Prefix-at (s .args .string .now) (s .args .text .now) (l .at) (c .known-from .result) =
-    known-lies 0 (s .args .string .now) (s .args .text .now) (l .at) (l .left) (l .right) (l .inv .zbox)
-    (length (s .args .string .now)) (s .args .zarray .now) (c .known-from .result) (s .pre .0)
-    (zbox-short 0 (s .args .string .now) (s .args .text .now) (l .at) (l .left) (l .right) (l .inv .zbox)) (omega (arith, fits))
+    known-lies 0 (s .args .string .now) (s .args .text .now) (l .at) (l .inv .zbox)
+    (length (s .args .string .now)) (s .pre .0)
+    (zbox-short 0 (s .args .string .now) (s .args .text .now) (l .at) (l .inv .zbox)) (omega (arith, fits))
     (c .known-from .ensures) in
     (lies, lies .short, omega arith, fits)
 
@@ -68,8 +68,8 @@ loop-again c =
     let len = c .before .extend .result in
     let end = c .before .extend .ensures in
     let below = c .before .before .before .loop-test .taken in
-    filling-new 0 (s .args .string .now) (s .args .text .now) (Prefix-length (s .args .string .now) (s .args .text .now)) (s .args .reach .now) (l .reach)
-    (l .at) (l .left) (l .right) len (l .inv) (omega (arith, below, l .inv .len))
+    filling-new 0 (s .args .string .now) (s .args .text .now) (Prefix-length (s .args .string .now) (s .args .text .now)) (s .args .reach .now)
+    len (l .inv) (omega (arith, below, l .inv .len))
     end (end .lies)
 
 loop-less-2 : tie.Need-loop-less-2 Inv-loop μ-loop
@@ -82,8 +82,8 @@ loop-again-2 c =
     let len = c .before .extend .result in
     let end = c .before .extend .ensures in
     let below = c .before .before .before .loop-test .taken in
-    filling-on 0 (s .args .string .now) (s .args .text .now) (Prefix-length (s .args .string .now) (s .args .text .now)) (s .args .reach .now) (l .reach)
-    (l .at) (l .left) (l .right) len (l .inv) (omega (arith, below, l .inv .len))
+    filling-on 0 (s .args .string .now) (s .args .text .now) (Prefix-length (s .args .string .now) (s .args .text .now)) (s .args .reach .now)
+    len (l .inv) (omega (arith, below, l .inv .len))
     end
 
 same-length : tie.Need-same-length Inv-loop μ-loop

@@ -27,7 +27,7 @@ known-from-requires c κs =
     let s = c .before .before .before .before .before in
     let l = c .before .before .loop in
     λ b.
-    let short = zbox-short 1 (s .args .string .now) (s .args .string .now) (l .at) (l .left) (l .right) (l .inv .0 .zbox) b in
+    let short = zbox-short 1 (s .args .string .now) (s .args .string .now) (l .at) (l .inv .0 .zbox) b in
     (omega (arith, l .inv .0 .zbox .begun b .1), omega (arith, s .pre .1, l .inv .0 .len, short))
 
 sub-extend : tie.Need-sub-extend Inv-loop μ-loop
@@ -39,8 +39,8 @@ extend-requires c κs =
     let l = c .before .before .before .loop in
     let below = c .before .before .loop-test .taken in
     let lies : Prefix-at (s .args .string .now) (s .args .string .now) (l .at) (c .known-from .result) =
-    known-lies 1 (s .args .string .now) (s .args .string .now) (l .at) (l .left) (l .right) (l .inv .0 .zbox) (l .at) (l .zarray)
-    (c .known-from .result) (l .inv .0 .told) (λ b. omega (arith, l .inv .0 .zbox .begun b .0, l .inv .0 .zbox .begun b .1))
+    known-lies 1 (s .args .string .now) (s .args .string .now) (l .at) (l .inv .0 .zbox) (l .at)
+    (l .inv .0 .told) (λ b. omega (arith, l .inv .0 .zbox .begun b .0, l .inv .0 .zbox .begun b .1))
     (omega (arith, below)) (c .known-from .ensures) in
     (lies, omega (arith, lies .within), omega arith, omega (arith, below))
 
@@ -71,7 +71,7 @@ loop-again c =
     let l = c .before .before .before .before .before .loop in
     let end = c .before .extend .ensures in
     let below = c .before .before .before .before .loop-test .taken in (
-      filling-new 1 (a .string .now) (a .string .now) (Z-value (a .string .now)) (a .zarray .now) (l .zarray) (l .at) (l .left) (l .right)
+      filling-new 1 (a .string .now) (a .string .now) (Z-value (a .string .now)) (a .zarray .now)
           (c .before .extend .result) (l .inv .0)
           (omega (arith, below, c .before .before .before .before .before .before .before .before .pre .1))
           (λ from. end) (end .lies),
@@ -87,7 +87,7 @@ loop-again-2 c =
     let l = c .before .before .before .before .before .loop in
     let end = c .before .extend .ensures in
     let below = c .before .before .before .before .loop-test .taken in (
-      filling-on 1 (a .string .now) (a .string .now) (Z-value (a .string .now)) (a .zarray .now) (l .zarray) (l .at) (l .left) (l .right)
+      filling-on 1 (a .string .now) (a .string .now) (Z-value (a .string .now)) (a .zarray .now)
           (c .before .extend .result) (l .inv .0)
           (omega (arith, below, c .before .before .before .before .before .before .before .before .pre .1))
           (λ from. end),
@@ -102,7 +102,7 @@ returns c =
     let a = c .before .before .before .before .args in
     let l = c .before .loop in (
       λ j b. l .inv .0 .told j (omega (arith, c .loop-test .left)),
-      filled-rest (a .string .now) (a .string .now) (Z-value (a .string .now)) (a .zarray .now) (l .zarray) (l .at) (l .left) (l .right)
+      filled-rest
           (l .inv .0) (l .inv .1),
     )
 

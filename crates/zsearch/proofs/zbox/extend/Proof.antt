@@ -47,7 +47,7 @@ loop-again c =
     let s = c .before .before .before .before .before in
     let l = c .before .before .before .before .loop in
     let below = c .before .before .before .loop-test .taken in (
-      prefix-more (s .args .string .now) (s .args .text .now) (s .args .at) (l .len) (l .inv .0) (omega (arith, s .pre .2, below))
+      prefix-more (s .args .string .now) (s .args .text .now) (s .args .at) (l .inv .0) (omega (arith, s .pre .2, below))
           (omega (arith, s .pre .3, below)) (c .if1 .left),
       omega (arith, below),
     )
