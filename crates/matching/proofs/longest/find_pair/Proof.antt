@@ -42,7 +42,7 @@ cast-len : tie.Need-cast-len
 cast-len c = omega (arith, c .shared-slice-known7 .given (c .before .before .walk-pair .result - 1))
 
 add-if3 : tie.Need-add-if3
-add-if3 c = omega (arith, c .before .before .before .before .before .before .before .before .before .before .pre .1, c .shared-slice-known7 .given (c .before .before .walk-pair .result - 1))
+add-if3 c = omega (arith, c .shared-slice-known7 .given (c .before .before .walk-pair .result - 1))
 
 returns-3 : tie.Need-returns-3
 returns-3 c =

@@ -32,10 +32,10 @@ bucket-of-char-requires : tie.Need-bucket-of-char-requires Inv-loop μ-loop
 bucket-of-char-requires c κs = search needs
 
 mul-next : tie.Need-mul-next Inv-loop μ-loop
-mul-next c = omega (arith, c .bucket-of-char .ensures .1)
+mul-next c = omega arith
 
 shared-slice-read-next : tie.Need-shared-slice-read-next Inv-loop μ-loop
-shared-slice-read-next c = omega (arith, c .before .bucket-of-char .ensures .1, c .before .before .before .before .before .before .before .before .before .pre .0 .heads-long)
+shared-slice-read-next c = omega arith
 
 cast-next : tie.Need-cast-next Inv-loop μ-loop
 cast-next c = omega (arith, c .shared-slice-known8 .given (c .before .bucket-of-char .result))
@@ -47,13 +47,13 @@ loop-holds c =
     (single-start (start .pre .0) (start .args .text .now) (start .args .at))
 
 sub-number : tie.Need-sub-number Inv-loop μ-loop
-sub-number c = omega (arith, c .loop-test .taken)
+sub-number c = omega arith
 
 mul-start : tie.Need-mul-start Inv-loop μ-loop
 mul-start c = omega (arith, known c)
 
 shared-slice-read-start : tie.Need-shared-slice-read-start Inv-loop μ-loop
-shared-slice-read-start c = omega (arith, known (c .before), c .before .before .before .before .before .before .before .before .before .before .before .before .pre .0 .words .starts-long)
+shared-slice-read-start c = omega (arith, known (c .before))
 
 cast-start : tie.Need-cast-start Inv-loop μ-loop
 cast-start c = omega (arith, c .shared-slice-known9 .given (c .before .before .loop .next - 1))
@@ -76,7 +76,7 @@ mul-next-2 : tie.Need-mul-next-2 Inv-loop μ-loop
 mul-next-2 c = omega (arith, known (c .before .before .before))
 
 shared-slice-read-next-2 : tie.Need-shared-slice-read-next-2 Inv-loop μ-loop
-shared-slice-read-next-2 c = omega (arith, known (c .before .before .before .before), c .before .before .before .before .before .before .before .before .before .before .before .before .before .before .before .pre .0 .links-long)
+shared-slice-read-next-2 c = omega (arith, known (c .before .before .before .before))
 
 cast-next-2 : tie.Need-cast-next-2 Inv-loop μ-loop
 cast-next-2 c = omega (arith, c .shared-slice-known11 .given (c .before .before .before .before .before .loop .next - 1))

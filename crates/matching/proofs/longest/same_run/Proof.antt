@@ -47,7 +47,7 @@ returns c =
       no =
           λ f same.
           c .if1 .taken
-          (same (c .before .before .before .before .loop .i - 1) (omega (arith, c .before .before .before .before .loop .inv .0)));
+          (same (c .before .before .before .before .loop .i - 1) (omega arith));
     }
 
 loop-less : tie.Need-loop-less Inv-loop μ-loop

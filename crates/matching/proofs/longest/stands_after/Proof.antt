@@ -43,7 +43,7 @@ cast-same-run c = omega (arith, c .shared-slice-known6 .given (c .before .before
 same-run-requires : tie.Need-same-run-requires
 same-run-requires c κs =
     let start = c .before .before .before .before .before .before .before .before in
-    (omega (arith, start .pre .0 .started (start .args .number) (omega (arith, start .pre .2)), word-room (start .args .chars .now) (start .args .lengths .now) (start .pre .0 .dictionary) (start .args .number) (start .pre .2)), c .before .if2 .left)
+    (omega (arith, start .pre .0 .started (start .args .number) (omega arith), word-room (start .args .chars .now) (start .args .lengths .now) (start .pre .0 .dictionary) (start .args .number) (start .pre .2)), c .before .if2 .left)
 
 returns-3 : tie.Need-returns-3
 returns-3 c =

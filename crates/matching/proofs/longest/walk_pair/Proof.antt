@@ -34,16 +34,16 @@ stop c =
     pair-stop (start .pre .0) (start .args .text .now) (start .args .at) (start .args .end) (c .before .loop .next) (c .before .loop .inv) (c .loop-test .taken)
 
 mul-x : tie.Need-mul-x Inv-loop μ-loop
-mul-x c = omega (arith, c .before .before .before .before .before .before .pre .1)
+mul-x c = omega arith
 
 shared-slice-read-x : tie.Need-shared-slice-read-x Inv-loop μ-loop
-shared-slice-read-x c = omega (arith, c .before .before .before .before .before .before .before .pre .1)
+shared-slice-read-x c = omega arith
 
 add-y : tie.Need-add-y Inv-loop μ-loop
-add-y c = omega (arith, c .before .before .before .before .before .before .before .pre .1)
+add-y c = omega arith
 
 mul-y : tie.Need-mul-y Inv-loop μ-loop
-mul-y c = omega (arith, c .before .before .before .before .before .before .before .pre .1)
+mul-y c = omega arith
 
 shared-slice-read-y : tie.Need-shared-slice-read-y Inv-loop μ-loop
 shared-slice-read-y c = c .before .before .before .before .before .before .before .before .pre .1
@@ -52,10 +52,10 @@ bucket-of-pair-requires : tie.Need-bucket-of-pair-requires Inv-loop μ-loop
 bucket-of-pair-requires c κs = tt
 
 mul-next : tie.Need-mul-next Inv-loop μ-loop
-mul-next c = omega (arith, c .bucket-of-pair .ensures .1)
+mul-next c = omega arith
 
 shared-slice-read-next : tie.Need-shared-slice-read-next Inv-loop μ-loop
-shared-slice-read-next c = omega (arith, c .before .bucket-of-pair .ensures .1, c .before .before .before .before .before .before .before .before .before .before .pre .0 .heads-long)
+shared-slice-read-next c = omega arith
 
 cast-next : tie.Need-cast-next Inv-loop μ-loop
 cast-next c = omega (arith, c .shared-slice-known9 .given (c .before .bucket-of-pair .result))
@@ -66,7 +66,7 @@ loop-holds c =
     rw (c .before .bucket-of-pair .ensures .0) (pair-start (start .pre .0) (start .args .text .now) (start .args .at) (start .args .end))
 
 find-last-standing-requires : tie.Need-find-last-standing-requires Inv-loop μ-loop
-find-last-standing-requires c κs = (c .before .before .before .before .before .before .before .before .before .before .before .before .before .pre .0 .words, omega (arith, c .before .before .before .before .before .before .before .before .before .before .before .before .before .pre .1), stop (c .before) .below)
+find-last-standing-requires c κs = (c .before .before .before .before .before .before .before .before .before .before .before .before .before .pre .0 .words, omega arith, stop (c .before) .below)
 
 returns : tie.Need-returns Inv-loop μ-loop
 returns c =
@@ -74,13 +74,13 @@ returns c =
     pair-narrowed (start .pre .0) (start .args .text .now) (start .args .at) (start .args .end) (c .before .before .before .loop .next) (c .before .before .before .loop .inv) (c .before .before .loop-test .taken) (c .find-last-standing .ensures)
 
 sub-left : tie.Need-sub-left Inv-loop μ-loop
-sub-left c = omega (arith, c .if1 .left)
+sub-left c = omega arith
 
 sub-number : tie.Need-sub-number Inv-loop μ-loop
-sub-number c = omega (arith, c .before .loop-test .taken)
+sub-number c = omega arith
 
 stands-after-requires : tie.Need-stands-after-requires Inv-loop μ-loop
-stands-after-requires c κs = (c .before .before .before .before .before .before .before .before .before .before .before .before .before .pre .0 .words, omega (arith, c .before .before .before .before .before .before .before .before .before .before .before .before .before .pre .1), known (c .before))
+stands-after-requires c κs = (c .before .before .before .before .before .before .before .before .before .before .before .before .before .pre .0 .words, omega arith, known (c .before))
 
 returns-2 : tie.Need-returns-2 Inv-loop μ-loop
 returns-2 c =
@@ -91,7 +91,7 @@ mul-next-2 : tie.Need-mul-next-2 Inv-loop μ-loop
 mul-next-2 c = omega (arith, known (c .before .before .before))
 
 shared-slice-read-next-2 : tie.Need-shared-slice-read-next-2 Inv-loop μ-loop
-shared-slice-read-next-2 c = omega (arith, known (c .before .before .before .before), c .before .before .before .before .before .before .before .before .before .before .before .before .before .before .before .before .pre .0 .links-long)
+shared-slice-read-next-2 c = omega (arith, known (c .before .before .before .before))
 
 cast-next-2 : tie.Need-cast-next-2 Inv-loop μ-loop
 cast-next-2 c = omega (arith, c .shared-slice-known10 .given (c .before .before .before .before .before .loop .next - 1))

@@ -41,7 +41,7 @@ column c =
 loop-holds : tie.Need-loop-holds Inv-loop μ-loop
 loop-holds c =
     let start = c .before .before .before .before in
-    narrow-start (lexicon (start .args .chars .now) (start .args .lengths .now) .words) (start .args .text .now) (start .args .at + 1) (start .args .count) (omega (arith, start .pre .2, many-words (start .args .chars .now) (start .args .lengths .now) (start .pre .0 .dictionary))) (omega arith) (omega (arith, start .pre .1))
+    narrow-start (lexicon (start .args .chars .now) (start .args .lengths .now) .words) (start .args .text .now) (start .args .at + 1) (start .args .count) (omega (arith, many-words (start .args .chars .now) (start .args .lengths .now) (start .pre .0 .dictionary))) (omega arith) (omega arith)
 
 mul-if1 : tie.Need-mul-if1 Inv-loop μ-loop
 mul-if1 c = omega (arith, known c)
@@ -71,16 +71,16 @@ returns : tie.Need-returns Inv-loop μ-loop
 returns c =
     let start = c .before .before .before .before .before .before .before .before .before in
     let turn = c .before .before .before .before .loop in
-    run-stop (start .pre .0) (turn .inv) (c .before .before .before .loop-test .taken) (c .before .if1 .left) (omega (arith, c .if2 .taken))
+    run-stop (start .pre .0) (turn .inv) (c .before .before .before .loop-test .taken) (c .before .if1 .left) (omega arith)
 
 add-c : tie.Need-add-c Inv-loop μ-loop
 add-c c = omega (arith, deep (c .before))
 
 mul-c : tie.Need-mul-c Inv-loop μ-loop
-mul-c c = omega (arith, c .if2 .left)
+mul-c c = omega arith
 
 shared-slice-read-c : tie.Need-shared-slice-read-c Inv-loop μ-loop
-shared-slice-read-c c = omega (arith, c .before .if2 .left)
+shared-slice-read-c c = omega arith
 
 cast-c : tie.Need-cast-c Inv-loop μ-loop
 cast-c c = omega (arith, c .shared-slice-known6 .given (c .before .before .before .before .before .before .before .before .before .before .args .at + c .before .before .before .before .before .loop .depth))
@@ -98,7 +98,7 @@ add-depth : tie.Need-add-depth Inv-loop μ-loop
 add-depth c = omega (arith, deep (c .before .before .before .before))
 
 loop-less-2 : tie.Need-loop-less-2 Inv-loop μ-loop
-loop-less-2 c = omega (arith, deep (c .before .before .before .before), c .before .cut-low .ensures .from, c .cut-high .ensures .to, c .before .before .before .before .before .before .loop-test .taken)
+loop-less-2 c = omega (arith, deep (c .before .before .before .before))
 
 loop-again-2 : tie.Need-loop-again-2 Inv-loop μ-loop
 loop-again-2 c =
@@ -107,7 +107,7 @@ loop-again-2 c =
     let position : start .args .at + turn .depth ≡ start .args .at + 1 + turn .depth - 1 = omega arith in
     run-step (start .pre .0) (turn .inv) (c .before .before .before .before .before .before .loop-test .taken) (c .before .before .before .before .if1 .left)
     (getD (start .args .text .now) (start .args .at + turn .depth) 0) (c .before .cut-low .result) (c .cut-high .result)
-    (ap (λ (i : ℕ). getD (start .args .text .now) i 0) position) (omega (arith, c .before .before .before .if2 .left)) (c .before .cut-low .ensures) (c .cut-high .ensures)
+    (ap (λ (i : ℕ). getD (start .args .text .now) i 0) position) (omega arith) (c .before .cut-low .ensures) (c .cut-high .ensures)
 
 returns-2 : tie.Need-returns-2 Inv-loop μ-loop
 returns-2 c =

@@ -19,7 +19,7 @@ room :
     (c : tie.After-shared-slice-known Inv-loop μ-loop) →
     getD (c .before .before .before .args .word-starts .now) (c .before .before .loop .a + (c .before .before .loop .b - c .before .before .loop .a) / 2) 0 + c .before .before .before .args .depth
     < length (c .before .before .before .args .chars .now)
-room c = c .before .before .before .pre .room (c .before .before .loop .a + (c .before .before .loop .b - c .before .before .loop .a) / 2) (omega (arith, c .before .before .loop .inv .from)) (omega (arith, c .before .before .loop .inv .to))
+room c = c .before .before .before .pre .room (c .before .before .loop .a + (c .before .before .loop .b - c .before .before .loop .a) / 2) (omega arith) (omega arith)
 
 loop-holds : tie.Need-loop-holds Inv-loop μ-loop
 loop-holds c = bisected-start (c .args .least) (c .pre)

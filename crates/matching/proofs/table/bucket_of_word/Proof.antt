@@ -42,7 +42,7 @@ bucket-of-pair-requires c κs = search needs
 returns-2 : tie.Need-returns-2
 returns-2 c =
     record {
-      small = omega (arith, c .bucket-of-pair .ensures .1);
+      small = omega arith;
       one = λ e. absurd (omega arith);
       more = λ l. c .bucket-of-pair .ensures .0;
     }

@@ -38,7 +38,7 @@ bucket-of-word-requires c κs =
     let start = c .before .before .before .before .before .before .before .before in
     let turn = c .before .before in (
       word-some (start .args .chars .now) (start .args .lengths .now) (start .pre .dictionary) (turn .loop .i) (c .before .loop-test .taken),
-      omega (arith, turn .loop .inv .0 .at-is, word-room (start .args .chars .now) (start .args .lengths .now) (start .pre .dictionary) (turn .loop .i) (c .before .loop-test .taken)),
+      omega (arith, word-room (start .args .chars .now) (start .args .lengths .now) (start .pre .dictionary) (turn .loop .i) (c .before .loop-test .taken)),
     )
 
 cast-word-starts : tie.Need-cast-word-starts Inv-loop μ-loop
@@ -51,19 +51,19 @@ mul-word-starts : tie.Need-mul-word-starts Inv-loop μ-loop
 mul-word-starts c = search needs
 
 slice-write-word-starts : tie.Need-slice-write-word-starts Inv-loop μ-loop
-slice-write-word-starts c = omega (arith, c .before .before .before .loop .inv .0 .starts-long)
+slice-write-word-starts c = omega arith
 
 mul-links : tie.Need-mul-links Inv-loop μ-loop
-mul-links c = omega (arith, c .bucket-of-word .ensures .small)
+mul-links c = omega arith
 
 slice-read-links : tie.Need-slice-read-links Inv-loop μ-loop
-slice-read-links c = omega (arith, c .before .bucket-of-word .ensures .small, c .before .before .before .before .loop .inv .0 .heads-long)
+slice-read-links c = omega arith
 
 mul-links-2 : tie.Need-mul-links-2 Inv-loop μ-loop
 mul-links-2 c = search needs
 
 slice-write-links : tie.Need-slice-write-links Inv-loop μ-loop
-slice-write-links c = omega (arith, c .before .before .before .before .loop .inv .0 .links-long)
+slice-write-links c = omega arith
 
 add-heads : tie.Need-add-heads Inv-loop μ-loop
 add-heads c = search needs
@@ -74,10 +74,10 @@ cast-heads c =
     omega (arith, few-words (start .args .chars .now) (start .args .lengths .now) (start .pre .dictionary))
 
 mul-heads : tie.Need-mul-heads Inv-loop μ-loop
-mul-heads c = omega (arith, c .before .bucket-of-word .ensures .small)
+mul-heads c = omega arith
 
 slice-write-heads : tie.Need-slice-write-heads Inv-loop μ-loop
-slice-write-heads c = omega (arith, c .before .bucket-of-word .ensures .small, c .before .before .before .before .loop .inv .0 .heads-long)
+slice-write-heads c = omega arith
 
 add-at : tie.Need-add-at Inv-loop μ-loop
 add-at c =
@@ -115,7 +115,7 @@ mul-word-starts-2 : tie.Need-mul-word-starts-2 Inv-loop μ-loop
 mul-word-starts-2 c = search needs
 
 slice-write-word-starts-2 : tie.Need-slice-write-word-starts-2 Inv-loop μ-loop
-slice-write-word-starts-2 c = omega (arith, c .before .loop .inv .0 .within, c .before .loop .inv .0 .starts-long)
+slice-write-word-starts-2 c = omega arith
 
 same-length : tie.Need-same-length Inv-loop μ-loop
 same-length c = c .before .loop .inv .1
