@@ -1,6 +1,7 @@
-// Flags for the directory lines whose keys bear on a string: those that agree with it at some offset.
+// Flags the directory lines whose keys bear on a string: those that agree with it at some offset.
 //
-// Only a key that starts before the string is laid against it. The others are found by binary search, offset by offset.
+// At offsets below 0 each word is compared with the string. At offsets from 0 up no key is compared: binary search over the sorted
+// directory gives the ranges of lines that agree.
 ghost use mathlib.Core.Path.{_≡_};
 ghost use Prim.Native.Nat.{_≤_};
 ghost use lib.ListN.{length, replicate};
@@ -13,7 +14,7 @@ use crate::before::flag_before;
 use crate::within::flag_within;
 use directory::ranges::count_word_lines;
 
-// Sets the flag of each line whose key bears on the string, where all flags are 0.
+// Sets the flag of each line whose key bears on the string. All flags are 0 on entry.
 pub fn flag_bearing<'a>(
     chars: &'a [u16],
     lengths: &[u16],

@@ -1,7 +1,7 @@
-// The offsets below 0: keys that start before the string.
+// Keys that start before the string: the offsets below 0.
 //
-// Such a key has the string's first character at a later place than its first. A lone character has no later place, so only the lines
-// of words are walked.
+// Such a key has the string's first character at an index above 0, and is compared with the string only there. A lone character has no such
+// index, so only the lines of words are walked.
 ghost use mathlib.Core.Path.{_≡_};
 ghost use mathlib.Core.Bool.{true, false};
 ghost use Prim.Native.Nat.{ℕ, _≤_};
@@ -35,7 +35,7 @@ fn begins_before(key: &[u16], string: &[u16]) -> bool
     false
 }
 
-// Flags those of the first `ends` lines whose keys agree with the string at an offset below 0.
+// Flags those of the first `word_lines` lines whose keys agree with the string at an offset below 0.
 pub(crate) fn flag_before<'a>(
     chars: &'a [u16],
     lengths: &[u16],

@@ -1,8 +1,8 @@
-// The offsets from 0 up: keys that start within the string.
+// Keys that start within the string: the offsets from 0 up.
 //
-// Such a key starts with the string's character at the offset, so the lines of words are narrowed by binary search to those that
-// share the string's characters from there on, one character after the other, and a lone character is one line. Narrowed to the end,
-// what is left agrees: no key is laid against the string.
+// Words are sorted, so those that share the string's next characters are one range of lines. Each further character takes the equal range
+// within the last one, by binary search. A word that ends on the way agrees, and where the string ends all words left do. A lone character
+// has at most one line, found by its lower bound. No key is compared with the string.
 ghost use Prim.Native.Nat.{_≤_, _<_};
 ghost use lib.ListN.{length};
 ghost use Rattle.spec.specs.Dictionary.{lexicon};
@@ -28,7 +28,7 @@ fn flag_lines(from: usize, to: usize, flags: &mut [u8])
     }
 }
 
-// Flags the lines of words, of which there are `ends`, whose keys agree with the string at the offset `key_start`.
+// Flags the lines of words whose keys agree with the string at the offset `key_start`. The first `word_lines` lines are those of words.
 fn flag_words(
     chars: &[u16],
     lengths: &[u16],
@@ -64,7 +64,8 @@ fn flag_words(
     }
 }
 
-// The same for the lines of lone characters, which follow those of words: the string's character has at most one of them.
+// Flags the line of the lone character that agrees with the string at the offset `key_start`, if there is one. The lines of lone characters
+// follow the first `word_lines`.
 fn flag_lone(
     chars: &[u16],
     lengths: &[u16],
@@ -105,7 +106,7 @@ fn flag_offset(
     flag_lone(chars, lengths, index, string, key_start, word_lines, flags);
 }
 
-// Flags the lines whose keys agree with the string at an offset from 0 to the string's last place.
+// Flags the lines whose keys agree with the string at an offset from 0 to the string's length less 1.
 pub(crate) fn flag_within(
     chars: &[u16],
     lengths: &[u16],

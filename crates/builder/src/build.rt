@@ -1,7 +1,7 @@
-// Building a text's index.
+// Building a text's index: admission, match table, scan, inversion, writing.
 //
-// The heads of the chains and the flags of their pages are local; of the work slice twice as many numbers are used as the text has
-// characters, for its marks and for the replaced text. The result is sized before the output is touched.
+// The match table, the heads of the posting chains and the flags of their pages are local. Of the work slice 2n numbers are used for a text
+// of n characters: n for its tokens, n for the replaced text. Counting keys and entries sizes the result before the output is touched.
 ghost use mathlib.Core.Path.{_≡_};
 ghost use Prim.Native.Nat.{_≤_};
 ghost use lib.ListN.{length, take};
@@ -37,7 +37,7 @@ fn early_refusal(chars: &[u16], lengths: &[u16], text: &[u16], work: usize) -> u
     0
 }
 
-// Writes the index that marks stand for, or answers 8. The marks give way to links.
+// Writes the index that the tokens stand for, or answers 8. The links of the posting chains overwrite the tokens.
 fn index_by(
     text: &[u16],
     output: &mut [u16],
@@ -65,7 +65,7 @@ fn index_by(
     }
 }
 
-// The same with heads and pages of its own.
+// Writes the index that the tokens stand for, or answers 8, with local heads and pages.
 fn index_tokens(text: &[u16], output: &mut [u16], tokens: &mut [u16]) -> Answer
     requires { ⌜ Linkable (replaced (now text)) (now tokens) ⌝ }
     ensures { λ r. ⌜ Tokens-say (now (tokens .entry)) (replaced (now (text .entry))) r (now (output .entry)) (now (output .exit)) ⌝ }
@@ -75,7 +75,7 @@ fn index_tokens(text: &[u16], output: &mut [u16], tokens: &mut [u16]) -> Answer
     index_by(text, output, tokens, &mut heads, &mut pages)
 }
 
-// The same for marks at the front of a longer slice.
+// Writes the index of the text whose tokens are the first numbers of the work slice, or answers 8.
 fn finish(text: &[u16], output: &mut [u16], work: &mut [u16]) -> Answer
     requires { ⌜ length (now text) ≤ length (now work) ⌝ }
     requires { ⌜ Linkable (replaced (now text)) (take (length (now text)) (now work)) ⌝ }
@@ -87,7 +87,7 @@ fn finish(text: &[u16], output: &mut [u16], work: &mut [u16]) -> Answer
     index_tokens(text, output, &mut work[..n])
 }
 
-// What follows where no early refusal is met: the match table, the scan of the replaced text, and what its marks stand for.
+// Fills the match table, scans the replaced text and writes the index of its tokens, where no early refusal is met.
 fn index_with(
     chars: &[u16],
     lengths: &[u16],
@@ -110,7 +110,7 @@ fn index_with(
     finish(text, output, work)
 }
 
-// The same with a match table of its own.
+// Builds the index with a local match table, where no early refusal is met.
 fn index_text(
     chars: &[u16],
     lengths: &[u16],
@@ -139,7 +139,7 @@ fn index_text(
     )
 }
 
-// Builds the index of a text, replaced first: refusals 1, 2, 3, 12, 4, 7, 8; accepted it answers the count of numbers written. The work
+// Builds the index of a text, replaced first: refusals 1, 2, 3, 12, 4, 7, 8; accepted, it answers the count of numbers written. The work
 // slice is cleared on every path.
 pub fn build(
     chars: &[u16],

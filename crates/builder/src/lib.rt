@@ -1,3 +1,3 @@
-// Building an index: the text is replaced and scanned, positions are put together under their keys, and written.
+// Builds an index: replaces the text's full-width forms, scans it into tokens, inverts these into posting lists, writes the numbers.
 pub mod build;
 mod text;

@@ -1,6 +1,6 @@
-// The text of a build: replaced, and scanned.
+// The text of a build, replaced and scanned.
 //
-// Of the work slice the first n numbers take the marks and the next n the replaced text, 2n of the 8n that a caller lends.
+// The first n numbers of the work slice take the tokens, the next n the replaced text: 2n of the 8n that a caller lends.
 ghost use mathlib.Core.Path.{_≡_};
 ghost use Prim.Native.Nat.{_*_, _≤_};
 ghost use lib.ListN.{length, take, drop};
@@ -11,7 +11,7 @@ ghost use Rattle.laws.specs.Build.Tokens.{Tokens};
 use folding::forms::replace_into;
 use scanning::scan::scan;
 
-// Writes the replaced text to the numbers after those that the marks take.
+// Writes the replaced text to the numbers after those of the tokens.
 fn replace_behind(text: &[u16], work: &mut [u16])
     requires { ⌜ 2 * length (now text) ≤ length (now work) ⌝ }
     ensures { λ _. ⌜
@@ -22,7 +22,7 @@ fn replace_behind(text: &[u16], work: &mut [u16])
     replace_into(text, &mut work[n..behind]);
 }
 
-// Writes the marks of the replaced text to the front of the work slice.
+// Writes the tokens of the replaced text to the first numbers of the work slice.
 pub(crate) fn scan_replaced(
     chars: &[u16],
     lengths: &[u16],

@@ -1,11 +1,11 @@
-// A list copied into a slice, and a slice filled with one number.
+// Copies a list into a slice, and fills a slice with one number. Each is one loop of one store a number.
 ghost use mathlib.Core.Path.{_≡_};
 ghost use mathlib.Core.List.{_++_};
 ghost use Prim.Native.Nat.{_+_, _≤_};
 ghost use lib.ListN.{length, take, replicate};
 ghost use Rattle.basics.specs.Writing.{over};
 
-// Writes a list from `from` on.
+// Writes a list into the output, from the index `from` on.
 pub fn write_list(list: &[u16], from: usize, output: &mut [u16])
     requires { ⌜ from + length (now list) ≤ length (now output) ⌝ }
     ensures { λ r. ⌜ now (output .exit) ≡ over (take from (now (output .entry)) ++ now (list .entry)) (now (output .entry)) ⌝ }
@@ -17,7 +17,7 @@ pub fn write_list(list: &[u16], from: usize, output: &mut [u16])
     }
 }
 
-// Sets one number over the whole slice.
+// Sets every number of a slice to `number`.
 pub fn fill(slice: &mut [u16], number: u16)
     ensures { λ r. ⌜ now (slice .exit) ≡ replicate (length (now (slice .entry))) number ⌝ }
 {

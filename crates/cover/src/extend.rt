@@ -1,8 +1,9 @@
-// One key at one offset against the string: each start of a window at which an entry of the key then lies is raised.
+// One key at one offset: extends the reach of each start of a window at which an entry of the key then lies.
 //
-// The offset is two natural starts, one of them 0. An entry that starts within what is reached raises the reach to its end. Of a long
-// list only the positions that fall into the window are walked, a range that two lower bounds give; a short list is walked sooner than
-// searched. Differences wrap, so that one test tells whether a number lies in a range: below its start the difference is very large.
+// The offset is two natural starts, one of them 0. An entry that starts inside the covered prefix or right after it, and ends later,
+// extends the reach to its end. Of a long list only the positions that fall into the window are walked, between two lower bounds; a
+// short list is walked whole, which costs less than a search. Range tests take a wrapping difference: below the range it is very large,
+// so one comparison tests both ends.
 ghost use mathlib.Core.Path.{_≡_};
 ghost use Prim.Native.Nat.{_-_, _≤_, _<_, max};
 ghost use lib.ListN.{length};
@@ -21,14 +22,14 @@ fn greater(a: usize, b: usize) -> usize
     if a < b { b } else { a }
 }
 
-// By how much a is greater than b, 0 where it is not.
+// `a` - `b`, or 0 where `b` is greater.
 fn saturating_sub(a: usize, b: usize) -> usize
     ensures { λ r. ⌜ r ≡ a - b ⌝ }
 {
     if a < b { 0 } else { a - b }
 }
 
-// Raises the reach of the start `p` to `end` if it is from `key_start` to `end` - 1. Answers whether it is.
+// Extends the reach at index `p` to `end` if it is from `key_start` to `end` - 1. Answers whether it did.
 fn extend_start(reach: &mut [u16], p: usize, key_start: usize, end: usize) -> bool
     requires { ⌜ (p < length (now reach)) × («key_start» ≤ end) × (end ≤ 65535) ⌝ }
     ensures { λ r. ⌜ Extends «key_start» end (now (reach .entry)) p r (now (reach .exit)) ⌝ }
@@ -42,8 +43,8 @@ fn extend_start(reach: &mut [u16], p: usize, key_start: usize, end: usize) -> bo
     false
 }
 
-// Raises the reach of each start of the window at which an entry of these positions lies at the offset. Answers how far any start
-// then reaches.
+// Extends the reach of each start of the window at which an entry of these positions lies at the offset; tests every position. Answers
+// the greatest reach afterwards.
 fn extend_at_all(
     positions: &[u16],
     len: usize,
@@ -74,7 +75,8 @@ fn extend_at_all(
     highest
 }
 
-// The same, where the positions from `from` to `to` - 1 are those that fall into the window.
+// Extends the reach of the starts that the positions from index `from` to `to` - 1 fall on, which are those in the window. Answers
+// the greatest reach afterwards.
 fn extend_at_range(
     positions: &[u16],
     from: usize,
@@ -104,7 +106,8 @@ fn extend_at_range(
     highest
 }
 
-// The same with the range found, if the list is not short.
+// Extends the reach of each start of the window at which an entry of these positions lies at the offset: walks a short list whole, of a
+// long one the range in the window. Answers the greatest reach afterwards.
 pub(crate) fn extend_at_positions(
     positions: &[u16],
     len: usize,
@@ -136,7 +139,7 @@ pub(crate) fn extend_at_positions(
     )
 }
 
-// The same for one key at one offset, if it agrees with the string there.
+// Extends the reach by one key at one offset, if the key agrees with the string there. Answers the greatest reach afterwards.
 pub(crate) fn extend_key(
     key: &[u16],
     string: &[u16],

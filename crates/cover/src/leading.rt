@@ -1,5 +1,7 @@
-// The first stage: every key at each offset at which it does not start after the string. Of the lines of words, those listed are
-// walked: the others do not agree there.
+// The leading keys: keys at an offset of 0 or below, which start where the string starts or before it.
+//
+// Of the lines of words only those listed in `leading_lines` are walked, as no other agrees at such an offset. A word is tried at each of
+// its indices that has the string's first character. A lone character is tried at the offset 0 alone.
 ghost use mathlib.Core.Path.{_≡_};
 ghost use Prim.Native.Nat.{_≤_};
 ghost use lib.ListN.{length};
@@ -17,7 +19,7 @@ use crate::extend::extend_key;
 use directory::lines::key_of;
 use directory::lines::positions_of;
 
-// Raises the window by one key at each offset at which it does not start after the string.
+// Extends the window by one key at each of its offsets of 0 and below. Answers the greatest reach afterwards.
 fn extend_back(
     key: &[u16],
     string: &[u16],
@@ -41,7 +43,7 @@ fn extend_back(
     highest
 }
 
-// The same by the listed lines.
+// Extends the window by the listed lines of words at their offsets of 0 and below. Answers the greatest reach afterwards.
 fn extend_words_back<'a>(
     chars: &'a [u16],
     lengths: &[u16],
@@ -69,7 +71,7 @@ fn extend_words_back<'a>(
     highest
 }
 
-// The first stage. A lone character does not start before the string.
+// Extends the window by all leading keys. Answers the greatest reach afterwards.
 pub(crate) fn extend_leading<'a>(
     chars: &'a [u16],
     lengths: &[u16],

@@ -1,6 +1,7 @@
-// The lines of words whose keys agree with the string at an offset of 0 or below, listed.
+// Lists the lines of words whose keys agree with the string at an offset of 0 or below: the leading lines.
 //
-// Which they are does not depend on the window: whoever searches several windows for one string lists them once.
+// The list does not depend on the window, so a search of several windows for one string makes it once. A word is compared with the string
+// only at its indices that have the string's first character.
 ghost use mathlib.Core.Path.{_≡_};
 ghost use Prim.Native.Nat.{_≤_};
 ghost use lib.ListN.{length, take};
@@ -33,7 +34,7 @@ fn agrees_leading(key: &[u16], string: &[u16]) -> bool
     false
 }
 
-// Lists those of the first `ends` lines whose keys do, at the front of `lines`. Answers how many they are.
+// Lists those of the first `word_lines` lines whose keys agree at an offset of 0 or below, from the start of `lines`. Answers how many.
 fn fill_leading<'a>(
     chars: &'a [u16],
     lengths: &[u16],
@@ -66,7 +67,7 @@ pub struct Leading {
     pub count: usize,
 }
 
-// Lists all such lines at the front of `lines`: there are no more lines of words than words.
+// Lists all leading lines from the start of `lines`. There is room: there are no more lines of words than words.
 pub fn list_leading<'a>(
     chars: &'a [u16],
     lengths: &[u16],

@@ -1,6 +1,7 @@
-// How far a string laid at each start of a window is covered by entries that agree with it: the greedy cover, one number a start.
+// The greedy cover: how far entries that agree with a string, laid at each start of a window, cover it. One number a start is kept, its
+// reach: the length of the covered prefix.
 //
-// First come the offsets at which a key does not start after the string, then the others in rising order.
+// The leading keys come first, those at an offset of 0 or below, then the offsets above 0 in ascending order.
 mod lower_bound;
 mod leading;
 pub mod leading_lines;

@@ -1,8 +1,8 @@
-// One offset at which a key starts within the string, and the lines of keys that can agree there.
+// All keys at one offset from 0 up, where a key starts within the string.
 //
-// Such a key starts with the string's character at the offset, so the lines of words are narrowed by binary search to those that
-// share the string's characters from there on, one character after the other, and a lone character is one line. That the other
-// lines do not agree is a law: passing over them needs no table.
+// Words are sorted, so those that share the string's next characters are one range of lines. Each further character takes the equal range
+// within the last one, by binary search, until the string ends or at most four lines are left; each line left is compared. A lone character
+// has at most one line, found by its lower bound. That the other lines do not agree is a law: skipping them needs no table.
 ghost use mathlib.Core.Path.{_≡_};
 ghost use mathlib.Core.Bool.{_&&_};
 ghost use Prim.Native.Nat.{_+_, _≤_, _<_};
@@ -22,7 +22,7 @@ use directory::lines::word_length;
 use directory::ranges::line_lower_bound;
 use directory::ranges::equal_range;
 
-// Raises the window by one line at the offset `key_start`.
+// Extends the window by one line at the offset `key_start`. Answers the greatest reach afterwards.
 fn extend_line<'a>(
     chars: &'a [u16],
     lengths: &[u16],
@@ -44,7 +44,7 @@ fn extend_line<'a>(
     extend_key(key, string, positions, 0, key_start, first, reach, max_reach)
 }
 
-// The same by the lines `from` to `to` - 1.
+// Extends the window by the lines `from` to `to` - 1 at the offset `key_start`. Answers the greatest reach afterwards.
 fn extend_lines<'a>(
     chars: &'a [u16],
     lengths: &[u16],
@@ -83,7 +83,7 @@ fn extend_lines<'a>(
     highest
 }
 
-// Whether to narrow lines `low` to `high` - 1 further, `depth` characters of `left` being shared: not where few are left.
+// Whether to take another equal range of the lines `low` to `high` - 1, which share `depth` of `left` characters: not if few are left.
 fn goes_on(low: usize, high: usize, depth: usize, left: usize) -> bool
     requires { ⌜ low ≤ 65535 ⌝ }
     ensures { λ r. ⌜ r ≡ (ltb depth left && ltb (low + 4) high) ⌝ }
@@ -91,7 +91,7 @@ fn goes_on(low: usize, high: usize, depth: usize, left: usize) -> bool
     depth < left && low + 4 < high
 }
 
-// The same by all lines of words, of which there are `ends`: narrowed until few are left, each of which is tried.
+// Extends the window by all lines of words, the first `word_lines`, at the offset `key_start`. Answers the greatest reach afterwards.
 pub(crate) fn extend_words<'a>(
     chars: &'a [u16],
     lengths: &[u16],
@@ -160,7 +160,8 @@ pub(crate) fn extend_words<'a>(
     )
 }
 
-// The same by all lines of lone characters, which follow those of words: the string's character has at most one of them.
+// Extends the window by the lone character at the offset `key_start`, which has at most one line after the first `word_lines`. Answers
+// the greatest reach afterwards.
 pub(crate) fn extend_lone<'a>(
     chars: &'a [u16],
     lengths: &[u16],

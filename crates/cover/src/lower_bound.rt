@@ -1,7 +1,9 @@
-// The lower bound of a number in an ascending list of positions: binary search.
+// The lower bound of a number in an ascending list of positions, by binary search.
+//
+// The first or the last position often decides, so both are compared before the search.
 ghost use Rattle.laws.specs.Window.ListRange.{Ascending, List-lower-bound};
 
-// The first index whose position is not below `least`.
+// The first index whose position is not below `least`, or the list's length.
 fn search_positions(positions: &[u16], least: usize) -> usize
     requires { ⌜ Ascending (now positions) ⌝ }
     ensures { λ r. ⌜ List-lower-bound (now (positions .entry)) least r ⌝ }
@@ -19,7 +21,7 @@ fn search_positions(positions: &[u16], least: usize) -> usize
     a
 }
 
-// The same, where the first position or the last one often tells.
+// The first index whose position is not below `least`, or the list's length; no search where the first or the last position decides.
 pub(crate) fn lower_bound(positions: &[u16], least: usize) -> usize
     requires { ⌜ Ascending (now positions) ⌝ }
     ensures { λ r. ⌜ List-lower-bound (now (positions .entry)) least r ⌝ }

@@ -1,6 +1,6 @@
-// The later stages: the keys that start within the string, by rising offset.
+// The offsets above 0: keys that start within the string, by ascending offset.
 //
-// The greatest reach so far is carried along, so that a stage which no start gets to ends the work.
+// The greatest reach so far is carried along. Once it is below the next offset no entry can extend a start, and the work ends.
 ghost use Prim.Native.Nat.{_-_, _≤_, _<_};
 ghost use lib.ListN.{length};
 ghost use Rattle.spec.specs.Dictionary.{lexicon};
@@ -12,7 +12,8 @@ ghost use Rattle.laws.specs.Window.LineRanges.{Split};
 use crate::lines::extend_lone;
 use crate::lines::extend_words;
 
-// A later stage: every key at the offset `key_start`. The first `ends` lines are those of words.
+// Extends the window by every key at the offset `key_start`. The first `word_lines` lines are those of words. Answers
+// the greatest reach afterwards.
 fn extend_offset<'a>(
     chars: &'a [u16],
     lengths: &[u16],
@@ -57,7 +58,8 @@ fn extend_offset<'a>(
     )
 }
 
-// The later stages in rising order, to the end of the string or to a stage that no start gets to.
+// Extends the window at the offsets above 0 in ascending order, to the end of the string or to an offset that no start reaches. Answers
+// the greatest reach afterwards.
 pub(crate) fn extend_offsets<'a>(
     chars: &'a [u16],
     lengths: &[u16],

@@ -1,4 +1,6 @@
-// The whole greedy cover of a window of starts.
+// The greedy cover of a window of starts: the leading keys, then the offsets above 0.
+//
+// Entries are taken by ascending offset, so one pass is enough: whatever can extend the covered prefix up to an entry comes before it.
 ghost use mathlib.Core.Path.{_≡_};
 ghost use Prim.Native.Nat.{_-_, _≤_};
 ghost use lib.ListN.{length};
@@ -12,8 +14,7 @@ ghost use Rattle.laws.specs.Window.LeadingLines.{leading-lines};
 use crate::leading::extend_leading;
 use crate::offsets::extend_offsets;
 
-// Raises the window by every key at every offset, with the lines listed whose keys agree at an offset of 0 or below. Answers how far
-// any start then reaches.
+// Extends the window by every key at every offset; `lines` lists the leading lines. Answers the greatest reach afterwards.
 pub fn extend_window<'a>(
     chars: &'a [u16],
     lengths: &[u16],

@@ -1,4 +1,6 @@
-// The cut-down index for one string, as a call: refusals, sizes, and what is written.
+// The cut-down index for one string, as a call: refusals, size, and what is written.
+//
+// Each line has a flag in a local array. A local array is cleared when it is made, so it comes in three sizes.
 ghost use mathlib.Core.Path.{_≡_};
 ghost use Prim.Native.Nat.{_≤_};
 ghost use lib.ListN.{length, replicate};
@@ -17,7 +19,7 @@ use folding::forms::replaced_string;
 use opening::opened::open_index;
 use spec::Answer;
 
-// Cuts the index down, with a cleared flag for each line lent.
+// Cuts the index down for a string taken as it is, with a cleared flag lent for each line.
 fn cut_lent<'a>(
     chars: &'a [u16],
     lengths: &[u16],
@@ -44,7 +46,7 @@ fn cut_lent<'a>(
     Answer { refusal: 0, count }
 }
 
-// With flags for 1,024 lines.
+// Cuts down an index of at most 1,024 lines, with local flags.
 fn cut_few_lines<'a>(
     chars: &'a [u16],
     lengths: &[u16],
@@ -59,7 +61,7 @@ fn cut_few_lines<'a>(
     cut_lent(chars, lengths, index, string, &mut flags, output)
 }
 
-// With flags for 8,192 lines.
+// Cuts down an index of at most 8,192 lines, with local flags.
 fn cut_some_lines<'a>(
     chars: &'a [u16],
     lengths: &[u16],
@@ -74,7 +76,7 @@ fn cut_some_lines<'a>(
     cut_lent(chars, lengths, index, string, &mut flags, output)
 }
 
-// With flags for 65,536 lines.
+// Cuts down an index of any number of lines, with 65,536 local flags.
 fn cut_many_lines<'a>(
     chars: &'a [u16],
     lengths: &[u16],
@@ -89,7 +91,7 @@ fn cut_many_lines<'a>(
     cut_lent(chars, lengths, index, string, &mut flags, output)
 }
 
-// With flags for lines enough.
+// Cuts down an index of `keys` lines, with the smallest array of flags that is long enough.
 fn cut_lines<'a>(
     chars: &'a [u16],
     lengths: &[u16],
@@ -110,7 +112,7 @@ fn cut_lines<'a>(
     cut_many_lines(chars, lengths, index, string, output)
 }
 
-// The same for a string as it is lent, which is replaced first.
+// Cuts the index down for a string as it is lent, which is replaced first.
 fn cut_string<'a>(
     chars: &'a [u16],
     lengths: &[u16],

@@ -1,8 +1,8 @@
-// The cut-down index for one string: the same n, and the keys that bear on the string with all their positions.
+// Writes the cut-down index for one string: the same n, and the keys that bear on the string with all their positions.
 //
-// The lines whose keys bear are flagged already. One walk over the flags sizes the result, so that nothing is written before 8 is
-// tested. Two short walks then write the directory lines and the positions of those that bear, the positions through the part of the
-// output that begins after the directory.
+// The lines whose keys bear are flagged already. One walk over the flags sizes the result, so that 8 is tested before anything is written.
+// Two more walks write the flagged directory lines and their positions, the positions through the part of the output that begins after the
+// directory. The cost is linear in the directory and in the positions written.
 ghost use mathlib.Core.Path.{_≡_};
 ghost use mathlib.Core.List.{_++_};
 ghost use Prim.Native.Nat.{_+_, _*_, _≤_, _<_};
@@ -49,7 +49,7 @@ pub(crate) fn size_flagged(
     Size { keys, entries }
 }
 
-// Writes the directory lines that are flagged, from `from` on.
+// Writes the flagged directory lines, from the index `from` on.
 fn write_directory(
     chars: &[u16],
     lengths: &[u16],
@@ -77,7 +77,7 @@ fn write_directory(
     }
 }
 
-// Writes the positions of the lines that are flagged, over the front of the part that they have to themselves.
+// Writes the positions of the flagged lines from the start of `part`, which holds nothing else.
 fn write_positions(
     chars: &[u16],
     lengths: &[u16],
@@ -106,7 +106,7 @@ fn write_positions(
     }
 }
 
-// Writes the cut-down index, which has been sized, to the front of the output.
+// Writes the cut-down index, whose size is known, to the start of the output.
 pub(crate) fn write_cut(
     chars: &[u16],
     lengths: &[u16],

@@ -1,10 +1,9 @@
 // Admission of a dictionary: lines 1, 2, 3 and 12 of the refusal table, in that order.
 //
-// One pass over the lengths without a branch in it, and one over the words and their neighbours. Neighbours in a dictionary often
-// share a first character, and a loop over the shared ones is mispredicted at nearly every word. So the first three characters
-// of each word are packed into one number, and two neighbours are told apart by one comparison; only words that share all three
-// are compared character by character. Full-width forms are looked for in all characters at once. The cost is linear in the characters
-// lent.
+// One pass over the lengths has no branch in it; one pass compares each word with the next. Neighbours in a dictionary often share a first
+// character, and a loop over the shared ones is mispredicted at nearly every word. So the first three characters of each word are packed
+// into one number, its code, and two neighbours are told apart by one comparison; only words with equal codes are compared character by
+// character. Full-width forms are looked for in all characters at once. The cost is linear in the characters lent.
 ghost use mathlib.Core.Path.{_≡_};
 ghost use mathlib.Core.Bool.{_&&_, cond};
 ghost use Prim.Native.Nat.{_+_, _≤_, _<_};
@@ -35,7 +34,7 @@ fn lengths_fit(lengths: &[u16], count: usize) -> bool
     good & (sum as usize == count)
 }
 
-// The next position, or the same one at the end.
+// The next index, or the same one at the end.
 fn next_within(at: usize, last: usize) -> usize
     requires { ⌜ at ≤ last ⌝ }
     ensures within { λ r. ⌜ r ≤ last ⌝ }
@@ -44,7 +43,7 @@ fn next_within(at: usize, last: usize) -> usize
     if at < last { at + 1 } else { at }
 }
 
-// One more than the character's number, or 0 where the word has ended.
+// A character's digit in a code: one more than its number, or 0 where the word has ended.
 fn digit(present: bool, character: u16) -> u64
     ensures value { λ r. ⌜ r ≡ cond present (character + 1) 0 ⌝ }
     ensures small { λ r. ⌜ r ≤ 65536 ⌝ }
@@ -53,8 +52,8 @@ fn digit(present: bool, character: u16) -> u64
     if present { number } else { 0 }
 }
 
-// The first three characters of the word from `at` to `end` as one number, where `second` and `third` are the places of the two after the
-// first, if the word has them. A read past the word is not used.
+// The code of the word from `at` to `end`: its first three characters as one number. `second` and `third` are the indices of the two after
+// the first, if the word has them; a read past the word is not used.
 fn code_at(chars: &[u16], at: usize, end: usize, second: usize, third: usize) -> u64
     requires { ⌜ Reads-three (now chars) at end second third ⌝ }
     ensures { λ r. ⌜ r ≡ code (part (now (chars .entry)) at end) ⌝ }
@@ -66,7 +65,7 @@ fn code_at(chars: &[u16], at: usize, end: usize, second: usize, third: usize) ->
     (a * 131072 + b) * 131072 + c
 }
 
-// The same for a word near the end of the characters: no place past the last one is read.
+// The code of a word near the end of the characters, with no read past the last one.
 fn last_code(chars: &[u16], at: usize, end: usize) -> u64
     requires { ⌜ (at < end) × (end ≤ length (now chars)) ⌝ }
     ensures { λ r. ⌜ r ≡ code (part (now (chars .entry)) at end) ⌝ }
@@ -77,7 +76,7 @@ fn last_code(chars: &[u16], at: usize, end: usize) -> u64
     code_at(chars, at, end, second, third)
 }
 
-// The first three characters of the word from `at` to `end` as one number.
+// The code of the word from `at` to `end`: its first three characters as one number.
 fn prefix_code(chars: &[u16], at: usize, end: usize) -> u64
     requires { ⌜ (at < end) × (end ≤ length (now chars)) ⌝ }
     ensures { λ r. ⌜ r ≡ code (part (now (chars .entry)) at end) ⌝ }
@@ -89,8 +88,7 @@ fn prefix_code(chars: &[u16], at: usize, end: usize) -> u64
     last_code(chars, at, end)
 }
 
-// How many characters two long words are known to begin with alike, out of the first `shared`, looked at four at a time; 0 for short
-// words.
+// How many of their first `shared` characters two long words are known to have in common, compared four at a time; 0 for short words.
 fn equal_fours(left: &[u16], right: &[u16], shared: usize) -> usize
     requires { ⌜ (shared ≤ length (now left)) × (shared ≤ length (now right)) ⌝ }
     ensures { λ r. ⌜ Equal-front (now (left .entry)) (now (right .entry)) r ⌝ }
@@ -134,7 +132,7 @@ fn comes_before(left: &[u16], right: &[u16]) -> bool
     left.len() < right.len()
 }
 
-// Whether the word from `at` to `next` comes before the one from `next` to `end`. Their codes decide where they differ.
+// Whether the word from `at` to `next` comes before the one from `next` to `end`. Codes that differ decide.
 fn neighbours_ascend(
     chars: &[u16],
     at: usize,

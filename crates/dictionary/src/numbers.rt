@@ -1,4 +1,4 @@
-// Comparisons of numbers.
+// Comparisons of numbers, shared by several crates.
 ghost use mathlib.Core.Path.{_≡_};
 ghost use Prim.Native.Nat.{min};
 

@@ -1,6 +1,6 @@
-// The key and the positions of a directory line as slices, by the tables of starts.
+// The key and the positions of a directory line as slices, found through the tables of starts in constant time.
 //
-// A lone character is spelt by its number in the directory itself.
+// A word's key is a part of the dictionary's characters. A lone character's key is its number in the directory itself.
 ghost use mathlib.Core.Path.{_≡_};
 ghost use Prim.Native.Nat.{_+_, _*_, _<_};
 ghost use lib.ListN.{length, getD, take, drop};

@@ -1,7 +1,7 @@
-// Where in the directory the keys lie that have a character at a depth: binary search.
+// Binary search over the directory: lower bounds, and the equal range of words that have a character at a depth.
 //
-// Lines of words come first, and their words ascend; those that share their first characters are neighbours, and the next ones do
-// not fall. The lone characters after them ascend by value.
+// The lines of words come first and their words ascend, so words that share their first characters are neighbours, sorted by the next one.
+// The lines of lone characters follow, sorted by value.
 ghost use mathlib.Core.Path.{_≡_};
 ghost use Prim.Native.Nat.{_+_, _*_, _≤_, _<_};
 ghost use lib.ListN.{length, getD};
@@ -17,7 +17,7 @@ pub struct Range {
     pub to: usize,
 }
 
-// The first of the lines `low` to `high` - 1 whose number at `field` is not below `least`.
+// The first of the lines `low` to `high` - 1 whose number at `field` is not below `least`, or `high`.
 pub fn line_lower_bound(index: &[u16], low: usize, high: usize, field: usize, least: usize) -> usize
     requires { ⌜ (2 + 3 * high ≤ length (now index)) × (field ≤ 2) × Rising (number-at (now index) field) low high ⌝ }
     ensures { λ r. ⌜ Lower-bound (number-at (now (index .entry)) field) low high least r ⌝ }
@@ -35,7 +35,7 @@ pub fn line_lower_bound(index: &[u16], low: usize, high: usize, field: usize, le
     a
 }
 
-// How many lines are those of words: the first whose kind is not 0.
+// How many lines are those of words: the lower bound of kind 1.
 pub fn count_word_lines(index: &[u16]) -> usize
     requires { ⌜ Fits (now index) × Rising (number-at (now index) 0) 0 (keys-of (now index)) ⌝ }
     ensures { λ r. ⌜ Lower-bound (number-at (now (index .entry)) 0) 0 (keys-of (now (index .entry))) 1 r ⌝ }
@@ -53,7 +53,7 @@ fn char_at(chars: &[u16], index: &[u16], word_starts: &[u16], line: usize, depth
     chars[at]
 }
 
-// The first of the lines `low` to `high` - 1 whose word's character at `depth` is not below `least`.
+// The first of the lines `low` to `high` - 1 whose word's character at `depth` is not below `least`, or `high`.
 fn word_lower_bound(
     chars: &[u16],
     index: &[u16],
@@ -79,7 +79,8 @@ fn word_lower_bound(
     a
 }
 
-// The lines among `low` to `high` - 1 whose word has this character at `depth`: all of them where the first and the last have it.
+// The equal range among the lines `low` to `high` - 1: those whose word has this character at `depth`. No search where
+// the first and the last have it.
 pub fn equal_range(
     chars: &[u16],
     index: &[u16],

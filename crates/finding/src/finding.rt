@@ -1,4 +1,6 @@
-// The positions found: the starts of a window whose reach passes the string, counted and written.
+// The starts found in a window: those whose reach is at least the string's length.
+//
+// One pass counts them, without a branch on a reach, and one writes them once their number is known to fit.
 ghost use mathlib.Core.Path.{_≡_};
 ghost use Prim.Native.Nat.{_+_, _≤_};
 ghost use lib.ListN.{length, drop};
@@ -7,7 +9,7 @@ ghost use Rattle.spec.specs.First.{first-of};
 ghost use Rattle.laws.specs.Window.Window.{found-in};
 ghost use Rattle.laws.specs.Window.Finding.{count-in, Next-found};
 
-// The first start that reaches `long` and more, counted from `first`; 0 where none does.
+// The first start whose reach is `len` or more, counted from `first`; 0 where there is none.
 pub fn first_found(reach: &[u16], len: usize, first: usize) -> usize
     requires { ⌜ first + length (now reach) ≤ 65536 ⌝ }
     ensures { λ r. ⌜ r ≡ first-of (found-in len first (now (reach .entry))) ⌝ }
@@ -22,7 +24,7 @@ pub fn first_found(reach: &[u16], len: usize, first: usize) -> usize
     0
 }
 
-// How many starts reach `long` and more.
+// How many starts have a reach of `len` or more.
 pub(crate) fn count_found(reach: &[u16], len: usize) -> usize
     ensures { λ r. ⌜ r ≡ count-in len (now (reach .entry)) ⌝ }
 {
@@ -35,7 +37,7 @@ pub(crate) fn count_found(reach: &[u16], len: usize) -> usize
     count
 }
 
-// The first start from `from` on that reaches `long` and more, where there is one.
+// The first index from `from` on whose reach is `len` or more, where there is one.
 fn next_found(reach: &[u16], len: usize, from: usize) -> usize
     requires { ⌜ 1 ≤ count-in len (drop from (now reach)) ⌝ }
     ensures { λ r. ⌜ Next-found len (now (reach .entry)) from r ⌝ }
@@ -47,7 +49,7 @@ fn next_found(reach: &[u16], len: usize, from: usize) -> usize
     i
 }
 
-// Writes the starts that reach `long` and more, of which there are `count`, to the front of the output.
+// Writes the starts whose reach is `len` or more, of which there are `count`, to the start of the output.
 pub(crate) fn write_found(
     reach: &[u16],
     len: usize,

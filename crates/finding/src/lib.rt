@@ -1,4 +1,4 @@
-// A window of starts, searched: what is found in it is counted, then written.
+// Searches a window of starts: counts what is found in it, then writes it.
 pub mod finding;
 pub mod text_scan;
 pub mod window;

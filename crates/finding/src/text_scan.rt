@@ -1,8 +1,8 @@
-// A window of starts told by the text that the entries show, for strings that would otherwise be laid against very many entries.
+// Text scan: fills a window of starts from the text reconstructed from the entries, for strings that would visit very many entries.
 //
-// The text is painted over a sentinel, the least number that is no character of the string. If every entry stands in it, the string is
-// found exactly where it stands in that text, which one pass tells whatever the characters are. If two entries contradict one another,
-// one of them does not stand in it, and the window is left as it was.
+// The text is reconstructed over a sentinel, the least number that is no character of the string. If every entry stands in it, the string
+// is found exactly where it stands in that text, and the Z-algorithm finds that in linear time whatever the characters are. If two entries
+// contradict each other, one of them does not stand in it, and the window is left unchanged.
 ghost use mathlib.Core.Path.{_≡_};
 ghost use mathlib.Core.Bool.{true, false};
 ghost use Prim.Native.Nat.{ℕ, suc, _+_, _≤_};
@@ -20,7 +20,7 @@ use zsearch::sentinel::sentinel_of;
 use zsearch::zarray::fill_zarray;
 use zsearch::prefix_lengths::fill_prefix_lengths;
 
-// The length of the longest prefix of the string at each start of a text.
+// Fills the window with the length of the longest prefix of the string that matches at each start of a text.
 fn reach_prefixes(text: &[u16], string: &[u16], reach: &mut [u16])
     requires { ⌜ (length (now string) ≤ 256) × (length (now reach) + length (now string) ≤ suc (length (now text))) ⌝ }
     ensures { λ r. ⌜ Prefix-lengths (now (string .entry)) (now (text .entry)) (now (reach .exit)) ⌝ }
@@ -30,7 +30,7 @@ fn reach_prefixes(text: &[u16], string: &[u16], reach: &mut [u16])
     fill_prefix_lengths(text, string, &zarray, reach);
 }
 
-// Paints the text into the room lent for it, and answers whether every entry stands there. The window is told exactly then.
+// Reconstructs the text in the slice lent for it, and answers whether every entry stands there. Only then is the window filled.
 pub fn reach_reconstructed(
     chars: &[u16],
     lengths: &[u16],

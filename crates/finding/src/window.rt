@@ -1,4 +1,5 @@
-// The positions found in a window of starts: raised, counted, and written once their number is known to fit.
+// Searches a window of starts by the entries: the greedy cover extends each start's reach, and the starts found are written
+// once their number is known to fit.
 ghost use mathlib.Core.Path.{_≡_};
 ghost use Prim.Native.Nat.{_+_, _-_, _≤_};
 ghost use lib.ListN.{length, replicate};
@@ -19,7 +20,7 @@ use cover::leading_lines::list_leading;
 use cover::window::extend_window;
 use spec::Answer;
 
-// Writes the starts that reach `long` and more, counted from `first`, and answers how many they are, or 8.
+// Writes the starts whose reach is `len` or more, counted from `first`, and answers how many they are, or 8.
 pub fn answer_window(reach: &[u16], len: usize, first: usize, output: &mut [u16]) -> Answer
     requires { ⌜ first + length (now reach) ≤ 65536 ⌝ }
     ensures { λ r. ⌜ Sized (found-in len first (now (reach .entry))) r (now (output .entry)) (now (output .exit)) ⌝ }
@@ -35,7 +36,7 @@ pub fn answer_window(reach: &[u16], len: usize, first: usize, output: &mut [u16]
     Answer { refusal: 0, count }
 }
 
-// Raises a window by every key at every offset. The list of lines that this takes is written to room that is lent.
+// Extends a window by every key at every offset, with the leading lines listed in a slice that is lent. Answers the greatest reach.
 fn extend_listing<'a>(
     chars: &'a [u16],
     lengths: &[u16],
@@ -66,7 +67,7 @@ fn extend_listing<'a>(
     )
 }
 
-// Searches the starts of a cleared window.
+// Searches the starts of a cleared window: writes those found, and answers how many they are, or 8.
 pub fn search_window<'a>(
     chars: &'a [u16],
     lengths: &[u16],
@@ -103,7 +104,7 @@ pub fn search_window<'a>(
     answer_window(reach, len, first, output)
 }
 
-// The first found of the starts of a cleared window; 0 where none is.
+// The first start found in a cleared window; 0 where there is none.
 pub fn first_in_window<'a>(
     chars: &'a [u16],
     lengths: &[u16],

@@ -1,4 +1,4 @@
-// Full-width forms: characters FF01 to FF5E, each replaced by the character FEE0 lower.
+// Width folding: full-width forms, the characters FF01 to FF5E, are each replaced by the character FEE0 lower.
 //
 // The loops have no branch that depends on a character, so that they compile to vector instructions and run at the speed of memory.
 ghost use mathlib.Core.Path.{_≡_};
@@ -15,7 +15,7 @@ fn is_full_width(character: u16) -> bool
     (0xFF01 <= character) & (character <= 0xFF5E)
 }
 
-// The character that a character is replaced by; its own where it is no full-width form.
+// What a character is replaced by: itself where it is no full-width form.
 pub fn replace(character: u16) -> u16
     ensures { λ r. ⌜ r ≡ replaced-char character ⌝ }
 {
@@ -26,7 +26,7 @@ pub fn replace(character: u16) -> u16
     }
 }
 
-// Whether a full-width form is one of the characters, each compared with both bounds.
+// Whether a full-width form is one of the characters, by comparing each with both bounds.
 fn find_full_width(text: &[u16]) -> bool
     ensures { λ r. ⌜ r ≡ holds-full-width (now (text .entry)) ⌝ }
 {
@@ -39,7 +39,7 @@ fn find_full_width(text: &[u16]) -> bool
     held
 }
 
-// How far a character lies above FF00, which no full-width form is below; 0 where it does not.
+// By how much a character exceeds FF00, which every full-width form does; 0 where it does not.
 fn excess(character: u16) -> u16
     ensures { λ r. ⌜ r ≡ character - 65280 ⌝ }
 {
@@ -50,7 +50,7 @@ fn excess(character: u16) -> u16
     }
 }
 
-// 0 only if no full-width form is one of the characters.
+// The bitwise or of all excesses: 0 only if no full-width form is one of the characters.
 fn excesses(text: &[u16]) -> u16
     ensures { λ r. ⌜ (r ≡ 0 → holds-full-width (now (text .entry)) ≡ false) ⌝ }
 {
@@ -63,7 +63,7 @@ fn excesses(text: &[u16]) -> u16
     all
 }
 
-// Whether a full-width form is one of the characters. Few characters lie above FF00, and it takes less to see that none does.
+// Whether a full-width form is one of the characters. Few characters exceed FF00, and to see that none does costs less.
 pub fn holds_full_width(text: &[u16]) -> bool
     ensures { λ r. ⌜ r ≡ holds-full-width (now (text .entry)) ⌝ }
 {
@@ -73,7 +73,7 @@ pub fn holds_full_width(text: &[u16]) -> bool
     find_full_width(text)
 }
 
-// Writes the replaced text to the front of a slice.
+// Writes the replaced text to the start of a slice.
 pub fn replace_into(text: &[u16], slots: &mut [u16])
     requires { ⌜ length (now text) ≤ length (now slots) ⌝ }
     ensures { λ _. ⌜ now (slots .exit) ≡ in-front (replaced (now (text .entry))) (now (slots .entry)) ⌝ }
@@ -85,7 +85,7 @@ pub fn replace_into(text: &[u16], slots: &mut [u16])
     }
 }
 
-// A search string, replaced, at the front of an array that holds any.
+// A search string, replaced, at the start of an array that is long enough for any.
 pub fn replaced_string(string: &[u16]) -> [u16; 256]
     requires { ⌜ length (now string) ≤ 256 ⌝ }
     ensures { λ r. ⌜ take (length (now (string .entry))) r ≡ replaced (now (string .entry)) ⌝ }

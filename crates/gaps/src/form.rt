@@ -1,7 +1,7 @@
-// The gap form of an index, and the index that a gap form restores to.
+// The gap form of an index, which stores each position list as differences, and the index that a gap form restores to.
 //
-// Both directions are one function: the same tests in the same order, and the same layout. Only the lists are read and written in another
-// way. Nothing is written before the last test.
+// Both directions are one function: the same tests in the same order, and the same layout. Only the lists are read and written differently.
+// Nothing is written before the last test.
 ghost use mathlib.Core.Path.{_≡_};
 ghost use lib.ListN.{length};
 ghost use Rattle.spec.specs.Gaps.{with-lists};
@@ -14,8 +14,8 @@ use copying::slices::write_list;
 use readability::readability::refusal_as;
 use spec::Answer;
 
-// Writes the numbers with each list as gaps, or, to restore, as positions. The lists are written through the part of the form that
-// begins after the directory.
+// Writes the numbers with each list as gaps, or, to restore, as positions. The lists go through the part of the form
+// that begins after the directory.
 fn write_form(index: &[u16], restore: bool, form: &mut [u16])
     requires { ⌜ Writable restore (now index) × (length (now form) ≡ length (now index)) ⌝ }
     ensures { λ r. ⌜ now (form .exit) ≡ with-lists (write-as restore) (now (index .entry)) ⌝ }
@@ -30,7 +30,7 @@ fn write_form(index: &[u16], restore: bool, form: &mut [u16])
     }
 }
 
-// Rearranges an index into its gap form, or restores it: tests dictionary and numbers, then the output, and writes.
+// Writes the gap form of an index, or restores the index: tests dictionary and numbers, then the output, and writes.
 fn put_form(
     chars: &[u16],
     lengths: &[u16],

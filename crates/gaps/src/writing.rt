@@ -1,8 +1,8 @@
-// Writing the lists of a gap form, and those of a restored one.
+// Writes the lists of a gap form, and the position lists that one restores to.
 //
-// Most lists are short, so that a loop for each list costs more than the numbers in it. All positions are therefore written in one pass
-// as if they were one list, and a walk over the directory then puts the first of each list right. For gaps that pass takes differences.
-// For positions it adds gaps up, and masks say where a sum begins anew: 0 at the first gap of a list, all ones at the others.
+// Most lists are short, so a loop for each list costs more than the numbers in it. All lists are therefore written in one pass as if they
+// were one, and a walk over the directory then corrects the first number of each. For gaps the pass takes differences. For positions it is
+// a prefix sum that begins anew with each list, by masks: 0 at the first gap of a list, all ones at the others.
 ghost use mathlib.Core.Path.{_≡_};
 ghost use mathlib.Core.Bool.{true, false};
 ghost use Prim.Native.Nat.{ℕ, suc, _+_, _*_, _-_, _≤_};
@@ -14,14 +14,14 @@ ghost use Rattle.laws.specs.Gaps.GapSums.{masked-sums, carry};
 ghost use Rattle.laws.specs.Gaps.GapParts.{pair-as, first-as, Writable};
 use copying::slices::fill;
 
-// The distance of a position from the one before; 0 where it is not after it, which is so only at the first of a list.
+// The distance of a position from the one before; 0 where it is not after it, which happens only at the first of a list.
 fn distance(before: u16, position: u16) -> u16
     ensures { λ r. ⌜ r ≡ position - before ⌝ }
 {
     if before < position { position - before } else { 0 }
 }
 
-// Writes the distance of each number of a run from the one before it.
+// Writes the distance of each number of `run` from the one before it.
 fn write_distances(run: &[u16], part: &mut [u16])
     requires { ⌜ length (now run) ≡ suc (length (now part)) ⌝ }
     ensures { λ r. ⌜ now (part .exit) ≡ gaps-after (getD (now (run .entry)) 0 0) (drop 1 (now (run .entry))) ⌝ }
@@ -33,14 +33,14 @@ fn write_distances(run: &[u16], part: &mut [u16])
     }
 }
 
-// The first number of a list: a mask, or the position itself.
+// The first number of a list: the mask 0 to restore, else the position itself.
 fn first_number(restore: bool, position: u16) -> u16
     ensures { λ r. ⌜ r ≡ first-as restore position ⌝ }
 {
     if restore { 0 } else { position }
 }
 
-// Puts the first number of each list right, where all of them stand as if they were one.
+// Corrects the first number of each list, where all lists are written as if they were one.
 fn put_firsts(index: &[u16], keys: usize, restore: bool, part: &mut [u16])
     requires { ⌜
         Writable restore (now index) × (keys ≡ keys-of (now index)) ×
@@ -59,7 +59,7 @@ fn put_firsts(index: &[u16], keys: usize, restore: bool, part: &mut [u16])
     }
 }
 
-// Adds gaps up in the place of their masks.
+// Adds gaps up; each sum overwrites its mask.
 fn add_up(gaps: &[u16], part: &mut [u16])
     requires { ⌜
         (length (now part) ≡ length (now gaps)) × ((j : ℕ) → getD (masked-sums 0 (now part) (now gaps)) j 0 ≤ carry) ⌝ }

@@ -1,10 +1,9 @@
-// Grouping: the positions of a text under their keys, by chains.
+// Inversion: the posting list of each key, the positions of a text at which it is registered, as a chain of links.
 //
-// A key is one number, its code: the word number, or 4,096 + the character, so that codes in order are keys in order. There are
-// 69,632. A pass from the last position to the first hangs each marked position before the chain of its code; its mark gives way
-// to its link, so the chains take no room of their own and run through ascending positions. A flag for each page of 64 codes lets
-// the walks over all codes pass over the pages that no key of this text falls into. The counts of keys and entries are known
-// before anything is written.
+// A key is one number, its code: the word number, or 4,096 + the character, so that codes in order are keys in order. There are 69,632. A
+// pass from the last position to the first puts each position that has a token at the head of its code's chain. The link overwrites the
+// token, so the chains take no room of their own, and they run through ascending positions. A flag for each page of 64 codes lets walks
+// over all codes skip the pages that no key of this text falls into. Keys and entries are counted before anything is written.
 ghost use mathlib.Core.Path.{_≡_};
 ghost use Prim.Native.Nat.{suc, _+_, _≤_, _<_};
 ghost use lib.ListN.{length};
@@ -22,7 +21,7 @@ pub struct Counts {
     pub entries: usize,
 }
 
-// The code of a mark, where `character` stands in the text as it was lent.
+// The code of a token, where `character` is the text's as lent.
 fn code_of(token: u16, character: u16) -> usize
     requires { ⌜ (1 ≤ token) × (token ≤ 4097) ⌝ }
     ensures is { λ r. ⌜ coded token (replaced-char character) ≡ suc r ⌝ }
@@ -35,7 +34,7 @@ fn code_of(token: u16, character: u16) -> usize
     }
 }
 
-// Turns marks into links, and heads and pages from none into those of the marks, which are those of the replaced text.
+// Turns the tokens of the replaced text into links, fills the heads, which are clear on entry, and the pages, and counts keys and entries.
 pub fn chain_positions(text: &[u16], tokens: &mut [u16], heads: &mut [u16], pages: &mut [u8]) -> Counts
     requires { ⌜ Linkable (replaced (now text)) (now tokens) ⌝ }
     requires { ⌜ Fresh (now heads) (now pages) ⌝ }
@@ -86,7 +85,7 @@ pub(crate) fn next_code(heads: &[u16], pages: &[u8], from: usize) -> usize
     code
 }
 
-// How many members a chain has.
+// How many positions a chain has.
 pub(crate) fn chain_length(links: &[u16], head: u16) -> usize
     requires { ⌜ Threaded (now links) head ⌝ }
     ensures { λ r. ⌜ r ≡ length (chain (now (links .entry)) head) ⌝ }

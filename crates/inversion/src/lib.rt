@@ -1,3 +1,3 @@
-// Positions are put together under their keys, and written as the numbers of an index.
+// Inverts the tokens of a text into posting lists by key, and writes these as the numbers of an index.
 pub mod chains;
 pub mod write;

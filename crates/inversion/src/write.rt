@@ -1,7 +1,7 @@
-// Writing: header, directory and positions from the chains of the keys.
+// Writes an index from the posting chains of its keys: header, directory, positions.
 //
-// Two walks over the codes, in the order of the keys: the first writes a directory line for each chain, the second the members of
-// each. The positions go through the part of the output that begins after the directory.
+// Two walks over the codes, in the order of the keys: the first writes a directory line for each chain, the second the positions of each.
+// The positions go through the part of the output that begins after the directory.
 ghost use mathlib.Core.Path.{_≡_};
 ghost use mathlib.Core.List.{[], _∷_, _++_};
 ghost use Prim.Native.Nat.{_+_, _≤_, _<_};
@@ -15,7 +15,7 @@ ghost use Rattle.laws.specs.Build.CodeWalk.{Listable};
 use crate::chains::chain_length;
 use crate::chains::next_code;
 
-// Three numbers, from `at` on.
+// Writes three numbers, from the index `at` on.
 fn put_three(output: &mut [u16], at: usize, first: u16, second: u16, third: u16)
     requires { ⌜ at + 3 ≤ length (now output) ⌝ }
     ensures { λ _. ⌜ now (output .exit) ≡ over (take at (now (output .entry)) ++ (first ∷ second ∷ third ∷ [])) (now (output .entry)) ⌝ }
@@ -25,7 +25,7 @@ fn put_three(output: &mut [u16], at: usize, first: u16, second: u16, third: u16)
     output[at + 2] = third;
 }
 
-// The directory line of a code: kind, value, count.
+// Writes the directory line of a code: kind, value, count.
 fn put_line(output: &mut [u16], at: usize, code: usize, count: usize)
     requires { ⌜ (at + 3 ≤ length (now output)) × (code < 69632) × (count ≤ 65535) ⌝ }
     ensures { λ _. ⌜ now (output .exit) ≡ over (take at (now (output .entry)) ++ (code-key code .kind ∷ code-key code .value ∷ count ∷ [])) (now (output .entry)) ⌝ }
@@ -37,7 +37,7 @@ fn put_line(output: &mut [u16], at: usize, code: usize, count: usize)
     }
 }
 
-// The directory, from `at` on.
+// Writes the directory, from the index `at` on.
 fn write_directory(heads: &[u16], pages: &[u8], links: &[u16], output: &mut [u16], at: usize)
     requires { ⌜ Listable (now heads) (now pages) (now links) ⌝ }
     requires { ⌜ at + length (directory (lines-at (now heads) (now links) 0)) ≤ length (now output) ⌝ }
@@ -53,7 +53,7 @@ fn write_directory(heads: &[u16], pages: &[u8], links: &[u16], output: &mut [u16
     }
 }
 
-// The members of a chain, from `at` on. Answers where they end.
+// Writes the positions of a chain, from the index `at` on. Answers where they end.
 fn write_chain(links: &[u16], head: u16, part: &mut [u16], at: usize) -> usize
     requires { ⌜ Threaded (now links) head ⌝ }
     requires { ⌜ at + length (chain (now links) head) ≤ length (now part) ⌝ }
@@ -70,7 +70,7 @@ fn write_chain(links: &[u16], head: u16, part: &mut [u16], at: usize) -> usize
     here
 }
 
-// The positions of every key, over the front of the part that they have to themselves.
+// Writes the positions of every key from the start of `part`, which holds nothing else.
 fn write_positions(heads: &[u16], pages: &[u8], links: &[u16], part: &mut [u16])
     requires { ⌜ Listable (now heads) (now pages) (now links) ⌝ }
     requires { ⌜ length (all-positions (lines-at (now heads) (now links) 0)) ≤ length (now part) ⌝ }
@@ -84,7 +84,7 @@ fn write_positions(heads: &[u16], pages: &[u8], links: &[u16], part: &mut [u16])
     }
 }
 
-// The numbers of an index of as many characters as there are links.
+// Writes the numbers of an index. Its text has as many characters as there are links.
 pub fn write_index(heads: &[u16], pages: &[u8], links: &[u16], keys: usize, output: &mut [u16])
     requires { ⌜ Listable (now heads) (now pages) (now links) ⌝ }
     requires { ⌜ (keys ≡ length (lines-at (now heads) (now links) 0)) × (keys ≤ 65535) ⌝ }

@@ -1,4 +1,4 @@
-// Hexadecimal digits, told by comparison. Upper case alone: `a` to `f` are no digits.
+// Hexadecimal digits, by comparison with their ranges. Upper case only: `a` to `f` are no digits.
 ghost use mathlib.Core.Path.{_≡_};
 ghost use Prim.Native.Nat.{_≤_};
 ghost use Rattle.spec.specs.JobSheet.{digit};

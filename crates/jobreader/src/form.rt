@@ -1,5 +1,5 @@
-// One form of the job sheet, on a line without its LF: the head, then a space and four upper-case hexadecimal digits for each
-// character, then `)`.
+// One form of the job sheet, on a line without its LF: the head, then a space and four upper-case hexadecimal digits for each character,
+// then `)`. One pass over a line tests it, and one writes its characters.
 ghost use mathlib.Core.Path.{_≡_};
 ghost use mathlib.Core.Bool.{true};
 ghost use Prim.Native.Nat.{_+_, _≤_, _<_};
@@ -11,11 +11,11 @@ ghost use Rattle.laws.specs.JobSheet.FormReading.{spaced-at, character-at};
 ghost use Rattle.laws.specs.JobSheet.Digits.{spaced-character};
 use crate::digits;
 
-// No character.
+// No character: one more than the greatest.
 const NONE: u32 = 65536;
 
-// The character whose space and four digits stand at a place, or 65,536 where something else stands there. A byte that is no digit
-// ends the reading: digits that are read side by side compile to vector instructions, whose constants take read-only memory.
+// The character whose space and four digits stand at an index, or 65,536 where something else stands there. A byte that is no digit ends
+// the reading: digits that are read side by side compile to vector instructions, whose constants take read-only memory.
 fn spaced_character(line: &[u8], at: usize) -> u32
     requires { ⌜ at + 5 ≤ length (now line) ⌝ }
     ensures { λ r. ⌜ r ≡ spaced-character (now (line .entry)) at ⌝ }
@@ -42,7 +42,7 @@ fn spaced_character(line: &[u8], at: usize) -> u32
     ((a * 16 + b) * 16 + c) * 16 + d
 }
 
-// Whether a space and four digits stand at a place.
+// Whether a space and four digits stand at an index.
 fn is_spaced(line: &[u8], at: usize) -> bool
     requires { ⌜ at + 5 ≤ length (now line) ⌝ }
     ensures { λ r. ⌜ r ≡ spaced-at (now (line .entry)) at ⌝ }
@@ -50,7 +50,7 @@ fn is_spaced(line: &[u8], at: usize) -> bool
     spaced_character(line, at) < NONE
 }
 
-// The character whose digits stand after the space at a place.
+// The character whose space and digits stand at an index.
 fn character(line: &[u8], at: usize) -> u16
     requires { ⌜ (at + 5 ≤ length (now line)) × (spaced-at (now line) at ≡ true) ⌝ }
     ensures { λ r. ⌜ r ≡ character-at (now (line .entry)) at ⌝ }
@@ -107,7 +107,7 @@ pub(crate) fn is_form(line: &[u8], head: &[u8]) -> bool
     ends_well(line)
 }
 
-// Writes the characters of a form.
+// Writes the characters of a form, from the index `at` on. Answers where they end.
 pub(crate) fn put_string(line: &[u8], out: &mut [u16], at: usize) -> usize
     requires { ⌜ (5 ≤ length (now line)) × (ends-well (drop 5 (now line)) ≡ true) × (at + length (string-in (now line)) ≤ length (now out)) ⌝ }
     ensures { λ r. ⌜ Wrote (string-in (now (line .entry))) at (now (out .entry)) r (now (out .exit)) ⌝ }

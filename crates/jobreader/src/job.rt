@@ -1,4 +1,5 @@
-// A job: what a sheet asks for, read and tested whole before anything is printed.
+// A job: what a sheet asks for, read and tested whole before anything is printed. 10 is tested by the sheet's length, 11 by its form and
+// counts, then the dictionary, then each find.
 ghost use mathlib.Core.Path.{_≡_};
 ghost use Prim.Native.Nat.{_+_, _≤_};
 ghost use lib.ListN.{length, take, drop};
@@ -7,7 +8,7 @@ ghost use Rattle.laws.specs.JobSheet.JobReading.{some-length-wrong, parts-refus
 use crate::sheet;
 use dictionary::admission;
 
-// Whether a length is 0 or above 256.
+// Whether some length is 0 or above 256.
 fn some_length_wrong(lengths: &[u16]) -> bool
     ensures { λ r. ⌜ r ≡ some-length-wrong (now (lengths .entry)) ⌝ }
 {
@@ -25,7 +26,7 @@ fn some_length_wrong(lengths: &[u16]) -> bool
     false
 }
 
-// The number of the first line met by the dictionary and then by a find, or 0.
+// The number of the first line of the refusal table that the dictionary meets, or else a find, or 0.
 fn parts_refusal(chars: &[u16], words: &[u16], finds: &[u16]) -> u32
     ensures { λ r. ⌜ r ≡ parts-refusal (now (chars .entry)) (now (words .entry)) (now (finds .entry)) ⌝ }
 {
@@ -39,7 +40,7 @@ fn parts_refusal(chars: &[u16], words: &[u16], finds: &[u16]) -> u32
     0
 }
 
-// The same, of the parts where they stand: the words first, and the finds after the one length of the text.
+// The refusal of a sheet's dictionary and finds, or 0. In `lengths` the words come first, and the finds after the one length of the text.
 fn contents_refusal(
     chars: &[u16],
     lengths: &[u16],
@@ -59,8 +60,8 @@ fn contents_refusal(
     )
 }
 
-// What a sheet asks for. The refusal is the number of the line that the sheet meets, 0 for none; then its words are the first
-// `dictionary` characters and the first `words` lengths, its text the next `text` characters and one length, its finds what follows.
+// What a sheet asks for. The refusal is the number of the line that the sheet meets, 0 for none. Its words are then the first `dictionary`
+// characters and the first `words` lengths, its text the next `text` characters and one length, its finds what follows.
 pub struct Job {
     pub refusal: u32,
     pub words: usize,

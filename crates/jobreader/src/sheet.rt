@@ -1,6 +1,8 @@
-// The job sheet, line by line. All characters of its forms are run together in one slice, and their lengths stand in another: the
-// words, then the text, then the finds. A form takes seven bytes and five for each character, so slices of a seventh and a fifth
-// of the sheet's length hold every sheet.
+// The job sheet, line by line.
+//
+// All characters of its forms are run together in one slice, and their lengths are in another: the words, then the text, then
+// the finds. A form takes seven bytes and five for each character, so a seventh of the sheet's length is enough for the lengths
+// and a fifth for the characters.
 ghost use mathlib.Core.Path.{_≡_};
 ghost use Prim.Native.Nat.{_≤_};
 ghost use lib.ListN.{length};
@@ -24,7 +26,7 @@ fn line_end(sheet: &[u8], at: usize) -> usize
     i
 }
 
-// Where the form with this head that starts at `at` ends: at its LF. The end of the sheet where there is no such form.
+// Where the form with this head that starts at `at` ends: at its LF, or at the end of the sheet where there is no such form.
 fn form_end(sheet: &[u8], at: usize, head: &[u8]) -> usize
     requires { ⌜ (at ≤ length (now sheet)) × (length (now head) ≡ 5) ⌝ }
     ensures { λ r. ⌜ Form-end (now (head .entry)) (now (sheet .entry)) at r ⌝ }
@@ -39,14 +41,14 @@ fn form_end(sheet: &[u8], at: usize, head: &[u8]) -> usize
     sheet.len()
 }
 
-// Where reading goes on: at a byte of the sheet, after so many characters and so many forms.
+// Where reading goes on: the index of the next byte, and how many characters and forms are read so far.
 pub struct Place {
     pub at: usize,
     pub used: usize,
     pub count: usize,
 }
 
-// Reads all forms with a head that stand at `at`.
+// Reads all forms with this head that follow one another from `at` on.
 fn read_forms(
     sheet: &[u8],
     at: usize,
@@ -78,8 +80,8 @@ fn read_forms(
     }
 }
 
-// The parts of a sheet: whether it is in form and counts; how many words it has, and characters in them; how many characters in the
-// text; how many finds.
+// The parts of a sheet: whether form and counts are right; how many words there are, and characters in them; how many
+// characters of text; how many finds.
 pub struct Parts {
     pub good: bool,
     pub words: usize,
@@ -88,7 +90,7 @@ pub struct Parts {
     pub finds: usize,
 }
 
-// Reads a sheet.
+// Reads the words, the text and the finds of a sheet.
 pub(crate) fn read_sheet(sheet: &[u8], chars: &mut [u16], lengths: &mut [u16]) -> Parts
     requires { ⌜ Enough (now sheet) (now chars) (now lengths) ⌝ }
     ensures { λ r. ⌜ Sheet-read (now (sheet .entry)) (now (chars .entry)) (now (lengths .entry)) (r .good) (r .words) (r .dictionary) (r .text) (r .finds) (now (chars .exit)) (now (lengths .exit)) ⌝ }

@@ -1,7 +1,7 @@
 // The answer to a job sheet, as a function from bytes to bytes.
 //
-// The whole job is read and tested before anything is printed. What is printed goes to a local buffer of 700,000 bytes, which is proved
-// to hold every answer; once its length is known, the output is either long enough for all of it or left as it was.
+// The whole job is read and tested before anything is printed. The lines go to a local buffer of 700,000 bytes, which is proved to hold
+// every answer; once their length is known, the output takes all of them or stays unchanged.
 ghost use Prim.Native.Nat.{_≤_};
 ghost use lib.ListN.{length};
 ghost use Rattle.basics.specs.Placed.{Wrote};
@@ -14,7 +14,7 @@ use printer::print::put_bytes;
 use printer::print::put_refused_line;
 use spec::Answer;
 
-// The lines of a job that is not refused, from its parts where they stand.
+// Writes the lines of a job that is not refused, from the parts of the slices it was read into.
 fn put_parts<'a>(
     chars: &'a [u16],
     lengths: &'a [u16],
@@ -40,7 +40,7 @@ fn put_parts<'a>(
     )
 }
 
-// The answer, with slices lent for the sheet's characters and lengths.
+// Writes the answer to a sheet, with slices lent for its characters and lengths.
 fn put_job(sheet: &[u8], chars: &mut [u16], lengths: &mut [u16], out: &mut [u8]) -> usize
     requires { ⌜ (6554 ≤ length (now chars)) × (4682 ≤ length (now lengths)) × (700000 ≤ length (now out)) ⌝ }
     ensures { λ r. ⌜ Wrote (job-answer (now (sheet .entry))) 0 (now (out .entry)) r (now (out .exit)) ⌝ }
@@ -61,7 +61,7 @@ fn put_job(sheet: &[u8], chars: &mut [u16], lengths: &mut [u16], out: &mut [u8])
     )
 }
 
-// The answer, in a slice that holds any.
+// Writes the answer to a sheet into a slice that holds any.
 fn put_answer(sheet: &[u8], out: &mut [u8]) -> usize
     requires { ⌜ 700000 ≤ length (now out) ⌝ }
     ensures { λ r. ⌜ Wrote (job-answer (now (sheet .entry))) 0 (now (out .entry)) r (now (out .exit)) ⌝ }
@@ -71,7 +71,7 @@ fn put_answer(sheet: &[u8], out: &mut [u8]) -> usize
     put_job(sheet, &mut chars, &mut lengths, out)
 }
 
-// Bytes, put at the front of an output that holds them all, or 8.
+// Copies bytes to the start of the output, or answers 8 where they do not fit.
 fn hand_over(bytes: &[u8], output: &mut [u8]) -> Answer
     ensures { λ r. ⌜ Sized (now (bytes .entry)) r (now (output .entry)) (now (output .exit)) ⌝ }
 {
@@ -88,7 +88,7 @@ fn hand_over(bytes: &[u8], output: &mut [u8]) -> Answer
     }
 }
 
-// The answer to a sheet, by way of a buffer that holds any.
+// Answers a sheet by way of a buffer that holds any answer.
 fn answer_through(sheet: &[u8], buffer: &mut [u8], output: &mut [u8]) -> Answer
     requires { ⌜ 700000 ≤ length (now buffer) ⌝ }
     ensures { λ r. ⌜ Job-says (now (sheet .entry)) r (now (output .entry)) (now (output .exit)) ⌝ }
@@ -102,8 +102,8 @@ fn blank() -> [u8; 700000] {
     [0u8; 700000]
 }
 
-// Answers a job sheet: the answer's bytes stand at the front of the output, and the count says how many they are. Where the output is
-// too short for them, it answers 8.
+// Answers a job sheet: writes the answer's bytes to the start of the output and answers how many they are, or 8 where
+// the output is too short for them.
 pub fn answer(sheet: &[u8], output: &mut [u8]) -> Answer
     ensures { λ r. ⌜ Job-says (now (sheet .entry)) r (now (output .entry)) (now (output .exit)) ⌝ }
 {

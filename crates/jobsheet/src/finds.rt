@@ -1,5 +1,5 @@
-// The lines of the finds: each string is searched for in the opened index and its positions are printed, one after the other. The
-// finds share the tables of starts.
+// The lines of the finds: each string is searched for in the opened index, and its positions are printed. All finds share the tables of
+// starts, which are filled once.
 ghost use Prim.Native.Nat.{_+_, _≤_};
 ghost use lib.ListN.{length};
 ghost use Rattle.basics.specs.Placed.{Wrote};
@@ -14,7 +14,7 @@ ghost use Rattle.laws.specs.JobSheet.JobAnswering.{Strings-good};
 use printer::print::put_found_line;
 use searcher::search::search_tabled;
 
-// The line of one find.
+// Writes the line of one find.
 fn put_find<'a>(
     chars: &'a [u16],
     lengths: &[u16],
@@ -38,7 +38,7 @@ fn put_find<'a>(
     put_found_line(out, at, &found[..count])
 }
 
-// The lines of all finds. Their strings are run together, and `counts` says how many characters each has.
+// Writes the lines of all finds. Their strings are run together, and `counts` says how many characters each has.
 pub(crate) fn put_finds<'a>(
     chars: &'a [u16],
     lengths: &[u16],

@@ -1,5 +1,5 @@
-// The lines of an accepted job: those of the text's index, then those of the finds. At most 2,000 characters of text have an index
-// of at most 8,002 numbers; these and the found positions are local, so that the buffer for the lines is all that is lent.
+// The lines of an accepted job: those of the text's index, then those of the finds. A text of at most 2,000 characters has an index of at
+// most 8,002 numbers; the index and the found positions are local, so that only the buffer for the lines is lent.
 ghost use mathlib.Core.Path.{_≡_};
 ghost use Prim.Native.Nat.{_≤_};
 ghost use lib.ListN.{length};
@@ -15,7 +15,7 @@ use directory::tables::fill_word_starts;
 use opening::opened::open_index;
 use printer::print::put_index_lines;
 
-// The lines of a readable index and of all finds, with a table lent for the starts of the `keys` lines.
+// Writes the lines of a readable index and of all finds, with a table lent for the starts of the `keys` lines.
 fn put_filled<'a>(
     chars: &'a [u16],
     lengths: &[u16],
@@ -49,7 +49,7 @@ fn put_filled<'a>(
     )
 }
 
-// The lines of an opened index and of all finds. An index of at most 8,002 numbers has fewer than 2,667 lines.
+// Writes the lines of an opened index and of all finds. An index of at most 8,002 numbers has fewer than 2,667 lines.
 fn put_opened<'a>(
     chars: &'a [u16],
     lengths: &'a [u16],
@@ -77,7 +77,7 @@ fn put_opened<'a>(
     )
 }
 
-// The same for an index that is opened first, once for all finds.
+// Opens an index, once for all finds, and writes its lines and theirs.
 fn put_lines<'a>(
     chars: &'a [u16],
     lengths: &'a [u16],
@@ -103,7 +103,7 @@ fn put_lines<'a>(
     )
 }
 
-// The same for a text, whose index is built first.
+// Builds the index of a text, and writes its lines and those of all finds.
 fn put_built<'a>(
     chars: &'a [u16],
     lengths: &'a [u16],
@@ -124,7 +124,7 @@ fn put_built<'a>(
     put_lines(chars, lengths, &index[..count], strings, counts, found, out)
 }
 
-// The same with slices of its own for the index and the positions.
+// Writes the lines of a text's index and of all finds, with local slices for the index and the positions.
 pub(crate) fn put_printed<'a>(
     chars: &'a [u16],
     lengths: &'a [u16],

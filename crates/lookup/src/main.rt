@@ -1,7 +1,7 @@
 // The program: reads a job sheet from standard input and writes its answer to standard output.
 //
-// The input is read to its end, or to one byte past the longest sheet, which is enough to refuse a longer one. All work is done by
-// one call on these bytes.
+// The input is read to its end, or to one byte past the longest sheet, which is enough to refuse a longer one. One call on
+// these bytes does all the work.
 ghost use Prim.Native.Nat.{_≤_};
 ghost use lib.ListN.{length};
 ghost use Rattle.spec.specs.JobAnswer.{job-answer};
@@ -20,7 +20,7 @@ fn output_buffer() -> [u8; 700000] {
     [0; 700000]
 }
 
-// Puts the answer to a sheet at the front of the output, and answers how many bytes it has.
+// Writes the answer to a sheet to the start of the output, and answers how many bytes it has.
 fn put_answer(sheet: &[u8], output: &mut [u8]) -> usize
     requires { ⌜ 700000 ≤ length (now output) ⌝ }
     ensures { λ r. ⌜ In-hand (job-answer (now (sheet .entry))) r (now (output .exit)) ⌝ }

@@ -1,4 +1,4 @@
-// The longest word of an admitted dictionary at a place of a text.
+// The longest word of an admitted dictionary at a position of a text.
 pub mod longest;
 pub mod ranges;
 pub mod table;

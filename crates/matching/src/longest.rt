@@ -1,9 +1,9 @@
-// The longest word at a place of a text, by the match table.
+// The longest word at a position of a text, by the match table.
 //
-// Words that begin with the two characters at the place hang on one chain, by falling numbers. All words that stand at one place
-// are prefixes of each other, so the first one met is the longest. Ordinary chains have a word or two; a chain of many words is
-// left after a few of them, and the words before are narrowed down by binary search. A word that would end no later than the last
-// registered one is not compared at all. A word of one character is looked up only where the place is not covered.
+// Words that begin with the two characters at the position are in one hash chain, by descending number. All words that stand at one
+// position are prefixes of each other, so the first one met is the longest. Most chains have a word or two; a chain of many words is left
+// after a few of them, and binary search takes over among the words before. A word that would end no later than the last registered one is
+// not compared at all. A word of one character is looked up only where the position is not covered.
 ghost use Prim.Native.Nat.{_+_, _≤_, _<_};
 ghost use lib.ListN.{length};
 ghost use Rattle.spec.specs.Dictionary.{lexicon};
@@ -14,16 +14,16 @@ use crate::ranges::find_last_standing;
 use crate::table::bucket_of_char;
 use crate::table::bucket_of_pair;
 
-// A word by its number plus 1, and its length; or number 0: none.
+// A word by its number plus 1, and its length. Number 0 means none.
 pub struct Found {
     pub number: usize,
     pub len: usize,
 }
 
-// How many words of a chain are compared before the rest is narrowed down.
+// How many words of a chain are compared before binary search takes over.
 const BUDGET: usize = 4;
 
-// Whether `count` characters from `at` equal those of the text from `from`, the last one first: words of one chain begin alike.
+// Whether `count` characters from `at` equal those of the text from `from`. The last one is compared first: words of one chain begin alike.
 fn same_run(chars: &[u16], at: usize, text: &[u16], from: usize, count: usize) -> bool
     requires { ⌜ (at + count ≤ length (now chars)) × (from + count ≤ length (now text)) ⌝ }
     ensures { λ r. ⌜ Same-run (now (chars .entry)) at (now (text .entry)) from count r ⌝ }
@@ -61,8 +61,8 @@ fn stands_after(
     same_run(chars, word_starts[number] as usize, text, at, count)
 }
 
-// One more than the number of a standing word, after which comes no standing word of two characters or more that ends after `end`;
-// or 0, where there is none of these.
+// One more than the number of a word that stands at index `at`, or 0. No word numbered from the answer on has two characters or more,
+// stands there and ends after `end`.
 fn walk_pair(
     chars: &[u16],
     lengths: &[u16],
@@ -123,7 +123,7 @@ fn find_pair(
     Found { number, len }
 }
 
-// One more than the number of the word that is the character at index `at`, or 0.
+// One more than the number of the one-character word at index `at`, or 0.
 fn find_single(
     chars: &[u16],
     lengths: &[u16],
@@ -150,7 +150,7 @@ fn find_single(
     0
 }
 
-// The longest word that stands in the text at index `at` and ends after `end`, where the last registered one ends.
+// The longest word that stands in the text at index `at` and ends after `end`, where the last registered entry ends.
 pub fn find_longest(
     chars: &[u16],
     lengths: &[u16],

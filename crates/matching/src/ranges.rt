@@ -1,8 +1,8 @@
-// The last of the first k words that stands at a place, character by character: the words that share d characters with the text
-// are neighbours, and binary search cuts those that share the next one out of them.
+// The last of the first k words that stands at a position, by prefix ranges.
 //
-// Its cost is bounded by the longest word times the logarithm of k, however many words begin alike. Where the first or the last
-// word of a run has the text's character already, which is so nearly always after the first few, that end is not searched.
+// Words are sorted, so those that share d characters with the text are neighbours, and binary search finds the equal range of those that
+// share the next one. The cost is bounded by the longest word times the logarithm of k, however many words begin alike. Where the first or
+// the last word of a range already has the text's character, as nearly always after the first few, that end is not searched.
 ghost use Prim.Native.Nat.{_+_, _≤_, _<_};
 ghost use lib.ListN.{length};
 ghost use Rattle.spec.specs.Dictionary.{lexicon};
@@ -10,7 +10,7 @@ ghost use Rattle.laws.specs.Match.MatchTable.{Started};
 ghost use Rattle.laws.specs.Match.PrefixRanges.{Last-standing};
 ghost use Rattle.laws.specs.Match.Columns.{Column, Lower-bound};
 
-// The first of the words `low` to `high` - 1 whose character at `depth` is not below `least`.
+// The first of the words `low` to `high` - 1 whose character at `depth` is not below `least`, or `high`.
 fn lower_bound(
     chars: &[u16],
     word_starts: &[u16],
@@ -36,7 +36,7 @@ fn lower_bound(
     a
 }
 
-// The same; no search where it is the first word.
+// The first of the words `low` to `high` - 1 whose character at `depth` is not below `least`, or `high`; no search where it is the first.
 fn cut_low(
     chars: &[u16],
     word_starts: &[u16],
@@ -58,7 +58,7 @@ fn cut_low(
     lower_bound(chars, word_starts, low, high, depth, least)
 }
 
-// The same; no search where all words are below `least`.
+// The first of the words `low` to `high` - 1 whose character at `depth` is not below `least`, or `high`; no search where it is `high`.
 fn cut_high(
     chars: &[u16],
     word_starts: &[u16],

@@ -1,9 +1,9 @@
-// The match table: where each word's characters start, and one chain of words for each bucket.
+// The match table: where each word's characters start, and hash chains of words, one for each bucket.
 //
-// A word of two characters and more goes by its first two, a word of one by that one, so that a lookup which reads two characters
-// meets nearly only words that begin with them. Words are hung up in ascending order: a chain runs through falling numbers, and
-// of the words standing at one place the first on it is the longest. A head or a link is 0 at the end of a chain, else one more
-// than a word's number. The cost is a few steps a word.
+// A word of two characters or more is hashed by its first two, a word of one by that one, so that a lookup which reads two characters meets
+// nearly only words that begin with them. Words are inserted in ascending order, each at the head of its chain: a chain runs through
+// descending numbers, and of the words that stand at one position the first on it is the longest. A head or a link is 0 at the end of a
+// chain, else one more than a word's number. The cost is a few steps a word.
 ghost use mathlib.Core.Path.{_≡_};
 ghost use Prim.Native.Nat.{_+_, _≤_, _<_};
 ghost use lib.ListN.{length};
@@ -17,7 +17,7 @@ pub(crate) fn bucket_of_pair(x: u16, y: u16) -> usize
     (37 * x as usize + y as usize) % 8192
 }
 
-// The bucket of the words of one character.
+// The bucket of the one-character word of this character.
 pub(crate) fn bucket_of_char(x: u16) -> usize
     ensures value { λ r. ⌜ r ≡ char-bucket x ⌝ }
     ensures small { λ r. ⌜ r < 10240 ⌝ }
@@ -25,7 +25,7 @@ pub(crate) fn bucket_of_char(x: u16) -> usize
     8192 + x as usize % 2048
 }
 
-// The bucket of the word of `long` characters at `at`.
+// The bucket of the word of `len` characters at `at`.
 fn bucket_of_word(chars: &[u16], at: usize, len: usize) -> usize
     requires { ⌜ (1 ≤ len) × (at + len ≤ length (now chars)) ⌝ }
     ensures { λ r. ⌜ Bucket-read (now (chars .entry)) at len r ⌝ }
@@ -36,7 +36,7 @@ fn bucket_of_word(chars: &[u16], at: usize, len: usize) -> usize
     bucket_of_pair(chars[at], chars[at + 1])
 }
 
-// Makes the match table of an admitted dictionary.
+// Fills the match table of an admitted dictionary.
 pub fn fill_match_table(
     chars: &[u16],
     lengths: &[u16],

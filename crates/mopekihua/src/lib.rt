@@ -1,8 +1,10 @@
-// The face of the library: every public operation once, for C and Rust to link. No operation has a `requires`, and each contract
-// fixes the answer and the final content of every slice lent to be written, for refused input too. A slice lent to be read
-// stays as it was by its type. A refusal is the number of the first line that is met, in the order given. Texts and search strings are
-// replaced first: each full-width form, FF01 to FF5E, by the character FEE0 lower. What is lent as characters holds characters, by its
-// type too: building, reception and recovery say so in a clause of their own, since the demands (`spec/specs/Demands.antt`) ask for it.
+// The library's API: every public operation once, for C and Rust to link.
+//
+// No operation has a `requires`. Each contract fixes the answer and the final content of every slice lent to be written, for refused input
+// too; a slice lent to be read stays unchanged by its type. A refusal is the number of the first line that is met, in the order given.
+// Texts and search strings are replaced first: each full-width form, FF01 to FF5E, by the character FEE0 lower. What is lent as characters
+// holds characters, by its type too: building, reception and recovery say so in a clause of their own, since the demands
+// (`spec/specs/Demands.antt`) ask for it.
 ghost use mathlib.Core.Path.{_≡_};
 ghost use mathlib.Core.Bool.{true};
 ghost use Rattle.spec.specs.Dictionary.{all-chars};
@@ -12,8 +14,8 @@ use spec::Answer;
 use spec::FirstAnswer;
 use spec::TallyAnswer;
 
-// Admits a dictionary, lent as all characters run together and a list of lengths. Refusals 1, 2, 3, 12; accepted it answers the number
-// of words.
+// Admits a dictionary, lent as all characters run together and a list of lengths. Refusals 1, 2, 3, 12; accepted,
+// it answers the number of words.
 #[no_mangle]
 pub extern "C" fn mopekihua_admit(chars: &[u16], lengths: &[u16]) -> Answer
     ensures { λ r. ⌜ Admit-says (now (chars .entry)) (now (lengths .entry)) r ⌝ }
@@ -21,8 +23,8 @@ pub extern "C" fn mopekihua_admit(chars: &[u16], lengths: &[u16]) -> Answer
     dictionary::admission::admit(chars, lengths)
 }
 
-// Builds the index of a text, replaced. Refusals 1, 2, 3, 12, 4, 7, 8, which leave the output as it was; accepted it answers the count of
-// numbers written to the front of the output. The work slice is all zeros after every call.
+// Builds the index of a text, replaced. Refusals 1, 2, 3, 12, 4, 7, 8, which leave the output unchanged; accepted, it answers the count of
+// numbers written to the start of the output. The work slice is all zeros after every call.
 #[no_mangle]
 pub extern "C" fn mopekihua_build(
     chars: &[u16],
@@ -37,7 +39,7 @@ pub extern "C" fn mopekihua_build(
     builder::build::build(chars, lengths, text, output, work)
 }
 
-// Receives an index: whether some replaced text of its stated length has it. Refusals 1, 2, 3, 12, 5, 7, 9; accepted it answers that
+// Receives an index: tests whether some replaced text of its stated length has it. Refusals 1, 2, 3, 12, 5, 7, 9; accepted, it answers that
 // length. The work slice is all zeros after every call.
 #[no_mangle]
 pub extern "C" fn mopekihua_receive<'a>(
@@ -52,8 +54,8 @@ pub extern "C" fn mopekihua_receive<'a>(
     receiver::receive::receive(chars, lengths, index, work)
 }
 
-// Recovers the replaced text of an index. Refusals 1, 2, 3, 12, 5, 7, 9, 8, which leave the output as it was; accepted it answers how
-// many characters are written to the front of the output. The work slice is all zeros after every call.
+// Recovers the replaced text of an index. Refusals 1, 2, 3, 12, 5, 7, 9, 8, which leave the output unchanged; accepted, it answers how many
+// characters are written to the start of the output. The work slice is all zeros after every call.
 #[no_mangle]
 pub extern "C" fn mopekihua_recover<'a>(
     chars: &'a [u16],
@@ -68,8 +70,8 @@ pub extern "C" fn mopekihua_recover<'a>(
     receiver::recover::recover(chars, lengths, index, output, work)
 }
 
-// Finds a string, replaced, in an index, received or not, without the text. Refusals 1, 2, 3, 12, 5, 6, 8, which leave the output as it
-// was; accepted it answers how many positions are written to the front of the output, ascending, each once.
+// Finds a string, replaced, in an index, received or not, without the text. Refusals 1, 2, 3, 12, 5, 6, 8, which leave the output
+// unchanged; accepted, it answers how many positions are written to the start of the output, ascending, each once.
 #[no_mangle]
 pub extern "C" fn mopekihua_search<'a>(
     chars: &'a [u16],
@@ -97,8 +99,8 @@ pub extern "C" fn mopekihua_first<'a>(
     searcher::first::first_index(chars, lengths, index, string)
 }
 
-// Cuts an index down to the keys that bear on a string, replaced. Refusals 1, 2, 3, 12, 5, 6, 8, which leave the output as it was;
-// accepted it answers the count of numbers written to the front of the output.
+// Cuts an index down to the keys that bear on a string, replaced. Refusals 1, 2, 3, 12, 5, 6, 8, which leave the output unchanged;
+// accepted, it answers the count of numbers written to the start of the output.
 #[no_mangle]
 pub extern "C" fn mopekihua_cut<'a>(
     chars: &'a [u16],
@@ -112,7 +114,7 @@ pub extern "C" fn mopekihua_cut<'a>(
     cutter::cut::cut_index(chars, lengths, index, string, output)
 }
 
-// Tallies an index by word length. Refusals 1, 2, 3, 12, 5, with 32 zeros; accepted it answers the number of entries, and under l - 1
+// Tallies an index by word length. Refusals 1, 2, 3, 12, 5, with 32 zeros; accepted, it answers the number of entries, and under l - 1
 // how many of them have length l.
 #[no_mangle]
 pub extern "C" fn mopekihua_tally<'a>(
@@ -125,9 +127,9 @@ pub extern "C" fn mopekihua_tally<'a>(
     postings::tallying::tally(chars, lengths, index)
 }
 
-// Rearranges an index into its gap form: under each key the first position stays, and each later one becomes its distance from the one
-// before. Refusals 1, 2, 3, 12, 5, 8, which leave the output as it was; accepted it answers the count of numbers written to the front of
-// the output, as many as the index has.
+// Writes the gap form of an index: under each key the first position stays, and each later one becomes its distance from the one before.
+// Refusals 1, 2, 3, 12, 5, 8, which leave the output unchanged; accepted, it answers the count of numbers written to the start of the
+// output, as many as the index has.
 #[no_mangle]
 pub extern "C" fn mopekihua_to_gaps(
     chars: &[u16],
@@ -141,8 +143,8 @@ pub extern "C" fn mopekihua_to_gaps(
     gaps::form::to_gaps(chars, lengths, index, output)
 }
 
-// Restores an index from its gap form, the inverse. Refusals 1, 2, 3, 12, 5, 8, which leave the output as it was, 5 where what is lent
-// restores to no readable index; accepted it answers the count of numbers written to the front of the output.
+// Restores an index from its gap form, the inverse. Refusals 1, 2, 3, 12, 5, 8, which leave the output unchanged, 5 where what is lent
+// restores to no readable index; accepted, it answers the count of numbers written to the start of the output.
 #[no_mangle]
 pub extern "C" fn mopekihua_from_gaps(
     chars: &[u16],

@@ -1,7 +1,9 @@
--- Opening an index inside a walk by hand: the call of `open_index`, as one step. The laws take `Given`; the rest assumes nothing.
---     Lent, twice                what the three shared slices own; a `&[u16]` is Copy, so it is had twice
---     Open, to-open, asks-open   the contract of `open_index`, what it is called with, and that the token and what the slices own are what it asks
---     of, Held                   the record of a slice with three numbers, and what is known of it: its bounds, the type of its machine value, and that the numbers fit
+-- Opening an index inside a walk of MIR by hand: the call of `open_index`, as one step. The laws take `Given`; the rest assumes nothing.
+--     Lent, twice                what the three shared slices own; a `&[u16]` is Copy, so it can be had twice
+--     Open, to-open, asks-open   the contract of `open_index`, what it is called with, and that the lifetime token and what the slices own
+--                                are what it asks
+--     of, Held                   the record of a slice with three numbers, and what is known of it: its bounds, the type of its machine
+--                                value, and that the numbers fit
 --     opens                      the call: what lands is the record of the very slice that was opened
 use mathlib.Core.Path.{_≡_, refl, sym, ap, subst}
 use Prim.Native.Nat.{ℕ, _<_, _^_}

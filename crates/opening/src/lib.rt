@@ -1,2 +1,2 @@
-// Opening an index: tested once, and handed on as one record.
+// Opens an index: tests it once, and hands it on as one record.
 pub mod opened;

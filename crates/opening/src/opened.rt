@@ -1,12 +1,12 @@
 // An opened index: one record that refers to the lent numbers, with the refusal and the bounds of the directory.
 //
-// It is made once, by the function that tests. Each operation on an index takes it apart once, and calls a function on plain slices
-// and numbers.
+// It is made once, by the function that tests the index. Each operation on an index takes it apart once, and calls a
+// function on plain slices and numbers.
 ghost use mathlib.Core.Path.{_≡_};
 ghost use Rattle.laws.specs.Readable.Opening.{Bounded};
 
-// The numbers of an index, its refusal, how many lines its directory has, and where the positions start. Beside a refusal the two
-// bounds are 0, so that no line is handed out.
+// The numbers of an index, its refusal, how many lines its directory has, and where the positions start. With a refusal the two bounds are
+// 0, so that no line is handed out.
 pub struct Opened<'a> {
     pub numbers: &'a [u16],
     pub refusal: u32,
@@ -14,7 +14,7 @@ pub struct Opened<'a> {
     pub first: usize,
 }
 
-// What opening finds out of an index.
+// What opening finds out about an index: its refusal, how many lines its directory has, and where the positions start.
 pub struct Bounds {
     pub refusal: u32,
     pub keys: usize,
@@ -41,7 +41,7 @@ fn bounds_of<'a>(chars: &'a [u16], lengths: &'a [u16], index: &'a [u16]) -> Boun
     }
 }
 
-// The record of an index and its bounds.
+// The record of an index with its bounds.
 fn with_bounds<'a>(index: &'a [u16], bounds: Bounds) -> Opened<'a>
     ensures { λ r. ⌜ (r .numbers ≡ index .entry) × (r .refusal ≡ bounds .refusal) × (r .keys ≡ bounds .keys) × (r .first ≡ bounds .first) ⌝ }
 {

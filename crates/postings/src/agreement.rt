@@ -1,7 +1,7 @@
-// The agreement of a key with a string at an offset.
+// Whether a key agrees with a string at an offset.
 //
-// A signed offset becomes two natural starts at once, one of them 0. Whichever of the two strings begins first, the other begins
-// at a place in it or after it, and the places that they share are compared from the last one: callers come where the first are equal.
+// A signed offset becomes two natural starts, one of them 0. Whichever of the two strings begins first, the other begins at an index in it
+// or after it, and the characters that both have are compared from the last one: callers come where the first are equal.
 ghost use mathlib.Core.Path.{_≡_};
 ghost use Rattle.spec.specs.Search.{agrees, agrees-at, string-start, key-start};
 use dictionary::numbers::lesser;
@@ -26,7 +26,7 @@ fn agrees_after(first: &[u16], second: &[u16], at: usize) -> bool
     true
 }
 
-// Where the string starts at an offset, the first of the two at 0.
+// Where the string starts at an offset, counted from the first of string and key to begin.
 fn string_start(offset: i32) -> usize
     ensures { λ r. ⌜ r ≡ string-start offset ⌝ }
 {
@@ -38,7 +38,7 @@ fn string_start(offset: i32) -> usize
     }
 }
 
-// Where the key starts there.
+// Where the key starts at an offset, counted from the first of string and key to begin.
 fn key_start(offset: i32) -> usize
     ensures { λ r. ⌜ r ≡ key-start offset ⌝ }
 {

@@ -1,4 +1,4 @@
-// The shorter of two position lists.
+// The shorter of two position lists, by their lengths. The list itself is handed back, not a copy.
 ghost use mathlib.Core.Path.{_≡_};
 ghost use lib.ListN.{length};
 ghost use Rattle.spec.specs.Tally.{shorter};

@@ -1,5 +1,5 @@
-// The tally of an index by word length: one walk over the directory, which raises one of 32 counts for each key. The counts
-// travel by value.
+// The tally of an index: its entries by word length. One walk over the directory adds each key's count to one of 32
+// counts, which travel by value.
 ghost use mathlib.Core.Path.{_≡_};
 ghost use mathlib.Core.Bool.{true};
 ghost use Prim.Native.Nat.{ℕ, _+_, _*_, _^_, _≤_};
@@ -28,8 +28,8 @@ fn key_length(chars: &[u16], lengths: &[u16], kind: u16, value: u16) -> usize
     lengths[word] as usize
 }
 
-// The counts, with one place raised for each key of a readable index by the count of its positions. Each is at most 2^62, so that no
-// sum wraps.
+// The counts, with the number of positions of each key of a readable index added to the count for its length. Each is at most 2^62
+// on entry, so that no sum wraps.
 fn raised(
     chars: &[u16],
     lengths: &[u16],

@@ -1,5 +1,5 @@
-// Printing: bytes, numbers and the lines of an answer, each written into a lent slice from a place on. Every function answers the
-// place after what it wrote, and leaves the rest of the slice as it was.
+// Prints bytes, numbers and the lines of an answer, each into a lent slice from an index on. Every function answers the index after what it
+// wrote, and leaves the rest of the slice unchanged. The cost is linear in the bytes written.
 ghost use mathlib.Core.Path.{_≡_};
 ghost use mathlib.Core.List.{_∷_, [], _++_};
 ghost use Prim.Native.Nat.{_+_, _≤_, _<_};
@@ -12,7 +12,7 @@ ghost use Rattle.spec.specs.JobAnswer.{decimal, digit-byte, hexadecimal, gap, s
 ghost use Rattle.laws.specs.JobSheet.IndexPrinting.{Whole};
 ghost use Rattle.laws.specs.JobSheet.Printing.{each-spaced, listed};
 
-// One byte.
+// Writes one byte.
 fn put_byte(out: &mut [u8], at: usize, byte: u8) -> usize
     requires { ⌜ at < length (now out) ⌝ }
     ensures { λ r. ⌜ Wrote (byte ∷ []) at (now (out .entry)) r (now (out .exit)) ⌝ }
@@ -21,7 +21,7 @@ fn put_byte(out: &mut [u8], at: usize, byte: u8) -> usize
     at + 1
 }
 
-// A run of bytes.
+// Writes a run of bytes.
 pub fn put_bytes(out: &mut [u8], at: usize, bytes: &[u8]) -> usize
     requires { ⌜ at + length (now bytes) ≤ length (now out) ⌝ }
     ensures { λ r. ⌜ Wrote (now (bytes .entry)) at (now (out .entry)) r (now (out .exit)) ⌝ }
@@ -36,7 +36,7 @@ pub fn put_bytes(out: &mut [u8], at: usize, bytes: &[u8]) -> usize
     end
 }
 
-// A number in decimal: the digits of its tenth part, then the last.
+// Writes a number in decimal: by recursion the digits of its tenth part, then the last.
 fn put_decimal(out: &mut [u8], at: usize, n: usize) -> usize
     requires { ⌜ at + length (decimal n) ≤ length (now out) ⌝ }
     ensures { λ r. ⌜ Wrote (decimal n) at (now (out .entry)) r (now (out .exit)) ⌝ }
@@ -61,7 +61,7 @@ fn digit_byte(value: u16) -> u8
     }
 }
 
-// A character as four hexadecimal digits.
+// Writes a character as four hexadecimal digits.
 fn put_hexadecimal(out: &mut [u8], at: usize, character: u16) -> usize
     requires { ⌜ at + 4 ≤ length (now out) ⌝ }
     ensures { λ r. ⌜ Wrote (hexadecimal character) at (now (out .entry)) r (now (out .exit)) ⌝ }
@@ -75,7 +75,7 @@ fn put_hexadecimal(out: &mut [u8], at: usize, character: u16) -> usize
     put_bytes(out, at, &digits)
 }
 
-// A space and a number.
+// Writes a space and a number.
 fn put_next_decimal(out: &mut [u8], at: usize, n: usize) -> usize
     requires { ⌜ at + length (gap ++ decimal n) ≤ length (now out) ⌝ }
     ensures { λ r. ⌜ Wrote (gap ++ decimal n) at (now (out .entry)) r (now (out .exit)) ⌝ }
@@ -84,7 +84,7 @@ fn put_next_decimal(out: &mut [u8], at: usize, n: usize) -> usize
     put_decimal(out, end, n)
 }
 
-// Positions, each after a space.
+// Writes positions, each after a space.
 fn put_next_positions(out: &mut [u8], at: usize, positions: &[u16]) -> usize
     requires { ⌜ at + length (each-spaced (now positions)) ≤ length (now out) ⌝ }
     ensures { λ r. ⌜ Wrote (each-spaced (now (positions .entry))) at (now (out .entry)) r (now (out .exit)) ⌝ }
@@ -98,7 +98,7 @@ fn put_next_positions(out: &mut [u8], at: usize, positions: &[u16]) -> usize
     end
 }
 
-// Positions with a space between.
+// Writes positions with a space between.
 fn put_positions(out: &mut [u8], at: usize, positions: &[u16]) -> usize
     requires { ⌜ at + length (spaced (now positions)) ≤ length (now out) ⌝ }
     ensures { λ r. ⌜ Wrote (spaced (now (positions .entry))) at (now (out .entry)) r (now (out .exit)) ⌝ }
@@ -110,7 +110,7 @@ fn put_positions(out: &mut [u8], at: usize, positions: &[u16]) -> usize
     put_next_positions(out, end, &positions[1..])
 }
 
-// Positions in parentheses, at the end of a line.
+// Writes positions in parentheses, and the end of a line.
 fn put_list(out: &mut [u8], at: usize, positions: &[u16]) -> usize
     requires { ⌜ at + length (listed (now positions)) ≤ length (now out) ⌝ }
     ensures { λ r. ⌜ Wrote (listed (now (positions .entry))) at (now (out .entry)) r (now (out .exit)) ⌝ }
@@ -120,7 +120,7 @@ fn put_list(out: &mut [u8], at: usize, positions: &[u16]) -> usize
     put_bytes(out, last, b"))\n")
 }
 
-// The line of an index's three numbers.
+// Writes the line of an index's three numbers.
 fn put_index_line(out: &mut [u8], at: usize, n: usize, k: usize, m: usize) -> usize
     requires { ⌜ at + length (index-line n k m) ≤ length (now out) ⌝ }
     ensures { λ r. ⌜ Wrote (index-line n k m) at (now (out .entry)) r (now (out .exit)) ⌝ }
@@ -132,7 +132,7 @@ fn put_index_line(out: &mut [u8], at: usize, n: usize, k: usize, m: usize) -> us
     put_bytes(out, last, b")\n")
 }
 
-// The line of a find.
+// Writes the line of a find.
 pub fn put_found_line(out: &mut [u8], at: usize, positions: &[u16]) -> usize
     requires { ⌜ at + length (found-line (now positions)) ≤ length (now out) ⌝ }
     ensures { λ r. ⌜ Wrote (found-line (now (positions .entry))) at (now (out .entry)) r (now (out .exit)) ⌝ }
@@ -142,7 +142,7 @@ pub fn put_found_line(out: &mut [u8], at: usize, positions: &[u16]) -> usize
     put_list(out, list, positions)
 }
 
-// The line of a refused sheet.
+// Writes the line of a refused sheet.
 pub fn put_refused_line(out: &mut [u8], at: usize, refusal: usize) -> usize
     requires { ⌜ at + length (refused-line refusal) ≤ length (now out) ⌝ }
     ensures { λ r. ⌜ Wrote (refused-line refusal) at (now (out .entry)) r (now (out .exit)) ⌝ }
@@ -152,7 +152,7 @@ pub fn put_refused_line(out: &mut [u8], at: usize, refusal: usize) -> usize
     put_bytes(out, last, b")\n")
 }
 
-// A key: a word by its number, a lone character by itself.
+// Writes a key: a word by its number, a lone character by itself.
 fn put_key_name(out: &mut [u8], at: usize, kind: u16, value: u16) -> usize
     requires { ⌜ at + length (key-name (key kind value)) ≤ length (now out) ⌝ }
     ensures { λ r. ⌜ Wrote (key-name (key kind value)) at (now (out .entry)) r (now (out .exit)) ⌝ }
@@ -165,7 +165,7 @@ fn put_key_name(out: &mut [u8], at: usize, kind: u16, value: u16) -> usize
     put_hexadecimal(out, character, value)
 }
 
-// The line of a key.
+// Writes the line of a key.
 fn put_key_line(out: &mut [u8], at: usize, kind: u16, value: u16, positions: &[u16]) -> usize
     requires { ⌜ at + length (key-line (line (key kind value) (now positions))) ≤ length (now out) ⌝ }
     ensures { λ r. ⌜ Wrote (key-line (line (key kind value) (now (positions .entry)))) at (now (out .entry)) r (now (out .exit)) ⌝ }
@@ -174,7 +174,7 @@ fn put_key_line(out: &mut [u8], at: usize, kind: u16, value: u16, positions: &[u
     put_list(out, list, positions)
 }
 
-// A line for each key of an index, in order.
+// Writes a line for each key of an index, in order.
 fn put_key_lines(out: &mut [u8], at: usize, numbers: &[u16]) -> usize
     requires { ⌜ Whole (now numbers) × (at + length (key-lines (lines-in (now numbers))) ≤ length (now out)) ⌝ }
     ensures { λ r. ⌜ Wrote (key-lines (lines-in (now (numbers .entry)))) at (now (out .entry)) r (now (out .exit)) ⌝ }
@@ -194,7 +194,7 @@ fn put_key_lines(out: &mut [u8], at: usize, numbers: &[u16]) -> usize
     end
 }
 
-// The lines that show an index.
+// Writes the lines of an index: its three numbers, then its keys.
 pub fn put_index_lines(out: &mut [u8], at: usize, numbers: &[u16]) -> usize
     requires { ⌜ Whole (now numbers) × (at + length (index-lines (now numbers)) ≤ length (now out)) ⌝ }
     ensures { λ r. ⌜ Wrote (index-lines (now (numbers .entry))) at (now (out .entry)) r (now (out .exit)) ⌝ }

@@ -1,9 +1,9 @@
 // Readability of a delivered index, and the refusals 1, 2, 3, 12 and 5.
 //
-// One walk over the directory, with the positions of each line as it is reached: the lines of words first, then those of lone
-// characters. Whether a lone character is a word is told by a walk over the words beside the lines, since both ascend. Sums are
-// in `usize`, so that no number of keys and no count wraps. The cost is linear in the index and the dictionary. A gap form is tested by
-// the same walk, without restoring it: only a line's list is read in another way.
+// One walk over the directory, with the positions of each line as it is reached: the lines of words first, then those of lone characters.
+// Whether a lone character is a word is found by a walk over the words beside the lines, a merge, since both ascend. Sums are in `usize`,
+// so that no number of keys and no count wraps. A gap form is tested by the same walk, without restoring it: only a line's list is read
+// differently. The cost is linear in the index and the dictionary.
 ghost use mathlib.Core.Path.{_≡_};
 ghost use mathlib.Core.List.{[], _∷_};
 ghost use Prim.Native.Nat.{_+_, _*_, _≤_, _<_};
@@ -35,7 +35,7 @@ fn rise(positions: &[u16]) -> bool
     good
 }
 
-// Whether positions ascend from 1 or more, and a key of `long` characters ends by n at the last of them.
+// Whether positions ascend strictly from 1 or more, and a key of `len` characters ends by n at the last of them.
 fn positions_good(positions: &[u16], n: usize, len: usize) -> bool
     requires { ⌜ (1 ≤ length (now positions)) × (n ≤ 65535) × (len ≤ 65535) ⌝ }
     ensures { λ r. ⌜ r ≡ list-good as-is n len (now (positions .entry)) ⌝ }
@@ -47,8 +47,8 @@ fn positions_good(positions: &[u16], n: usize, len: usize) -> bool
     rise(positions)
 }
 
-// The same of the positions that gaps come to: they ascend from 1 if no gap is 0, and the last of them is the sum of all gaps, which
-// 32 bits hold.
+// Whether the positions that gaps add up to ascend from 1 or more, and a key of `len` characters ends by n at the last of them. They ascend
+// if no gap is 0, and the last of them is the sum of all gaps, which 32 bits hold.
 fn gaps_good(gaps: &[u16], n: usize, len: usize) -> bool
     requires { ⌜ (1 ≤ length (now gaps)) × (length (now gaps) ≤ 65535) × (n ≤ 65535) × (len ≤ 65535) ⌝ }
     ensures { λ r. ⌜ r ≡ list-good prefix-sums n len (now (gaps .entry)) ⌝ }
@@ -68,8 +68,8 @@ fn gaps_good(gaps: &[u16], n: usize, len: usize) -> bool
     good
 }
 
-// Whether `count` numbers from `at` on are there, at least one, and are the positions, or the gaps, of a key of `long` characters. Most
-// lists have one number, which is both.
+// Whether `count` numbers from `at` on are there, at least one, and are good positions, or gaps, of a key of `len` characters. Most lists
+// have one number, which is both.
 fn line_list_good(index: &[u16], at: usize, count: usize, n: usize, len: usize, as_gaps: bool) -> bool
     requires { ⌜ (at ≤ length (now index)) × (n ≤ 65535) × (len ≤ 65535) × (count ≤ 65535) ⌝ }
     ensures { λ r. ⌜ r ≡ line-list-good (read-as as_gaps) n len count (drop at (now (index .entry))) ⌝ }
@@ -124,7 +124,7 @@ struct Position {
     at: usize,
 }
 
-// The first word from a place on that does not start with a character below `value`.
+// The first word from `from` on that does not start with a character below `value`.
 fn skip_below(chars: &[u16], lengths: &[u16], from: Position, value: u16) -> Position
     requires { ⌜ Passed (now chars) (now lengths) (from .word) (from .at) value ⌝ }
     ensures { λ r. ⌜ Reached (now (chars .entry)) (now (lengths .entry)) (r .word) (r .at) value ⌝ }
@@ -141,7 +141,7 @@ fn skip_below(chars: &[u16], lengths: &[u16], from: Position, value: u16) -> Pos
     Position { word, at }
 }
 
-// Whether the one character is a word, which could only be the word reached.
+// Whether the one character `value` is a word, which could only be the word reached.
 fn is_reached(chars: &[u16], lengths: &[u16], position: Position, value: u16) -> bool
     requires { ⌜ Reached (now chars) (now lengths) (position .word) (position .at) value ⌝ }
     ensures { λ r. ⌜ r ≡ is-word (lexicon (now (chars .entry)) (now (lengths .entry))) (value ∷ []) ⌝ }
@@ -229,7 +229,7 @@ fn lines_good(chars: &[u16], lengths: &[u16], index: &[u16], as_gaps: bool) -> b
     at == index.len()
 }
 
-// Whether an index is readable, or what a gap form restores to, with a dictionary that is admitted.
+// Whether an index is readable with an admitted dictionary, or, of a gap form, whether what it restores to is.
 fn readable(chars: &[u16], lengths: &[u16], index: &[u16], as_gaps: bool) -> bool
     requires { ⌜ Is-admitted (now chars) (now lengths) ⌝ }
     ensures { λ r. ⌜
@@ -246,8 +246,8 @@ fn readable(chars: &[u16], lengths: &[u16], index: &[u16], as_gaps: bool) -> boo
     lines_good(chars, lengths, index, as_gaps)
 }
 
-// The number of the first line of 1, 2, 3, 12 and 5 that dictionary and numbers meet, or 0; the numbers are an index, or a gap form, of
-// which 5 asks what it restores to.
+// The number of the first line of 1, 2, 3, 12 and 5 that dictionary and numbers meet, or 0. The numbers are an index, or a gap form, of
+// which 5 asks whether what it restores to is readable.
 pub fn refusal_as(chars: &[u16], lengths: &[u16], index: &[u16], as_gaps: bool) -> u32
     ensures { λ r. ⌜
         r ≡ index-refusal (now (chars .entry)) (now (lengths .entry)) (with-lists (read-as as_gaps) (now (index .entry))) ⌝ }

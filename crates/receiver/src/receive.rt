@@ -1,6 +1,7 @@
-// Reception of a delivered index.
+// Reception of a delivered index: whether some text has it.
 //
-// The index is opened once. What needs no painting is tested first. On every path the work slice is cleared over its whole length.
+// The index is opened once. Refusals that need no reconstruction are tested first. The work slice is cleared over
+// its whole length on every path.
 ghost use mathlib.Core.Path.{_≡_};
 ghost use Prim.Native.Nat.{_≤_};
 ghost use lib.ListN.{length};
@@ -13,7 +14,7 @@ use scanning::work::clear;
 use scanning::work::refuse;
 use spec::Answer;
 
-// The first refusal of an opened index that needs no painting, or 0: its own, or a work slice too short.
+// The first refusal of an opened index that needs no reconstruction, or 0: its own, or a work slice too short.
 pub(crate) fn delivery_refusal(index: &[u16], refusal: u32, work: usize) -> u32
     requires { ⌜ (refusal ≡ 0 → 1 ≤ length (now index)) ⌝ }
     ensures { λ r. ⌜ r ≡ or-work-short refusal (now (index .entry)) work ⌝ }
@@ -27,14 +28,14 @@ pub(crate) fn delivery_refusal(index: &[u16], refusal: u32, work: usize) -> u32
     0
 }
 
-// Answers that no text has the index.
+// Answers 9, that no text has the index, and clears the work slice.
 pub(crate) fn no_text(work: &mut [u16]) -> Answer
     ensures { λ r. ⌜ Refuses 9 r (now (work .entry)) (now (work .exit)) ⌝ }
 {
     refuse(work, 9)
 }
 
-// Receives an opened index, by its refusal.
+// Receives an opened index, given its refusal.
 fn receive_opened<'a>(
     chars: &'a [u16],
     lengths: &'a [u16],
@@ -59,7 +60,7 @@ fn receive_opened<'a>(
     }
 }
 
-// Receives an index: refusals 1, 2, 3, 12, 5, 7, 9; accepted it answers the length of the text.
+// Receives an index: refusals 1, 2, 3, 12, 5, 7, 9; accepted, it answers the length of the text.
 pub fn receive<'a>(
     chars: &'a [u16],
     lengths: &'a [u16],

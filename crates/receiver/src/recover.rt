@@ -1,6 +1,7 @@
 // Recovery of the text of a delivered index.
 //
-// It is reception, whose painting is the text: it goes to the output once the output is known to be long enough.
+// It is reception, which leaves the reconstructed text in the work slice; the text is copied to the output once
+// that is known to be long enough.
 ghost use mathlib.Core.Path.{_≡_};
 ghost use Prim.Native.Nat.{_≤_};
 ghost use lib.ListN.{length};
@@ -14,7 +15,7 @@ use scanning::work::clear;
 use scanning::work::refuse;
 use spec::Answer;
 
-// Copies a text to the front of the output.
+// Copies a text to the start of the output.
 fn put_text(text: &[u16], output: &mut [u16])
     requires { ⌜ length (now text) ≤ length (now output) ⌝ }
     ensures { λ _. ⌜ now (output .exit) ≡ in-front (now (text .entry)) (now (output .entry)) ⌝ }
@@ -42,7 +43,7 @@ fn give_text(n: usize, output: &mut [u16], work: &mut [u16]) -> Answer
     }
 }
 
-// Recovers the text of an opened index, by its refusal.
+// Recovers the text of an opened index, given its refusal.
 fn recover_opened<'a>(
     chars: &'a [u16],
     lengths: &'a [u16],
@@ -64,7 +65,7 @@ fn recover_opened<'a>(
     give_text(index[0] as usize, output, work)
 }
 
-// Recovers the text of an index: refusals 1, 2, 3, 12, 5, 7, 9, 8; accepted it answers the length of the text.
+// Recovers the text of an index: refusals 1, 2, 3, 12, 5, 7, 9, 8; accepted, it answers the length of the text.
 pub fn recover<'a>(
     chars: &'a [u16],
     lengths: &'a [u16],

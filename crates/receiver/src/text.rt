@@ -1,8 +1,8 @@
-// The text of a delivered index: painted from its entries, tested by the builder's scan, and looked through for full-width forms.
+// The text of a delivered index: reconstructed from its entries, verified by the builder's scan, and searched for full-width forms.
 //
-// Of the work slice the first n numbers take the text and the next n the notes, 2n of the 8n that a caller lends. Whatever was
-// painted, the test accepts exactly if the index is that of what its entries show, and that is what was painted. The cost is linear
-// in the index and the text.
+// Of the work slice the first n numbers take the text and the next n the line map, 2n of the 8n that a caller lends. Whatever was
+// reconstructed, `verify` accepts it exactly if the index is that of the text its entries spell, and then this is the text reconstructed.
+// The cost is linear in the index and the text.
 ghost use mathlib.Core.Path.{_≡_};
 ghost use mathlib.Core.Bool.{true};
 ghost use Prim.Native.Nat.{_*_, _≤_};
@@ -27,7 +27,7 @@ use reconstruction::line_map::fill_line_map;
 use reconstruction::entries::reconstruct_entries;
 use scanning::work::clear;
 
-// Paints the entries over the first `n` numbers.
+// Reconstructs the text from the entries, over the first `n` numbers of the work slice.
 fn reconstruct_front(
     chars: &[u16],
     lengths: &[u16],
@@ -42,7 +42,7 @@ fn reconstruct_front(
     reconstruct_entries(chars, lengths, word_starts, index, &mut work[..n]);
 }
 
-// Notes the lines where nothing else is noted.
+// Fills the line map of an index in a slice that is cleared first.
 fn fill_line_map_afresh(index: &[u16], line_map: &mut [u16])
     requires { ⌜ Can-map (now index) (length (now «line_map»)) ⌝ }
     ensures { λ _. ⌜ now («line_map» .exit) ≡ fill-line-map 0 (lines-in (now (index .entry))) (zeros (now («line_map» .entry))) ⌝ }
@@ -51,7 +51,7 @@ fn fill_line_map_afresh(index: &[u16], line_map: &mut [u16])
     fill_line_map(index, line_map);
 }
 
-// Notes the lines over the `n` numbers after the first `n`.
+// Fills the line map in the `n` numbers after the first `n`.
 fn fill_line_map_behind(index: &[u16], n: usize, work: &mut [u16])
     requires { ⌜ Can-map (now index) n × (2 * n ≤ length (now work)) ⌝ }
     ensures front { λ _. ⌜ take n (now (work .exit)) ≡ take n (now (work .entry)) ⌝ }
@@ -61,7 +61,7 @@ fn fill_line_map_behind(index: &[u16], n: usize, work: &mut [u16])
     fill_line_map_afresh(index, &mut work[n..end]);
 }
 
-// Tests the text in the first `n` numbers by the notes in the next `n`.
+// Verifies the text in the first `n` numbers by the line map in the next `n`.
 fn test_parts(
     chars: &[u16],
     lengths: &[u16],
@@ -88,7 +88,8 @@ fn test_parts(
     )
 }
 
-// Whether the index is that of what its entries show, with a match table. Where it is, that is left at the front of the work slice.
+// Whether the index is that of the text its entries spell, with a match table lent. Where it is, the text is left in the
+// first numbers of the work slice.
 fn is_index_of_text(
     chars: &[u16],
     lengths: &[u16],
@@ -108,7 +109,7 @@ fn is_index_of_text(
     test_parts(chars, lengths, heads, links, word_starts, index, n, work)
 }
 
-// Whether the index is received: what it shows is a text, so it holds no full-width form.
+// Whether the index is received, with a match table lent: it is that of the text its entries spell, which has no full-width form.
 fn text_by(
     chars: &[u16],
     lengths: &[u16],
@@ -129,7 +130,7 @@ fn text_by(
     !holds_full_width(&work[..n])
 }
 
-// The same with room for a match table.
+// Whether the index is received, with slices lent for a match table.
 fn text_with(
     chars: &[u16],
     lengths: &[u16],
@@ -147,7 +148,7 @@ fn text_with(
     text_by(chars, lengths, heads, links, word_starts, index, work)
 }
 
-// The same with a match table of its own.
+// Whether the index is received, with a local match table. Where it is, its text is left in the first numbers of the work slice.
 pub(crate) fn text_of(chars: &[u16], lengths: &[u16], index: &[u16], work: &mut [u16]) -> bool
     requires { ⌜ delivery-refusal (now chars) (now lengths) (now index) (length (now work)) ≡ 0 ⌝ }
     ensures { λ r. ⌜ Tried (lexicon (now (chars .entry)) (now (lengths .entry))) (now (index .entry)) r (now (work .exit)) ⌝ }

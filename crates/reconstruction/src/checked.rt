@@ -1,6 +1,6 @@
-// The text that the entries of an index show: painted over one ground character, and looked at again.
+// The text reconstructed from the entries of an index over a sentinel, and whether every entry stands in it.
 //
-// Where two entries contradict one another, one of them does not stand in what was painted.
+// Where two entries contradict each other, one of them does not stand in the reconstructed text.
 ghost use mathlib.Core.Path.{_≡_};
 ghost use lib.ListN.{length};
 ghost use Rattle.basics.specs.Bools.{Reflects};
@@ -13,7 +13,7 @@ use crate::entries::reconstruct_entries;
 use crate::matches::entries_match;
 use copying::slices::fill;
 
-// Paints every entry of a readable index over a ground. Answers whether every entry stands in what was painted.
+// Reconstructs the text from every entry of a readable index over `sentinel`. Answers whether every entry stands in it.
 pub fn reconstruct_checked(
     chars: &[u16],
     lengths: &[u16],

@@ -1,8 +1,8 @@
-// A text painted from the entries of an index: each entry's characters at its position, line after line.
+// Reconstruction: writes each entry's characters at its position in a text, line after line.
 //
-// A word is spelt by a part of the dictionary's characters, which a table of starts finds; a lone character is one store at each of
-// its positions. Where entries disagree the last one painted stays, and where there is none the text is as it was: reception finds
-// both by scanning what was painted. The cost is the length of an entry's key.
+// A word is spelt by a part of the dictionary's characters, which a table of starts finds; a lone character is one store at each of its
+// positions. Where entries disagree the last one written stays, and where there is none the text is unchanged: reception finds both by
+// scanning the reconstructed text. The cost of an entry is the length of its key.
 ghost use mathlib.Core.Path.{_≡_};
 ghost use Prim.Native.Nat.{_+_, _-_, _≤_};
 ghost use lib.ListN.{length, take, drop};
@@ -17,7 +17,7 @@ ghost use Rattle.laws.specs.Receive.PositionWalk.{reconstruct-positions, Lie-wi
 ghost use Rattle.laws.specs.Receive.LinePass.{Line-lies};
 use crate::line_map::fill_at;
 
-// Sets a string's characters from a place on.
+// Writes a string's characters into the text, from the index `at` on.
 fn reconstruct_string(string: &[u16], at: usize, text: &mut [u16])
     requires { ⌜ at + length (now string) ≤ length (now text) ⌝ }
     ensures { λ r. ⌜ now (text .exit) ≡ sets (now (text .entry)) at (now (string .entry)) ⌝ }
@@ -29,7 +29,7 @@ fn reconstruct_string(string: &[u16], at: usize, text: &mut [u16])
     }
 }
 
-// Sets a string at each of these positions.
+// Writes a string at each of these positions.
 fn reconstruct_positions(string: &[u16], positions: &[u16], text: &mut [u16])
     requires { ⌜ Lie-within (length (now string)) (length (now text)) (now positions) ⌝ }
     ensures { λ r. ⌜ now (text .exit) ≡ reconstruct-positions (now (string .entry)) (now (positions .entry)) (now (text .entry)) ⌝ }
@@ -41,7 +41,7 @@ fn reconstruct_positions(string: &[u16], positions: &[u16], text: &mut [u16])
     }
 }
 
-// Sets what the key of a line spells at each of the line's positions, which lie from `begin` to `end`.
+// Writes what the key of a line spells at each of the line's positions, which lie from `begin` to `end` in the index.
 fn reconstruct_line(
     chars: &[u16],
     lengths: &[u16],
@@ -66,7 +66,7 @@ fn reconstruct_line(
     reconstruct_positions(&chars[start..stop], &index[begin..end], text);
 }
 
-// Paints every entry of a readable index.
+// Writes every entry of a readable index into the text.
 pub fn reconstruct_entries(
     chars: &[u16],
     lengths: &[u16],

@@ -1,4 +1,4 @@
-// Passes over the entries of an index: the text painted from them, whether they stand in a text, and the lines noted at their positions.
+// Passes over the entries of an index: the text reconstructed from them, whether they stand in a text, and the line map.
 pub mod line_map;
 pub mod entries;
 pub mod matches;

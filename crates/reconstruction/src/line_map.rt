@@ -1,7 +1,7 @@
-// The directory lines noted at their positions: at each position the number of a line that has it, plus 1.
+// The line map: at each position, the number plus 1 of a directory line whose list has it.
 //
-// One walk over the directory with the positions of each line as it is reached. A line's number and 1 fit 16 bits, since there are
-// at most 65,535 keys. The cost is one store a position.
+// One walk over the directory with the positions of each line as it is reached. A line's number plus 1 fits 16 bits, since there are at
+// most 65,535 keys. The cost is one store a position.
 ghost use mathlib.Core.Path.{_≡_};
 ghost use lib.ListN.{length};
 ghost use Rattle.spec.specs.Index.{lines-in};
@@ -9,7 +9,7 @@ ghost use Rattle.laws.specs.Receive.LineMapFill.{fill-positions, fill-line-map}
 ghost use Rattle.laws.specs.Receive.PositionWalk.{Lie-within};
 ghost use Rattle.laws.specs.Receive.LineMapWalk.{Can-map};
 
-// Sets one number at each of these positions.
+// Writes one number at each of these positions.
 pub(crate) fn fill_at(value: u16, positions: &[u16], slots: &mut [u16])
     requires { ⌜ Lie-within 1 (length (now slots)) (now positions) ⌝ }
     ensures { λ r. ⌜ now (slots .exit) ≡ fill-positions value (now (positions .entry)) (now (slots .entry)) ⌝ }
@@ -21,7 +21,7 @@ pub(crate) fn fill_at(value: u16, positions: &[u16], slots: &mut [u16])
     }
 }
 
-// Notes each line's number plus 1 at its positions.
+// Writes each line's number plus 1 at its positions.
 pub fn fill_line_map(index: &[u16], line_map: &mut [u16])
     requires { ⌜ Can-map (now index) (length (now «line_map»)) ⌝ }
     ensures { λ r. ⌜ now («line_map» .exit) ≡ fill-line-map 0 (lines-in (now (index .entry))) (now («line_map» .entry)) ⌝ }

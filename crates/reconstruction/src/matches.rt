@@ -1,9 +1,9 @@
 // Whether every entry of an index stands in a text.
 //
 // A string is compared character by character at each of its positions. Where two positions of one key lie closer than the key is
-// long, the string can stand at both only if it repeats itself after as many characters; if it does, the first characters at the
-// later position are right already, and only as many as the two positions lie apart are left to compare. So a word of equal
-// characters at every position costs one comparison a position.
+// long, the string can stand at both only if their distance is a period of it; if it is, the first characters at the later
+// position are right already, and only as many as the distance are left to compare. So a word of equal characters at every
+// position costs one comparison a position.
 ghost use mathlib.Core.Path.{_≡_};
 ghost use mathlib.Core.List.{[], _∷_};
 ghost use Prim.Native.Nat.{suc, _+_, _-_, _≤_};
@@ -19,7 +19,7 @@ ghost use Rattle.laws.specs.Receive.PositionWalk.{Lie-within};
 ghost use Rattle.laws.specs.Receive.LinePass.{Line-lies};
 ghost use Rattle.laws.specs.Receive.EntriesMatch.{Equal-part, Period, Stand-each};
 
-// Whether the characters of a string from `from` on are those of the text, if the string starts at `at`.
+// Whether the characters of a string from its index `from` on are those of the text, if the string starts at the text's index `at`.
 fn equal_from(string: &[u16], from: usize, text: &[u16], at: usize) -> bool
     requires { ⌜ at + length (now string) ≤ length (now text) ⌝ }
     ensures { λ r. ⌜ Reflects r (Equal-part (now (string .entry)) from (length (now (string .entry))) (now (text .entry)) at) ⌝ }
@@ -34,7 +34,7 @@ fn equal_from(string: &[u16], from: usize, text: &[u16], at: usize) -> bool
     true
 }
 
-// A period of the string: `step` if it is one, else the one that is known.
+// A period of the string: `step` if it is one, else the known one.
 fn period_of(string: &[u16], known: usize, step: usize) -> usize
     requires { ⌜ Period (now string) known ⌝ }
     ensures { λ r. ⌜ Period (now (string .entry)) r ⌝ }
@@ -51,7 +51,7 @@ fn period_of(string: &[u16], known: usize, step: usize) -> usize
     known
 }
 
-// Whether a string stands at `place`, which lies `step` after a place where it stands.
+// Whether a string stands at `position`, which lies `step` after a position where it stands.
 fn stands_again(string: &[u16], period: usize, step: usize, position: usize, text: &[u16]) -> bool
     requires { ⌜ Period (now string) period × (step ≤ position) × Stand (now string) (now text) (position - step) × (position + length (now string) ≤ suc (length (now text))) ⌝ }
     ensures { λ r. ⌜ Reflects r (Stand (now (string .entry)) (now (text .entry)) position) ⌝ }
@@ -99,7 +99,7 @@ fn holds_at_each(character: u16, positions: &[u16], text: &[u16]) -> bool
     true
 }
 
-// Whether what the key of a line spells stands at each of the line's positions, which lie from `begin` to `end`.
+// Whether what the key of a line spells stands at each of the line's positions, which lie from `begin` to `end` in the index.
 fn line_stands(
     chars: &[u16],
     lengths: &[u16],

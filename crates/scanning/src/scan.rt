@@ -1,8 +1,8 @@
-// The one-pass scan of a text: at each place the longest word or lone character is registered if it ends after the last registered
-// one.
+// The one-pass scan of a text: at each position the longest word or lone character is registered if it ends
+// after the last registered entry.
 //
-// What is registered is left as one number a place: 0 nothing, a word's number plus 1, or 4,097 for the lone character. The cost is
-// that of the longest word at each place.
+// It leaves one token a position: 0 for nothing, a word's number plus 1, or 4,097 for the lone character. The cost is that of finding the
+// longest word at each position.
 ghost use mathlib.Core.Path.{_≡_};
 ghost use Prim.Native.Nat.{_+_, _*_, _≤_, _<_};
 ghost use lib.ListN.{length, take, drop};
@@ -12,13 +12,13 @@ ghost use Rattle.laws.specs.Build.Tokens.{Tokens};
 ghost use Rattle.laws.specs.Build.ScanTokens.{Stepped as Stepped-at};
 use matching::longest::find_longest;
 
-// A place's mark, and where the last registered entry ends after it.
+// The token of a position, and where the last registered entry ends after it.
 pub struct Stepped {
     pub token: u16,
     pub end: usize,
 }
 
-// The mark at index `at` where the last registered entry ends at `end`, and the new end.
+// The token at index `at`, where the last registered entry ends at `end`, and the new end.
 pub fn step(
     chars: &[u16],
     lengths: &[u16],
@@ -49,7 +49,7 @@ pub fn step(
     }
 }
 
-// Writes the marks of a text of `n` characters to the front of the work slice. The text stands in the `n` numbers after them.
+// Writes the tokens of a text of `n` characters to the first `n` numbers of the work slice. The text is in the `n` numbers after them.
 pub fn scan(
     chars: &[u16],
     lengths: &[u16],

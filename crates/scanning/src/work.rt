@@ -1,10 +1,10 @@
-// The work slice, which is all zeros after every call, refused or not.
+// The work slice, which is all zeros after every call, refused or not. Clearing it is one store a number, over its whole length.
 ghost use mathlib.Core.Path.{_≡_};
 ghost use Rattle.spec.specs.Calls.{zeros};
 ghost use Rattle.laws.specs.Dictionary.Answering.{Refuses};
 use spec::Answer;
 
-// Zeros over the whole slice.
+// Sets the whole slice to zeros.
 pub fn clear(work: &mut [u16])
     ensures { λ _. ⌜ now (work .exit) ≡ zeros (now (work .entry)) ⌝ }
 {

@@ -1,9 +1,9 @@
-// Whether a search would visit so many positions that looking at the painted text is cheaper.
+// Estimates the cost of a search: whether it would visit so many positions that a scan of the reconstructed text is cheaper.
 //
-// At each offset the search by entries visits the positions of the keys that agree with the string there, and at the front those of
-// a word again for each offset at which it agrees: at most as often as it has characters. Offsets are sampled, at most 32 of them,
-// each for as many as lie up to the next. What painting the text costs is taken as six visits a character. The answer says only
-// which way is taken: both find the same.
+// At each offset the search by entries visits the positions of the keys that agree with the string there. A leading word's positions
+// are visited again for each offset at which it agrees: at most as often as it has characters. At most 32 offsets are sampled, each
+// for as many as lie up to the next. Reconstruction of the text is taken to cost six visits a character. The estimate only says which
+// way is taken: both find the same.
 ghost use mathlib.Core.Path.{_≡_};
 ghost use mathlib.Core.Bool.{true};
 ghost use Prim.Native.Nat.{suc, _+_, _*_, _≤_, _<_};
@@ -20,7 +20,7 @@ use directory::ranges::line_lower_bound;
 use directory::ranges::equal_range;
 use directory::ranges::count_word_lines;
 
-// How many positions the word of a line has, each counted as often as the word has characters if `whole`.
+// How many visits the word of a line costs: one for each position, times the word's length if `whole`.
 fn estimate_line(lengths: &[u16], index: &[u16], line: usize, whole: bool) -> usize
     requires { ⌜ (2 + 3 * line + 2 < length (now index)) × (value-at (now index) line < length (now lengths)) × (line ≤ 65535) ⌝ }
     ensures { λ r. ⌜ r ≤ 4294836225 ⌝ }
@@ -32,7 +32,7 @@ fn estimate_line(lengths: &[u16], index: &[u16], line: usize, whole: bool) -> us
     count
 }
 
-// The same for the words of the lines `from` to `to` - 1.
+// How many visits the words of the lines `from` to `to` - 1 cost: one for each position, times the word's length if `whole`.
 fn estimate_lines(lengths: &[u16], index: &[u16], from: usize, to: usize, whole: bool) -> usize
     requires { ⌜ (from ≤ to) × (2 + 3 * to ≤ length (now index)) × (to ≤ 65535) × Words-at (now lengths) (now index) to ⌝ }
     ensures { λ r. ⌜ r ≤ 281462092005375 ⌝ }
@@ -46,7 +46,8 @@ fn estimate_lines(lengths: &[u16], index: &[u16], from: usize, to: usize, whole:
     sum
 }
 
-// The same for the words that agree with the string at an offset, of which the lines are the first `ends`.
+// How many visits the words cost that agree with the string at the offset `key_start`: one for each position, times the word's length if
+// `whole`. The first `word_lines` lines are those of words.
 fn estimate_words(
     chars: &[u16],
     lengths: &[u16],
@@ -83,7 +84,7 @@ fn estimate_words(
     sum
 }
 
-// How many positions a lone character has, where the lines of lone characters start at `ends`.
+// How many positions a lone character has. The lines of lone characters follow the first `word_lines`.
 fn count_lone(index: &[u16], word_lines: usize, character: u16) -> usize
     requires { ⌜ Fits (now index) × Rising (number-at (now index) 1) «word_lines» (keys-of (now index)) × (keys-of (now index) ≤ 65535) ⌝ }
     ensures { λ r. ⌜ r ≤ 65535 ⌝ }
@@ -99,7 +100,7 @@ fn count_lone(index: &[u16], word_lines: usize, character: u16) -> usize
     index[2 + 3 * line + 2] as usize
 }
 
-// How many positions the keys have that agree with the string at an offset.
+// How many positions the keys have that agree with the string at the offset `key_start`.
 fn count_keys(
     chars: &[u16],
     lengths: &[u16],
@@ -116,7 +117,7 @@ fn count_keys(
     estimate_words(chars, lengths, index, word_starts, string, key_start, word_lines, false) + lone
 }
 
-// Whether a search visits more than `limit` positions, by sampled offsets.
+// Whether a search is estimated to visit more than `limit` positions, by sampled offsets.
 fn cost_exceeds(
     chars: &[u16],
     lengths: &[u16],
@@ -141,8 +142,8 @@ fn cost_exceeds(
     limit < sum
 }
 
-// Whether the search of so many starts visits more positions than painting the text costs. Where the string does not fit into the
-// text there is nothing to search.
+// Whether a search of so many starts is estimated to visit more positions than reconstructing the text costs. Where the string does not fit
+// into the text there is nothing to search.
 pub(crate) fn prefers_text_scan(
     chars: &[u16],
     lengths: &[u16],

@@ -1,4 +1,6 @@
 // The first found position of a string in an index, without its text: the tables of starts, and the call.
+//
+// A local array is cleared when it is made, so the table that grows with the index comes in three sizes.
 ghost use mathlib.Core.Path.{_≡_};
 ghost use Prim.Native.Nat.{_≤_};
 ghost use lib.ListN.{length};
@@ -17,8 +19,7 @@ use folding::forms::replaced_string;
 use opening::opened::open_index;
 use spec::FirstAnswer;
 
-// The first found position in a readable index, with its tables of starts lent, of a string that is searched for as it stands: 0 where
-// there is none.
+// The first found position of a string taken as it is, in a readable index with its tables of starts lent; 0 where there is none.
 fn first_plain<'a>(
     chars: &'a [u16],
     lengths: &[u16],
@@ -34,7 +35,7 @@ fn first_plain<'a>(
     first_of_starts(chars, lengths, index, word_starts, list_starts, string, starts)
 }
 
-// The same for a string as it is lent, which is replaced first.
+// The first found position of a string as it is lent, which is replaced first, in a readable index with its tables of starts lent.
 fn first_tabled<'a>(
     chars: &'a [u16],
     lengths: &[u16],
@@ -52,7 +53,7 @@ fn first_tabled<'a>(
     first_plain(chars, lengths, index, word_starts, list_starts, &own[..len])
 }
 
-// The same with the tables filled first, one of them lent.
+// The first found position in a readable index, whose tables of starts are filled first, one of them lent.
 fn first_filled<'a>(
     chars: &'a [u16],
     lengths: &[u16],
@@ -71,7 +72,7 @@ fn first_filled<'a>(
     first_tabled(chars, lengths, index, &word_starts, list_starts, string)
 }
 
-// With a table of 1,024 lines.
+// The first found position in an index of at most 1,024 lines, with a local table.
 fn first_few_lines<'a>(
     chars: &'a [u16],
     lengths: &[u16],
@@ -87,7 +88,7 @@ fn first_few_lines<'a>(
     first_filled(chars, lengths, index, keys, string, &mut list_starts)
 }
 
-// With a table of 8,192 lines.
+// The first found position in an index of at most 8,192 lines, with a local table.
 fn first_some_lines<'a>(
     chars: &'a [u16],
     lengths: &[u16],
@@ -103,7 +104,7 @@ fn first_some_lines<'a>(
     first_filled(chars, lengths, index, keys, string, &mut list_starts)
 }
 
-// With a table of 65,536 lines.
+// The first found position in an index of any number of lines, with a local table of 65,536.
 fn first_many_lines<'a>(
     chars: &'a [u16],
     lengths: &[u16],
@@ -119,7 +120,7 @@ fn first_many_lines<'a>(
     first_filled(chars, lengths, index, keys, string, &mut list_starts)
 }
 
-// With a table that is long enough.
+// The first found position in an index of `keys` lines, with the smallest table that is long enough.
 fn first_lines<'a>(
     chars: &'a [u16],
     lengths: &[u16],

@@ -1,7 +1,7 @@
 // The first found of the starts at which a string fits, whichever way is cheaper.
 //
-// Where the estimate says that very many positions would be visited, the text that the entries show is looked through, as a whole search
-// does; else the search goes by the entries, window by window.
+// Where the estimate says that very many positions would be visited, the reconstructed text is scanned, as a whole search does; else the
+// search goes by the entries, window by window.
 ghost use Prim.Native.Nat.{suc, _+_, _≤_};
 ghost use lib.ListN.{length};
 ghost use Rattle.spec.specs.Dictionary.{lexicon};
@@ -14,7 +14,7 @@ use crate::first_windows::first_by_entries;
 use crate::window::reach_by_text;
 use finding::finding::first_found;
 
-// The first found of the starts of a cleared window, by the text that the entries show, or by the entries where they show none.
+// The first found of a window's starts by the reconstructed text, or by the entries where one of them does not stand in it.
 fn first_by_text<'a>(
     chars: &'a [u16],
     lengths: &[u16],
@@ -33,7 +33,7 @@ fn first_by_text<'a>(
     first_by_entries(chars, lengths, index, word_starts, list_starts, string, reach.len())
 }
 
-// The same in the front of the room lent for the window.
+// The first found of `starts` starts by the reconstructed text, with the window at the start of a slice that is lent.
 fn first_by_text_in<'a>(
     chars: &'a [u16],
     lengths: &[u16],
@@ -58,7 +58,7 @@ fn first_by_text_in<'a>(
     )
 }
 
-// The same with room of its own.
+// The first found of `starts` starts by the reconstructed text, with a local window.
 fn first_by_estimate<'a>(
     chars: &'a [u16],
     lengths: &[u16],
@@ -84,7 +84,7 @@ fn first_by_estimate<'a>(
     )
 }
 
-// The first found of so many starts, whichever way is cheaper.
+// The first found of `starts` starts, whichever way is cheaper.
 pub(crate) fn first_of_starts<'a>(
     chars: &'a [u16],
     lengths: &[u16],

@@ -1,7 +1,7 @@
-// The first found of the starts at which a string fits, by the entries.
+// The first found of the starts at which a string fits, by the entries, window by window.
 //
-// The first 8,192 starts are searched, and the others only where none of these is found: no entry that lies behind the window is then
-// looked at. A local array is cleared when it is made, so a window of few starts has one of its own.
+// The first 8,192 starts are searched, and the others only where none of these is found, so that entries behind the window are not visited.
+// A local array is cleared when it is made, so at most 1,024 starts take a smaller window.
 ghost use mathlib.Core.Path.{_≡_};
 ghost use Prim.Native.Nat.{_+_, _≤_};
 ghost use lib.ListN.{length, replicate};
@@ -45,7 +45,7 @@ fn first_in_lent<'a>(
     )
 }
 
-// With a window of 1,024 starts.
+// The first found of at most 1,024 starts from `first` on, in a local window.
 fn first_in_short<'a>(
     chars: &'a [u16],
     lengths: &[u16],
@@ -77,7 +77,7 @@ fn first_in_short<'a>(
     )
 }
 
-// With a window of 8,192 starts.
+// The first found of at most 8,192 starts from `first` on, in a local window.
 fn first_in_middle<'a>(
     chars: &'a [u16],
     lengths: &[u16],
@@ -109,7 +109,7 @@ fn first_in_middle<'a>(
     )
 }
 
-// With a window of 65,536 starts.
+// The first found of any number of starts from `first` on, in a local window of 65,536.
 fn first_in_long<'a>(
     chars: &'a [u16],
     lengths: &[u16],
@@ -141,7 +141,7 @@ fn first_in_long<'a>(
     )
 }
 
-// The first found of all starts, by growing windows.
+// The first found of `starts` starts: in one window if it holds all, else in 8,192 starts and then in the rest.
 fn first_by_windows<'a>(
     chars: &'a [u16],
     lengths: &[u16],
@@ -213,7 +213,7 @@ fn first_by_windows<'a>(
     )
 }
 
-// The same with the lines listed whose keys agree at an offset of 0 or below, once for all windows, in room that is lent.
+// The first found of `starts` starts, with the leading lines listed once for all windows, in a slice that is lent.
 fn first_listing<'a>(
     chars: &'a [u16],
     lengths: &[u16],
@@ -242,7 +242,7 @@ fn first_listing<'a>(
     )
 }
 
-// The same with room of its own.
+// The first found of `starts` starts by the entries, with a local list of the leading lines.
 pub(crate) fn first_by_entries<'a>(
     chars: &'a [u16],
     lengths: &[u16],

@@ -1,7 +1,7 @@
 // Search of an index without its text: the tables of starts, and the call.
 //
-// A local array is cleared when it is made, so the table that grows with the index comes in three sizes. The tables are the same for
-// every string: whoever searches for many fills them once.
+// A local array is cleared when it is made, so the table that grows with the index comes in three sizes. The tables are the same for every
+// string: a caller that searches for many fills them once.
 ghost use mathlib.Core.Path.{_≡_};
 ghost use Prim.Native.Nat.{suc, _-_, _≤_};
 ghost use lib.ListN.{length};
@@ -30,7 +30,7 @@ pub(crate) fn starts_of(n: usize, len: usize) -> usize
     n - len + 1
 }
 
-// Searches a readable index, with its tables of starts lent, for a string that is searched for as it stands.
+// Searches a readable index, with its tables of starts lent, for a string taken as it is.
 fn search_plain<'a>(
     chars: &'a [u16],
     lengths: &[u16],
@@ -47,7 +47,7 @@ fn search_plain<'a>(
     search_starts(chars, lengths, index, word_starts, list_starts, string, starts, output)
 }
 
-// The same for a string as it is lent, which is replaced first.
+// Searches a readable index, with its tables of starts lent, for a string as it is lent, which is replaced first.
 pub fn search_tabled<'a>(
     chars: &'a [u16],
     lengths: &[u16],
@@ -67,7 +67,7 @@ pub fn search_tabled<'a>(
     search_plain(chars, lengths, index, word_starts, list_starts, &own[..len], output)
 }
 
-// The same with the tables filled first, one of them lent.
+// Searches a readable index, whose tables of starts are filled first, one of them lent.
 fn search_filled<'a>(
     chars: &'a [u16],
     lengths: &[u16],
@@ -88,7 +88,7 @@ fn search_filled<'a>(
     search_tabled(chars, lengths, index, &word_starts, list_starts, string, output)
 }
 
-// With a table of 1,024 lines.
+// Searches an index of at most 1,024 lines, with a local table.
 fn search_few_lines<'a>(
     chars: &'a [u16],
     lengths: &[u16],
@@ -106,7 +106,7 @@ fn search_few_lines<'a>(
     search_filled(chars, lengths, index, keys, string, &mut list_starts, output)
 }
 
-// With a table of 8,192 lines.
+// Searches an index of at most 8,192 lines, with a local table.
 fn search_some_lines<'a>(
     chars: &'a [u16],
     lengths: &[u16],
@@ -124,7 +124,7 @@ fn search_some_lines<'a>(
     search_filled(chars, lengths, index, keys, string, &mut list_starts, output)
 }
 
-// With a table of 65,536 lines.
+// Searches an index of any number of lines, with a local table of 65,536.
 fn search_many_lines<'a>(
     chars: &'a [u16],
     lengths: &[u16],
@@ -142,7 +142,7 @@ fn search_many_lines<'a>(
     search_filled(chars, lengths, index, keys, string, &mut list_starts, output)
 }
 
-// With a table that is long enough.
+// Searches an index of `keys` lines, with the smallest table that is long enough.
 fn search_lines<'a>(
     chars: &'a [u16],
     lengths: &[u16],

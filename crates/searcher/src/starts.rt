@@ -1,5 +1,5 @@
-// The starts at which a string fits, searched together in one window. A local array is cleared when it is made, so the window comes in three
-// sizes.
+// The starts at which a string fits, searched together in one window. A local array is cleared when it is made, so
+// the window comes in three sizes.
 ghost use mathlib.Core.Path.{_≡_};
 ghost use Prim.Native.Nat.{_≤_};
 ghost use lib.ListN.{length, replicate};
@@ -37,7 +37,7 @@ fn search_lent<'a>(
     )
 }
 
-// With a window of 1,024 starts.
+// Searches at most 1,024 starts, in a local window.
 fn search_in_short<'a>(
     chars: &'a [u16],
     lengths: &[u16],
@@ -65,7 +65,7 @@ fn search_in_short<'a>(
     )
 }
 
-// With a window of 8,192 starts.
+// Searches at most 8,192 starts, in a local window.
 fn search_in_middle<'a>(
     chars: &'a [u16],
     lengths: &[u16],
@@ -93,7 +93,7 @@ fn search_in_middle<'a>(
     )
 }
 
-// With a window of 65,536 starts.
+// Searches any number of starts, in a local window of 65,536.
 fn search_in_long<'a>(
     chars: &'a [u16],
     lengths: &[u16],
@@ -121,7 +121,7 @@ fn search_in_long<'a>(
     )
 }
 
-// With a window that is long enough.
+// Searches the starts at which the string fits, of which there are `starts`, in the smallest window that is long enough.
 pub(crate) fn search_starts<'a>(
     chars: &'a [u16],
     lengths: &[u16],

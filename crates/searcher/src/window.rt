@@ -1,4 +1,5 @@
-// The starts of an opened index searched: by the painted text where that is cheaper and the entries show one, else by the entries.
+// Searches the starts of an opened index: by a scan of the reconstructed text where that is cheaper and every entry
+// stands in it, else by the entries.
 ghost use mathlib.Core.Path.{_≡_};
 ghost use mathlib.Core.Bool.{true, false};
 ghost use Prim.Native.Nat.{suc, _+_, _≤_};
@@ -15,7 +16,7 @@ use finding::window::answer_window;
 use finding::window::search_window;
 use spec::Answer;
 
-// Tells the window by the painted text, at the front of the room lent for it.
+// Fills the window from the text reconstructed at the start of the slice lent for it, if every entry stands there. Answers whether it did.
 fn reach_in_front(
     chars: &[u16],
     lengths: &[u16],
@@ -33,7 +34,8 @@ fn reach_in_front(
     reach_reconstructed(chars, lengths, index, word_starts, string, &mut room[..n], reach)
 }
 
-// The same with room for the text of its own, which only this way clears.
+// Fills the window from the text reconstructed in a local array, which is made and cleared only here. Answers
+// whether every entry stands there.
 pub(crate) fn reach_by_text(
     chars: &[u16],
     lengths: &[u16],
@@ -50,7 +52,7 @@ pub(crate) fn reach_by_text(
     reach_in_front(chars, lengths, index, word_starts, string, &mut room, reach)
 }
 
-// The same where it is cheaper than searching by the entries.
+// Fills the window from the reconstructed text if that is estimated to be cheaper than a search by the entries. Answers whether it did.
 fn reach_if_cheaper(
     chars: &[u16],
     lengths: &[u16],
@@ -69,7 +71,7 @@ fn reach_if_cheaper(
     reach_by_text(chars, lengths, index, word_starts, string, reach)
 }
 
-// Searches the starts of a cleared window, from the first position on.
+// Searches the starts of a cleared window that begins at position 1.
 pub(crate) fn search_cleared<'a>(
     chars: &'a [u16],
     lengths: &[u16],

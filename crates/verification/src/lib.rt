@@ -1,2 +1,2 @@
-// Whether what the scan of a text registers is what an index has.
+// The reception test: whether the scan of a text registers exactly the entries of an index.
 pub mod verify;

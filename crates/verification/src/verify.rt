@@ -1,8 +1,8 @@
-// Whether what the scan of a painted text registers is what an index has.
+// Verification: whether the scan of a reconstructed text registers exactly the entries of an index.
 //
-// The builder's own step runs over the text. Where it registers an entry, the line noted at that place has to have the entry's key;
-// and as many are registered as the index has positions. Each registered entry then has its own delivered one, and there are no
-// others: whatever the painting left uncovered, painted over or passed by fails of itself. The cost is that of the scan.
+// The builder's own step runs over the text. Where it registers an entry, the line that the line map has at that position must have the
+// entry's key; and as many must be registered as the index has positions. Each registered entry then is one delivered entry, and there are
+// no others: whatever reconstruction left uncovered, overwrote or missed fails by itself. The cost is that of the scan.
 ghost use mathlib.Core.Path.{_≡_};
 ghost use Prim.Native.Nat.{_≤_};
 ghost use lib.ListN.{length};
@@ -15,7 +15,7 @@ ghost use Rattle.laws.specs.Receive.LineMap.{Line-map, verify};
 ghost use Rattle.laws.specs.Receive.Verify.{token-mapped};
 use scanning::scan::step;
 
-// Whether a note is that of a line with the key of a mark, where `character` stands.
+// Whether `mapped`, the line map's number at a position, is that of a line with the key of `token`; `character` is the text's there.
 fn line_has_key(index: &[u16], mapped: u16, token: u16, character: u16) -> bool
     requires { ⌜ Fits (now index) × (mapped ≤ keys-of (now index)) × (1 ≤ token) ⌝ }
     ensures { λ r. ⌜ r ≡ token-mapped (now (index .entry)) mapped token character ⌝ }
@@ -38,7 +38,8 @@ fn line_has_key(index: &[u16], mapped: u16, token: u16, character: u16) -> bool
     value == token - 1
 }
 
-// Whether each entry that the scan of the text registers is noted where it starts, and there are as many as positions in the index.
+// Whether the line map has, for each entry that the scan of the text registers, a line with its key where it starts, and there are as
+// many as positions in the index.
 pub fn verify(
     chars: &[u16],
     lengths: &[u16],

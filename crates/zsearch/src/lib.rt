@@ -1,4 +1,4 @@
-// The starts at which a string stands in a text, and the least number that is none of its characters.
+// Z-search: the length of the longest prefix of a string at each start of a text, and the sentinel of a string.
 pub mod zbox;
 pub mod sentinel;
 pub mod zarray;

@@ -1,13 +1,14 @@
-// The least number that is no character of a string.
+// The sentinel of a string: the least number that is none of its characters.
 //
-// The numbers from 0 on are tried, each against the whole string. A string of n characters leaves one of the first n + 1 free.
+// The numbers from 0 on are tried, each against the whole string. A string of n characters leaves one of the first n + 1 free, so the cost
+// is at most quadratic in the string, which has at most 256 characters.
 ghost use Prim.Native.Nat.{_≤_};
 ghost use lib.ListN.{length};
 ghost use Rattle.basics.specs.Bools.{Reflects};
 ghost use Rattle.basics.specs.Member.{In};
 ghost use Rattle.basics.specs.Absent.{Least-absent};
 
-// Whether a string has a character.
+// Whether a character is one of the string's.
 fn has_char(string: &[u16], character: u16) -> bool
     ensures { λ r. ⌜ Reflects r (In character (now (string .entry))) ⌝ }
 {

@@ -1,12 +1,13 @@
-// How long a front of a string lies at one place of a text: what is known without looking, and what comparing adds to it.
+// One step of the Z-algorithm: the length of the longest prefix of a string that matches at one index of a text.
 //
-// Both tables of this crate are filled by this pair, place after place. The stretch of the text that reaches furthest so far is a front
-// of the string, so a place within it repeats what the string has at the same place, and comparing starts where the stretch ends.
+// The Z-box is the match that reaches furthest so far: the text from `left` to `right` is a prefix of the string. At an index inside it the
+// text repeats the string's own characters, so the Z-array tells what matches up to the end of the box, and comparing goes on from there.
+// Both tables of this crate are filled by these two functions.
 ghost use Prim.Native.Nat.{_+_, _-_, _≤_, _<_};
 ghost use lib.ListN.{length};
 ghost use Rattle.laws.specs.TextScan.ZSearch.{Prefix-at, Longest-prefix-at, Known};
 
-// How many characters at a place are known from the stretch that lies from `left` to `right`.
+// How many characters at index `at` are known to match from the Z-box, which lies from `left` to `right`.
 pub(crate) fn known_from(zarray: &[u16], at: usize, left: usize, right: usize) -> usize
     requires { ⌜ (at < right → (left ≤ at) × (at - left < length (now zarray))) ⌝ }
     ensures { λ r. ⌜ Known (now (zarray .entry)) at left right r ⌝ }
@@ -22,7 +23,7 @@ pub(crate) fn known_from(zarray: &[u16], at: usize, left: usize, right: usize) -
     rest
 }
 
-// How many characters at a place are those of the string's front, at most `most`, where the first `known` of them are.
+// The length of the longest prefix of the string that matches at index `at`, at most `limit`, where the first `known` characters match.
 pub(crate) fn extend(text: &[u16], string: &[u16], at: usize, known: usize, limit: usize) -> usize
     requires { ⌜ Prefix-at (now string) (now text) at known × (known ≤ limit) × (limit ≤ length (now string)) × (at + limit ≤ length (now text)) ⌝ }
     ensures { λ r. ⌜ Longest-prefix-at (now (string .entry)) (now (text .entry)) at limit r ⌝ }

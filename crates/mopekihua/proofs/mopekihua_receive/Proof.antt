@@ -1,4 +1,4 @@
--- The contract of `receive` is passed on, and what is lent as characters holds characters. Assumes nothing.
+-- `mopekihua_receive` meets its contract: that of `receive` is passed on, and what is lent as characters holds characters. Assumes nothing.
 use borrow.Author.Needs.{needs}
 use Rattle.laws.specs.Text.Chars.{lent-chars}
 use Rattle.mopekihua.proofs.mopekihua_receive.Statement.{statement}

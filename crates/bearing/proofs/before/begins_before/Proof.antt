@@ -1,5 +1,5 @@
--- `begins_before` meets its contract. The invariant: the key does not agree where the string starts at one of its places before i.
--- The measure is how many are left. Assumes nothing.
+-- `begins_before` meets its contract. The invariant: the key agrees at no offset below 0 and above -i. The measure is how many of its
+-- indices are left. Assumes nothing.
 use mathlib.Core.Path.{_≡_, refl, sym, ap, _∙_}
 use Prim.Native.Nat.{_-_, _<_, _^_}
 use native.Mathlib.Omega.{arith}
@@ -25,7 +25,7 @@ abbrev μ-loop : tie.MeasureT-loop
 small : (c : tie.In-loop Inv-loop μ-loop) → c .before .loop .i < 2 ^ 31
 small c = omega (arith, c .loop-test .taken, c .before .before .before .before .before .pre .0)
 
--- what the call answers, over the starts
+-- the answer of `agrees_at`, with the offset as two starts
 agreed :
     (c : tie.After-agrees-at Inv-loop μ-loop) →
     agrees (c .before .before .before .before .before .before .before .before .args .string .now) (c .before .before .before .before .loop .i) (c .before .before .before .before .before .before .before .before .args .key .now) 0

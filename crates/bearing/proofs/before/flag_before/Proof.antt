@@ -1,4 +1,5 @@
--- `flag_before` meets its contract. The invariant: the lines before `line` are done. The measure is how many are left. Assumes nothing.
+-- `flag_before` meets its contract. The invariant: the lines before `line` are flagged as due. The measure is how many
+-- lines are left. Assumes nothing.
 use mathlib.Core.Path.{_≡_, sym, ap, _∙_, subst}
 use mathlib.Core.List.{List}
 use Prim.Native.Nat.{ℕ, _-_, _≤_}

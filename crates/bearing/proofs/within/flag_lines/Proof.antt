@@ -1,5 +1,5 @@
--- `flag_lines` meets its contract. The invariant: the lines before `line` are flagged. The measure is how many are left. Assumes
--- nothing.
+-- `flag_lines` meets its contract. The invariant: the lines from `from` up to `line` are flagged. The measure is how
+-- many are left. Assumes nothing.
 use mathlib.Core.Path.{_≡_, subst}
 use Prim.Native.Nat.{ℕ, _-_, _≤_}
 use native.Mathlib.Omega.{arith}

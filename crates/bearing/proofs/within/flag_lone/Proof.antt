@@ -1,4 +1,4 @@
--- `flag_lone` meets its contract: the line of the character, or none. Assumes nothing.
+-- `flag_lone` meets its contract: the lower bound is the line of the character, or the character has none. Assumes nothing.
 use mathlib.Core.Path.{refl}
 use native.Mathlib.Omega.{arith}
 use lib.ListN.{getD}

@@ -1,5 +1,5 @@
--- `flag_within` meets its contract. The invariant: the offsets before `key_start` are done. The measure is how many are left. Assumes
--- nothing.
+-- `flag_within` meets its contract. The invariant: the offsets below `key_start` are done. The measure is how
+-- many are left. Assumes nothing.
 use mathlib.Core.Path.{_≡_, subst}
 use Prim.Native.Nat.{_-_, _≤_}
 use native.Mathlib.Omega.{arith}

@@ -1,4 +1,4 @@
--- `flag_words` meets its contract. The invariant: the lines from `low` to `high` - 1 are left, and share `depth` characters with the
+-- `flag_words` meets its contract. The invariant: the lines `low` to `high` - 1 are left, and their words share `depth` characters with the
 -- string from the offset on. The measure is how many lines and characters are left. Assumes nothing.
 use mathlib.Core.Path.{_≡_, refl, sym, ap, _∙_}
 use mathlib.Core.Logic.{inl, inr}

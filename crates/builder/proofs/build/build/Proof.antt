@@ -1,4 +1,4 @@
--- `build` meets its contract: an early refusal, or what follows it; and the work slice is cleared after either. Assumes nothing.
+-- `build` meets its contract: an early refusal, or the answer of `index_text`, and the work slice cleared after either. Assumes nothing.
 use mathlib.Core.Path.{_≡_, _∙_, ap}
 use Prim.Native.Nat.{ℕ}
 use lib.ListN.{length, replicate}

@@ -1,4 +1,4 @@
--- `early_refusal` meets its contract: one law a return. Assumes nothing.
+-- `early_refusal` meets its contract: one law for each return. Assumes nothing.
 use mathlib.Core.Path.{_≡_, sym, _∙_}
 use Rattle.spec.specs.Dictionary.{dictionary-refusal}
 use Rattle.laws.specs.Build.Building.{early-dictionary, early-text, early-work, early-none}

@@ -1,4 +1,4 @@
--- `finish` meets its contract: the marks at the front are as many as the text has characters. Assumes nothing.
+-- `finish` meets its contract: the part lent on is the tokens, as many as the text has characters. Assumes nothing.
 use mathlib.Core.Path.{sym}
 use lib.Seq.{length-take-le}
 use lib.ListN.{length}

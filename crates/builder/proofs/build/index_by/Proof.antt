@@ -1,4 +1,4 @@
--- `index_by` meets its contract: the size is known from the counts, and the numbers are those of the marks. Assumes nothing.
+-- `index_by` meets its contract: the counts give the size, and the chains give the numbers that the tokens stand for. Assumes nothing.
 use Rattle.spec.specs.Replaced.{replaced}
 use Rattle.laws.specs.Build.Building.{linked-listable, linked-keys, few-keys, linked-room, token-entry-refused, token-entry-put}
 use borrow.Author.Needs.{needs}

@@ -1,4 +1,4 @@
--- `index_text` meets its contract: its match table is blank. Assumes nothing.
+-- `index_text` meets its contract: its local match table is all zeros. Assumes nothing.
 use mathlib.Core.Path.{refl}
 use borrow.Author.Needs.{needs}
 use Rattle.laws.specs.Build.Building.{blank}

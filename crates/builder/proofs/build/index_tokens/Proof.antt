@@ -1,4 +1,4 @@
--- `index_marks` meets its contract: its heads and pages are not in use. Assumes nothing.
+-- `index_tokens` meets its contract: its local heads and pages are all zeros. Assumes nothing.
 use mathlib.Core.Path.{refl}
 use Rattle.laws.specs.Build.Building.{fresh}
 use borrow.Author.Needs.{needs}

@@ -1,5 +1,5 @@
--- `index_with` meets its contract: the words are hung up, the scan leaves the marks, and what is written for them is the index.
--- Assumes nothing.
+-- `index_with` meets its contract: the match table serves the scan, the scan leaves the tokens, and what is written for them
+-- is the index. Assumes nothing.
 use native.Mathlib.Omega.{arith}
 use lib.ListN.{length, take}
 use borrow.Author.Needs.{needs}

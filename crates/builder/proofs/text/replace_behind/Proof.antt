@@ -1,4 +1,4 @@
--- `replace_behind` meets its contract: the part behind the marks is as long as the text, and takes all of it. Assumes nothing.
+-- `replace_behind` meets its contract: the part after the tokens is as long as the text, and takes all of it. Assumes nothing.
 use mathlib.Core.Path.{_≡_, sym, _∙_}
 use Prim.Native.Nat.{_*_, _-_}
 use lib.ListN.{length, take, drop}

@@ -1,4 +1,4 @@
--- `scan_replaced` meets its contract: the text that the scan goes over is the replaced one. Assumes nothing.
+-- `scan_replaced` meets its contract: the text that is scanned is the replaced one. Assumes nothing.
 use borrow.Author.Needs.{needs}
 use Rattle.builder.proofs.text.scan_replaced.Statement.{statement}
 use Rattle.builder.proofs.text.scan_replaced.Tie as tie

@@ -1,5 +1,5 @@
--- `fill` meets its contract. The invariant: the first i are the number, and the rest is as it was. The measure is what is
--- left. Assumes nothing.
+-- `fill` meets its contract. The invariant: the first i numbers are `number`, and the rest is unchanged. The measure is how
+-- many are left. Assumes nothing.
 use mathlib.Core.Path.{_≡_, ap, _∙_}
 use mathlib.Core.List.{List, _++_, append-nil}
 use Prim.Native.Nat.{ℕ, _-_, _≤_, _<_}

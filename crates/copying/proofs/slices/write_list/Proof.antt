@@ -1,4 +1,5 @@
--- `write_list` meets its contract. The invariant: i numbers are written. The measure is how many are left. Assumes nothing.
+-- `write_list` meets its contract. The invariant: the first i numbers of the list are written. The measure is how
+-- many are left. Assumes nothing.
 use Prim.Native.Nat.{_-_}
 use native.Mathlib.Omega.{arith}
 use borrow.Author.Needs.{needs}

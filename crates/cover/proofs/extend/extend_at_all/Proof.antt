@@ -1,5 +1,6 @@
--- `mark_all` meets its contract. The invariant: after i positions the rest of them leads to the window that all lead to. The measure is
--- how many positions are left. The test of the wrapped difference is read by the laws of wrapping. Assumes nothing.
+-- `extend_at_all` meets its contract. The invariant: from the window after i positions, the other positions lead to the same
+-- window as all do from the first. The measure is how many positions are left. The laws of wrapping read the test of the
+-- wrapped difference. Assumes nothing.
 use mathlib.Core.Path.{_≡_}
 use Prim.Native.Nat.{_+_, _-_}
 use native.Mathlib.Omega.{arith}
@@ -17,7 +18,7 @@ Inv-loop positions len string-start key-start first reach₀ max-reach end peak 
 abbrev μ-loop : tie.MeasureT-loop
 μ-loop positions len string-start key-start first reach₀ max-reach end peak from highest₀ i₀ reach highest i = length positions - i
 
--- a start within the window is the position's own
+-- an index within the window is that of the position's own start
 own :
     (c : tie.Then1 Inv-loop μ-loop) →
     let a = c .before .before .before .before .before .before .before .before .before .args in

@@ -1,4 +1,4 @@
--- `mark` meets its contract: the two lower bounds are the range of the window. Assumes nothing.
+-- `extend_at_positions` meets its contract: between the two lower bounds lie the positions that fall into the window. Assumes nothing.
 use lib.ListN.{length}
 use Rattle.laws.specs.Window.ListRange.{window-range}
 use borrow.Author.Needs.{needs}

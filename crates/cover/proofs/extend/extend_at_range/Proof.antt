@@ -1,5 +1,5 @@
--- `mark_range` meets its contract. The invariant: i is in the range, and after i positions the rest of them leads to the window that
--- all lead to. The measure is how many positions of the range are left. Assumes nothing.
+-- `extend_at_range` meets its contract. The invariant: i is in the range, and from the window after i positions the other positions lead to
+-- the same window as all do from the first. The measure is how many positions of the range are left. Assumes nothing.
 use mathlib.Core.Path.{_≡_}
 use Prim.Native.Nat.{ℕ, _+_, _-_, _≤_, _<_}
 use native.Mathlib.Omega.{arith}

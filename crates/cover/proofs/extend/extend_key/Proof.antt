@@ -1,4 +1,4 @@
--- `raise_key` meets its contract: a key that does not agree changes nothing. Assumes nothing.
+-- `extend_key` meets its contract: a key that does not agree changes nothing. Assumes nothing.
 use mathlib.Core.Path.{_≡_, sym, ap, _∙_}
 use native.Mathlib.Omega.{arith}
 use Rattle.spec.specs.Search.{agrees, agrees-at}
@@ -9,7 +9,7 @@ use borrow.Author.Needs.{needs}
 use Rattle.cover.proofs.extend.extend_key.Statement.{statement}
 use Rattle.cover.proofs.extend.extend_key.Tie as tie
 
--- what the call answers, over the starts
+-- the answer of `agrees_at`, with the offset as two starts
 agreed :
     (c : tie.After-agrees-at) →
     agrees (c .before .before .before .before .before .args .string .now) (c .before .before .before .before .before .args .string-start) (c .before .before .before .before .before .args .key .now) (c .before .before .before .before .before .args .key-start)

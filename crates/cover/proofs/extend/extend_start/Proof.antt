@@ -1,4 +1,4 @@
--- `raise_start` meets its contract: the test of the wrapped difference is read by the laws of wrapping. Assumes nothing.
+-- `extend_start` meets its contract: the laws of wrapping read the test of the wrapped difference. Assumes nothing.
 use Prim.Native.Nat.{_-_}
 use native.Mathlib.Omega.{arith}
 use lib.ListN.{getD}

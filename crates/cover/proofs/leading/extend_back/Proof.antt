@@ -1,4 +1,5 @@
--- `raise_back` meets its contract. The invariant: i offsets are done. The measure is how many are left. Assumes nothing.
+-- `extend_back` meets its contract. The invariant: the window is extended at the first i offsets. The measure is how
+-- many are left. Assumes nothing.
 use Prim.Native.Nat.{_-_}
 use native.Mathlib.Omega.{arith}
 use borrow.Author.Needs.{needs}

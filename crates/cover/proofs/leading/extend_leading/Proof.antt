@@ -1,4 +1,4 @@
--- `raise_firsts` meets its contract: the listed lines of words, then those of lone characters. Assumes nothing.
+-- `extend_leading` meets its contract: the listed lines of words, then the lone character at the offset 0. Assumes nothing.
 use Rattle.spec.specs.Dictionary.{lexicon}
 use Rattle.laws.specs.Window.LineSteps.{leading-both}
 use Rattle.laws.specs.Window.LineRanges.{lone-single}

@@ -1,5 +1,5 @@
--- `raise_words_back` meets its contract. The invariant: the first i listed lines are done. The measure is how many are left. Assumes
--- nothing.
+-- `extend_words_back` meets its contract. The invariant: the window is extended by the first i listed lines. The measure is how
+-- many are left. Assumes nothing.
 use Prim.Native.Nat.{_-_}
 use native.Mathlib.Omega.{arith}
 use borrow.Author.Needs.{needs}

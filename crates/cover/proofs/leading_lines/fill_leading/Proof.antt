@@ -1,5 +1,5 @@
--- `fill_fronts` meets its contract. The invariant: of the lines before `line` those that agree are listed. The measure is how many are
--- left. Assumes nothing.
+-- `fill_leading` meets its contract. The invariant: of the lines before `line`, those that agree are listed. The measure is how many
+-- lines are left. Assumes nothing.
 use mathlib.Core.Path.{_≡_, sym, ap, _∙_}
 use mathlib.Core.Bool.{true}
 use Prim.Native.Nat.{_-_, _<_}
@@ -19,7 +19,7 @@ Inv-loop chars lengths index word-starts string word-lines lines₀ count₀ lin
 abbrev μ-loop : tie.MeasureT-loop
 μ-loop chars lengths index word-starts string word-lines lines₀ count₀ line₀ lines count line = word-lines - line
 
--- the key of the line agrees, so that there is room for its number
+-- where the line's key agrees, there is room for its number
 told :
     (c : tie.Then1 Inv-loop μ-loop) →
     true

@@ -1,4 +1,5 @@
--- `list_fronts` meets its contract: there is room for every line of a word, and what is written stands in front. Assumes nothing.
+-- `list_leading` meets its contract: there is room for every line of a word, and the list is the first numbers
+-- of the slice. Assumes nothing.
 use mathlib.Core.Path.{_≡_}
 use native.Mathlib.Omega.{arith}
 use Prim.Native.Nat.{_≤_}

@@ -1,4 +1,4 @@
--- `raise_line` meets its contract: what is done by its key and its positions is done by the line. Assumes nothing.
+-- `extend_line` meets its contract: the line's key and positions are those that `extend_key` takes. Assumes nothing.
 use borrow.Author.Needs.{needs}
 use lib.ListN.{length}
 use Rattle.spec.specs.Dictionary.{lexicon}

@@ -1,4 +1,5 @@
--- `raise_lines` meets its contract. The invariant: the lines before `line` are done. The measure is how many are left. Assumes nothing.
+-- `extend_lines` meets its contract. The invariant: the window is extended by the lines before `line`. The measure is how
+-- many are left. Assumes nothing.
 use Prim.Native.Nat.{_-_}
 use native.Mathlib.Omega.{arith}
 use borrow.Author.Needs.{needs}

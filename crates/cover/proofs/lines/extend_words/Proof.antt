@@ -1,5 +1,5 @@
--- `raise_words` meets its contract. The invariant: the lines from `low` to `high` - 1 are left, and share `depth` characters with the
--- string from the offset on. The measure is how many lines and characters are left. Assumes nothing.
+-- `extend_words` meets its contract. The invariant: the lines `low` to `high` - 1 are left, and their words share `depth` characters with
+-- the string from the offset on. The measure is how many lines and characters are left. Assumes nothing.
 use mathlib.Core.Path.{_≡_, refl, sym, _∙_}
 use mathlib.Core.Bool.{true, _&&_}
 use Prim.Native.Nat.{_+_, _-_, _<_}

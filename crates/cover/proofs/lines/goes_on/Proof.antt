@@ -1,4 +1,4 @@
--- `goes_on` meets its contract. Assumes nothing.
+-- `goes_on` meets its contract, by cases on the first test. Assumes nothing.
 use borrow.Author.Tests.{lt-ltb, le-ltb}
 use borrow.Author.Needs.{needs}
 use Rattle.cover.proofs.lines.goes_on.Statement.{statement}

@@ -1,4 +1,4 @@
--- `lower_bound` meets its contract: a list that does not fall is not below its first position, and not above its last. Assumes nothing.
+-- `lower_bound` meets its contract: in an ascending list no position is below the first or above the last. Assumes nothing.
 use Prim.Native.Nat.{_-_}
 use native.Mathlib.Omega.{arith}
 use lib.ListN.{length, getD}

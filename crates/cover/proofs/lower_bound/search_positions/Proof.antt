@@ -1,5 +1,5 @@
--- `search_positions` meets its contract. The invariant: the index is not before a and not after b. The measure is how many lie
--- between. Assumes nothing.
+-- `search_positions` meets its contract. The invariant: the lower bound is not before a and not after b. The
+-- measure is b - a. Assumes nothing.
 use Prim.Native.Nat.{ℕ, _/_, _+_, _-_}
 use native.Mathlib.Omega.{arith}
 use borrow.Author.Needs.{needs}

@@ -1,4 +1,4 @@
--- `raise_stage` meets its contract: the lines of words, then those of lone characters. Assumes nothing.
+-- `extend_offset` meets its contract: the lines of words, then those of lone characters. Assumes nothing.
 use Rattle.spec.specs.Dictionary.{lexicon}
 use Rattle.laws.specs.Window.LineSteps.{offset-both}
 use borrow.Author.Needs.{needs}

@@ -1,5 +1,5 @@
--- `raise_stages` meets its contract. The invariant: the stages before `key_start` are done. The measure is how many are left.
--- Assumes nothing.
+-- `extend_offsets` meets its contract. The invariant: the window is extended at the offsets below `key_start`. The measure is how
+-- many are left. Assumes nothing.
 use Prim.Native.Nat.{_-_}
 use borrow.Author.Needs.{needs}
 use lib.ListN.{length}

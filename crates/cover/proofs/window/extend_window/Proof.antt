@@ -1,4 +1,4 @@
--- `raise_window` meets its contract: the first stage, then the later ones. Assumes nothing.
+-- `extend_window` meets its contract: the leading keys, then the offsets above 0. Assumes nothing.
 use Rattle.spec.specs.Dictionary.{lexicon}
 use Rattle.spec.specs.Index.{lines-in}
 use Rattle.laws.specs.Window.Extending.{offsets-after}

@@ -1,8 +1,8 @@
--- `cut_index` meets its contract: a walk of its MIR, by hand. The record that `open_index` returns is held in a local, taken apart once, and
--- `cut_opened` is called on the slices and the numbers. All that the proof knows of the two callees is that each meets its contract.
--- A `&[u16]` is Copy: what the shared slices own is had for each call and for the exit. The output is given to the second callee at its own
--- lifetime, share and name,
--- so that what the callee says of the last content is what is said here. Assumes nothing.
+-- `cut_index` meets its contract: a walk of its MIR, by hand. The record that `open_index` returns is stored in a local, taken apart once,
+-- and `cut_opened` is called on the slices and the numbers. The proof knows of the two callees only that each meets its contract. A
+-- `&[u16]` is Copy: what the shared slices own serves each call and the exit. The output goes to the second callee at its own lifetime,
+-- share and name, so what the callee says of its last content is what is said here. Comments in brackets list what is owned at that point;
+-- the tokens are those of the lifetimes. Assumes nothing.
 use mathlib.Core.Path.{_≡_, refl}
 use Prim.Native.Nat.{ℕ, _<_, _^_}
 use mathlib.Core.List.{List, [], _∷_}

@@ -1,4 +1,4 @@
--- `cut_lent` meets its contract: sized before it is written. Assumes nothing.
+-- `cut_lent` meets its contract: the size is known before anything is written. Assumes nothing.
 use mathlib.Core.Path.{refl}
 use Prim.Native.Nat.{_+_, _*_}
 use native.Mathlib.Omega.{arith}

@@ -1,4 +1,4 @@
--- `cut_many_lines` meets its contract: the flags are cleared, and enough for every line. Assumes nothing.
+-- `cut_many_lines` meets its contract: the flags are all 0, and there is one for every line. Assumes nothing.
 use native.Mathlib.Omega.{arith}
 use borrow.Author.Needs.{needs}
 use Rattle.spec.specs.Index.{keys-of}

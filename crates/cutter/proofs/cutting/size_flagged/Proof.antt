@@ -1,5 +1,5 @@
--- `size_flagged` meets its contract. The invariant: the lines before `line` are counted. The measure is how many are left. Assumes
--- nothing.
+-- `size_flagged` meets its contract. The invariant: the flagged lines before `line` are counted. The measure is how many
+-- lines are left. Assumes nothing.
 use Prim.Native.Nat.{_+_, _*_, _-_}
 use native.Mathlib.Omega.{arith}
 use borrow.Author.Needs.{needs}

@@ -1,5 +1,5 @@
--- `write_directory` meets its contract. The invariant: the lines before `line` are written. The measure is how many are left. Assumes
--- nothing.
+-- `write_directory` meets its contract. The invariant: the flagged lines before `line` are written. The measure is how many
+-- lines are left. Assumes nothing.
 use Prim.Native.Nat.{_-_}
 use native.Mathlib.Omega.{arith}
 use borrow.Author.Needs.{needs}

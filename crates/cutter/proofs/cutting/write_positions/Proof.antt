@@ -1,5 +1,5 @@
--- `write_positions` meets its contract. The invariant: the positions of the lines before `line` are written. The measure is how many
--- lines are left. Assumes nothing.
+-- `write_positions` meets its contract. The invariant: the positions of the flagged lines before `line` are written. The measure is how
+-- many lines are left. Assumes nothing.
 use Prim.Native.Nat.{_+_, _*_, _-_}
 use native.Mathlib.Omega.{arith}
 use borrow.Author.Needs.{needs}

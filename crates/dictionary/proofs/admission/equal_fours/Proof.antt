@@ -1,5 +1,5 @@
--- `equal_fours` meets its contract. The invariant: the words from i on compare as the words do. The measure is how many shared places are
--- left. Assumes nothing.
+-- `equal_fours` meets its contract. The invariant: from i on the words compare as the whole words do. The measure is how many shared
+-- indices are left. Assumes nothing.
 use mathlib.Core.Path.{refl}
 use Prim.Native.Nat.{_-_, _≤_}
 use native.Mathlib.Omega.{arith}

@@ -1,4 +1,4 @@
--- `last_code` meets its contract: the places read are the next ones, or the last. Assumes nothing.
+-- `last_code` meets its contract: the indices read are the next ones, or the last. Assumes nothing.
 use mathlib.Core.Path.{_≡_}
 use Prim.Native.Nat.{_<_, _+_, _-_}
 use native.Mathlib.Omega.{arith}

@@ -1,5 +1,5 @@
--- `lengths_fit` meets its contract. The invariant: sum and test of the lengths read so far. The measure is how many are left.
--- Assumes nothing.
+-- `lengths_fit` meets its contract. The invariant: `sum` and `good` are those of the first i lengths. The measure is how
+-- many are left. Assumes nothing.
 use Prim.Native.Nat.{_-_}
 use native.Mathlib.Omega.{arith}
 use borrow.Author.Needs.{needs}

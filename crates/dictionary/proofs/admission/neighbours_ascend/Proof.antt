@@ -1,5 +1,5 @@
--- `neighbours_ascend` meets its contract: a lower code comes before, a higher one does not, and of equal codes the words are
--- compared. Assumes nothing.
+-- `neighbours_ascend` meets its contract: a word with a lower code comes before, one with a higher code does not, and words with equal
+-- codes are compared. Assumes nothing.
 use mathlib.Core.Path.{sym}
 use Prim.Native.Nat.{ℕ}
 use native.Mathlib.Omega.{arith}

@@ -1,4 +1,4 @@
--- `refusal_of` meets its contract: each way to a return has met the tests of one law. Assumes nothing.
+-- `refusal_of` meets its contract: for each return one law, whose tests the path has passed. Assumes nothing.
 use mathlib.Core.Path.{sym, _∙_}
 use borrow.Author.Needs.{needs}
 use borrow.Author.Tests.{not-true, not-false}

@@ -1,5 +1,5 @@
--- `words_ascend` meets its contract. The invariant: the words up to the one before word i ascend, and its code is at hand. The
--- measure is how many words are left. Assumes nothing.
+-- `words_ascend` meets its contract. The invariant: the words before word i ascend, and the code of the last of them is known. The measure
+-- is how many words are left. Assumes nothing.
 use mathlib.Core.Path.{_≡_, sym, _∙_}
 use Prim.Native.Nat.{_-_}
 use native.Mathlib.Omega.{arith}

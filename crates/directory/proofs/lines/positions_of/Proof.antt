@@ -1,4 +1,4 @@
--- `places_of` meets its contract. Assumes nothing.
+-- `positions_of` meets its contract: the table's start and the line's count bound the line's list in the index. Assumes nothing.
 use Prim.Native.Nat.{_+_, _*_}
 use native.Mathlib.Omega.{arith}
 use Rattle.laws.specs.Directory.Tables.{positions-room, positions-are}

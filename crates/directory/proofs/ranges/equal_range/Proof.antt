@@ -1,5 +1,5 @@
--- `narrow` meets its contract: where the first and the last have the character, so have all, since it does not fall; else the lines
--- that are left by the first search still have their characters in order. Assumes nothing.
+-- `equal_range` meets its contract: the characters are in order, so where the first and the last line have this one, so have all; else the
+-- lines from the first lower bound on are still in order for the second search. Assumes nothing.
 use Prim.Native.Nat.{_-_, _+_}
 use native.Mathlib.Omega.{arith}
 use borrow.Author.Needs.{needs}

@@ -1,5 +1,5 @@
--- `first_line` meets its contract. The invariant: the line is not before a and not after b. The measure is how many lie between.
--- Assumes nothing.
+-- `line_lower_bound` meets its contract. The invariant: the lower bound is not before a and not after b. The
+-- measure is b - a. Assumes nothing.
 use Prim.Native.Nat.{_/_, _+_, _*_, _-_}
 use native.Mathlib.Omega.{arith}
 use borrow.Author.Needs.{needs}

@@ -1,4 +1,4 @@
--- `fill_lists` meets its contract. The invariant: the starts of the first i lines are in the table, and `at` is the next one. The
+-- `fill_list_starts` meets its contract. The invariant: the starts of the first i lines are in the table, and `at` is the next one. The
 -- measure is how many lines are left. Assumes nothing.
 use borrow.Author.Needs.{needs}
 use mathlib.Core.Path.{_≡_, refl, _∙_}

@@ -1,4 +1,4 @@
--- `fill_words` meets its contract. The invariant: the starts of the first i words are in the table, and `at` is the next one. The
+-- `fill_word_starts` meets its contract. The invariant: the starts of the first i words are in the table, and `at` is the next one. The
 -- measure is how many words are left. Assumes nothing.
 use borrow.Author.Needs.{needs}
 use mathlib.Core.Path.{_≡_, refl, _∙_}

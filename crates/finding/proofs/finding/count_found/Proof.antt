@@ -1,5 +1,5 @@
--- `count_found` meets its contract. The invariant: of the first i reaches, `count` pass. The measure is how many are left. Assumes
--- nothing.
+-- `count_found` meets its contract. The invariant: `count` of the first i starts are found. The measure is how many
+-- starts are left. Assumes nothing.
 use lib.Dec.{leb}
 use mathlib.Core.Path.{_≡_, refl}
 use mathlib.Core.Bool.{Bool, true, false, cond}

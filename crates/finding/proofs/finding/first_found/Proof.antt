@@ -1,4 +1,5 @@
--- `first_found` meets its contract. The invariant: none of the first i starts is found. The measure is how many are left. Assumes nothing.
+-- `first_found` meets its contract. The invariant: none of the first i starts is found. The measure is how many
+-- starts are left. Assumes nothing.
 use Prim.Native.Nat.{_-_}
 use native.Mathlib.Omega.{arith}
 use borrow.Author.Needs.{needs}

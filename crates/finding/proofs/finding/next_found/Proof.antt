@@ -1,5 +1,5 @@
--- `next_found` meets its contract. The invariant: no start is found from the first up to the ith, and one is still to come. The measure
--- is how many starts are left. Assumes nothing.
+-- `next_found` meets its contract. The invariant: no start from `from` up to the ith is found, and one after them is. The measure is how
+-- many starts are left. Assumes nothing.
 use Prim.Native.Nat.{_-_, _<_}
 use native.Mathlib.Omega.{arith}
 use lib.ListN.{length}

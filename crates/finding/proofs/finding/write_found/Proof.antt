@@ -1,5 +1,5 @@
--- `write_found` meets its contract. The invariant: the starts found before the ith are written. The measure is how many are left to
--- write. Assumes nothing.
+-- `write_found` meets its contract. The invariant: the starts found before the ith are written. The measure is how many are
+-- left to write. Assumes nothing.
 use Prim.Native.Nat.{_-_}
 use native.Mathlib.Omega.{arith}
 use borrow.Author.Needs.{needs}

@@ -1,5 +1,5 @@
--- `reach_painted` meets its contract: it answers whether every entry stands in what was painted, and tells the window if so. Assumes
--- nothing.
+-- `reach_reconstructed` meets its contract: it answers whether every entry stands in the reconstructed text, and fills the
+-- window if so. Assumes nothing.
 use mathlib.Core.Path.{refl}
 use mathlib.Core.Bool.{true, false}
 use native.Mathlib.Omega.{arith}

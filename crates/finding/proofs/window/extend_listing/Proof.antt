@@ -1,4 +1,4 @@
--- `raise_listing` meets its contract: the lines are listed, and then walked. Assumes nothing.
+-- `extend_listing` meets its contract: the leading lines are listed, then the window is extended. Assumes nothing.
 use mathlib.Core.Path.{sym}
 use lib.Seq.{length-take-le}
 use borrow.Author.Needs.{needs}

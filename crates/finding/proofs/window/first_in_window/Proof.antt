@@ -1,5 +1,5 @@
--- `first_in_window` meets its contract: where no start gets through the string none is found, else the window is looked through. Assumes
--- nothing.
+-- `first_in_window` meets its contract: none is found where no start reaches the string's end, else the first
+-- that does is. Assumes nothing.
 use native.Mathlib.Omega.{arith}
 use lib.ListN.{length}
 use Rattle.spec.specs.Dictionary.{lexicon}

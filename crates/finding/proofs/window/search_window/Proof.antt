@@ -1,5 +1,5 @@
--- `search_window` meets its contract: where no start gets through the string nothing is found, else the window answers. Assumes
--- nothing.
+-- `search_window` meets its contract: none is found where no start reaches the string's end, else those that
+-- do are written. Assumes nothing.
 use mathlib.Core.Path.{refl}
 use native.Mathlib.Omega.{arith}
 use lib.ListN.{length}

@@ -1,5 +1,5 @@
--- `excesses` meets its contract. The invariant: where it is 0, no full-width form stands before i. The measure is how many characters are
--- left. Assumes nothing.
+-- `excesses` meets its contract. The invariant: where `all` is 0, none of the first i characters is a full-width form. The measure is how
+-- many characters are left. Assumes nothing.
 use mathlib.Core.Path.{refl}
 use Prim.Native.Nat.{_-_}
 use native.Mathlib.Omega.{arith}

@@ -1,5 +1,5 @@
--- `find_full_width` meets its contract. The invariant: what was held so far, or what the characters left hold, is what the text holds.
--- The measure is how many characters are left. Assumes nothing.
+-- `find_full_width` meets its contract. The invariant: the text has a full-width form exactly if one was found so far or is among the
+-- characters left. The measure is how many characters are left. Assumes nothing.
 use mathlib.Core.Path.{refl}
 use Prim.Native.Nat.{_-_}
 use native.Mathlib.Omega.{arith}

@@ -1,4 +1,4 @@
--- `replace` meets its contract: a full-width form lies FEE0 or more above 0. Assumes nothing.
+-- `replace` meets its contract: a full-width form is FEE0 or more, so the difference does not wrap. Assumes nothing.
 use mathlib.Core.Path.{sym, _∙_}
 use native.Mathlib.Omega.{arith}
 use borrow.Author.Needs.{needs}

@@ -1,5 +1,5 @@
--- `replace_into` meets its contract. The invariant: what is left of the replaced text is to be written from i on. The measure is how much
--- that is. Assumes nothing.
+-- `replace_into` meets its contract. The invariant: the rest of the replaced text is to be written from i on. The measure
+-- is its length. Assumes nothing.
 use Prim.Native.Nat.{_-_, _≤_}
 use native.Mathlib.Omega.{arith}
 use lib.ListN.{length, drop}

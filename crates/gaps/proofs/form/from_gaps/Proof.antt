@@ -1,4 +1,4 @@
--- `from_gaps` meets its contract: it is what both directions say, in one of them. Assumes nothing.
+-- `from_gaps` meets its contract: the contract of both directions, at the restoring one. Assumes nothing.
 use Rattle.laws.specs.Demands.GapCalls.{from-gaps-said}
 use borrow.Author.Needs.{needs}
 use Rattle.gaps.proofs.form.from_gaps.Statement.{statement}

@@ -1,4 +1,4 @@
--- `to_gaps` meets its contract: it is what both directions say, in one of them. Assumes nothing.
+-- `to_gaps` meets its contract: the contract of both directions, at the one that takes gaps. Assumes nothing.
 use Rattle.laws.specs.Demands.GapCalls.{to-gaps-said}
 use borrow.Author.Needs.{needs}
 use Rattle.gaps.proofs.form.to_gaps.Statement.{statement}

@@ -1,5 +1,4 @@
--- `write_form` meets its contract: the directory is copied, and the lists are written through the part that begins after it. Assumes
--- nothing.
+-- `write_form` meets its contract: the directory is copied, and the lists go through the part that begins after it. Assumes nothing.
 use mathlib.Core.Path.{refl, sym, ap, _∙_, subst}
 use mathlib.Core.Bool.{Bool}
 use Prim.Native.Nat.{_+_, _*_}

@@ -1,4 +1,4 @@
--- `add_up` meets its contract. The invariant: the sums before i stand, and the masks from it on are as they were. The measure is how many
+-- `add_up` meets its contract. The invariant: the first i numbers are sums, and the masks from i on are unchanged. The measure is how many
 -- gaps are left. Assumes nothing.
 use Prim.Native.Nat.{_-_}
 use native.Mathlib.Omega.{arith}

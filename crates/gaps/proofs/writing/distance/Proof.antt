@@ -1,4 +1,4 @@
--- `distance` meets its contract. Assumes nothing.
+-- `distance` meets its contract, by arithmetic in each case of the test. Assumes nothing.
 use native.Mathlib.Omega.{arith}
 use borrow.Author.Needs.{needs}
 use Rattle.gaps.proofs.writing.distance.Statement.{statement}

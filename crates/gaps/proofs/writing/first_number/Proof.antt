@@ -1,4 +1,4 @@
--- `first_number` meets its contract. Assumes nothing.
+-- `first_number` meets its contract, by cases on the test. Assumes nothing.
 use mathlib.Core.Path.{sym, ap}
 use mathlib.Core.Bool.{Bool}
 use Rattle.laws.specs.Gaps.GapParts.{first-as}

@@ -1,5 +1,5 @@
--- `put_firsts` meets its contract. The invariant: the lists before line i stand, and all from it on are as one. The measure is how many
--- lines are left. Assumes nothing.
+-- `put_firsts` meets its contract. The invariant: the lists before line i are as due, and those from it on are still written as one. The
+-- measure is how many lines are left. Assumes nothing.
 use mathlib.Core.Path.{_≡_, sym, ap, _∙_}
 use Prim.Native.Nat.{ℕ, _+_, _*_, _-_, _<_}
 use native.Mathlib.Omega.{arith}

@@ -1,4 +1,5 @@
--- `write_distances` meets its contract. The invariant: the distances before i stand. The measure is how many are left. Assumes nothing.
+-- `write_distances` meets its contract. The invariant: the first i distances are written. The measure is how
+-- many are left. Assumes nothing.
 use Prim.Native.Nat.{_-_}
 use lib.ListN.{length}
 use Rattle.laws.specs.Gaps.GapWriting.{Distances, distances-start, distances-step, distances-end}

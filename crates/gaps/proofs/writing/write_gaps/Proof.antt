@@ -1,4 +1,4 @@
--- `write_gaps` meets its contract: the distances of all positions as one list, and then the first of each. Assumes nothing.
+-- `write_gaps` meets its contract: the distances of all positions as one list, then the first number of each list. Assumes nothing.
 use mathlib.Core.Path.{_∙_}
 use native.Mathlib.Omega.{arith}
 use Rattle.laws.specs.Gaps.GapParts.{run-long, distances-ready, gaps-written}

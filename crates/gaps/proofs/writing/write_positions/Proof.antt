@@ -1,5 +1,5 @@
--- `write_positions` meets its contract: masks of all gaps as one list, then the first of each, then the sums that they let through. Assumes
--- nothing.
+-- `write_positions` meets its contract: masks for all gaps as one list, then the first mask of each list, then
+-- the masked sums. Assumes nothing.
 use mathlib.Core.Path.{refl, sym, _∙_, subst}
 use mathlib.Core.List.{List}
 use Prim.Native.Nat.{ℕ, _≤_}

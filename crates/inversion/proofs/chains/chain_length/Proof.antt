@@ -1,4 +1,4 @@
--- `chain_length` meets its contract. The invariant: `count` members are passed, and `at` is the next one, or 0. The measure is how
+-- `chain_length` meets its contract. The invariant: `count` positions are passed, and `at` is the next one, or 0. The measure is how
 -- many are left. Assumes nothing.
 use Prim.Native.Nat.{_-_, _<_}
 use native.Mathlib.Omega.{arith}

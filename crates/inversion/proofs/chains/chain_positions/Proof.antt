@@ -1,5 +1,5 @@
--- `link` meets its contract. The invariant: the positions above p hang in the chains of their codes, and are counted. The measure is
--- p. Assumes nothing.
+-- `chain_positions` meets its contract. The invariant: the positions above p are in the chains of their codes, and are counted. The
+-- measure is p. Assumes nothing.
 use mathlib.Core.Path.{_≡_, sym, _∙_}
 use Prim.Native.Nat.{_-_, _<_}
 use native.Mathlib.Omega.{arith}

@@ -1,4 +1,4 @@
--- `code_of` meets its contract: a word's mark is one more than its code. Assumes nothing.
+-- `code_of` meets its contract: a word's token is one more than its code. Assumes nothing.
 use mathlib.Core.Path.{_≡_}
 use native.Mathlib.Omega.{arith}
 use borrow.Author.Needs.{needs}

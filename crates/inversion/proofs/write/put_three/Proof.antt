@@ -1,4 +1,4 @@
--- `put_three` meets its contract. Assumes nothing.
+-- `put_three` meets its contract: three stores, one after the other. Assumes nothing.
 use native.Mathlib.Omega.{arith}
 use lib.ListN.{length-set}
 use Rattle.basics.specs.Writing.{three-written}

@@ -1,5 +1,5 @@
--- `write_chain` meets its contract. The invariant: the members before `here` are written, and `member` is the next one, or 0. The
--- measure is how many are left. Assumes nothing.
+-- `write_chain` meets its contract. The invariant: the positions before `here` are written, and `member` is the next one, or 0. The measure
+-- is how many are left. Assumes nothing.
 use mathlib.Core.Path.{_≡_}
 use Prim.Native.Nat.{_-_}
 use native.Mathlib.Omega.{arith}

@@ -1,4 +1,5 @@
--- `character` meets its contract. Assumes nothing.
+-- `character` meets its contract: where a space and four digits stand, `spaced_character` answers a character, which
+-- fits 16 bits. Assumes nothing.
 use mathlib.Core.Path.{_∙_}
 use native.Mathlib.Omega.{arith}
 use borrow.Author.Needs.{needs}

@@ -1,5 +1,5 @@
--- `ends_well` meets its contract. The invariant: what is left of the line ends well if it does. The measure is how many bytes are left.
--- Assumes nothing.
+-- `ends_well` meets its contract. The invariant: the line ends well exactly if the rest of it does. The measure is how many
+-- bytes are left. Assumes nothing.
 use mathlib.Core.Path.{_≡_, refl, sym, _∙_}
 use Prim.Native.Nat.{_-_, _≤_}
 use native.Mathlib.Omega.{arith}

@@ -1,4 +1,4 @@
--- `is_form` meets its contract: the line is too short, has another head, or ends well or not. Assumes nothing.
+-- `is_form` meets its contract: the line is too short, or has another head, or its end decides. Assumes nothing.
 use mathlib.Core.Path.{sym, _∙_}
 use borrow.Author.Needs.{needs}
 use borrow.Author.Tests.{not-true, not-false}

@@ -1,4 +1,4 @@
--- `is_spaced` meets its contract. Assumes nothing.
+-- `is_spaced` meets its contract: `spaced_character` answers less than 65,536 exactly where a space and four digits stand. Assumes nothing.
 use borrow.Author.Needs.{needs}
 use Rattle.laws.specs.JobSheet.Digits.{spaced-told}
 use Rattle.jobreader.proofs.form.is_spaced.Statement.{statement}

@@ -1,4 +1,4 @@
--- `put_string` meets its contract. The invariant: what is left of the characters is to be written from `end` on. The measure is how many
+-- `put_string` meets its contract. The invariant: the rest of the characters is to be written from `end` on. The measure is how many
 -- bytes are left. Assumes nothing.
 use Prim.Native.Nat.{_-_}
 use native.Mathlib.Omega.{arith}

@@ -1,4 +1,4 @@
--- `spaced_character` meets its contract: the first byte that is not as it should be ends the reading. Assumes nothing.
+-- `spaced_character` meets its contract: the first byte that is not as due ends the reading. Assumes nothing.
 use borrow.Author.Needs.{needs}
 use Rattle.laws.specs.JobSheet.Digits.{no-space, no-first, no-second, no-third, no-fourth, character-read}
 use Rattle.jobreader.proofs.form.spaced_character.Statement.{statement}

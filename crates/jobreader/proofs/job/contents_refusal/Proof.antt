@@ -1,4 +1,4 @@
--- `contents_refusal` meets its contract. Assumes nothing.
+-- `contents_refusal` meets its contract: the three parts lent on are those that the contract takes. Assumes nothing.
 use mathlib.Core.Path.{_≡_, sym}
 use Prim.Native.Nat.{_+_, _-_}
 use native.Mathlib.Omega.{arith}

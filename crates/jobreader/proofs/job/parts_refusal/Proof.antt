@@ -1,4 +1,4 @@
--- `parts_refusal` meets its contract: each way to a return has met the tests of one law. Assumes nothing.
+-- `parts_refusal` meets its contract: for each return one law, whose tests the path has passed. Assumes nothing.
 use mathlib.Core.Path.{_≡_, sym, _∙_}
 use mathlib.Core.Bool.{true, false}
 use borrow.Author.Needs.{needs}

@@ -1,5 +1,5 @@
--- `some_length_wrong` meets its contract. The invariant: what is left has a wrong length if the list has one. The measure is how many are
--- left. Assumes nothing.
+-- `some_length_wrong` meets its contract. The invariant: the list has a wrong length exactly if the rest of it has. The measure is how many
+-- lengths are left. Assumes nothing.
 use mathlib.Core.Path.{_≡_, refl, sym, _∙_}
 use Prim.Native.Nat.{_-_, _≤_}
 use native.Mathlib.Omega.{arith}

@@ -1,4 +1,4 @@
--- `form_end` meets its contract: the sheet ends without LF, the form is there, or another line. Assumes nothing.
+-- `form_end` meets its contract: the sheet ends without LF, or the line is the form, or it is another line. Assumes nothing.
 use mathlib.Core.Path.{sym, _∙_}
 use borrow.Author.Needs.{needs}
 use Rattle.laws.specs.JobSheet.LineReading.{form-missing, form-there, form-other-line}

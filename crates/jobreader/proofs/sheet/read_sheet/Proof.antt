@@ -1,4 +1,4 @@
--- `read_sheet` meets its contract: the words, the texts and the finds are read one after the other. Assumes nothing.
+-- `read_sheet` meets its contract: the words, the text and the finds are read one after the other. Assumes nothing.
 use mathlib.Core.Path.{_≡_, refl}
 use mathlib.Core.List.{[], _++_}
 use Prim.Native.Nat.{_-_}

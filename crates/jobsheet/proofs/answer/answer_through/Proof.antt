@@ -1,4 +1,4 @@
--- `answer_through` meets its contract: the front of the buffer is the answer, and it is handed over. Assumes nothing.
+-- `answer_through` meets its contract: the answer is the first bytes of the buffer, which are copied out. Assumes nothing.
 use mathlib.Core.Path.{sym}
 use borrow.Author.Needs.{needs}
 use lib.ListN.{take}
@@ -9,7 +9,7 @@ use Rattle.laws.specs.JobSheet.JobAnswering.{written-in-hand, job-says}
 use Rattle.jobsheet.proofs.answer.answer_through.Statement.{statement}
 use Rattle.jobsheet.proofs.answer.answer_through.Tie as tie
 
--- the answer is the front of the buffer
+-- the answer is the first bytes of the buffer
 answer-in-hand :
     (c : tie.After-put-answer) → In-hand (job-answer (c .before .before .before .before .before .args .sheet .now)) (c .put-answer .result) (c .put-answer .last .1 .0)
 answer-in-hand c =

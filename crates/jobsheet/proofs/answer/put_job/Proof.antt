@@ -1,4 +1,4 @@
--- `put_job` meets its contract: a refused sheet has its line printed, any other the lines of its parts. Assumes nothing.
+-- `put_job` meets its contract: a refused sheet has one line printed, any other the lines of its parts. Assumes nothing.
 use mathlib.Core.Path.{_≡_, sym, _∙_, subst}
 use mathlib.Core.List.{List}
 use Prim.Native.Nat.{ℕ}

@@ -1,4 +1,4 @@
--- `put_parts` meets its contract: the parts are lent from where they stand. Assumes nothing.
+-- `put_parts` meets its contract: each part is lent on from the slices that the sheet was read into. Assumes nothing.
 use mathlib.Core.Path.{sym}
 use native.Mathlib.Omega.{arith}
 use borrow.Author.Needs.{needs}

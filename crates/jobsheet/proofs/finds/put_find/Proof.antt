@@ -1,4 +1,4 @@
--- `put_find` meets its contract: the search is accepted, and what it wrote at the front is printed. Assumes nothing.
+-- `put_find` meets its contract: the search is accepted, and the positions that it wrote are printed. Assumes nothing.
 use mathlib.Core.Path.{sym}
 use native.Mathlib.Omega.{arith}
 use borrow.Author.Needs.{needs}
@@ -11,7 +11,7 @@ use Rattle.laws.specs.JobSheet.AcceptedCalls.{In-hand, found-in-hand}
 use Rattle.jobsheet.proofs.finds.put_find.Statement.{statement}
 use Rattle.jobsheet.proofs.finds.put_find.Tie as tie
 
--- the positions found are the front of the slice lent for them
+-- the positions found are the first numbers of the slice lent for them
 positions-in-hand :
     (c : tie.After-search-tabled) → let a = c .before .before .before .before .before .before .before .before .before .before .args in
     In-hand (find (lexicon (a .chars .now) (a .lengths .now)) (a .index .now) (replaced (a .string .now)))

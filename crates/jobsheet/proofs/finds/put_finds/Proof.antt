@@ -1,5 +1,5 @@
--- `put_finds` meets its contract. The invariant: the first i finds are printed, and `from` is where the string of the next begins. The
--- measure is how many finds are left. Assumes nothing.
+-- `put_finds` meets its contract. The invariant: the first i finds are printed, and `from` is where the next string begins. The measure is
+-- how many finds are left. Assumes nothing.
 use mathlib.Core.Path.{_≡_, refl, _∙_}
 use Prim.Native.Nat.{_+_, _-_, _≤_}
 use native.Mathlib.Omega.{arith}

@@ -1,4 +1,4 @@
--- `put_built` meets its contract: building is accepted, and the index that it wrote at the front is shown. Assumes nothing.
+-- `put_built` meets its contract: building is accepted, and the lines of the index that it wrote are printed. Assumes nothing.
 use mathlib.Core.Path.{sym, subst}
 use mathlib.Core.List.{List}
 use Prim.Native.Nat.{ℕ}
@@ -15,7 +15,7 @@ use Rattle.laws.specs.JobSheet.JobAnswering.{index-shown}
 use Rattle.jobsheet.proofs.lines.put_built.Statement.{statement}
 use Rattle.jobsheet.proofs.lines.put_built.Tie as tie
 
--- the index is the front of the slice lent for it
+-- the index is the first numbers of the slice lent for it
 index-in-hand :
     (c : tie.After-build) → let a = c .before .before .before .before .before .before .before .before .before .before .before .before .args in
     In-hand (index-of (lexicon (a .chars .now) (a .lengths .now)) (replaced (a .text .now))) (c .build .result .count)

@@ -1,4 +1,4 @@
--- `put_filled` meets its contract: the tables are filled, then come the lines of the index, and after them those of the finds, in a slice
+-- `put_filled` meets its contract: the tables are filled, then the lines of the index and those of the finds are printed, in a slice
 -- that holds both. Assumes nothing.
 use native.Mathlib.Omega.{arith}
 use borrow.Author.Needs.{needs}
@@ -28,7 +28,7 @@ put-index-lines-requires c κs =
           (λ i. omega (arith, c .before .before .before .before .before .before .before .before .before .before .before .before .before .shared-slice-known3 .given i)) (s .pre .1 .0) (s .pre .1 .2),
     )
 
--- what is left to be printed when the lines of the index are
+-- what is left to print after the lines of the index
 at-finds :
     (c : tie.After-put-index-lines) → let a = c .before .before .before .before .before .before .before .before .before .before .before .before .before .before .before .before .before .args in
     Writing (shown (a .chars .now) (a .lengths .now) (a .index .now) (a .strings .now) (a .counts .now)) 0 (a .out .now)

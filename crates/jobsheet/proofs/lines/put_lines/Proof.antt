@@ -1,8 +1,8 @@
--- `put_lines` meets its contract: a walk of its MIR, by hand. The record that `open_index` returns is held in a local, taken apart once, and
--- `put_opened` is called on the slices and the numbers. All that the proof knows of the two callees is that each meets its contract.
--- A `&[u16]` is Copy: what the shared slices own is had for each call and for the exit. The two slices lent to be written are given to the
--- second callee at their own lifetimes, shares and names,
--- so that what the callee says of the last content is what is said here. Assumes nothing.
+-- `put_lines` meets its contract: a walk of its MIR, by hand. The record that `open_index` returns is stored in a local, taken apart once,
+-- and `put_opened` is called on the slices and the numbers. The proof knows of the two callees only that each meets its contract. A
+-- `&[u16]` is Copy: what the shared slices own serves each call and the exit. The two slices lent to be written go to the second callee at
+-- their own lifetimes, shares and names, so what the callee says of their last content is what is said here. Comments in brackets list what
+-- is owned at that point; the tokens are those of the lifetimes. Assumes nothing.
 use mathlib.Core.Path.{_≡_, refl, _∙_}
 use Prim.Native.Nat.{ℕ, _≤_, _<_, _^_}
 use mathlib.Core.List.{List, [], _∷_}
@@ -57,7 +57,7 @@ use Rattle.jobsheet.proofs.lines.put_lines as itself
 use Rattle.jobsheet.proofs.lines.put_lines.Statement as stated
 use Rattle.jobsheet.proofs.lines.put_lines.Code as code
 
--- what is asked where the lines of an index are printed
+-- what the caller must meet where the lines of an index are printed
 abbrev Asked : (cs ls xs fs ks found out : List ℕ) → Type 0
 Asked cs ls xs fs ks found out = Usable cs ls xs × Strings-good fs ks × (2000 ≤ length found) × (700000 ≤ length out)
 

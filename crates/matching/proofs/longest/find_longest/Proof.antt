@@ -1,5 +1,5 @@
--- `find_longest` meets its contract: the pair's chain decides, or the place is covered, or the single character's chain decides.
--- Assumes nothing.
+-- `find_longest` meets its contract: the pair's chain decides, or the position is covered, or the single character's
+-- chain decides. Assumes nothing.
 use borrow.Author.Needs.{needs}
 use Rattle.laws.specs.Match.LongestWord.{found-pair, found-none, found-single}
 use Rattle.matching.proofs.longest.find_longest.Statement.{statement}

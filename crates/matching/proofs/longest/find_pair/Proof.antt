@@ -7,7 +7,7 @@ use Rattle.laws.specs.Match.LongestWord.{pair-past, pair-missing, pair-in, pair
 use Rattle.matching.proofs.longest.find_pair.Statement.{statement}
 use Rattle.matching.proofs.longest.find_pair.Tie as tie
 
--- the word that the walk found is one
+-- the walk's answer is the number of a word
 known : (c : tie.Else2) → c .before .walk-pair .result - 1 < length (c .before .before .before .before .before .before .before .before .before .args .lengths .now)
 known c =
     let start = c .before .before .before .before .before .before .before .before .before in

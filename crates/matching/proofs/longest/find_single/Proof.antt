@@ -1,4 +1,4 @@
--- `find_single` meets its contract. The invariant: a walk along the character's chain, on which no word passed was that character. The
+-- `find_single` meets its contract. The invariant: a walk along the character's chain, on which no word passed is that character. The
 -- measure is the next word's number. Assumes nothing.
 use Prim.Native.Nat.{_-_, _<_}
 use native.Mathlib.Omega.{arith}
@@ -15,7 +15,7 @@ Inv-loop chars lengths heads links word-starts text at c bucket next₀ next = S
 abbrev μ-loop : tie.MeasureT-loop
 μ-loop chars lengths heads links word-starts text at c bucket next₀ next = next
 
--- the word that the walk has come to is one
+-- the walk is at the number of a word
 known : (c : tie.In-loop Inv-loop μ-loop) → c .before .loop .next - 1 < length (c .before .before .before .before .before .before .before .before .before .before .before .args .lengths .now)
 known c =
     let start = c .before .before .before .before .before .before .before .before .before .before .before in

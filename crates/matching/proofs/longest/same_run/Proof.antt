@@ -1,5 +1,4 @@
--- `same_run` meets its contract. The invariant: the characters from i on are the same. The measure is how many come before. Assumes
--- nothing.
+-- `same_run` meets its contract. The invariant: the characters from i on are equal. The measure is i. Assumes nothing.
 use mathlib.Core.Path.{_≡_, refl}
 use Prim.Native.Nat.{ℕ, _+_, _-_, _≤_, _<_}
 use native.Mathlib.Omega.{arith}

@@ -1,4 +1,4 @@
--- `stands_after` meets its contract: the word ends too early, or after the text, or is compared. Assumes nothing.
+-- `stands_after` meets its contract: the word ends too early, or after the text, or it is compared. Assumes nothing.
 use native.Mathlib.Omega.{arith}
 use borrow.Author.Needs.{needs}
 use Rattle.laws.specs.Match.MatchTable.{word-room}

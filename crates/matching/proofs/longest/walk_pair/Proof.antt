@@ -15,13 +15,13 @@ Inv-loop chars lengths heads links word-starts text at end x y bucket next₀ le
 abbrev μ-loop : tie.MeasureT-loop
 μ-loop chars lengths heads links word-starts text at end x y bucket next₀ left₀ next left = next
 
--- the word that the walk has come to is one
+-- the walk is at the number of a word
 known : (c : tie.In-loop Inv-loop μ-loop) → c .before .loop .next - 1 < length (c .before .before .before .before .before .before .before .before .before .before .before .before .args .lengths .now)
 known c =
     let start = c .before .before .before .before .before .before .before .before .before .before .before .before in
     pair-known (start .pre .0) (start .args .text .now) (start .args .at) (start .args .end) (c .before .loop .next) (c .before .loop .inv) (c .loop-test .taken)
 
--- its link leads to a lower one
+-- its link leads to a lower number
 stop :
     (c : tie.In-loop Inv-loop μ-loop) →
     Stop (c .before .before .before .before .before .before .before .before .before .before .before .before .args .links .now) (bucket-of (c .before .before .before .before .before .before .before .before .before .before .before .before .args .chars .now) (c .before .before .before .before .before .before .before .before .before .before .before .before .args .lengths .now))

@@ -1,5 +1,5 @@
--- `narrow` meets its contract. The invariant: the words that are left share `depth` characters with the text, and `best` is the last
--- that stands of the others. The measure is how many words and characters are left. Assumes nothing.
+-- `find_last_standing` meets its contract. The invariant: the words of the range share `depth` characters with the text, and `best` is the
+-- last of the other words that stands. The measure is how many words and characters are left. Assumes nothing.
 use mathlib.Core.Path.{ap, _≡_}
 use Prim.Native.Nat.{ℕ, _+_, _-_, _<_}
 use native.Mathlib.Omega.{arith}
@@ -17,21 +17,21 @@ Inv-loop chars lengths word-starts text at count best₀ low₀ high₀ depth₀
 abbrev μ-loop : tie.MeasureT-loop
 μ-loop chars lengths word-starts text at count best₀ low₀ high₀ depth₀ best low high depth = (high - low) + (32 - depth)
 
--- the first word that is left is one
+-- the first word of the range is a word
 known : (c : tie.In-loop Inv-loop μ-loop) → c .before .loop .low < length (c .before .before .before .before .before .before .args .lengths .now)
 known c =
     let start = c .before .before .before .before .before .before in
     let turn = c .before .loop in
     run-known (start .pre .0) (turn .inv) (c .loop-test .taken)
 
--- it has more characters, so they are not all read
+-- it is longer than `depth`, so not all of its characters are read
 deep : (c : tie.Else1 Inv-loop μ-loop) → c .before .before .before .loop .depth < 32
 deep c =
     let start = c .before .before .before .before .before .before .before .before in
     let turn = c .before .before .before .loop in
     run-deep (start .pre .0) (turn .inv) (c .before .before .loop-test .taken) (c .if1 .left)
 
--- all words that are left have a next character, and these do not fall
+-- all words of the range have a next character, and these are in order
 column : (c : tie.Else1 Inv-loop μ-loop) → Column (c .before .before .before .before .before .before .before .before .args .chars .now) (c .before .before .before .before .before .before .before .before .args .word-starts .now) (c .before .before .before .loop .low) (c .before .before .before .loop .high) (c .before .before .before .loop .depth)
 column c =
     let start = c .before .before .before .before .before .before .before .before in

@@ -1,5 +1,4 @@
--- `first_at_least` meets its contract. The invariant: it is not before a and not after b. The measure is how many words lie between.
--- Assumes nothing.
+-- `lower_bound` meets its contract. The invariant: the lower bound is not before a and not after b. The measure is b - a. Assumes nothing.
 use Prim.Native.Nat.{_/_, _+_, _-_, _<_}
 use native.Mathlib.Omega.{arith}
 use lib.ListN.{length, getD}

@@ -1,4 +1,4 @@
--- `bucket_of_char` meets its contract, which is its code, and a remainder is small. Assumes nothing.
+-- `bucket_of_char` meets its contract, which is its code; a remainder is below its divisor. Assumes nothing.
 use mathlib.Core.Path.{refl}
 use borrow.Author.Needs.{needs}
 use Rattle.laws.specs.Match.MatchTable.{char-bucket, char-small}

@@ -1,5 +1,5 @@
--- `hang_words` meets its contract. The invariant: the table of the first i words. The measure is how many words are left. Assumes
--- nothing.
+-- `fill_match_table` meets its contract. The invariant: heads, links and starts are the match table of the first i words. The measure is
+-- how many words are left. Assumes nothing.
 use mathlib.Core.Path.{_≡_, refl}
 use Prim.Native.Nat.{_-_}
 use native.Mathlib.Omega.{arith}

@@ -1,7 +1,7 @@
--- `open_index` meets its contract: a walk of its MIR, by hand. The bounds that one call returns are held in a local and passed to the
--- next, with the slice. All that the proof knows of `bounds_of` and of `with_bounds` is that each meets its contract. A `&[u16]` is
--- Copy: what each of the three slices owns is had twice, for the call and for the exit, and that of `index` once more, for the second
--- call. Assumes nothing.
+-- `open_index` meets its contract: a walk of its MIR, by hand. The bounds that one call returns are stored in a local and passed to the
+-- next, with the slice. The proof knows of `bounds_of` and `with_bounds` only that each meets its contract. A `&[u16]` is Copy: what each
+-- of the three slices owns serves the call and the exit, and that of `index` the second call too. Comments in brackets list what is owned
+-- at that point; the token is that of the lifetime. Assumes nothing.
 use mathlib.Core.Path.{_≡_, refl}
 use Prim.Native.Nat.{ℕ}
 use mathlib.Core.List.{List, [], _∷_}

@@ -1,6 +1,6 @@
 -- `with_bounds` meets its contract: a walk of its MIR, by hand. An `Opened` is made of the slice and the numbers passed, in the
--- result's local. A `&[u16]` is Copy, so what it owns is had twice: once for `index` at exit, and once inside the result, beside the
--- facts of the numbers. Assumes nothing.
+-- result's local. A `&[u16]` is Copy, so what it owns is there twice: for `index` at exit, and inside the result, beside the facts
+-- of the numbers. Assumes nothing.
 use mathlib.Core.Path.{refl}
 use Prim.Native.Nat.{ℕ, _<_, _^_}
 use mathlib.Core.List.{List, [], _∷_}

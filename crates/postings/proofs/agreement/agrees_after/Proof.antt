@@ -1,5 +1,4 @@
--- `agrees_after` meets its contract. The invariant: the shared places from i on are equal. The measure is how many come before.
--- Assumes nothing.
+-- `agrees_after` meets its contract. The invariant: the shared characters from i on are equal. The measure is i. Assumes nothing.
 use mathlib.Core.Path.{_≡_}
 use Prim.Native.Nat.{ℕ, _+_, _-_, _≤_, _<_}
 use native.Mathlib.Omega.{arith}

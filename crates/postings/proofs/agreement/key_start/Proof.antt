@@ -1,4 +1,4 @@
--- `key_start` meets its contract. Assumes nothing.
+-- `key_start` meets its contract, by cases on the sign of the offset. Assumes nothing.
 use mathlib.Core.Path.{sym}
 use Rattle.laws.specs.Search.Offset32.{above, not-above}
 use Rattle.postings.proofs.agreement.key_start.Statement.{statement}

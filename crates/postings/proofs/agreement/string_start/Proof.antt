@@ -1,4 +1,4 @@
--- `string_start` meets its contract: the successor of an offset below zero is negated, which does not overflow. Assumes nothing.
+-- `string_start` meets its contract: what is negated is an offset below zero plus 1, which does not overflow. Assumes nothing.
 use mathlib.Core.Path.{sym}
 use Rattle.laws.specs.Search.Offset32.{below, not-below}
 use Rattle.postings.proofs.agreement.string_start.Statement.{statement}

@@ -1,4 +1,4 @@
--- `shorter` meets its contract, for the reference and for what stands behind it. Assumes nothing.
+-- `shorter` meets its contract, for the reference and for its content. Assumes nothing.
 use Rattle.laws.specs.Tally.Shorter.{shorter-second, shorter-first}
 use lib.ListN.{length}
 use Rattle.postings.proofs.lines.shorter.Statement.{statement}

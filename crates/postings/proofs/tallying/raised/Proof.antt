@@ -1,5 +1,5 @@
--- `raised` meets its contract. The invariant: the counts and what the lines from i on add to them are the counts given and the tally.
--- The measure is how many lines are left. Assumes nothing.
+-- `raised` meets its contract. The invariant: the counts, with what the lines from i on add, are the counts given with the tally added. The
+-- measure is how many lines are left. Assumes nothing.
 use Prim.Native.Nat.{_+_, _*_, _-_}
 use native.Mathlib.Omega.{arith}
 use lib.ListN.{getD}

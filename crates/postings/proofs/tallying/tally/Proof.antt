@@ -1,6 +1,7 @@
--- `tally` meets its contract: a walk of its MIR, by hand. The record that `open_index` returns is held in a local, taken apart once, and
--- passed on field by field. All that the proof knows of `open_index` and of `tally_opened` is that each meets its contract. The record
--- refers to the very slice that was opened, so each call is passed a copy of what the three slices own. Assumes nothing.
+-- `tally` meets its contract: a walk of its MIR, by hand. The record that `open_index` returns is stored in a local, taken apart once, and
+-- passed on field by field. The proof knows of `open_index` and `tally_opened` only that each meets its contract. The record refers to the
+-- very slice that was opened, so each call is passed a copy of what the three slices own. Comments in brackets list what is owned at that
+-- point; the token is that of the lifetime. Assumes nothing.
 use mathlib.Core.Path.{refl}
 use Prim.Native.Nat.{ℕ, _<_, _^_}
 use mathlib.Core.List.{List, [], _∷_}

@@ -1,4 +1,4 @@
--- `put_decimal` meets its contract. The measure is the number, which falls to its tenth part. Assumes nothing.
+-- `put_decimal` meets its contract, by recursion. The measure is the number, which falls to its tenth part. Assumes nothing.
 use mathlib.Core.Path.{_≡_, ap}
 use mathlib.Core.List.{List, [], _∷_, _++_}
 use Prim.Native.Nat.{ℕ, _+_, _/_, _%_, _<_, _≤_}

@@ -1,4 +1,4 @@
--- `put_byte` meets its contract. Assumes nothing.
+-- `put_byte` meets its contract: one store. Assumes nothing.
 use borrow.Author.Needs.{needs}
 use Rattle.basics.specs.Placed.{wrote-one}
 use Rattle.printer.proofs.print.put_byte.Statement.{statement}

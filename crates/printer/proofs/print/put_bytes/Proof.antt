@@ -1,5 +1,5 @@
--- `put_bytes` meets its contract. The invariant: what is left of the bytes is to be written from `end` on. The measure is how many are
--- left. Assumes nothing.
+-- `put_bytes` meets its contract. The invariant: the rest of the bytes is to be written from `end` on. The measure is how
+-- many are left. Assumes nothing.
 use Prim.Native.Nat.{_-_, _≤_}
 use native.Mathlib.Omega.{arith}
 use lib.ListN.{length, drop}

@@ -1,4 +1,4 @@
--- `put_index_lines` meets its contract: the line of the three numbers, then the keys. Assumes nothing.
+-- `put_index_lines` meets its contract: the line of the three numbers, then those of the keys. Assumes nothing.
 use mathlib.Core.List.{List, _++_}
 use Prim.Native.Nat.{ℕ, _*_, _-_}
 use native.Mathlib.Omega.{arith}

@@ -1,5 +1,5 @@
--- `put_key_lines` meets its contract. The invariant: the first i lines are printed, and `place` is where the positions of the next begin.
--- The measure is how many lines are left. Assumes nothing.
+-- `put_key_lines` meets its contract. The invariant: the first i lines are printed, and `position` is where the positions of the next
+-- begin. The measure is how many lines are left. Assumes nothing.
 use mathlib.Core.Path.{_≡_, refl}
 use Prim.Native.Nat.{_+_, _*_, _-_}
 use native.Mathlib.Omega.{arith}

@@ -1,5 +1,5 @@
--- `put_next_positions` meets its contract. The invariant: what is left of the positions is to be written from `end` on. The measure is
--- how many are left. Assumes nothing.
+-- `put_next_positions` meets its contract. The invariant: the rest of the positions is to be written from `end` on. The measure is how
+-- many are left. Assumes nothing.
 use mathlib.Core.List.{_++_}
 use Prim.Native.Nat.{_+_, _-_, _≤_}
 use native.Mathlib.Omega.{arith}

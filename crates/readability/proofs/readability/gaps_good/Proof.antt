@@ -1,4 +1,4 @@
--- `gaps_good` meets its contract. The invariant: the sums of the gaps before i ascend if none is 0, and `sum` is the last of them. The
+-- `gaps_good` meets its contract. The invariant: the sums of the first i gaps ascend if none is 0, and `sum` is the last of them. The
 -- measure is how many gaps are left. Assumes nothing.
 use Prim.Native.Nat.{_-_}
 use native.Mathlib.Omega.{arith}

@@ -1,5 +1,4 @@
--- `is_reached` meets its contract: past the words nothing is left, and the word reached is the character or a word after it.
--- Assumes nothing.
+-- `is_reached` meets its contract: there is no word left, or the word reached is the character, or a word after it. Assumes nothing.
 use Rattle.laws.specs.Readable.LoneWords.{passed-none, word-some, reached-other, reached-same}
 use borrow.Author.Needs.{needs}
 use Rattle.readability.proofs.readability.is_reached.Statement.{statement}

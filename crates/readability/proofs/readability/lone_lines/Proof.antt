@@ -1,5 +1,5 @@
--- `lone_lines` meets its contract. The invariant: the lines from i on decide, and the words passed are none of the characters that
--- may follow. The measure is how many lines are left. Assumes nothing.
+-- `lone_lines` meets its contract. The invariant: the lines from i on decide, and a character that may follow is a word exactly if it is
+-- one of the words left. The measure is how many lines are left. Assumes nothing.
 use mathlib.Core.Path.{sym, _∙_}
 use borrow.Author.Tests.{not-true, not-false}
 use lib.ListN.{getD}

@@ -1,5 +1,5 @@
--- `readable` meets its contract: a slice without its header or its directory is not readable, and of any other the walk tells.
--- Assumes nothing.
+-- `readable` meets its contract: a slice without its header or directory is not readable, and of any other the
+-- walk decides. Assumes nothing.
 use mathlib.Core.Path.{_∙_}
 use Prim.Native.Nat.{ℕ, _+_, _*_}
 use native.Mathlib.Omega.{arith}

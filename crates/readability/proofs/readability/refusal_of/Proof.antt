@@ -1,4 +1,4 @@
--- `refusal_of` meets its contract: a list of positions is read as it lies. Assumes nothing.
+-- `refusal_of` meets its contract: read as it is, a list of positions stays unchanged. Assumes nothing.
 use mathlib.Core.Path.{ap, _∙_}
 use Rattle.spec.specs.Calls.{index-refusal}
 use Rattle.laws.specs.Gaps.ReadLists.{read-positions}

@@ -1,5 +1,5 @@
--- `rise` meets its contract. The invariant: the positions from i on, after the last one read, rise if all do. The measure is how
--- many are left. Assumes nothing.
+-- `rise` meets its contract. The invariant: all positions ascend exactly if those read do and those from i on ascend after the last read.
+-- The measure is how many are left. Assumes nothing.
 use Prim.Native.Nat.{_-_}
 use lib.ListN.{length}
 use Rattle.laws.specs.Readable.LineSteps.{Rises, rises-start, rises-step, rises-end}

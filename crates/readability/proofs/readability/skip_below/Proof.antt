@@ -1,5 +1,5 @@
--- `skip_below` meets its contract. The invariant: the words passed are no character from `value` on. The measure is how many
--- words are left. Assumes nothing.
+-- `skip_below` meets its contract. The invariant: a character from `value` on is a word exactly if it is one of the words left. The measure
+-- is how many words are left. Assumes nothing.
 use Prim.Native.Nat.{_-_}
 use native.Mathlib.Omega.{arith}
 use lib.ListN.{length}

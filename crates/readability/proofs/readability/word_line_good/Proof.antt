@@ -1,4 +1,4 @@
--- `word_line_good` meets its contract: each way to a return has met the tests of one law. Assumes nothing.
+-- `word_line_good` meets its contract: for each return one law, whose tests the path has passed. Assumes nothing.
 use mathlib.Core.Path.{_∙_}
 use native.Mathlib.Omega.{arith}
 use lib.ListN.{drop}

@@ -1,4 +1,4 @@
--- `delivery_refusal` meets its contract: one law a return. Assumes nothing.
+-- `delivery_refusal` meets its contract: one law for each return. Assumes nothing.
 use borrow.Author.Needs.{needs}
 use native.Mathlib.Omega.{arith}
 use Rattle.laws.specs.Receive.Receiving.{short-refused, short-work, short-none}

@@ -1,7 +1,8 @@
--- `receive` meets its contract: a walk of its MIR, by hand. The record that `open_index` returns is held in a local, taken apart once, and
--- passed on field by field. All that the proof knows of `open_index` and of `receive_opened` is that each meets its contract. The record
--- refers to the very slice that was opened, so each call is passed a copy of what the three shared slices own. The work slice is given to
--- the second call at its own lifetime, share and name: what is said there of its last list is what is said here. Assumes nothing.
+-- `receive` meets its contract: a walk of its MIR, by hand. The record that `open_index` returns is stored in a local, taken apart once,
+-- and passed on field by field. The proof knows of `open_index` and `receive_opened` only that each meets its contract. The record refers
+-- to the very slice that was opened, so each call is passed a copy of what the three shared slices own. The work slice goes to the second
+-- call at its own lifetime, share and name, so what is said there of its last list is what is said here. Comments in brackets list what is
+-- owned at that point; the tokens are those of the lifetimes. Assumes nothing.
 use mathlib.Core.Path.{_≡_, refl}
 use Prim.Native.Nat.{ℕ, _<_, _^_}
 use mathlib.Core.List.{List, [], _∷_}

@@ -1,4 +1,4 @@
--- `receive_opened` meets its contract: one law a return. Assumes nothing.
+-- `receive_opened` meets its contract: one law for each return. Assumes nothing.
 use borrow.Author.Needs.{needs}
 use mathlib.Core.Path.{_≡_, refl, sym, _∙_}
 use native.Mathlib.Omega.{arith}

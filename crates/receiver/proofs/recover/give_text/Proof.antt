@@ -1,4 +1,4 @@
--- `give_text` meets its contract: one law a return. Assumes nothing.
+-- `give_text` meets its contract: one law for each return. Assumes nothing.
 use borrow.Author.Needs.{needs}
 use mathlib.Core.Path.{refl, sym}
 use native.Mathlib.Omega.{arith}

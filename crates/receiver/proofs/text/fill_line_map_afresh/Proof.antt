@@ -1,4 +1,4 @@
--- `note_afresh` meets its contract: what is noted on is cleared before. Assumes nothing.
+-- `fill_line_map_afresh` meets its contract: the slice is cleared before the line map is filled. Assumes nothing.
 use mathlib.Core.Path.{ap, _∙_}
 use Rattle.spec.specs.Index.{lines-in}
 use Rattle.laws.specs.Receive.LineMapFill.{fill-line-map}

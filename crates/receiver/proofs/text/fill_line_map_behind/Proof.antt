@@ -1,4 +1,4 @@
--- `note_behind` meets its contract: the numbers before the lent part stay, and the part takes the notes. Assumes nothing.
+-- `fill_line_map_behind` meets its contract: the numbers before the part lent on stay, and the part takes the line map. Assumes nothing.
 use mathlib.Core.Path.{_≡_, ap, _∙_}
 use Prim.Native.Nat.{_*_, _-_}
 use lib.ListN.{length, take, drop}

@@ -1,4 +1,5 @@
--- `shown_by` meets its contract: painted, noted and tested, an index is accepted exactly if it is that of what it shows. Assumes nothing.
+-- `is_index_of_text` meets its contract: with text and line map in the work slice, `verify` answers whether the index is that of the text
+-- its entries spell. Assumes nothing.
 use mathlib.Core.Path.{refl}
 use native.Mathlib.Omega.{arith}
 use lib.ListN.{length, take, drop}

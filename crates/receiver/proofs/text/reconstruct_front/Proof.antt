@@ -1,4 +1,4 @@
--- `paint_front` meets its contract: the lent part takes the painting. Assumes nothing.
+-- `reconstruct_front` meets its contract: the part lent on takes the reconstructed text. Assumes nothing.
 use mathlib.Core.Path.{_≡_, sym, _∙_}
 use lib.ListN.{length}
 use lib.Seq.{length-take-le}

@@ -1,4 +1,4 @@
--- `test_parts` meets its contract: the two parts are those of the test. Assumes nothing.
+-- `test_parts` meets its contract: the two parts lent on are the text and the line map. Assumes nothing.
 use mathlib.Core.Path.{_≡_, sym}
 use Prim.Native.Nat.{_*_, _-_}
 use native.Mathlib.Omega.{arith}

@@ -1,5 +1,5 @@
--- `text_by` meets its contract: where the index is that of what it shows, it is received exactly if that holds no full-width form.
--- Assumes nothing.
+-- `text_by` meets its contract: an index of the text its entries spell is received exactly if that text has no
+-- full-width form. Assumes nothing.
 use mathlib.Core.Path.{sym}
 use native.Mathlib.Omega.{arith}
 use lib.ListN.{length}

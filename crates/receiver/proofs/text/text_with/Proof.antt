@@ -1,4 +1,4 @@
--- `text_with` meets its contract: the words are hung up, and the table serves the test. Assumes nothing.
+-- `text_with` meets its contract: the match table is filled, and serves the test. Assumes nothing.
 use native.Mathlib.Omega.{arith}
 use lib.ListN.{length}
 use Rattle.laws.specs.Receive.ReceivedText.{delivered-room}

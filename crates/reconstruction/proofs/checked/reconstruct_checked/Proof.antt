@@ -1,4 +1,5 @@
--- `paint_shown` meets its contract: what was painted over the ground is looked at again. Assumes nothing.
+-- `reconstruct_checked` meets its contract: the text is reconstructed over the sentinel, then every entry is
+-- checked in it. Assumes nothing.
 use Rattle.spec.specs.Dictionary.{lexicon}
 use Rattle.spec.specs.Index.{n-of, lines-in}
 use Rattle.laws.specs.TextScan.ReconstructedSearch.{reconstructed-sentinel}

@@ -1,5 +1,5 @@
--- `paint_entries` meets its contract. The invariant: the lines before `line` are painted. The measure is how many are left. Assumes
--- nothing.
+-- `reconstruct_entries` meets its contract. The invariant: the entries of the lines before `line` are written. The measure is how many
+-- lines are left. Assumes nothing.
 use mathlib.Core.Path.{_∙_}
 use Prim.Native.Nat.{_+_, _*_, _-_}
 use native.Mathlib.Omega.{arith}

@@ -1,4 +1,4 @@
--- `paint_line` meets its contract: a lone character is marked, a word is set by its part of the characters. Assumes nothing.
+-- `reconstruct_line` meets its contract: a lone character is written by `fill_at`, a word from its part of the characters. Assumes nothing.
 use Prim.Native.Nat.{_+_, _*_}
 use native.Mathlib.Omega.{arith}
 use borrow.Author.Needs.{needs}

@@ -1,5 +1,5 @@
--- `paint_places` meets its contract. The invariant: the string is set at the first i positions. The measure is how many are left.
--- Assumes nothing.
+-- `reconstruct_positions` meets its contract. The invariant: the string is written at the first i positions. The measure is how
+-- many are left. Assumes nothing.
 use Prim.Native.Nat.{_-_}
 use native.Mathlib.Omega.{arith}
 use borrow.Author.Needs.{needs}

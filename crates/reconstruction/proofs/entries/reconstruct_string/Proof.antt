@@ -1,4 +1,5 @@
--- `paint_string` meets its contract. The invariant: the first i characters are set. The measure is how many are left. Assumes nothing.
+-- `reconstruct_string` meets its contract. The invariant: the first i characters are written. The measure is how
+-- many are left. Assumes nothing.
 use Prim.Native.Nat.{_-_}
 use native.Mathlib.Omega.{arith}
 use borrow.Author.Needs.{needs}

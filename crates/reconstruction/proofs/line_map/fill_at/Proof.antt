@@ -1,5 +1,5 @@
--- `mark_places` meets its contract. The invariant: the number is set at the first i positions. The measure is how many are left.
--- Assumes nothing.
+-- `fill_at` meets its contract. The invariant: the number is written at the first i positions. The measure is how
+-- many are left. Assumes nothing.
 use mathlib.Core.List.{[], _∷_}
 use Prim.Native.Nat.{_-_}
 use native.Mathlib.Omega.{arith}

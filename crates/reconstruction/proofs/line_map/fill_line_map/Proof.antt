@@ -1,5 +1,5 @@
--- `note_lines` meets its contract. The invariant: the lines before `line` are noted. The measure is how many are left. Assumes
--- nothing.
+-- `fill_line_map` meets its contract. The invariant: the map has the lines before `line`. The measure is how many
+-- lines are left. Assumes nothing.
 use Prim.Native.Nat.{_+_, _*_, _-_}
 use native.Mathlib.Omega.{arith}
 use borrow.Author.Needs.{needs}

@@ -1,5 +1,5 @@
--- `shows` meets its contract. The invariant: the entries of the lines before `line` stand. The measure is how many lines are left.
--- Assumes nothing.
+-- `entries_match` meets its contract. The invariant: the entries of the lines before `line` stand. The measure is how many
+-- lines are left. Assumes nothing.
 use Prim.Native.Nat.{_+_, _*_, _-_}
 use native.Mathlib.Omega.{arith}
 use borrow.Author.Needs.{needs}

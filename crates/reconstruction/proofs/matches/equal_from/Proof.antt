@@ -1,5 +1,5 @@
--- `equal_from` meets its contract. The invariant: the characters from `from` to i are equal. The measure is how many are left.
--- Assumes nothing.
+-- `equal_from` meets its contract. The invariant: the characters from `from` up to i are equal. The measure is how
+-- many are left. Assumes nothing.
 use Prim.Native.Nat.{_-_, _≤_}
 use native.Mathlib.Omega.{arith}
 use borrow.Author.Needs.{needs}

@@ -1,5 +1,5 @@
--- `marks_at_each` meets its contract. The invariant: the first i positions have the mark. The measure is how many are left. Assumes
--- nothing.
+-- `holds_at_each` meets its contract. The invariant: the text has the character at the first i positions. The measure is how
+-- many are left. Assumes nothing.
 use Prim.Native.Nat.{_-_}
 use native.Mathlib.Omega.{arith}
 use borrow.Author.Needs.{needs}

@@ -1,4 +1,5 @@
--- `line_stands` meets its contract: a lone character is one comparison, a word is compared by its part of the characters. Assumes nothing.
+-- `line_stands` meets its contract: a lone character is one comparison a position, a word is compared by its part of
+-- the characters. Assumes nothing.
 use Prim.Native.Nat.{_+_, _*_}
 use native.Mathlib.Omega.{arith}
 use borrow.Author.Needs.{needs}

@@ -1,5 +1,5 @@
--- `stands_again` meets its contract: at a period after a place where the string stands, its last characters are compared. Assumes
--- nothing.
+-- `stands_again` meets its contract: one period after a position where the string stands, only its last characters
+-- are compared. Assumes nothing.
 use mathlib.Core.Path.{_≡_, subst}
 use Prim.Native.Nat.{ℕ, _-_}
 use native.Mathlib.Omega.{arith}

@@ -1,5 +1,5 @@
--- `stands_at_each` meets its contract. The invariant: the string stands at the first i positions, and has the period. The measure is
--- how many positions are left. Assumes nothing.
+-- `stands_at_each` meets its contract. The invariant: the string stands at the first i positions, and `period` is a period of it. The
+-- measure is how many positions are left. Assumes nothing.
 use Prim.Native.Nat.{_-_, _≤_}
 use native.Mathlib.Omega.{arith}
 use borrow.Author.Tests.{not-true, not-false}

@@ -1,5 +1,5 @@
--- `scan` meets its contract. The invariant: the marks of the places passed, and what the scan will register from there on. The
--- measure is how many places are left. Assumes nothing.
+-- `scan` meets its contract. The invariant: the tokens of the positions passed are written, and `end` fixes what the scan registers from
+-- there on. The measure is how many positions are left. Assumes nothing.
 use Prim.Native.Nat.{_-_}
 use native.Mathlib.Omega.{arith}
 use lib.ListN.{length, take, drop}

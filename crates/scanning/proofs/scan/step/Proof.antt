@@ -1,4 +1,4 @@
--- `step` meets its contract: a word was found, or the place is covered, or its character stands alone. Assumes nothing.
+-- `step` meets its contract: a word is found, or the position is covered, or its character is registered alone. Assumes nothing.
 use mathlib.Core.Path.{_≡_}
 use native.Mathlib.Omega.{arith}
 use borrow.Author.Needs.{needs}

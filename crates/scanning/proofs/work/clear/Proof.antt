@@ -1,4 +1,5 @@
--- `clear` meets its contract. The invariant: i zeros, and the rest as it was. The measure is what is left. Assumes nothing.
+-- `clear` meets its contract. The invariant: the first i numbers are 0, and the rest is unchanged. The measure is how
+-- many are left. Assumes nothing.
 use mathlib.Core.Path.{_≡_, ap, _∙_}
 use mathlib.Core.List.{List, _++_, append-nil}
 use Prim.Native.Nat.{ℕ, _-_, _≤_, _<_}

@@ -1,5 +1,5 @@
--- `visits_more` is safe: the sum stays small, since it is compared before each step, and the stride is at most 9. The measure is how
--- much of the string is left. Assumes nothing.
+-- `cost_exceeds` is safe: the sum stays small, since it is compared before each step and the stride is at most 9. The measure is how much
+-- of the string is left. Assumes nothing.
 use Prim.Native.Nat.{_+_, _*_, _-_, _/_, _≤_}
 use native.Mathlib.Nat.{mul-le-mul}
 use native.Mathlib.Omega.{arith}

@@ -1,4 +1,4 @@
--- `count_keys` meets its contract: a lone character is found by its line, words by narrowing. Assumes nothing.
+-- `count_keys` meets its contract: a lone character is found by its line, words by equal ranges. Assumes nothing.
 use Rattle.laws.specs.Window.LineRanges.{lone-rise}
 use borrow.Author.Needs.{needs}
 use Rattle.searcher.proofs.estimate.count_keys.Statement.{statement}

@@ -1,4 +1,4 @@
--- `weigh_line` meets its contract: a count and a length are numbers of 16 bits. Assumes nothing.
+-- `estimate_line` meets its contract: a count and a length are numbers of 16 bits. Assumes nothing.
 use Prim.Native.Nat.{_+_, _*_, _≤_}
 use native.Mathlib.Nat.{mul-le-mul}
 use native.Mathlib.Omega.{arith}

@@ -1,5 +1,5 @@
--- `weigh_lines` meets its contract. The invariant bounds the sum by the number of the line. The measure is how many lines are left.
--- Assumes nothing.
+-- `estimate_lines` meets its contract. The invariant bounds the sum by a multiple of `line`. The measure is how many
+-- lines are left. Assumes nothing.
 use Prim.Native.Nat.{_*_, _-_, _≤_}
 use native.Mathlib.Omega.{arith}
 use Rattle.searcher.proofs.estimate.estimate_lines.Statement.{statement}

@@ -1,6 +1,6 @@
--- `weigh_words` meets its contract. The invariant: the lines from `low` to `high` - 1 are left, and share `depth` characters with the
--- string from the offset on; the sum is bounded by the number of lines passed. The measure is how many lines and characters are left.
--- Assumes nothing.
+-- `estimate_words` meets its contract. The invariant: the lines `low` to `high` - 1 are left, and their words share `depth`
+-- characters with the string from the offset on; the sum is bounded by the number of lines passed. The measure is how many lines and
+-- characters are left. Assumes nothing.
 use mathlib.Core.Path.{refl, _∙_}
 use Prim.Native.Nat.{_+_, _*_, _-_, _≤_}
 use native.Mathlib.Omega.{arith}

@@ -1,4 +1,4 @@
--- `is_dense` meets its contract: it answers true only where the string fits. Assumes nothing.
+-- `prefers_text_scan` meets its contract: it answers true only where the string fits. Assumes nothing.
 use mathlib.Core.Path.{refl}
 use native.Mathlib.Omega.{arith}
 use Rattle.basics.specs.Bools.{clash}

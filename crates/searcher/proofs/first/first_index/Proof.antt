@@ -1,6 +1,7 @@
--- `first_index` meets its contract: a walk of its MIR, by hand. The record that `open_index` returns is held in a local, taken apart once, and
--- `first_opened` is called on the slices and the numbers. All that the proof knows of the two callees is that each meets its contract.
--- A `&[u16]` is Copy: what the four slices own is had for each call and for the exit. Assumes nothing.
+-- `first_index` meets its contract: a walk of its MIR, by hand. The record that `open_index` returns is stored in a local, taken apart
+-- once, and `first_opened` is called on the slices and the numbers. The proof knows of the two callees only that each meets its contract. A
+-- `&[u16]` is Copy: what the four slices own serves each call and the exit. Comments in brackets list what is owned at that point; the
+-- token is that of the lifetime. Assumes nothing.
 use mathlib.Core.Path.{_≡_, refl}
 use Prim.Native.Nat.{ℕ, _<_, _^_}
 use mathlib.Core.List.{List, [], _∷_}

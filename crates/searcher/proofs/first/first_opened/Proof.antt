@@ -1,4 +1,4 @@
--- `first_opened` meets its contract: each way to a return has met the tests of one law. Assumes nothing.
+-- `first_opened` meets its contract: for each return one law, whose tests the path has passed. Assumes nothing.
 use mathlib.Core.Path.{_≡_, refl, sym, _∙_}
 use Prim.Native.Nat.{ℕ}
 use native.Mathlib.Omega.{arith}

@@ -1,4 +1,4 @@
--- `first_plain` meets its contract: the starts are all at which the string fits. Assumes nothing.
+-- `first_plain` meets its contract: the starts are all those at which the string fits. Assumes nothing.
 use Rattle.spec.specs.Dictionary.{lexicon}
 use Rattle.laws.specs.First.Found.{first-in-all}
 use borrow.Author.Needs.{needs}

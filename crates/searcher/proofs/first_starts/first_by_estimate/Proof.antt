@@ -1,4 +1,4 @@
--- `first_in_dense` meets its contract: room for 65,536 starts is enough. Assumes nothing.
+-- `first_by_estimate` meets its contract: a window of 65,536 starts is long enough. Assumes nothing.
 use native.Mathlib.Omega.{arith}
 use Rattle.laws.specs.Window.Searching.{cleared-room}
 use borrow.Author.Needs.{needs}

@@ -1,4 +1,4 @@
--- `first_by_text` meets its contract: the text tells the window, or the search goes by the entries. Assumes nothing.
+-- `first_by_text` meets its contract: the reconstructed text fills the window, or the search goes by the entries. Assumes nothing.
 use lib.ListN.{length}
 use Rattle.spec.specs.Dictionary.{lexicon}
 use Rattle.laws.specs.First.Found.{first-in-told, first-in-count}

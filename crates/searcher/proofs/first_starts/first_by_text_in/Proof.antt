@@ -1,4 +1,4 @@
--- `first_by_text_in` meets its contract: the window is the front of the room. Assumes nothing.
+-- `first_by_text_in` meets its contract: the window is the first numbers of the slice lent. Assumes nothing.
 use mathlib.Core.Path.{sym}
 use native.Mathlib.Omega.{arith}
 use lib.ListN.{length, take}

@@ -1,4 +1,4 @@
--- `first_by_windows` meets its contract: where none of 8,192 starts is found, the first found is that of the rest. Assumes nothing.
+-- `first_by_windows` meets its contract: where none of 8,192 starts is found, the first found is that of the others. Assumes nothing.
 use Prim.Native.Nat.{_-_}
 use native.Mathlib.Omega.{arith}
 use Rattle.spec.specs.Dictionary.{lexicon}

@@ -1,4 +1,4 @@
--- `first_in_lent` meets its contract: the window is the front of what is lent, and is cleared as that is. Assumes nothing.
+-- `first_in_lent` meets its contract: the window is the first numbers of the slice lent, which is cleared. Assumes nothing.
 use mathlib.Core.Path.{sym}
 use native.Mathlib.Omega.{arith}
 use lib.ListN.{length, take}

@@ -1,4 +1,4 @@
--- `first_in_long` meets its contract: a window of 65,536 is long enough. Assumes nothing.
+-- `first_in_long` meets its contract: a window of 65,536 starts is long enough. Assumes nothing.
 use native.Mathlib.Omega.{arith}
 use Rattle.laws.specs.Window.Searching.{cleared-room, cleared-whole}
 use borrow.Author.Needs.{needs}

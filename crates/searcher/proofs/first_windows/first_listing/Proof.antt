@@ -1,4 +1,4 @@
--- `first_listing` meets its contract: the lines are listed, once for all windows. Assumes nothing.
+-- `first_listing` meets its contract: the leading lines are listed, once for all windows. Assumes nothing.
 use mathlib.Core.Path.{sym}
 use lib.Seq.{length-take-le}
 use borrow.Author.Needs.{needs}

@@ -1,4 +1,4 @@
--- `search_plain` meets its contract: the starts are all at which the string fits. Assumes nothing.
+-- `search_plain` meets its contract: the starts are all those at which the string fits. Assumes nothing.
 use Rattle.spec.specs.Dictionary.{lexicon}
 use Rattle.laws.specs.Window.Searching.{all-starts}
 use borrow.Author.Needs.{needs}

@@ -1,4 +1,4 @@
--- `search_in_long` meets its contract: a window of 65,536 is long enough. Assumes nothing.
+-- `search_in_long` meets its contract: a window of 65,536 starts is long enough. Assumes nothing.
 use Rattle.laws.specs.Window.Searching.{cleared-room, cleared-whole}
 use native.Mathlib.Omega.{arith}
 use borrow.Author.Needs.{needs}

@@ -1,4 +1,4 @@
--- `reach_by_text` meets its contract: its room is long enough for every text. Assumes nothing.
+-- `reach_by_text` meets its contract: its local array is long enough for every text. Assumes nothing.
 use native.Mathlib.Omega.{arith}
 use Rattle.spec.specs.Index.{n-of}
 use Rattle.laws.specs.Window.Searching.{cleared-room}

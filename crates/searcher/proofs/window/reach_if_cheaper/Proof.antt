@@ -1,4 +1,4 @@
--- `reach_if_dense` meets its contract: only where the string fits is the text painted. Assumes nothing.
+-- `reach_if_cheaper` meets its contract: the text is reconstructed only where the string fits. Assumes nothing.
 use mathlib.Core.Path.{refl}
 use borrow.Author.Tests.{not-false}
 use Rattle.basics.specs.Bools.{clash}

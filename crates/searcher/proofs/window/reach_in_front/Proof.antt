@@ -1,4 +1,4 @@
--- `reach_in_front` meets its contract: the front of the room is as long as the text. Assumes nothing.
+-- `reach_in_front` meets its contract: the part lent on is as long as the text. Assumes nothing.
 use mathlib.Core.Path.{sym}
 use lib.Seq.{length-take-le}
 use Rattle.spec.specs.Index.{n-of}

@@ -1,4 +1,5 @@
--- `search_cleared` meets its contract: the painted text tells the window, or leaves it clear for the search by entries. Assumes nothing.
+-- `search_cleared` meets its contract: the reconstructed text fills the window, or leaves it clear for the
+-- search by entries. Assumes nothing.
 use native.Mathlib.Omega.{arith}
 use lib.ListN.{length}
 use Rattle.spec.specs.Dictionary.{lexicon}

@@ -1,4 +1,4 @@
--- `noted_right` meets its contract: one law a return. Assumes nothing.
+-- `line_has_key` meets its contract: one law for each return. Assumes nothing.
 use borrow.Author.Needs.{needs}
 use Rattle.laws.specs.Receive.Verify.{token-unmapped, lone-kind, lone-value, word-kind, word-value}
 use Rattle.verification.proofs.verify.line_has_key.Statement.{statement}

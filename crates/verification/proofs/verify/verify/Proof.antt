@@ -1,5 +1,5 @@
--- `accepts` meets its contract. The invariant: what is left of the test is the whole of it. The measure is how many places are left.
--- Assumes nothing.
+-- `verify` meets its contract. The invariant: the test of the whole text is what is left of it, with the entries counted so far. The
+-- measure is how many positions are left. Assumes nothing.
 use borrow.Author.Needs.{needs}
 use borrow.Author.Tests.{not-true, not-false}
 use mathlib.Core.Path.{sym, _∙_}

@@ -1,5 +1,5 @@
--- `fill_standing` meets its contract. The invariant: each start before `at` says how long a front lies there, and the text from `left`
--- to `right` is a front of the string. The measure is how many starts are left. Assumes nothing.
+-- `fill_prefix_lengths` meets its contract. The invariant: each start before `at` has the length of the longest prefix that matches there,
+-- and the text from `left` to `right`, the Z-box, is a prefix of the string. The measure is how many starts are left. Assumes nothing.
 use Prim.Native.Nat.{_+_, _-_, _≤_}
 use native.Mathlib.Omega.{arith}
 use borrow.Author.Needs.{needs}

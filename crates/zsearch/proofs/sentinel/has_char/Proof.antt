@@ -1,5 +1,5 @@
--- `has_char` meets its contract. The invariant: the character is none of the first i. The measure is how many are left. Assumes
--- nothing.
+-- `has_char` meets its contract. The invariant: the character is none of the first i. The measure is how many
+-- characters are left. Assumes nothing.
 use mathlib.Core.Path.{_≡_, subst}
 use Prim.Native.Nat.{ℕ, _-_, _≤_, _<_}
 use native.Mathlib.Omega.{arith}

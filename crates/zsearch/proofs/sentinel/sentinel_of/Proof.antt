@@ -1,5 +1,5 @@
--- `ground_of` meets its contract. The invariant: every lower number is a character of the string, so there are at most as many as
--- characters. The measure is how many characters are left. Assumes nothing.
+-- `sentinel_of` meets its contract. The invariant: every lower number is a character of the string, so there are at most as many as
+-- characters. The measure is the string's length plus 1, less the number. Assumes nothing.
 use Prim.Native.Nat.{suc, _+_, _-_}
 use native.Mathlib.Omega.{arith}
 use borrow.Author.Needs.{needs}
@@ -20,7 +20,7 @@ loop-holds c = lower-none (c .before .args .string .now)
 has-char-requires : tie.Need-has-char-requires Inv-loop μ-loop
 has-char-requires c κs = search needs
 
--- a number that is a character counts to the lower ones
+-- every number below the next one is a character too
 more :
     (c : tie.Then1 Inv-loop μ-loop) → Lower-in (c .before .before .before .before .args .string .now) (c .before .before .loop .ground + 1)
 more c =

@@ -1,5 +1,6 @@
--- `fill_repeats` meets its contract. The invariant: each place before `at` says how long a front lies there, the others are as they
--- were, and the string from `left` to `right` is a front of it. The measure is how many places are left. Assumes nothing.
+-- `fill_zarray` meets its contract. The invariant: each index before `at` has the length of the longest prefix that starts there,
+-- the other numbers are unchanged, and the string from `left` to `right`, the Z-box, is a prefix of it. The measure is how many
+-- indices are left. Assumes nothing.
 use Prim.Native.Nat.{_-_, _≤_, _<_}
 use native.Mathlib.Omega.{arith}
 use borrow.Author.Needs.{needs}

@@ -1,5 +1,4 @@
--- `extend` meets its contract. The invariant: the first `long` characters are those of the string. The measure is how many are left.
--- Assumes nothing.
+-- `extend` meets its contract. The invariant: the first `len` characters match. The measure is how many are left. Assumes nothing.
 use Prim.Native.Nat.{_-_, _≤_}
 use native.Mathlib.Omega.{arith}
 use borrow.Author.Needs.{needs}

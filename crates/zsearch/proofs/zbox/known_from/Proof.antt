@@ -1,4 +1,4 @@
--- `known_from` meets its contract: a place within the stretch is `at - left` of the string. Assumes nothing.
+-- `known_from` meets its contract: index `at` inside the Z-box is index `at` - `left` of the string. Assumes nothing.
 use Prim.Native.Nat.{_-_}
 use native.Mathlib.Omega.{arith}
 use borrow.Author.Needs.{needs}
