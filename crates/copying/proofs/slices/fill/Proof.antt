@@ -17,7 +17,7 @@ abbrev μ-loop : tie.MeasureT-loop
 μ-loop slice₀ number i₀ slice i = length slice₀ - i
 
 below : (c : tie.In-loop Inv-loop μ-loop) → c .before .loop .i < length (c .before .before .args .slice .now)
-below c = omega (arith, c .before .loop .inv .0, c .loop-test .taken)
+below c = omega arith
 
 loop-holds : tie.Need-loop-holds Inv-loop μ-loop
 loop-holds c = (omega arith, omega arith, fill-none (c .args .slice .now) (c .args .number))
@@ -50,7 +50,7 @@ returns : tie.Need-returns Inv-loop μ-loop
 returns c =
     let args = c .before .before .args in
     let walk = c .before .loop in
-    let all : walk .i ≡ length (args .slice .now) = omega (arith, walk .inv .0, walk .inv .1, c .loop-test .left) in
+    let all : walk .i ≡ length (args .slice .now) = omega arith in
     let past : length (args .slice .now) ≤ walk .i = omega (arith, all) in
     let rest : drop (walk .i) (args .slice .now) ≡ _ = drop-of-length-le (args .slice .now) past in
     walk .inv .2

@@ -27,7 +27,7 @@ shared-slice-read-output c = search needs
 add-output : tie.Need-add-output Inv-loop μ-loop
 add-output c =
     let s = c .before .before .before in
-    omega (arith, s .pre, s .good)
+    omega arith
 
 mul-output-2 : tie.Need-mul-output-2 Inv-loop μ-loop
 mul-output-2 c = search needs

@@ -43,7 +43,7 @@ mul-start c = omega (arith, c .shared-slice-known2 .given (2 + 3 * c .before .be
 shared-slice-read-start : tie.Need-shared-slice-read-start
 shared-slice-read-start c =
     let s = c .before .before .before .before in
-    omega (arith, s .pre .1 .room, word-below (s .pre .0) (s .args .line) (s .pre .2) (c .before .before .if1 .taken))
+    omega (arith, word-below (s .pre .0) (s .args .line) (s .pre .2) (c .before .before .if1 .taken))
 
 cast-start : tie.Need-cast-start
 cast-start c =
@@ -66,12 +66,12 @@ cast-end c =
 add-end : tie.Need-add-end
 add-end c =
     let s = c .before .before .before .before .before in
-    omega (arith, s .pre .1 .room, word-room (s .pre .0) (s .args .line) (s .pre .2) (c .before .before .before .if1 .taken) (s .pre .1), s .pre .0 .few-chars)
+    omega (arith, word-room (s .pre .0) (s .args .line) (s .pre .2) (c .before .before .before .if1 .taken) (s .pre .1))
 
 mul-result : tie.Need-mul-result
 mul-result c =
     let s = c .before .before .before .before .before in
-    omega (arith, s .pre .1 .room, word-room (s .pre .0) (s .args .line) (s .pre .2) (c .before .before .before .if1 .taken) (s .pre .1), s .pre .0 .few-chars)
+    omega (arith, word-room (s .pre .0) (s .args .line) (s .pre .2) (c .before .before .before .if1 .taken) (s .pre .1))
 
 sub-result : tie.Need-sub-result
 sub-result c = search needs

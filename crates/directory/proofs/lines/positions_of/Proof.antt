@@ -58,7 +58,7 @@ add-end-3 c =
 mul-result : tie.Need-mul-result
 mul-result c =
     let s = c .before .before .before in
-    omega (arith, positions-room (s .pre .0) (s .args .line) (s .pre .2) (s .pre .1), s .good)
+    omega (arith, positions-room (s .pre .0) (s .args .line) (s .pre .2) (s .pre .1))
 
 sub-result : tie.Need-sub-result
 sub-result c = search needs

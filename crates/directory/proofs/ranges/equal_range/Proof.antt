@@ -28,9 +28,9 @@ returns c =
     let s = c .before .before .before .before .before .before .before .before in
     let a = s .args in (
       bound-first (s .pre .rising) (a .character) (omega arith)
-          (omega (arith, c .before .before .before .char-at .ensures, c .before .before .if2 .taken)),
+          (omega arith),
       bound-last (s .pre .rising) (a .character + 1) (omega arith)
-          (omega (arith, c .before .char-at2 .ensures, c .if3 .taken)),
+          (omega arith),
     )
 
 word-lower-bound-requires : tie.Need-word-lower-bound-requires

@@ -24,19 +24,19 @@ add-middle : tie.Need-add-middle Inv-loop μ-loop
 add-middle c = search needs
 
 mul-if1 : tie.Need-mul-if1 Inv-loop μ-loop
-mul-if1 c = omega (arith, c .before .loop .inv .to, c .before .before .pre .0, c .before .before .pre .1)
+mul-if1 c = omega arith
 
 add-if1 : tie.Need-add-if1 Inv-loop μ-loop
-add-if1 c = omega (arith, c .before .loop .inv .to, c .before .before .pre .0, c .before .before .pre .1)
+add-if1 c = omega arith
 
 add-if1-2 : tie.Need-add-if1-2 Inv-loop μ-loop
-add-if1-2 c = omega (arith, c .before .loop .inv .to, c .before .before .pre .0, c .before .before .pre .1)
+add-if1-2 c = omega arith
 
 mul-if1-2 : tie.Need-mul-if1-2 Inv-loop μ-loop
-mul-if1-2 c = omega (arith, c .before .loop .inv .to, c .before .before .pre .0, c .before .before .pre .1)
+mul-if1-2 c = omega arith
 
 shared-slice-read-if1 : tie.Need-shared-slice-read-if1 Inv-loop μ-loop
-shared-slice-read-if1 c = omega (arith, c .before .before .loop .inv .to, c .before .before .before .pre .0, c .before .before .before .pre .1)
+shared-slice-read-if1 c = omega arith
 
 cast-if1 : tie.Need-cast-if1 Inv-loop μ-loop
 cast-if1 c = omega (arith, c .shared-slice-known .given (2 + 3 * (c .before .before .loop .a + (c .before .before .loop .b - c .before .before .loop .a) / 2) + c .before .before .before .args .field))

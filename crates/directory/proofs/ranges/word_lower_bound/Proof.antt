@@ -19,10 +19,10 @@ abbrev middle : tie.In-loop Inv-loop μ-loop → ℕ
 middle c = c .before .loop .a + (c .before .loop .b - c .before .loop .a) / 2
 
 after-low : (c : tie.In-loop Inv-loop μ-loop) → c .before .before .before .before .before .args .low ≤ middle c
-after-low c = omega (arith, c .before .loop .inv .from)
+after-low c = omega arith
 
 before-high : (c : tie.In-loop Inv-loop μ-loop) → middle c < c .before .before .before .before .before .args .high
-before-high c = omega (arith, c .before .loop .inv .to)
+before-high c = omega arith
 
 loop-holds : tie.Need-loop-holds Inv-loop μ-loop
 loop-holds c =
@@ -42,7 +42,7 @@ char-at-requires c κs =
     (p .line (middle c) (after-low c) (before-high c), p .word (middle c) (after-low c) (before-high c), p .room (middle c) (after-low c) (before-high c))
 
 cast-if1 : tie.Need-cast-if1 Inv-loop μ-loop
-cast-if1 c = omega (arith, c .char-at .ok)
+cast-if1 c = omega arith
 
 add-a : tie.Need-add-a Inv-loop μ-loop
 add-a c =
@@ -58,7 +58,7 @@ loop-again c =
     let a = s .args in
     let l = c .before .before .before .loop in
     bisected-up (s .pre .rising) (a .least) (l .inv) (middle (c .before .before)) (omega arith) (omega arith)
-    (omega (arith, c .before .char-at .ensures, c .if1 .taken))
+    (omega arith)
 
 loop-less-2 : tie.Need-loop-less-2 Inv-loop μ-loop
 loop-less-2 c = search needs
@@ -69,7 +69,7 @@ loop-again-2 c =
     let a = s .args in
     let l = c .before .before .before .loop in
     bisected-down (s .pre .rising) (a .least) (l .inv) (middle (c .before .before)) (omega arith) (omega arith)
-    (omega (arith, c .before .char-at .ensures, c .if1 .left))
+    (omega arith)
 
 returns : tie.Need-returns Inv-loop μ-loop
 returns c =

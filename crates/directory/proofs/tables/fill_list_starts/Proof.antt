@@ -22,7 +22,7 @@ abbrev μ-loop : tie.MeasureT-loop
 loop-holds : tie.Need-loop-holds Inv-loop μ-loop
 loop-holds c =
     let a = c .args in (
-      list-starts-none (a .index .now) (a .list-starts .now) (omega (arith, c .pre .1, c .pre .3)),
+      list-starts-none (a .index .now) (a .list-starts .now) (omega arith),
       refl,
       list-starts-first (a .index .now),
       omega arith,
@@ -32,7 +32,7 @@ loop-holds c =
     )
 
 cast-list-starts : tie.Need-cast-list-starts Inv-loop μ-loop
-cast-list-starts c = omega (arith, c .before .loop .inv .3, c .before .loop .inv .5, c .loop-test .taken)
+cast-list-starts c = omega arith
 
 mul-list-starts : tie.Need-mul-list-starts Inv-loop μ-loop
 mul-list-starts c = search needs
@@ -59,7 +59,7 @@ cast-at : tie.Need-cast-at Inv-loop μ-loop
 cast-at c = omega (arith, c .shared-slice-known .given (2 + 3 * c .before .before .loop .i + 2))
 
 add-at-3 : tie.Need-add-at-3 Inv-loop μ-loop
-add-at-3 c = omega (arith, c .before .before .loop .inv .3, c .before .before .loop .inv .5, c .before .loop-test .taken, c .shared-slice-known .given (2 + 3 * c .before .before .loop .i + 2))
+add-at-3 c = omega (arith, c .shared-slice-known .given (2 + 3 * c .before .before .loop .i + 2))
 
 add-i : tie.Need-add-i Inv-loop μ-loop
 add-i c = search needs
@@ -71,10 +71,10 @@ loop-again : tie.Need-loop-again Inv-loop μ-loop
 loop-again c =
     let a = c .before .before .before .args in
     let l = c .before .before .loop in (
-      list-starts-next (a .index .now) (l .inv .0) (omega (arith, c .before .loop-test .taken, l .inv .4)) (l .at) (l .inv .2),
+      list-starts-next (a .index .now) (l .inv .0) (omega arith) (l .at) (l .inv .2),
       length-set (l .list-starts) (l .i) (l .at) ∙ l .inv .1,
-      omega (arith, l .inv .2, counts-next (l .i) (a .index .now)),
-      omega (arith, l .inv .3, c .shared-slice-known .given (2 + 3 * l .i + 2)),
+      omega (arith, counts-next (l .i) (a .index .now)),
+      omega (arith, c .shared-slice-known .given (2 + 3 * l .i + 2)),
       l .inv .4,
       l .inv .5,
       l .inv .6,
@@ -87,7 +87,7 @@ returns : tie.Need-returns Inv-loop μ-loop
 returns c =
     let a = c .before .before .args in
     let l = c .before .loop in
-    list-starts-all (l .inv .0) (omega (arith, c .loop-test .left, l .inv .4))
+    list-starts-all (l .inv .0) (omega arith)
 
 pub fill-list-starts-spec : {M : Type 1} → statement M
 fill-list-starts-spec =

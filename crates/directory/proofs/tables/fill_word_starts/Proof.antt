@@ -23,12 +23,7 @@ loop-holds c = (word-starts-none (c .args .lengths .now) (c .args .word-starts .
 cast-word-starts : tie.Need-cast-word-starts Inv-loop μ-loop
 cast-word-starts c =
     let l = c .before .loop in
-    omega (
-      arith,
-      l .inv .2,
-      c .before .before .pre .0,
-      word-start-room (c .before .before .args .lengths .now) (l .i) (c .loop-test .taken),
-    )
+    omega (arith, word-start-room (c .before .before .args .lengths .now) (l .i) (c .loop-test .taken))
 
 mul-word-starts : tie.Need-mul-word-starts Inv-loop μ-loop
 mul-word-starts c = search needs
@@ -48,12 +43,7 @@ cast-at c = omega (arith, c .shared-slice-known .given (c .before .before .loop 
 add-at : tie.Need-add-at Inv-loop μ-loop
 add-at c =
     let l = c .before .before .loop in
-    omega (
-      arith,
-      l .inv .2,
-      c .before .before .before .pre .0,
-      word-start-room (c .before .before .before .args .lengths .now) (l .i) (c .before .loop-test .taken),
-    )
+    omega (arith, word-start-room (c .before .before .before .args .lengths .now) (l .i) (c .before .loop-test .taken))
 
 add-i : tie.Need-add-i Inv-loop μ-loop
 add-i c = search needs
@@ -67,7 +57,7 @@ loop-again c =
     let l = c .before .before .loop in (
       word-starts-next (a .lengths .now) (l .inv .0) (c .before .loop-test .taken) (l .at) (l .inv .2),
       length-set (l .word-starts) (l .i) (l .at) ∙ l .inv .1,
-      omega (arith, l .inv .2, word-start-next (a .lengths .now) (l .i) (c .before .loop-test .taken)),
+      omega (arith, word-start-next (a .lengths .now) (l .i) (c .before .loop-test .taken)),
     )
 
 same-length : tie.Need-same-length Inv-loop μ-loop

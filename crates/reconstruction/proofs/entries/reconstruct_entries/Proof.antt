@@ -20,7 +20,7 @@ abbrev μ-loop : tie.MeasureT-loop
 
 shared-slice-read-keys : tie.Need-shared-slice-read-keys Inv-loop μ-loop
 shared-slice-read-keys c =
-    omega (arith, c .before .before .before .before .before .before .pre .0 .fits .has-header)
+    omega arith
 
 cast-keys : tie.Need-cast-keys Inv-loop μ-loop
 cast-keys c = omega (arith, c .shared-slice-known5 .given 1)
@@ -39,21 +39,21 @@ loop-holds c =
     )
 
 mul-end : tie.Need-mul-end Inv-loop μ-loop
-mul-end c = omega (arith, c .loop-test .taken, c .before .loop .inv .0 .keys-small)
+mul-end c = omega arith
 
 add-end : tie.Need-add-end Inv-loop μ-loop
-add-end c = omega (arith, c .loop-test .taken, c .before .loop .inv .0 .keys-small)
+add-end c = omega arith
 
 add-end-2 : tie.Need-add-end-2 Inv-loop μ-loop
-add-end-2 c = omega (arith, c .loop-test .taken, c .before .loop .inv .0 .keys-small)
+add-end-2 c = omega arith
 
 mul-end-2 : tie.Need-mul-end-2 Inv-loop μ-loop
-mul-end-2 c = omega (arith, c .loop-test .taken, c .before .loop .inv .0 .keys-small)
+mul-end-2 c = omega arith
 
 shared-slice-read-end : tie.Need-shared-slice-read-end Inv-loop μ-loop
 shared-slice-read-end c =
     let l = c .before .before .loop in
-    omega (arith, c .before .loop-test .taken, l .inv .0 .fits .has-directory)
+    omega arith
 
 cast-end : tie.Need-cast-end Inv-loop μ-loop
 cast-end c = omega (arith, c .shared-slice-known6 .given (2 + 3 * c .before .before .loop .line + 2))
@@ -62,7 +62,7 @@ add-end-3 : tie.Need-add-end-3 Inv-loop μ-loop
 add-end-3 c =
     let s = c .before .before .before .before .before .before .before .before .before in
     let l = c .before .before .loop in
-    omega (arith, s .good, lies-room (reconstructing-lies (lexicon (s .args .chars .now) (s .args .lengths .now)) (s .args .index .now) (s .args .text .now) (l .text) (l .begin) (l .line) (l .inv .1) (c .before .loop-test .taken)) (l .inv .0 .fits))
+    omega (arith, lies-room (reconstructing-lies (lexicon (s .args .chars .now) (s .args .lengths .now)) (s .args .index .now) (s .args .text .now) (l .text) (l .begin) (l .line) (l .inv .1) (c .before .loop-test .taken)) (l .inv .0 .fits))
 
 reconstruct-line-requires : tie.Need-reconstruct-line-requires Inv-loop μ-loop
 reconstruct-line-requires c κs =
@@ -77,10 +77,10 @@ reconstruct-line-requires c κs =
 add-line : tie.Need-add-line Inv-loop μ-loop
 add-line c =
     let l = c .before .before .before .before .before .before .loop in
-    omega (arith, c .before .before .before .before .before .loop-test .taken, l .inv .0 .keys-small)
+    omega arith
 
 loop-less : tie.Need-loop-less Inv-loop μ-loop
-loop-less c = omega (arith, c .before .before .before .before .before .loop-test .taken)
+loop-less c = omega arith
 
 loop-again : tie.Need-loop-again Inv-loop μ-loop
 loop-again c =

@@ -39,7 +39,7 @@ shared-slice-read-if1 c = search needs
 mul-fill-at : tie.Need-mul-fill-at
 mul-fill-at c =
     let s = c .before .before .before .before .before .before .before .before in
-    omega (arith, s .good, s .pre .2 .end-is, lies-room (s .pre .2) (s .pre .0 .fits))
+    omega (arith, lies-room (s .pre .2) (s .pre .0 .fits))
 
 sub-fill-at : tie.Need-sub-fill-at
 sub-fill-at c = search needs
@@ -75,7 +75,7 @@ mul-start c = omega (arith, c .before .shared-slice-known6 .given (2 + 3 * c .be
 shared-slice-read-start : tie.Need-shared-slice-read-start
 shared-slice-read-start c =
     let s = c .before .before .before .before .before .before .before .before .before in
-    omega (arith, s .pre .1 .room, word-below (s .pre .0) (s .args .line) (s .pre .2 .below) (c .before .if1 .left))
+    omega (arith, word-below (s .pre .0) (s .args .line) (s .pre .2 .below) (c .before .if1 .left))
 
 cast-start : tie.Need-cast-start
 cast-start c =
@@ -98,12 +98,12 @@ cast-stop c =
 add-stop : tie.Need-add-stop
 add-stop c =
     let s = c .before .before .before .before .before .before .before .before .before .before in
-    omega (arith, s .pre .0 .few-chars, word-room (s .pre .0) (s .args .line) (s .pre .2 .below) (c .before .before .if1 .left) (s .pre .1))
+    omega (arith, word-room (s .pre .0) (s .args .line) (s .pre .2 .below) (c .before .before .if1 .left) (s .pre .1))
 
 mul-reconstruct-positions : tie.Need-mul-reconstruct-positions
 mul-reconstruct-positions c =
     let s = c .before .before .before .before .before .before .before .before .before .before in
-    omega (arith, s .pre .0 .few-chars, word-room (s .pre .0) (s .args .line) (s .pre .2 .below) (c .before .before .if1 .left) (s .pre .1))
+    omega (arith, word-room (s .pre .0) (s .args .line) (s .pre .2 .below) (c .before .before .if1 .left) (s .pre .1))
 
 sub-reconstruct-positions : tie.Need-sub-reconstruct-positions
 sub-reconstruct-positions c = search needs
@@ -119,7 +119,7 @@ part-reconstruct-positions-end c =
 mul-reconstruct-positions-2 : tie.Need-mul-reconstruct-positions-2
 mul-reconstruct-positions-2 c =
     let s = c .before .before .before .before .before .before .before .before .before .before .before in
-    omega (arith, s .good, s .pre .2 .end-is, lies-room (s .pre .2) (s .pre .0 .fits))
+    omega (arith, lies-room (s .pre .2) (s .pre .0 .fits))
 
 sub-reconstruct-positions-2 : tie.Need-sub-reconstruct-positions-2
 sub-reconstruct-positions-2 c = search needs

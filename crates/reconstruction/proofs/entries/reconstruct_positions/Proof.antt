@@ -36,7 +36,7 @@ reconstruct-string-requires c κs =
     let s = c .before .before .before .before .before .before .before in
     let l = c .before .before .before .loop in
     let below = c .before .before .loop-test .taken in
-    omega (arith, s .pre .from (l .i) below, s .pre .to (l .i) below, l .inv .len)
+    omega (arith, s .pre .from (l .i) below, s .pre .to (l .i) below)
 
 add-i : tie.Need-add-i Inv-loop μ-loop
 add-i c = search needs

@@ -26,7 +26,7 @@ shared-slice-read-text c = search needs
 add-text : tie.Need-add-text Inv-loop μ-loop
 add-text c =
     let s = c .before .before .before in
-    omega (arith, s .pre, s .good)
+    omega arith
 
 mul-text-2 : tie.Need-mul-text-2 Inv-loop μ-loop
 mul-text-2 c = search needs
@@ -34,7 +34,7 @@ mul-text-2 c = search needs
 slice-write-text : tie.Need-slice-write-text Inv-loop μ-loop
 slice-write-text c =
     let l = c .before .before .loop in
-    omega (arith, c .before .before .before .pre, c .before .loop-test .taken, l .inv .len)
+    omega arith
 
 add-i : tie.Need-add-i Inv-loop μ-loop
 add-i c = search needs

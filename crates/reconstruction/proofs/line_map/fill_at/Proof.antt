@@ -39,7 +39,7 @@ slice-write-slots : tie.Need-slice-write-slots Inv-loop μ-loop
 slice-write-slots c =
     let s = c .before .before .before in
     let l = c .before .before .loop in
-    omega (arith, s .pre .from (l .i) (c .before .loop-test .taken), s .pre .to (l .i) (c .before .loop-test .taken), l .inv .len)
+    omega (arith, s .pre .from (l .i) (c .before .loop-test .taken), s .pre .to (l .i) (c .before .loop-test .taken))
 
 add-i : tie.Need-add-i Inv-loop μ-loop
 add-i c = search needs

@@ -17,7 +17,7 @@ abbrev μ-loop : tie.MeasureT-loop
 μ-loop index line-map₀ keys begin₀ line₀ line-map begin line = keys - line
 
 shared-slice-read-keys : tie.Need-shared-slice-read-keys Inv-loop μ-loop
-shared-slice-read-keys c = omega (arith, c .before .before .before .pre .fits .has-header)
+shared-slice-read-keys c = omega arith
 
 cast-keys : tie.Need-cast-keys Inv-loop μ-loop
 cast-keys c = omega (arith, c .shared-slice-known2 .given 1)
@@ -34,20 +34,20 @@ loop-holds c =
     mapping-start (a .index .now) (a .line-map .now)
 
 mul-end : tie.Need-mul-end Inv-loop μ-loop
-mul-end c = omega (arith, c .loop-test .taken, c .before .before .shared-slice-known2 .given 1)
+mul-end c = omega (arith, c .before .before .shared-slice-known2 .given 1)
 
 add-end : tie.Need-add-end Inv-loop μ-loop
-add-end c = omega (arith, c .loop-test .taken, c .before .before .shared-slice-known2 .given 1)
+add-end c = omega (arith, c .before .before .shared-slice-known2 .given 1)
 
 add-end-2 : tie.Need-add-end-2 Inv-loop μ-loop
-add-end-2 c = omega (arith, c .loop-test .taken, c .before .before .shared-slice-known2 .given 1)
+add-end-2 c = omega (arith, c .before .before .shared-slice-known2 .given 1)
 
 mul-end-2 : tie.Need-mul-end-2 Inv-loop μ-loop
-mul-end-2 c = omega (arith, c .loop-test .taken, c .before .before .shared-slice-known2 .given 1)
+mul-end-2 c = omega (arith, c .before .before .shared-slice-known2 .given 1)
 
 shared-slice-read-end : tie.Need-shared-slice-read-end Inv-loop μ-loop
 shared-slice-read-end c =
-    omega (arith, c .before .loop-test .taken, c .before .before .before .before .before .before .pre .fits .has-directory)
+    omega arith
 
 cast-end : tie.Need-cast-end Inv-loop μ-loop
 cast-end c = omega (arith, c .shared-slice-known3 .given (2 + 3 * c .before .before .loop .line + 2))
@@ -56,19 +56,19 @@ add-end-3 : tie.Need-add-end-3 Inv-loop μ-loop
 add-end-3 c =
     let s = c .before .before .before .before .before .before in
     let l = c .before .before .loop in
-    omega (arith, s .good, lies-room (passing-lies fill-line-map (s .args .index .now) (s .args .line-map .now) (l .inv) (c .before .loop-test .taken)) (s .pre .fits))
+    omega (arith, lies-room (passing-lies fill-line-map (s .args .index .now) (s .args .line-map .now) (l .inv) (c .before .loop-test .taken)) (s .pre .fits))
 
 add-number : tie.Need-add-number Inv-loop μ-loop
-add-number c = omega (arith, c .before .loop-test .taken, c .before .before .before .shared-slice-known2 .given 1)
+add-number c = omega (arith, c .before .before .before .shared-slice-known2 .given 1)
 
 cast-fill-at : tie.Need-cast-fill-at Inv-loop μ-loop
-cast-fill-at c = omega (arith, c .before .loop-test .taken, c .before .before .before .shared-slice-known2 .given 1)
+cast-fill-at c = omega (arith, c .before .before .before .shared-slice-known2 .given 1)
 
 mul-fill-at : tie.Need-mul-fill-at Inv-loop μ-loop
 mul-fill-at c =
     let s = c .before .before .before .before .before .before in
     let l = c .before .before .loop in
-    omega (arith, s .good, lies-room (passing-lies fill-line-map (s .args .index .now) (s .args .line-map .now) (l .inv) (c .before .loop-test .taken)) (s .pre .fits))
+    omega (arith, lies-room (passing-lies fill-line-map (s .args .index .now) (s .args .line-map .now) (l .inv) (c .before .loop-test .taken)) (s .pre .fits))
 
 sub-fill-at : tie.Need-sub-fill-at Inv-loop μ-loop
 sub-fill-at c = omega arith
@@ -90,7 +90,7 @@ fill-at-requires c κs =
     (passing-lies fill-line-map (s .args .index .now) (s .args .line-map .now) (l .inv) (c .before .before .before .loop-test .taken))
 
 loop-less : tie.Need-loop-less Inv-loop μ-loop
-loop-less c = omega (arith, c .before .before .before .before .before .before .loop-test .taken)
+loop-less c = omega arith
 
 loop-again : tie.Need-loop-again Inv-loop μ-loop
 loop-again c =

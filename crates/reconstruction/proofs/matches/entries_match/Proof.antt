@@ -20,7 +20,7 @@ abbrev μ-loop : tie.MeasureT-loop
 μ-loop chars lengths word-starts index text keys begin₀ line₀ begin line = keys - line
 
 shared-slice-read-keys : tie.Need-shared-slice-read-keys Inv-loop μ-loop
-shared-slice-read-keys c = omega (arith, c .before .before .before .before .before .before .pre .0 .fits .has-header)
+shared-slice-read-keys c = omega arith
 
 cast-keys : tie.Need-cast-keys Inv-loop μ-loop
 cast-keys c = omega (arith, c .shared-slice-known6 .given 1)
@@ -57,7 +57,7 @@ add-end-3 c =
     let s = c .before .before .before .before .before .before .before .before .before in
     let a = s .args in
     let l = c .before .before .loop in
-    omega (arith, s .good, lies-room (matching-lies (lexicon (a .chars .now) (a .lengths .now)) (a .index .now) (a .text .now) (l .inv) (c .before .loop-test .taken)) (s .pre .0 .fits))
+    omega (arith, lies-room (matching-lies (lexicon (a .chars .now) (a .lengths .now)) (a .index .now) (a .text .now) (l .inv) (c .before .loop-test .taken)) (s .pre .0 .fits))
 
 line-stands-requires : tie.Need-line-stands-requires Inv-loop μ-loop
 line-stands-requires c κs =

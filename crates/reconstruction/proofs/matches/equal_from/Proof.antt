@@ -48,7 +48,7 @@ loop-again : tie.Need-loop-again Inv-loop μ-loop
 loop-again c =
     let a = c .before .before .before .before .before .args in
     let l = c .before .before .before .before .loop in
-    (omega (arith, l .inv .0), equal-part-next (a .string .now) (a .from) (a .text .now) (a .at) (l .i) (l .inv .1) (c .if1 .left))
+    (omega arith, equal-part-next (a .string .now) (a .from) (a .text .now) (a .at) (l .i) (l .inv .1) (c .if1 .left))
 
 returns-2 : tie.Need-returns-2 Inv-loop μ-loop
 returns-2 c =

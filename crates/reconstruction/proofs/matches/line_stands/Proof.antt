@@ -40,7 +40,7 @@ shared-slice-read-if1 c = search needs
 mul-holds-at-each : tie.Need-mul-holds-at-each
 mul-holds-at-each c =
     let s = c .before .before .before .before .before .before .before .before in
-    omega (arith, s .good, s .pre .2 .end-is, lies-room (s .pre .2) (s .pre .0 .fits))
+    omega (arith, lies-room (s .pre .2) (s .pre .0 .fits))
 
 sub-holds-at-each : tie.Need-sub-holds-at-each
 sub-holds-at-each c = search needs
@@ -74,7 +74,7 @@ mul-start c = omega (arith, c .before .shared-slice-known7 .given (2 + 3 * c .be
 shared-slice-read-start : tie.Need-shared-slice-read-start
 shared-slice-read-start c =
     let s = c .before .before .before .before .before .before .before .before .before in
-    omega (arith, s .pre .1 .room, word-below (s .pre .0) (s .args .line) (s .pre .2 .below) (c .before .if1 .left))
+    omega (arith, word-below (s .pre .0) (s .args .line) (s .pre .2 .below) (c .before .if1 .left))
 
 cast-start : tie.Need-cast-start
 cast-start c =
@@ -97,12 +97,12 @@ cast-stop c =
 add-stop : tie.Need-add-stop
 add-stop c =
     let s = c .before .before .before .before .before .before .before .before .before .before in
-    omega (arith, s .pre .0 .few-chars, word-room (s .pre .0) (s .args .line) (s .pre .2 .below) (c .before .before .if1 .left) (s .pre .1))
+    omega (arith, word-room (s .pre .0) (s .args .line) (s .pre .2 .below) (c .before .before .if1 .left) (s .pre .1))
 
 mul-stands-at-each : tie.Need-mul-stands-at-each
 mul-stands-at-each c =
     let s = c .before .before .before .before .before .before .before .before .before .before in
-    omega (arith, s .pre .0 .few-chars, word-room (s .pre .0) (s .args .line) (s .pre .2 .below) (c .before .before .if1 .left) (s .pre .1))
+    omega (arith, word-room (s .pre .0) (s .args .line) (s .pre .2 .below) (c .before .before .if1 .left) (s .pre .1))
 
 sub-stands-at-each : tie.Need-sub-stands-at-each
 sub-stands-at-each c = search needs
@@ -118,7 +118,7 @@ part-stands-at-each-end c =
 mul-stands-at-each-2 : tie.Need-mul-stands-at-each-2
 mul-stands-at-each-2 c =
     let s = c .before .before .before .before .before .before .before .before .before .before .before in
-    omega (arith, s .good, s .pre .2 .end-is, lies-room (s .pre .2) (s .pre .0 .fits))
+    omega (arith, lies-room (s .pre .2) (s .pre .0 .fits))
 
 sub-stands-at-each-2 : tie.Need-sub-stands-at-each-2
 sub-stands-at-each-2 c = search needs

@@ -30,7 +30,7 @@ equal-from-requires c κs = search needs
 returns-3 : tie.Need-returns-3
 returns-3 c =
     let a = c .before .before .before .before .before .before .args in
-    period-put (a .string .now) (a .step) (omega (arith, c .before .before .before .if2 .left)) (c .before .equal-from .ensures .holds (c .if3 .taken))
+    period-put (a .string .now) (a .step) (omega arith) (c .before .equal-from .ensures .holds (c .if3 .taken))
 
 returns-4 : tie.Need-returns-4
 returns-4 c = search needs

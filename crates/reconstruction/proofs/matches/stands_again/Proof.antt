@@ -27,7 +27,7 @@ returns c =
     let a = s .args in
     let apart : a .step ≡ a .period = c .before .if1 .taken in
     reflects-same (c .equal-from .result)
-    (stand-again (a .string .now) (a .text .now) (a .position) (omega (arith, s .pre .2 .from)) (s .pre .3) (s .pre .0) (omega (arith, s .pre .1)) (subst (λ (d : ℕ). Stand (a .string .now) (a .text .now) (a .position - d)) apart (s .pre .2)))
+    (stand-again (a .string .now) (a .text .now) (a .position) (omega arith) (s .pre .3) (s .pre .0) (omega arith) (subst (λ (d : ℕ). Stand (a .string .now) (a .text .now) (a .position - d)) apart (s .pre .2)))
     (λ st. stand-part st (length (a .string .now) - a .period)) (c .equal-from .ensures)
 
 sub-equal-from-3 : tie.Need-sub-equal-from-3
@@ -40,7 +40,7 @@ returns-2 : tie.Need-returns-2
 returns-2 c =
     let s = c .before .before .before .before in
     let a = s .args in
-    reflects-same (c .equal-from2 .result) (stand-all (a .string .now) (a .text .now) (a .position) (omega (arith, s .pre .2 .from)) (s .pre .3))
+    reflects-same (c .equal-from2 .result) (stand-all (a .string .now) (a .text .now) (a .position) (omega arith) (s .pre .3))
     (λ st. stand-part st 0) (c .equal-from2 .ensures)
 
 pub stands-again-spec : {M : Type 1} → statement M

@@ -91,7 +91,7 @@ stands-again-requires c κs =
       c .period-of .ensures,
       omega arith,
       stand-back (getD (a .positions .now) (l .i) 0)
-          (omega (arith, rise-after 1 (a .positions .now) (s .pre .2) (l .i) (l .inv .0) below)) (l .inv .2 (l .i - 1) (omega (arith, l .inv .0))),
+          (omega (arith, rise-after 1 (a .positions .now) (s .pre .2) (l .i) (l .inv .0) below)) (l .inv .2 (l .i - 1) (omega arith)),
       s .pre .0 .to (l .i) below,
     )
 

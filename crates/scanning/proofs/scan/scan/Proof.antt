@@ -36,7 +36,7 @@ part-step-start c = search needs
 
 part-step-end : tie.Need-part-step-end Inv-loop μ-loop
 part-step-end c =
-    omega (arith, c .before .before .loop .inv .size, c .before .before .before .before .before .before .before .before .before .pre .1)
+    omega arith
 
 step-requires : tie.Need-step-requires Inv-loop μ-loop
 step-requires c κs =

@@ -14,7 +14,7 @@ find-longest-requires c κs = search needs
 returns : tie.Need-returns
 returns c =
     let start = c .before .before .before .before .before .before .before .before .before in
-    step-none (lexicon (start .args .chars .now) (start .args .lengths .now)) (admitted-lexicon (start .args .chars .now) (start .args .lengths .now) (start .pre .0 .words .dictionary)) (start .args .text .now) (λ i b. omega (arith, c .before .before .before .shared-slice-known6 .given i)) (start .args .at) (start .args .end) (start .pre .1) (c .before .before .find-longest .result .number) (c .before .before .find-longest .result .len) (c .before .before .find-longest .ensures) (omega (arith, c .before .if1 .taken)) (c .if2 .taken) (start .pre .2)
+    step-none (lexicon (start .args .chars .now) (start .args .lengths .now)) (admitted-lexicon (start .args .chars .now) (start .args .lengths .now) (start .pre .0 .words .dictionary)) (start .args .text .now) (λ i b. omega (arith, c .before .before .before .shared-slice-known6 .given i)) (start .args .at) (start .args .end) (start .pre .1) (c .before .before .find-longest .result .number) (c .before .before .find-longest .result .len) (c .before .before .find-longest .ensures) (omega arith) (c .if2 .taken) (start .pre .2)
 
 add-t13 : tie.Need-add-t13
 add-t13 c = search needs
@@ -22,22 +22,22 @@ add-t13 c = search needs
 returns-2 : tie.Need-returns-2
 returns-2 c =
     let start = c .before .before .before .before .before .before .before .before .before in
-    step-lone (lexicon (start .args .chars .now) (start .args .lengths .now)) (admitted-lexicon (start .args .chars .now) (start .args .lengths .now) (start .pre .0 .words .dictionary)) (start .args .text .now) (λ i b. omega (arith, c .before .before .before .shared-slice-known6 .given i)) (start .args .at) (start .args .end) (start .pre .1) (c .before .before .find-longest .result .number) (c .before .before .find-longest .result .len) (c .before .before .find-longest .ensures) (omega (arith, c .before .if1 .taken)) (c .if2 .left)
+    step-lone (lexicon (start .args .chars .now) (start .args .lengths .now)) (admitted-lexicon (start .args .chars .now) (start .args .lengths .now) (start .pre .0 .words .dictionary)) (start .args .text .now) (λ i b. omega (arith, c .before .before .before .shared-slice-known6 .given i)) (start .args .at) (start .args .end) (start .pre .1) (c .before .before .find-longest .result .number) (c .before .before .find-longest .result .len) (c .before .before .find-longest .ensures) (omega arith) (c .if2 .left)
 
 cast-t14 : tie.Need-cast-t14
 cast-t14 c =
     let start = c .before .before .before .before .before .before .before .before in
-    omega (arith, step-small (lexicon (start .args .chars .now) (start .args .lengths .now)) (admitted-lexicon (start .args .chars .now) (start .args .lengths .now) (start .pre .0 .words .dictionary)) (start .args .text .now) (λ i b. omega (arith, c .before .before .shared-slice-known6 .given i)) (start .args .at) (start .args .end) (start .pre .1) (c .before .find-longest .result .number) (c .before .find-longest .result .len) (c .before .find-longest .ensures) (λ (z : c .before .find-longest .result .number ≡ 0). omega (arith, z, c .if1 .left)))
+    omega (arith, step-small (lexicon (start .args .chars .now) (start .args .lengths .now)) (admitted-lexicon (start .args .chars .now) (start .args .lengths .now) (start .pre .0 .words .dictionary)) (start .args .text .now) (λ i b. omega (arith, c .before .before .shared-slice-known6 .given i)) (start .args .at) (start .args .end) (start .pre .1) (c .before .find-longest .result .number) (c .before .find-longest .result .len) (c .before .find-longest .ensures) (λ (z : c .before .find-longest .result .number ≡ 0). omega (arith, z)))
 
 add-t15 : tie.Need-add-t15
 add-t15 c =
     let start = c .before .before .before .before .before .before .before .before .before in
-    omega (arith, step-fits (lexicon (start .args .chars .now) (start .args .lengths .now)) (admitted-lexicon (start .args .chars .now) (start .args .lengths .now) (start .pre .0 .words .dictionary)) (start .args .text .now) (λ i b. omega (arith, c .before .before .before .shared-slice-known6 .given i)) (start .args .at) (start .args .end) (start .pre .1) (c .before .before .find-longest .result .number) (c .before .before .find-longest .result .len) (c .before .before .find-longest .ensures) (λ (z : c .before .before .find-longest .result .number ≡ 0). omega (arith, z, c .before .if1 .left)))
+    omega (arith, step-fits (lexicon (start .args .chars .now) (start .args .lengths .now)) (admitted-lexicon (start .args .chars .now) (start .args .lengths .now) (start .pre .0 .words .dictionary)) (start .args .text .now) (λ i b. omega (arith, c .before .before .before .shared-slice-known6 .given i)) (start .args .at) (start .args .end) (start .pre .1) (c .before .before .find-longest .result .number) (c .before .before .find-longest .result .len) (c .before .before .find-longest .ensures) (λ (z : c .before .before .find-longest .result .number ≡ 0). omega (arith, z)))
 
 returns-3 : tie.Need-returns-3
 returns-3 c =
     let start = c .before .before .before .before .before .before .before .before .before in
-    step-word (lexicon (start .args .chars .now) (start .args .lengths .now)) (admitted-lexicon (start .args .chars .now) (start .args .lengths .now) (start .pre .0 .words .dictionary)) (start .args .text .now) (λ i b. omega (arith, c .before .before .before .shared-slice-known6 .given i)) (start .args .at) (start .args .end) (start .pre .1) (c .before .before .find-longest .result .number) (c .before .before .find-longest .result .len) (c .before .before .find-longest .ensures) (λ (z : c .before .before .find-longest .result .number ≡ 0). omega (arith, z, c .before .if1 .left))
+    step-word (lexicon (start .args .chars .now) (start .args .lengths .now)) (admitted-lexicon (start .args .chars .now) (start .args .lengths .now) (start .pre .0 .words .dictionary)) (start .args .text .now) (λ i b. omega (arith, c .before .before .before .shared-slice-known6 .given i)) (start .args .at) (start .args .end) (start .pre .1) (c .before .before .find-longest .result .number) (c .before .before .find-longest .result .len) (c .before .before .find-longest .ensures) (λ (z : c .before .before .find-longest .result .number ≡ 0). omega (arith, z))
 
 pub step-spec : {M : Type 1} → statement M
 step-spec =

@@ -17,7 +17,7 @@ abbrev μ-loop : tie.MeasureT-loop
 μ-loop work₀ i₀ work i = length work₀ - i
 
 below : (c : tie.In-loop Inv-loop μ-loop) → c .before .loop .i < length (c .before .before .args .work .now)
-below c = omega (arith, c .before .loop .inv .0, c .loop-test .taken)
+below c = omega arith
 
 loop-holds : tie.Need-loop-holds Inv-loop μ-loop
 loop-holds c = (omega arith, omega arith, fill-none (c .args .work .now) 0)
@@ -47,7 +47,7 @@ same-length c = c .before .loop .inv .0
 returns : tie.Need-returns Inv-loop μ-loop
 unfolding zeros
 returns c =
-    let all : c .before .loop .i ≡ length (c .before .before .args .work .now) = omega (arith, c .before .loop .inv .0, c .before .loop .inv .1, c .loop-test .left) in
+    let all : c .before .loop .i ≡ length (c .before .before .args .work .now) = omega arith in
     let past : length (c .before .before .args .work .now) ≤ c .before .loop .i = omega (arith, all) in
     let rest : drop (c .before .loop .i) (c .before .before .args .work .now) ≡ _ = drop-of-length-le (c .before .before .args .work .now) past in
     c .before .loop .inv .2
