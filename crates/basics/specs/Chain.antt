@@ -43,7 +43,7 @@ chained-more links i h ps b away c =
 -- the head is 0 exactly if there is no member
 pub chained-empty : (links : List ℕ) (h : ℕ) (ps : List ℕ) → Chained links h ps → h ≡ 0 → ps ≡ []
 chained-empty links h [] c e = refl
-chained-empty links h (p ∷ ps) c e = absurd (omega (arith, c .0, c .1))
+chained-empty links h (p ∷ ps) c e = absurd (omega arith)
 
 pub chained-some : (links : List ℕ) (h : ℕ) (ps : List ℕ) → Chained links h ps → (h ≡ 0 → ⊥) → 1 ≤ length ps
 chained-some links h [] c some = absurd (some c)
@@ -65,7 +65,7 @@ chain-is zero links h [] c b = refl
 chain-is zero links h (p ∷ ps) c b = absurd (omega arith)
 chain-is (suc f) links h [] c b = rw (eq-eqb h 0 c)
 chain-is (suc f) links h (p ∷ ps) c b =
-    rw (c .0, ne-eqb p 0 (λ (e : p ≡ 0). omega (arith, c .1)))
+    rw (c .0, ne-eqb p 0 (λ (e : p ≡ 0). omega arith))
     (ap (λ (l : List ℕ). p ∷ l) (chain-is f links (getD links (p - 1) 0) ps (c .2) (omega arith)))
 
 pub chain-short : (fuel : ℕ) (links : List ℕ) (h : ℕ) → length (chain-from fuel links h) ≤ fuel
@@ -132,5 +132,5 @@ module _ (links all : List ℕ) (h i : ℕ) (w : Walking links all h i) where
   walk-ends none = go (drop i all) refl (w .left)
     where
       go : (ps : List ℕ) → drop i all ≡ ps → Chained links h ps → i ≡ length all
-      go [] e c = omega (arith, ap length e, length-drop i all, w .passed)
-      go (p ∷ ps) e c = absurd (omega (arith, c .0, c .1))
+      go [] e c = omega (arith, ap length e, length-drop i all)
+      go (p ∷ ps) e c = absurd (omega arith)

@@ -61,14 +61,14 @@ module _ {links : List ℕ} {head : ℕ} {old now : List ℕ} {start here member
       w = rw (m .cut) at (k .writing)
 
       on : here + 1 - start ≡ here - start + 1
-      on = omega (arith, k .from)
+      on = omega arith
 
   module _ (none : member ≡ 0) where
     all-passed : here - start ≡ length (chain links head)
     all-passed = walk-ends links (chain links head) member (here - start) (k .walking) none
 
     pub copy-end-at : here ≡ start + length (chain links head)
-    copy-end-at = omega (arith, all-passed, k .from)
+    copy-end-at = omega (arith, all-passed)
 
     pub copy-end : now ≡ over (take start old ++ chain links head) old
     copy-end =

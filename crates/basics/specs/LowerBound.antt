@@ -62,19 +62,19 @@ module _ {f : ℕ → ℕ} {lo hi : ℕ} (h : Rising f lo hi) where
       bisected-end done =
           record {
             from = s .from;
-            to = omega (arith, s .order, s .to);
+            to = omega arith;
             below = s .below;
-            above = λ i l r. s .above i (omega (arith, s .order)) r;
+            above = λ i l r. s .above i (omega arith) r;
           }
 
       module _ (m : ℕ) (l : a ≤ m) (r : m < b) where
         pub bisected-up : f m < c → Bisected f lo hi c (m + 1) b
         bisected-up q =
             record {
-              from = omega (arith, s .from);
+              from = omega arith;
               order = omega arith;
               to = s .to;
-              below = λ i x y. omega (arith, h .rises i m x (omega arith) (omega (arith, s .to)));
+              below = λ i x y. omega (arith, h .rises i m x (omega arith) (omega arith));
               above = s .above;
             }
 
@@ -83,7 +83,7 @@ module _ {f : ℕ → ℕ} {lo hi : ℕ} (h : Rising f lo hi) where
             record {
               from = s .from;
               order = l;
-              to = omega (arith, s .to);
+              to = omega arith;
               below = s .below;
-              above = λ i x y. omega (arith, h .rises m i (omega (arith, s .from)) x y);
+              above = λ i x y. omega (arith, h .rises m i (omega arith) x y);
             }

@@ -66,7 +66,7 @@ module _ {A : Type 0} where
   in-place a (x ∷ xs) z (inl e) = (0, omega arith, sym e)
   in-place a (x ∷ xs) z (inr m) =
       let more : (i : ℕ) × (i < length xs) × (getD xs i z ≡ a) = in-place a xs z m in
-      (suc (more .0), omega (arith, more .1), more .2)
+      (suc (more .0), omega arith, more .2)
 
   -- what holds for the head and for the members of the tail holds for every member
   pub all-cons {ℓ} : (P : A → Type ℓ) (x : A) (xs : List A) → P x → ((a : A) → In a xs → P a) → (a : A) → In a (x ∷ xs) → P a

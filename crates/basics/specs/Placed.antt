@@ -69,7 +69,7 @@ writing-start all start old h = record { same-end = refl; room = h; len = refl; 
 module _ {all : List ℕ} {start : ℕ} {old : List ℕ} where
   pub writing-room :
       {at : ℕ} {now : List ℕ} (new left : List ℕ) → Writing all start old (new ++ left) at now → at + length new ≤ length now
-  writing-room new left h = omega (arith, h .room, length-append new left)
+  writing-room new left h = omega (arith, length-append new left)
 
   pub writing-step :
       {at end : ℕ} {now then : List ℕ} (new left : List ℕ) → Writing all start old (new ++ left) at now → Wrote new at now end then →
@@ -79,8 +79,8 @@ module _ {all : List ℕ} {start : ℕ} {old : List ℕ} where
       let kept : length (placed new at now) ≡ length now = length-placed new at now fits in
       let next : Writing all start old left (at + length new) (placed new at now) =
       record {
-        same-end = omega (arith, h .same-end, length-append new left);
-        room = omega (arith, h .room, length-append new left);
+        same-end = omega (arith, length-append new left);
+        room = omega (arith, length-append new left);
         len = kept ∙ h .len;
         same-content = placed-append new left at now fits ∙ h .same-content;
       } in
@@ -92,13 +92,13 @@ module _ {all : List ℕ} {start : ℕ} {old : List ℕ} where
   writing-as e h = rw e at h
 
   pub writing-end : {at : ℕ} {now : List ℕ} → Writing all start old [] at now → Wrote all start old at now
-  writing-end {at} {now} h = record { ends = omega (arith, h .same-end); content = sym (placed-none at now) ∙ h .same-content }
+  writing-end {at} {now} h = record { ends = omega arith; content = sym (placed-none at now) ∙ h .same-content }
 
   -- one element of a run, stored
   pub writing-one :
       {at : ℕ} {now : List ℕ} (b : ℕ) (left : List ℕ) → Writing all start old (b ∷ left) at now →
       Writing all start old left (at + 1) (set now at b)
-  writing-one {at} {now} b left h = writing-step (b ∷ []) left h (wrote-one b at now (omega (arith, h .room)))
+  writing-one {at} {now} b left h = writing-step (b ∷ []) left h (wrote-one b at now (omega arith))
 
   -- the last write of a run
   pub writing-last :

@@ -13,7 +13,7 @@ drop-next xs i h = rw (add-one, drop-cons xs i 0)
 
 module _ {all : List ℕ} {start : ℕ} {old : List ℕ} {at : ℕ} {now : List ℕ} (xs : List ℕ) (i : ℕ) where
   pub copy-room : Writing all start old (drop i xs) at now → i < length xs → at < length now
-  copy-room w h = omega (arith, w .room, length-drop i xs)
+  copy-room w h = omega (arith, length-drop i xs)
 
   pub copy-step :
       Writing all start old (drop i xs) at now → i < length xs →

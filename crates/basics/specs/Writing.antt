@@ -24,7 +24,7 @@ starts old xs at h = record { so-far = refl; rest = refl; len = refl; room = h }
 
 module _ {all old now : List ℕ} (x : ℕ) (todo : List ℕ) {at : ℕ} (w : Writing all old now (x ∷ todo) at) where
   pub has-room : at < length now
-  has-room = omega (arith, w .room, w .len)
+  has-room = omega arith
 
   pub writes : Writing all old (set now at x) todo (at + 1)
   writes =
@@ -36,7 +36,7 @@ module _ {all old now : List ℕ} (x : ℕ) (todo : List ℕ) {at : ℕ} (w : Wr
             ∙ ap (λ (l : List ℕ). drop 1 l) (w .rest)
             ∙ drop-drop 1 at old;
         len = length-set now at x ∙ w .len;
-        room = omega (arith, w .room);
+        room = omega arith;
       }
 
 -- several numbers that another writer wrote there
@@ -54,12 +54,12 @@ appends {old} {now} xs todo {at} w =
           ∙ drop-drop (length xs) at old;
       len =
           length-append (take at now ++ xs) (drop (length (take at now ++ xs)) now)
-          ∙ omega (arith, length-drop (length (take at now ++ xs)) now, len, room, w .len);
-      room = omega (arith, w .room, length-append xs todo);
+          ∙ omega (arith, length-drop (length (take at now ++ xs)) now, len, room);
+      room = omega (arith, length-append xs todo);
     }
   where
     room : at + length xs ≤ length now
-    room = omega (arith, w .room, w .len, length-append xs todo)
+    room = omega (arith, length-append xs todo)
 
     len : length (take at now ++ xs) ≡ at + length xs
     len = length-append (take at now) xs ∙ omega (arith, length-take-le at now (omega (arith, room)))
@@ -69,7 +69,7 @@ module _ (all old now : List ℕ) (at : ℕ) (w : Writing all old now [] at) whe
   front = sym (append-nil (take at now)) ∙ w .so-far
 
   pub written-length : length all ≡ at
-  written-length = ap length (sym front) ∙ length-take-le at now (omega (arith, w .room, w .len))
+  written-length = ap length (sym front) ∙ length-take-le at now (omega arith)
 
   pub written : now ≡ over all old
   written =
@@ -89,7 +89,7 @@ lent-on {all} {old} {now} {todo} part {at} w e =
   where
     len : at + length todo ≡ length all
     len =
-        let here : length (take at now) ≡ at = length-take-le at now (omega (arith, w .room, w .len)) in
+        let here : length (take at now) ≡ at = length-take-le at now (omega arith) in
         omega (arith, ap length (w .so-far), length-append (take at now) todo)
 
 -- `&mut now[at..]` is lent: what the callee receives, and what the slice is once the callee has left `part` there

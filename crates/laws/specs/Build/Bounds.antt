@@ -81,7 +81,7 @@ module _ {lex : Lexicon} (good : Good-lexicon lex) (bound : ℕ) (n : ℕ) (shor
         (all-positions ls) in
         let h : Good-line lex n l = each l (inl refl) in
         below-cons bound (l .key-of .kind) (l .key-of .value ∷ length (l .positions) ∷ directory ls)
-        (omega (arith, h .is-key .kind-small))
+        (omega arith)
         (below-cons bound (l .key-of .value) (length (l .positions) ∷ directory ls)
         (omega (arith, value-below good (l .key-of) (h .is-key)))
         (below-cons bound (length (l .positions)) (directory ls) (omega arith)

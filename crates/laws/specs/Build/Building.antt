@@ -162,7 +162,7 @@ module _ {ts ms links heads pages : List ℕ} {keys entries : ℕ} (can : Linkab
         codes = l .codes;
         paged = l .paged;
         threads = linked-threads (l .linked);
-        short = omega (arith, l .linked .len, can .len, can .short);
+        short = omega arith;
       }
 
   lines-are : lines-at heads links 0 ≡ inverted ms ts
@@ -174,7 +174,7 @@ module _ {ts ms links heads pages : List ℕ} {keys entries : ℕ} (can : Linkab
   linked-keys = l .counted .keys-are ∙ ap length (sym lines-are)
 
   pub few-keys : keys ≤ 65535
-  few-keys = omega (arith, l .counted .few-keys, l .counted .few-entries, can .len, can .short)
+  few-keys = omega arith
 
   pub linked-numbers : numbers (length links) (lines-at heads links 0) ≡ token-numbers ms ts
   unfolding token-numbers
@@ -183,7 +183,7 @@ module _ {ts ms links heads pages : List ℕ} {keys entries : ℕ} (can : Linkab
   pub linked-size : 2 + 3 * keys + entries ≡ length (token-numbers ms ts)
   unfolding token-numbers inverted
   linked-size =
-      omega (arith, length-numbers (length ts) (inverted ms ts), l .counted .keys-are, l .counted .entries-are)
+      omega (arith, length-numbers (length ts) (inverted ms ts))
 
   -- the answer: 8 if the output is shorter than the size, else the numbers
   module _ (o : List ℕ) where
@@ -226,7 +226,7 @@ tokens-linkable {lex} good {ms} tokens short = record { len = tokens .len; short
     at-most : (q m : ℕ) → q < length ms → getD ms q 0 ≡ m → m ≤ 4097
     at-most q zero h e = omega arith
     at-most q (suc i) h e =
-        ⊎-elim (λ (w : i < length (lex .words)). omega (arith, good .few)) (λ (l : i ≡ 4096). omega arith) (tokens .known q i h e)
+        ⊎-elim (λ (w : i < length (lex .words)). omega arith) (λ (l : i ≡ 4096). omega arith) (tokens .known q i h e)
 
     small : (q : ℕ) → q < length ms → getD ms q 0 ≤ 4097
     small q h = at-most q (getD ms q 0) h refl
@@ -277,8 +277,8 @@ blank-room cs ls ts w chars none b =
     record {
       dictionary = adm;
       heads-clear = b .heads-clear;
-      links-long = omega (arith, b .links-long);
-      starts-long = omega (arith, b .starts-long);
+      links-long = omega arith;
+      starts-long = omega arith;
     }
 
 -- the tokens at the start of the work slice can be chained

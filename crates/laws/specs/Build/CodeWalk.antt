@@ -33,7 +33,7 @@ passed-start heads from h = record { after = omega arith; within = h; unused = �
 
 module _ {heads : List ℕ} {from code : ℕ} (p : Passed heads from code) where
   pub passed-one : code < length heads → getD heads code 0 ≡ 0 → Passed heads from (code + 1)
-  passed-one b e = record { after = omega (arith, p .after); within = omega arith; unused = unused }
+  passed-one b e = record { after = omega arith; within = omega arith; unused = unused }
     where
       unused : (k : ℕ) → from ≤ k → k < code + 1 → getD heads k 0 ≡ 0
       unused k lo hi =
@@ -42,14 +42,14 @@ module _ {heads : List ℕ} {from code : ℕ} (p : Passed heads from code) where
   pub passed-page :
       {pages : List ℕ} → Paged heads pages → code < length heads → code % 64 ≡ 0 → getD pages (code / 64) 0 ≡ 0 →
       Passed heads from (code + 64)
-  passed-page {pages} g b start e = record { after = omega (arith, p .after); within = omega (arith, g .whole); unused = unused }
+  passed-page {pages} g b start e = record { after = omega arith; within = omega arith; unused = unused }
     where
       unused : (k : ℕ) → from ≤ k → k < code + 64 → getD heads k 0 ≡ 0
       unused k lo hi =
           ⊎-elim
           (λ (h : code ≤ k).
           let z : k / 64 ≡ code / 64 = omega arith in
-          g .unused k (omega (arith, g .whole)) (ap (λ (i : ℕ). getD pages i 0) z ∙ e))
+          g .unused k (omega arith) (ap (λ (i : ℕ). getD pages i 0) z ∙ e))
           (λ (h : k < code). p .unused k lo h) (le-or-lt code k)
 
   pub next-found : (getD heads code 0 ≡ 0 → ⊥) → Next heads from code
@@ -64,11 +64,11 @@ module _ (heads links : List ℕ) where
   pub lines-next : {from code : ℕ} → Passed heads from code → lines-at heads links from ≡ lines-at heads links code
   unfolding lines-at
   lines-next {from} {code} p =
-      let split : length heads - from ≡ (code - from) + (length heads - code) = omega (arith, p .after, p .within) in
-      let there : from + (code - from) ≡ code = omega (arith, p .after) in
+      let split : length heads - from ≡ (code - from) + (length heads - code) = omega arith in
+      let there : from + (code - from) ≡ code = omega arith in
       rw split
       (lines-skip (code - from) (length heads - code) from (λ (j : ℕ). chain links (getD heads j 0))
-      (λ x lo hi. rw (p .unused x lo (omega (arith, p .after))) (chain-none links))
+      (λ x lo hi. rw (p .unused x lo (omega arith)) (chain-none links))
       ∙ ap (λ (k : ℕ). lines-from (length heads - code) k (λ (j : ℕ). chain links (getD heads j 0))) there)
 
   pub lines-here :
@@ -131,12 +131,7 @@ module _ {give : List Line → List ℕ} {each : Line → List ℕ} (by : Line-b
         at + length (each (line (code-key code) (chain links (getD heads code 0)))) ≤ length now
     listing-room threads b =
         let w = listing-line threads b in
-        omega (
-          arith,
-          w .room,
-          w .len,
-          length-append (each (line (code-key code) (chain links (getD heads code 0)))) (give (lines-at heads links (code + 1))),
-        )
+        omega (arith, length-append (each (line (code-key code) (chain links (getD heads code 0)))) (give (lines-at heads links (code + 1))))
 
     pub listing-step :
         Threads heads links → code < length heads → {next : ℕ} → Next heads (code + 1) next → (xs later : List ℕ) →

@@ -45,6 +45,6 @@ paged-chained {heads} {pages} code v g fits =
     unused k b z (inl h) = elsewhere k b z (λ (e : k / 64 ≡ code / 64). omega arith)
     unused k b z (inr (inr h)) = elsewhere k b z (λ (e : k / 64 ≡ code / 64). omega arith)
     unused k b z (inr (inl e)) =
-        let flag : getD (set pages (code / 64) 1) (code / 64) 0 ≡ 1 = getD-set-same pages (code / 64) 1 0 (omega (arith, g .whole)) in
+        let flag : getD (set pages (code / 64) 1) (code / 64) 0 ≡ 1 = getD-set-same pages (code / 64) 1 0 (omega arith) in
         let none : getD (set pages (code / 64) 1) (code / 64) 0 ≡ 0 = ap (λ (x : ℕ). getD (set pages (code / 64) 1) x 0) (sym e) ∙ z in
         absurd (omega arith)

@@ -36,7 +36,7 @@ linked-start ms ts heads none =
 
 module _ {ms ts heads links : List ℕ} {q : ℕ} (p : ℕ) (s : q ≡ suc p) (l : Linked ms ts heads links q) where
   below : p < length ms
-  below = omega (arith, l .within)
+  below = omega arith
 
   pub token-here : getD links p 0 ≡ getD ms p 0
   token-here = l .tokens-left p (omega arith)
@@ -45,7 +45,7 @@ module _ {ms ts heads links : List ℕ} {q : ℕ} (p : ℕ) (s : q ≡ suc p) (l
   pub linked-passed : coded (getD ms p 0) (getD ts p 0) ≡ 0 → Linked ms ts heads links p
   linked-passed none =
       record {
-        within = omega (arith, l .within);
+        within = omega arith;
         len = l .len;
         tokens-left = λ i h. l .tokens-left i (omega arith);
         chains =
@@ -70,7 +70,7 @@ module _ {ms ts heads links : List ℕ} {q : ℕ} (p : ℕ) (s : q ≡ suc p) (l
     pub linked-chained : Linked ms ts (set heads code (p + 1)) (set links p (getD heads code 0)) p
     linked-chained =
         record {
-          within = omega (arith, l .within);
+          within = omega arith;
           len = length-set links p (getD heads code 0) ∙ l .len;
           tokens-left =
               λ i h. getD-set-other links p i (getD heads code 0) 0 (λ (e : i ≡ p). omega arith) ∙ l .tokens-left i (omega arith);
@@ -85,7 +85,7 @@ module _ {ms ts heads links : List ℕ} {q : ℕ} (p : ℕ) (s : q ≡ suc p) (l
             ⊎-elim
             (λ (e : k ≡ code).
             rw (e, getD-set-same heads code (p + 1) 0 fits, postings-grows)
-            (chained-more links p (getD heads code 0) (postings ms ts q code) (omega (arith, l .len, below)) (away code)
+            (chained-more links p (getD heads code 0) (postings ms ts q code) (omega (arith, below)) (away code)
             (l .chains code fits)))
             (λ (ne : (k ≡ code → ⊥)).
             rw (getD-set-other heads code k (p + 1) 0 ne, postings-stays k ne)
@@ -112,12 +112,12 @@ lines-at heads links k = lines-from (length heads - k) k (λ (j : ℕ). chain li
 module _ {ms ts heads links : List ℕ} (l : Linked ms ts heads links 0) where
   postings-short : (k : ℕ) → length (postings ms ts 0 k) ≤ length links
   unfolding postings
-  postings-short k = omega (arith, those-short (length ms - 0) 1 (holds ms ts k), l .len)
+  postings-short k = omega (arith, those-short (length ms - 0) 1 (holds ms ts k))
 
   pub linked-threads : Threads heads links
   linked-threads k b =
       threaded links (getD heads k 0) (postings ms ts 0 k) (l .chains k b) (postings-short k)
-      (λ x m. omega (arith, postings-range ms ts 0 k x m .1, l .len))
+      (λ x m. omega (arith, postings-range ms ts 0 k x m .1))
 
   pub linked-lines : (codes : ℕ) → length heads ≡ codes → lines-at heads links 0 ≡ inverted-after codes ms ts 0
   unfolding lines-at
@@ -153,14 +153,14 @@ links-start ts ms {heads} {pages} f =
     record {
       codes = f .codes;
       linked = linked-start ms ts heads (f .none);
-      paged = paged-start heads pages (f .none) (omega (arith, f .codes, f .page-count));
+      paged = paged-start heads pages (f .none) (omega arith);
       counted = counted-start 69632 ms ts;
     }
 
 module _ {ts ms links heads pages : List ℕ} {keys entries q : ℕ} (p : ℕ) (s : q ≡ suc p)
     (l : Links ts ms links heads pages keys entries q) where
   pub links-below : p < length links
-  links-below = omega (arith, l .linked .within, l .linked .len)
+  links-below = omega arith
 
   pub links-token : getD links p 0 ≡ getD ms p 0
   links-token = token-here p s (l .linked)
@@ -175,13 +175,13 @@ module _ {ts ms links heads pages : List ℕ} {keys entries q : ℕ} (p : ℕ) (
         linked = linked-passed p s (l .linked) (coded-here 0 none);
         paged = l .paged;
         counted =
-            counted-passed p s (omega (arith, links-below, l .linked .len)) (l .counted)
+            counted-passed p s (omega (arith, links-below)) (l .counted)
             (coded-here 0 none);
       }
 
   module _ (code : ℕ) (here : coded (getD links p 0) (getD ts p 0) ≡ suc code) (small : code < 69632) where
     fits : code < length heads
-    fits = omega (arith, l .codes)
+    fits = omega arith
 
     chained :
         {more : ℕ} → Counted 69632 ms ts p more (entries + 1) →
@@ -200,7 +200,7 @@ module _ {ts ms links heads pages : List ℕ} {keys entries q : ℕ} (p : ℕ) (
         Links ts ms (set links p (getD heads code 0)) (set heads code (p + 1)) (set pages (code / 64) 1) (keys + 1) (entries + 1) p
     links-new none =
         chained
-        (counted-new p s (omega (arith, links-below, l .linked .len)) (l .counted) code
+        (counted-new p s (omega (arith, links-below)) (l .counted) code
         (coded-here (suc code) here) small
         (chained-empty links (getD heads code 0) (postings ms ts q code) (l .linked .chains code fits) none))
 
@@ -209,6 +209,6 @@ module _ {ts ms links heads pages : List ℕ} {keys entries q : ℕ} (p : ℕ) (
         Links ts ms (set links p (getD heads code 0)) (set heads code (p + 1)) (set pages (code / 64) 1) keys (entries + 1) p
     links-more some =
         chained
-        (counted-more p s (omega (arith, links-below, l .linked .len)) (l .counted) code
+        (counted-more p s (omega (arith, links-below)) (l .counted) code
         (coded-here (suc code) here) small
         (chained-some links (getD heads code 0) (postings ms ts q code) (l .linked .chains code fits) some))

@@ -73,7 +73,7 @@ pub record Line-of (n k : ℕ) (f : ℕ → List ℕ) (l : Line) : Type 0 where
 
 later-line : {n : ℕ} (k : ℕ) {f : ℕ → List ℕ} {l : Line} → Line-of n (suc k) f l → Line-of (suc n) k f l
 later-line k m =
-    record { code = m .code; from = omega (arith, m .from); below = omega (arith, m .below); is = m .is; some = m .some }
+    record { code = m .code; from = omega arith; below = omega arith; is = m .is; some = m .some }
 
 pub lines-get : (n k : ℕ) (f : ℕ → List ℕ) (l : Line) → In l (lines-from n k f) → Line-of n k f l
 unfolding lines-from with-positions
@@ -120,7 +120,7 @@ lines-order (suc n) k f = go (f k) (lines-order n (suc k) f)
     after : (m : Line) → In m (lines-from n (suc k) f) → key-before (code-key k) (m .key-of) ≡ true
     after m i =
         let l : Line-of n (suc k) f m = lines-get n (suc k) f m i in
-        rw (l .is) (code-key-before k (l .code) (omega (arith, l .from)))
+        rw (l .is) (code-key-before k (l .code) (omega arith))
 
     go : (ps : List ℕ) → Keys-rise (lines-from n (suc k) f) → Keys-rise (with-positions k ps (lines-from n (suc k) f))
     go [] ih = ih
@@ -168,7 +168,7 @@ module _ (f g : ℕ → List ℕ) (code p : ℕ) (more : g code ≡ p ∷ f code
             one-more =
                 ap suc
                 (length-append qs (all-positions (lines-from n (suc k) g))
-                ∙ omega (arith, ih .one-more, length-append qs (all-positions (lines-from n (suc k) f))));
+                ∙ omega (arith, length-append qs (all-positions (lines-from n (suc k) f))));
             new-line = λ h. ap suc (ih .new-line h);
             same-lines = λ h. ap suc (ih .same-lines h);
           }

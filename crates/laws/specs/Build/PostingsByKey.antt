@@ -67,7 +67,7 @@ module _ (ms ts : List ℕ) where
   unfolding postings
   postings-range p k x m =
       let r = those-from-get (length ms - p) (suc p) (holds ms ts k) x m in
-      (r .0, omega (arith, r .1))
+      (r .0, omega arith)
 
 -- THE COUNTS
 
@@ -99,7 +99,7 @@ module _ {codes : ℕ} {ms ts : List ℕ} {q : ℕ} (p : ℕ) (s : q ≡ suc p) 
         keys-are = rw alike (c .keys-are);
         entries-are = rw alike (c .entries-are);
         few-keys = c .few-keys;
-        few-entries = omega (arith, c .few-entries);
+        few-entries = omega arith;
       }
     where
       alike : inverted-after codes ms ts p ≡ inverted-after codes ms ts q

@@ -59,12 +59,12 @@ module _ (lex : Lexicon) (good : Good-lexicon lex) (ts : List ℕ) (chars : Char
   module _ (number len : ℕ) (f : Found lex ts (q + 1) (e + 1) number len) where
     -- a word was found: its token is a 16-bit number, and it ends within the text
     pub step-small : (number ≡ 0 → ⊥) → number ≤ 4096
-    step-small some = omega (arith, f .some (number - 1) (omega (arith, some)) .is-word .below, good .few)
+    step-small some = omega (arith, f .some (number - 1) (omega (arith, some)) .is-word .below)
 
     pub step-fits : (number ≡ 0 → ⊥) → q + len ≤ length ts
     step-fits some =
         let w : Found-word lex ts (q + 1) (e + 1) (number - 1) len = f .some (number - 1) (omega (arith, some)) in
-        omega (arith, w .len-is, w .is-word .stand .within)
+        omega arith
 
     pub step-word : (number ≡ 0 → ⊥) → Stepped lex ts (q + 1) (e + 1) number (q + len + 1)
     step-word some =
@@ -182,14 +182,14 @@ module _ (lex : Lexicon) (ts old : List ℕ) (room : length ts ≤ length old) w
 
   module _ (work : List ℕ) (i e : ℕ) (h : Scanning lex ts old work i e) where
     scanning-tokens-room : i < length ts → i < length work
-    scanning-tokens-room below = omega (arith, h .size)
+    scanning-tokens-room below = omega arith
 
     pub scanning-tokens-step :
         {token : ℕ} (end : ℕ) → i < length ts → Stepped lex ts (i + 1) (e + 1) token (end + 1) → Scanning lex ts old (set work i token) (i + 1) end
     scanning-tokens-step {token} end below s =
         record {
           within = omega arith;
-          end = omega (arith, s .within);
+          end = omega arith;
           size = length-set work i token ∙ h .size;
           rest = drop-set-lt (i + 1) work i token (omega arith) ∙ sym (drop-drop 1 i work) ∙ ap (λ (l : List ℕ). drop 1 l) (h .rest) ∙ drop-drop 1 i old;
           known = λ q m b z. known q m b z (le-or-lt i q);
@@ -240,7 +240,7 @@ module _ (lex : Lexicon) (ts old : List ℕ) (room : length ts ≤ length old) w
 
     module _ (past : length ts ≤ i) where
       all : i ≡ length ts
-      all = omega (arith, h .within)
+      all = omega arith
 
       pub scanning-tokens-end : Tokens lex ts (take (length ts) work)
       unfolding scan
@@ -252,7 +252,7 @@ module _ (lex : Lexicon) (ts old : List ℕ) (room : length ts ≤ length old) w
           }
         where
           len : length (take (length ts) work) ≡ length ts
-          len = length-take-le (length ts) work (omega (arith, h .size))
+          len = length-take-le (length ts) work (omega arith)
 
           end : entries-of-tokens lex 1 (take (length ts) work) ts ++ [] ≡ make-index lex ts
           end =

@@ -21,7 +21,7 @@ module _ (lex : Lexicon) (old : List ℕ) (n : ℕ) (room : 2 * n ≤ length old
     -- the text stays
     kept : take (2 * n - n) (drop n work) ≡ take n (drop n old)
     kept =
-        let sum : i + (n - i) ≡ n = omega (arith, h .within, len) in
+        let sum : i + (n - i) ≡ n = omega (arith, len) in
         let once : 2 * n - n ≡ n = omega arith in
         rw once
         (ap (λ (l : List ℕ). take n l)
@@ -38,7 +38,7 @@ module _ (lex : Lexicon) (old : List ℕ) (n : ℕ) (room : 2 * n ≤ length old
     behind-end-within = rw kept (h .end)
 
     pub behind-room : i < n → i < length work
-    behind-room below = omega (arith, h .size, room)
+    behind-room below = omega (arith, room)
 
     pub behind-step :
         {token : ℕ} (end : ℕ) → i < n → Stepped lex (take (2 * n - n) (drop n work)) (i + 1) (e + 1) token (end + 1) →

@@ -150,7 +150,7 @@ module _ {lex : Lexicon} (good : Good-lexicon lex) {ts : List ℕ} (chars : Char
   unfolding postings
   inverted-entry k p m =
       let r = those-from-get (length ms - 0) 1 (holds ms ts k) p m in
-      token-entry-put p k (r .0) (omega (arith, r .1)) (eqb-true (coded (getD ms (p - 1) 0) (getD ts (p - 1) 0)) (suc k) (r .2))
+      token-entry-put p k (r .0) (omega arith) (eqb-true (coded (getD ms (p - 1) 0) (getD ts (p - 1) 0)) (suc k) (r .2))
 
   inverted-good : Good-lines lex (length ts) (inverted ms ts)
   unfolding inverted line entry
@@ -190,7 +190,7 @@ module _ {lex : Lexicon} (good : Good-lexicon lex) {ts : List ℕ} (chars : Char
       postings-put (mk .code) (e .at) lo hi (mk .coded-so) in
       subst (λ (f : Entry). In f (flat lex (inverted ms ts))) (sym (mk .is))
       (flat-put lex (inverted ms ts) (line (code-key (mk .code)) (postings ms ts 0 (mk .code))) (e .at)
-      (lines-put 69632 0 (postings ms ts 0) (mk .code) (omega arith) (omega (arith, mk .small))
+      (lines-put 69632 0 (postings ms ts 0) (mk .code) (omega arith) (omega arith)
       (some-in (e .at) (postings ms ts 0 (mk .code)) here))
       here)
     where

@@ -140,10 +140,10 @@ module _ (lex : Lexicon) (xs s : List ℕ) where
 
     module _ (below : i < keys-of xs) (fits : Fits xs) where
       pub placing-there : start + count-at xs i ≤ length xs
-      placing-there = omega (arith, h .start-is, list-room xs i below fits)
+      placing-there = omega (arith, list-room xs i below fits)
 
       next-start : start + count-at xs i ≡ list-start xs (i + 1)
-      next-start = omega (arith, h .start-is, counts-next i xs)
+      next-start = omega (arith, counts-next i xs)
 
       -- the part of the index lent on
       part : List ℕ
@@ -210,7 +210,7 @@ pub cut-long :
     header + 3 * keys + entries ≡ length (cut-down lex xs s)
 unfolding cut-down
 cut-long {lex} {xs} {s} size =
-    omega (arith, size .keys-are, size .entries-are, length-numbers (n-of xs) (bearing lex s (lines-in xs)))
+    omega (arith, length-numbers (n-of xs) (bearing lex s (lines-in xs)))
 
 -- the cut-down index is the numbers of the bearing lines
 module _ (lex : Lexicon) (xs s old : List ℕ) where

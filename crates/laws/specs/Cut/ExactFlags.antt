@@ -92,17 +92,11 @@ module _ (lex : Lexicon) (xs s : List ℕ) where
     counting-bears t small fits =
         record {
           within = omega arith;
-          keys-left = omega (arith, h .keys-left, ap length kept);
+          keys-left = omega (arith, ap length kept);
           entries-left =
-              omega (
-                arith,
-                h .entries-left,
-                ap (λ (l : List Line). length (all-positions l)) kept,
-                length-append (take (count-at xs i) (drop (list-start xs i) xs)) (all-positions (bearing-from (i + 1))),
-                positions-length i below fits,
-              );
-          keys-few = omega (arith, h .keys-few);
-          entries-few = omega (arith, h .entries-few);
+              omega (arith, ap (λ (l : List Line). length (all-positions l)) kept, length-append (take (count-at xs i) (drop (list-start xs i) xs)) (all-positions (bearing-from (i + 1))), positions-length i below fits);
+          keys-few = omega arith;
+          entries-few = omega arith;
         }
       where
         kept : bearing-from i ≡ line-of xs i ∷ bearing-from (i + 1)
@@ -114,8 +108,8 @@ module _ (lex : Lexicon) (xs s : List ℕ) where
           within = omega arith;
           keys-left = rw (bearing-left i below f) at (h .keys-left);
           entries-left = rw (bearing-left i below f) at (h .entries-left);
-          keys-few = omega (arith, h .keys-few);
-          entries-few = omega (arith, h .entries-few);
+          keys-few = omega arith;
+          entries-few = omega arith;
         }
 
 -- the number of bearing keys and of their positions
@@ -132,8 +126,8 @@ unfolding all-positions
 counting-end {lex} {xs} {s} {i} h past few =
     let none : bearing-from lex xs s i ≡ [] = bearing-done lex xs s i past in
     record {
-      keys-are = omega (arith, h .keys-left, ap length none);
-      entries-are = omega (arith, h .entries-left, ap (λ (l : List Line). length (all-positions l)) none);
-      keys-small = omega (arith, h .within, h .keys-few);
-      entries-small = omega (arith, h .within, h .entries-few);
+      keys-are = omega (arith, ap length none);
+      entries-are = omega (arith, ap (λ (l : List Line). length (all-positions l)) none);
+      keys-small = omega arith;
+      entries-small = omega arith;
     }

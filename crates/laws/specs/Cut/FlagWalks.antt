@@ -100,7 +100,7 @@ module _ (lex : Lexicon) (xs s : List ℕ) where
         }
       where
         one : Ones n (n + 1) fs (set fs n 1)
-        one = ones-one n fs (omega (arith, h .way .flags .room))
+        one = ones-one n fs (omega arith)
 
         on : Flagging lex xs s fs (set fs n 1)
         on =

@@ -34,7 +34,7 @@ ones-none from fs =
 pub ones-next : {from to : ℕ} {old fs : List ℕ} → Ones from to old fs → to < length fs → Ones from (to + 1) old (set fs to 1)
 ones-next {from} {to} {fs} h room =
     record {
-      order = omega (arith, h .order);
+      order = omega arith;
       len = length-set fs to 1 ∙ h .len;
       inside =
           λ i a b.
@@ -43,7 +43,7 @@ ones-next {from} {to} {fs} h room =
       outside =
           λ i e.
           ⊎-elim
-          (λ (p : i < from). getD-set-other fs to i 1 0 (λ z. omega (arith, h .order)) ∙ h .outside i (inl p))
+          (λ (p : i < from). getD-set-other fs to i 1 0 (λ z. omega arith) ∙ h .outside i (inl p))
           (λ (p : to + 1 ≤ i). getD-set-other fs to i 1 0 (λ z. omega arith) ∙ h .outside i (inr (omega arith))) e;
     }
 
@@ -93,7 +93,7 @@ module _ (lex : Lexicon) (xs s : List ℕ) where
       Flagging fs now
   flagging-ones {from} {to} {fs} {now} h ones bear =
       record {
-        flags = record { room = omega (arith, h .room, ones .len); sound = λ i b. sound i b };
+        flags = record { room = omega arith; sound = λ i b. sound i b };
         len = ones .len;
         kept = λ i b. kept i b;
       }
@@ -114,12 +114,12 @@ module _ (lex : Lexicon) (xs s : List ℕ) where
 
       sound : (i : ℕ) → i < keys-of xs → getD now i 0 ≤ cond (bears-at lex xs s i) 1 0
       sound i b =
-          ⊎-elim (λ (p : (getD now i 0 ≡ 1) × (bears-at lex xs s i ≡ true)). rw (p .1) (omega (arith, p .0)))
+          ⊎-elim (λ (p : (getD now i 0 ≡ 1) × (bears-at lex xs s i ≡ true)). rw (p .1) (omega arith))
           (λ (p : getD now i 0 ≡ getD fs i 0). omega (arith, h .sound i b)) (at i)
 
       kept : (i : ℕ) → i < keys-of xs → getD fs i 0 ≤ getD now i 0
       kept i b =
-          ⊎-elim (λ (p : (getD now i 0 ≡ 1) × (bears-at lex xs s i ≡ true)). omega (arith, p .0, few i b))
+          ⊎-elim (λ (p : (getD now i 0 ≡ 1) × (bears-at lex xs s i ≡ true)). omega (arith, few i b))
           (λ (p : getD now i 0 ≡ getD fs i 0). omega arith) (at i)
 
   -- ONE OFFSET
@@ -168,7 +168,7 @@ module _ (lex : Lexicon) (xs s : List ℕ) where
           front =
               λ i a b t.
               ⊎-elim (λ (p : lo ≤ i). omega (arith, ones .inside i p b))
-              (λ (p : i < lo). omega (arith, h .front i a p t, on .kept i (omega (arith, h .within, ones .order)))) (le-or-lt lo i);
+              (λ (p : i < lo). omega (arith, h .front i a p t, on .kept i (omega arith))) (le-or-lt lo i);
           back = flagged-kept 0 o hi w on (h .within) (h .back);
         }
       where
@@ -192,7 +192,7 @@ module _ (lex : Lexicon) (xs s : List ℕ) where
     )
       where
         one : Ones r (r + 1) fs (set fs r 1)
-        one = ones-one r fs (omega (arith, h .room))
+        one = ones-one r fs (omega arith)
 
         at :
             (i : ℕ) → a ≤ i → i < b → agrees s 0 (spells lex (key-at xs i)) o ≡ true → (d : Bool) → eqb i r ≡ d →

@@ -97,7 +97,7 @@ module _ (cs ls : List ℕ) (adm : admitted cs ls ≡ true) where
   none-string xs {s} can q =
       none-both (index-rows cs ls xs) (row 6 (String-wrong s) ∷ []) (none-index xs can)
       (none-row 6 (String-wrong s) []
-      (⊎-elim (λ (e : length s ≡ 0). omega (arith, q .nonempty)) (λ (l : 256 < length s). omega (arith, q .short))) none-nil)
+      (⊎-elim (λ (e : length s ≡ 0). omega arith) (λ (l : 256 < length s). omega arith)) none-nil)
 
   -- with enough output they meet no line of search or cut
   none-find :
@@ -155,7 +155,7 @@ module _ (cs ls : List ℕ) (adm : admitted cs ls ≡ true) where
     none-reception : (w : List ℕ) → 8 * length ts ≤ length w → None-met (reception-rows cs ls xs w)
     none-reception w room =
         none-both (index-rows cs ls xs) (row 7 (Work-short (n-of xs) w) ∷ row 9 (No-text (lexicon cs ls) xs) ∷ []) (none-index xs can)
-        (none-row 7 (Work-short (n-of xs) w) (row 9 (No-text (lexicon cs ls) xs) ∷ []) (λ l. omega (arith, room, text .length-is))
+        (none-row 7 (Work-short (n-of xs) w) (row 9 (No-text (lexicon cs ls) xs) ∷ []) (λ l. omega (arith, room))
         none-nine)
 
     pub received-for : Received-for cs ls xs ts
@@ -171,7 +171,7 @@ module _ (cs ls : List ℕ) (adm : admitted cs ls ≡ true) where
         accepts-none (recovery-rows cs ls xs o w) (r .refusal) (Written (recovered (lexicon cs ls) xs) r o z) (Untouched r o z)
         (first-demand .recovers cs ls xs r o z w v chars says .0)
         (none-both (reception-rows cs ls xs w) (row 8 (Recovery-short (lexicon cs ls) xs o) ∷ []) (none-reception w room)
-        (none-row 8 (Recovery-short (lexicon cs ls) xs o) [] (λ l. omega (arith, l .0, fits, text .length-is)) none-nil)) in
+        (none-row 8 (Recovery-short (lexicon cs ls) xs o) [] (λ l. omega (arith, fits)) none-nil)) in
         (h .number, subst (λ (us : List ℕ). Written us r o z) is-recovered (h .result))
 
     -- numbers equal to the cut-down index give its answers

@@ -47,7 +47,7 @@ module _ (cs ls xs : List ℕ) (w : List ℕ) (chars : all-chars cs ≡ true) (r
 pub third-demand : Third-demand
 unfolding Third-demand
 third-demand cs ls xs r w v chars room says = (
-  λ adm text. received-for cs ls adm xs (text .0) (text .1) r w v (omega (arith, room, text .1 .length-is)) says .0,
+  λ adm text. received-for cs ls adm xs (text .0) (text .1) r w v (omega (arith, room)) says .0,
   λ zero.
       let h =
       accepts-zero (reception-rows cs ls xs w) (r .refusal) (r .count ≡ n-of xs) (r .count ≡ 0)

@@ -45,25 +45,25 @@ module _ (cs ls xs s : List ℕ) (f : FirstAnswer) (says : First-says cs ls xs s
   position-accepted some =
       ⊎-elim
       (λ (h : Accepts (string-rows cs ls xs s) (f .refusal) (f .position ≡ first-position (lexicon cs ls) xs (replaced s))). h)
-      (λ (h : Refuses (string-rows cs ls xs s) (f .refusal) (f .position ≡ 0)). absurd (omega (arith, h .result)))
+      (λ (h : Refuses (string-rows cs ls xs s) (f .refusal) (f .position ≡ 0)). absurd (omega arith))
       (first-demand .firsts cs ls xs s f says)
 
   not-eight : f .refusal ≡ 8 → ⊥
   not-eight e =
       ⊎-elim
       (λ (h : Accepts (string-rows cs ls xs s) (f .refusal) (f .position ≡ first-position (lexicon cs ls) xs (replaced s))).
-      omega (arith, h .number))
+      omega arith)
       (λ (h : Refuses (string-rows cs ls xs s) (f .refusal) (f .position ≡ 0)).
       among (first-meets (string-rows cs ls xs s) (f .refusal) (h .first)))
       (first-demand .firsts cs ls xs s f says)
     where
       among : Meets (string-rows cs ls xs s) (f .refusal) → ⊥
-      among (inl m) = omega (arith, m .0)
-      among (inr (inl m)) = omega (arith, m .0)
-      among (inr (inr (inl m))) = omega (arith, m .0)
-      among (inr (inr (inr (inl m)))) = omega (arith, m .0)
-      among (inr (inr (inr (inr (inl m))))) = omega (arith, m .0)
-      among (inr (inr (inr (inr (inr (inl m)))))) = omega (arith, m .0)
+      among (inl m) = omega arith
+      among (inr (inl m)) = omega arith
+      among (inr (inr (inl m))) = omega arith
+      among (inr (inr (inr (inl m)))) = omega arith
+      among (inr (inr (inr (inr (inl m))))) = omega arith
+      among (inr (inr (inr (inr (inr (inl m)))))) = omega arith
       among (inr (inr (inr (inr (inr (inr m)))))) = m
 
 -- AGAINST A SEARCH

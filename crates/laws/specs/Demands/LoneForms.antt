@@ -62,13 +62,13 @@ module _ (s : List ℕ) (c : ℕ) (form : is-full-width c ≡ true) where
   -- at the shared position the replaced string would have a full-width form
   agree-never : {a b : ℕ} → Agree (replaced s) a (c ∷ []) b → ⊥
   agree-never {a} {b} h =
-      let here : h .shared - b ≡ 0 = omega (arith, h .entry-from, h .entry-to) in
+      let here : h .shared - b ≡ 0 = omega arith in
       let same : getD (replaced s) (h .shared - a) 0 ≡ c =
       h .equal (h .shared) (h .string-from) (h .string-to) (h .entry-from) (h .entry-to)
       ∙ ap (λ (i : ℕ). getD (c ∷ []) i 0) here in
       clash form
       (sym (ap is-full-width same)
-      ∙ replaced-plain s (h .shared - a) (omega (arith, h .string-from, h .string-to)))
+      ∙ replaced-plain s (h .shared - a) (omega arith))
 
   agrees-never : (a b : ℕ) → agrees (replaced s) a (c ∷ []) b ≡ false
   agrees-never a b =
@@ -112,7 +112,7 @@ module _ {lex : Lexicon} (good : Good-lexicon lex) (g : ℕ) (xs : List ℕ) (ca
           (line-stands (h .is-own) l m p (in-getD (l .positions) 0 0 (readable-get g lex xs can .lines .each l m .some))) in
           clash form
           (ap is-full-width (stand-at 0 stand (omega arith))
-          ∙ h .plain (p + 0 - 1) (omega (arith, stand .from, stand .within)))
+          ∙ h .plain (p + 0 - 1) (omega arith))
 
 found-without :
     (g : ℕ) (lex : Lexicon) (xs s : List ℕ) → readable g lex xs ≡ true →

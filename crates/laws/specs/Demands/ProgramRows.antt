@@ -185,6 +185,6 @@ module _ (s : List ℕ) where
   never-too-large {ws} {t} {fs} sheet counts short =
       let words : words-on s ≡ ws = form-tested .words-read ws t fs s sheet in
       let few : length s ≤ 32768 = at-most 32768 (length s) short in
-      ⊎-elim (λ (many : 4096 < length (lengths-of ws)). omega (arith, length-lengths ws, counts .few-words))
+      ⊎-elim (λ (many : 4096 < length (lengths-of ws)). omega (arith, length-lengths ws))
       (λ (many : 65535 < length (run-together ws)).
       omega (arith, ap (λ (l : List (List ℕ)). length (run-together l)) words, forms-size word-head (lines s), size-lines s, few))

@@ -46,7 +46,7 @@ pub first-decides : (rows : List Row) → Numbered rows → (n : ℕ) → First 
 unfolding First
 first-decides [] some n e = inl (record { none-met = λ k m. m; number = e; result = tt })
 first-decides (l ∷ ls) some n (inl (w, e)) =
-    inr (record { first = inl (w, e); number = λ z. omega (arith, some .0, e); result = tt })
+    inr (record { first = inl (w, e); number = λ z. omega (arith, e); result = tt })
 first-decides (l ∷ ls) some n (inr (unmet, f)) = widen (first-decides ls (some .1) n f)
   where
     none : Accepts ls n Unit → (k : ℕ) → Meets (l ∷ ls) k → ⊥
@@ -115,7 +115,7 @@ first-then :
     (rows more : List Row) → Numbered rows → (m n : ℕ) → First rows m → (m ≡ 0 → First more n) → First (rows ++ more) (or-else m n)
 unfolding First
 first-then [] more some m n e rest = subst (First more) (sym (or-else-none m n e)) (rest e)
-first-then (l ∷ ls) more some m n (inl (w, e)) rest = inl (w, e ∙ sym (or-else-some m n (λ z. omega (arith, some .0, e))))
+first-then (l ∷ ls) more some m n (inl (w, e)) rest = inl (w, e ∙ sym (or-else-some m n (λ z. omega (arith, e))))
 first-then (l ∷ ls) more some m n (inr (unmet, f)) rest = inr (unmet, first-then ls more (some .1) m n f rest)
 
 -- THE OPERATIONS

@@ -114,7 +114,7 @@ fewer-find-less lex xs ys n fewer s p m =
     find-put lex ys s
     (record {
       from = h .from;
-      within = omega (arith, h .within);
+      within = omega arith;
       each = λ x lo hi. covered-fewer lex (lines-in xs) (lines-in ys) all s p x (h .each x lo hi);
     })
   where

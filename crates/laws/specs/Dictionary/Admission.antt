@@ -38,7 +38,7 @@ module _ (ls : List ℕ) (sum : ℕ) (good : Bool) (i : ℕ) (h : Lengths-read l
       i < length ls → getD ls i 0 ≤ 65535 →
       Lengths-read ls (sum + getD ls i 0) ((good && leb 1 (getD ls i 0)) && leb (getD ls i 0) 32) (i + 1)
   unfolding total lengths-good length-good
-  lengths-step below small = record { within = omega arith; bounded = omega (arith, h .bounded); summed = summed; tested = tested }
+  lengths-step below small = record { within = omega arith; bounded = omega arith; summed = summed; tested = tested }
     where
       cut : drop i ls ≡ getD ls i 0 ∷ drop (i + 1) ls
       cut = rw (add-one, drop-cons ls i 0)

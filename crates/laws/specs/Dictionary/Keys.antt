@@ -64,7 +64,7 @@ key-kinds lex k h = cases (eqb (k .kind) 0) refl
         not-get (is-word lex (k .value ∷ [])) (and-right (ltb (k .value) 65536) (not (is-word lex (k .value ∷ []))) good) in
         inr
         (record {
-          kind-is = omega (arith, h .kind-small, other);
+          kind-is = omega (arith, other);
           char = ltb-true (k .value) 65536 (and-left (ltb (k .value) 65536) (not (is-word lex (k .value ∷ []))) good);
           no-word = λ m. clash (is-word-put lex (k .value ∷ []) m) no-word;
         })
@@ -83,7 +83,7 @@ lone-is-key lex k h =
     record {
       kind-small = omega arith;
       good =
-          rw (ne-eqb (k .kind) 0 (λ (e : k .kind ≡ 0). omega (arith, h .kind-is)))
+          rw (ne-eqb (k .kind) 0 (λ (e : k .kind ≡ 0). omega arith))
           (and-put (lt-ltb (k .value) 65536 (h .char))
           (not-put (false-put (is-word lex (k .value ∷ [])) (λ t. h .no-word (is-word-get lex (k .value ∷ []) t)))));
     }
@@ -115,7 +115,7 @@ module _ {lex : Lexicon} (good : Good-lexicon lex) where
 
   pub value-below : (k : Key) → Is-key lex k → k .value < 65536
   value-below k h =
-      ⊎-elim (λ (w : Is-word-key lex k). omega (arith, w .below, good .few)) (λ (c : Is-lone-key lex k). c .char) (key-kinds lex k h)
+      ⊎-elim (λ (w : Is-word-key lex k). omega arith) (λ (c : Is-lone-key lex k). c .char) (key-kinds lex k h)
 
   pub spells-chars : (k : Key) → Is-key lex k → Chars (spells lex k)
   spells-chars k h =

@@ -247,9 +247,9 @@ module _ {cs : List ℕ} {at next end a b : ℕ} (small : Small cs) (h : Neighbo
   pub neighbours-less : a < b → word-before (part cs at next) (part cs next end) ≡ true
   neighbours-less less =
       code-less (part cs at next) (part cs next end) (small-part cs at next small) (small-part cs next end small)
-      (omega (arith, h .first-code, h .second-code))
+      (omega arith)
 
   pub neighbours-more : b < a → word-before (part cs at next) (part cs next end) ≡ false
   neighbours-more more =
       code-more (part cs at next) (part cs next end) (small-part cs at next small) (small-part cs next end small)
-      (omega (arith, h .first-code, h .second-code))
+      (omega arith)

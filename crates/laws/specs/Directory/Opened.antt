@@ -106,12 +106,7 @@ module _ (xs : List ℕ) (i : ℕ) (below : i < keys-of xs) where
   unfolding entries-of
   list-room fits =
       let z : i + 1 + (keys-of xs - (i + 1)) ≡ keys-of xs = omega arith in
-      omega (
-        arith,
-        fits .is-long,
-        rw z at (counts-split (i + 1) (keys-of xs - (i + 1)) 0 xs),
-        counts-next i xs,
-      )
+      omega (arith, rw z at (counts-split (i + 1) (keys-of xs - (i + 1)) 0 xs), counts-next i xs)
 
 pub lines-none : (xs : List ℕ) (i : ℕ) → keys-of xs ≤ i → drop i (lines-in xs) ≡ []
 lines-none xs i past =

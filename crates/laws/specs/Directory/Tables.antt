@@ -58,7 +58,7 @@ in-front-of (x ∷ xs) (suc i) l more e = inr (in-front-of xs i l more e)
 module _ {cs ls xs : List ℕ} (can : Can-read cs ls xs) (i : ℕ) (below : i < keys-of xs) where
   -- the numbers of line i lie within the slice
   pub line-room : header + 3 * i + 2 < length xs
-  line-room = omega (arith, can .fits .has-directory)
+  line-room = omega arith
 
   pub line-is-good : Good-line (lexicon cs ls) (n-of xs) (line-of xs i)
   line-is-good =
@@ -74,8 +74,8 @@ module _ {cs ls xs : List ℕ} (can : Can-read cs ls xs) (i : ℕ) (below : i < 
     pub word-below : value-at xs i < length ls
     unfolding key lexicon
     word-below =
-        ⊎-elim (λ (w : Is-word-key (lexicon cs ls) (key-at xs i)). omega (arith, w .below, length-words ls cs))
-        (λ (l : Is-lone-key (lexicon cs ls) (key-at xs i)). absurd (omega (arith, l .kind-is)))
+        ⊎-elim (λ (w : Is-word-key (lexicon cs ls) (key-at xs i)). omega (arith, length-words ls cs))
+        (λ (l : Is-lone-key (lexicon cs ls) (key-at xs i)). absurd (omega arith))
         (key-kinds (lexicon cs ls) (key-at xs i) key-is)
 
     module _ {ws : List ℕ} (table : Word-starts ls (length ls) ws) where
@@ -83,7 +83,7 @@ module _ {cs ls xs : List ℕ} (can : Can-read cs ls xs) (i : ℕ) (below : i < 
       start-is = table .at (value-at xs i) word-below
 
       pub word-room : getD ws (value-at xs i) 0 + getD ls (value-at xs i) 0 ≤ length cs
-      word-room = omega (arith, start-is, word-start-room ls (value-at xs i) word-below, can .sum)
+      word-room = omega (arith, start-is, word-start-room ls (value-at xs i) word-below)
 
       pub word-spelt :
           take (getD ws (value-at xs i) 0 + getD ls (value-at xs i) 0 - getD ws (value-at xs i) 0)
@@ -128,11 +128,11 @@ module _ (ls : List ℕ) where
   word-starts-next {n} {ws} h below v e =
       record {
         within = omega arith;
-        room = omega (arith, h .room, length-set ws n v);
+        room = omega (arith, length-set ws n v);
         at =
             below-more (λ (w : ℕ). getD (set ws n v) w 0 ≡ word-start ls w) n
             (λ w b. getD-set-other ws n w v 0 (λ (z : w ≡ n). omega arith) ∙ h .at w b)
-            (getD-set-same ws n v 0 (omega (arith, h .room)) ∙ e);
+            (getD-set-same ws n v 0 (omega arith) ∙ e);
       }
 
 module _ (xs : List ℕ) where
@@ -148,11 +148,11 @@ module _ (xs : List ℕ) where
   list-starts-next {n} {ts} h below v e =
       record {
         within = omega arith;
-        room = omega (arith, h .room, length-set ts n v);
+        room = omega (arith, length-set ts n v);
         at =
             below-more (λ (w : ℕ). getD (set ts n v) w 0 ≡ counts-from w 0 xs) n
             (λ w b. getD-set-other ts n w v 0 (λ (z : w ≡ n). omega arith) ∙ h .at w b)
-            (getD-set-same ts n v 0 (omega (arith, h .room)) ∙ e);
+            (getD-set-same ts n v 0 (omega arith) ∙ e);
       }
 
 -- READING THE POSITIONS
@@ -175,10 +175,10 @@ module _ {xs : List ℕ} (fits : Fits xs) (i : ℕ) (below : i < keys-of xs) {ts
       rw (z, starts-at)
 
 pub word-starts-all : {ls : List ℕ} {n : ℕ} {ws : List ℕ} → Word-starts ls n ws → length ls ≤ n → Word-starts ls (length ls) ws
-word-starts-all {ls} {n} h past = let e : n ≡ length ls = omega (arith, h .within) in rw e at h
+word-starts-all {ls} {n} h past = let e : n ≡ length ls = omega arith in rw e at h
 
 pub list-starts-all : {xs : List ℕ} {n : ℕ} {ts : List ℕ} → List-starts xs n ts → keys-of xs ≤ n → List-starts xs (keys-of xs) ts
-list-starts-all {xs} {n} h past = let e : n ≡ keys-of xs = omega (arith, h .within) in rw e at h
+list-starts-all {xs} {n} h past = let e : n ≡ keys-of xs = omega arith in rw e at h
 
 -- an accepted index with both tables
 pub record Opened (cs ls xs ws ts : List ℕ) : Type 0 where

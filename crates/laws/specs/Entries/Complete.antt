@@ -81,7 +81,7 @@ word-entries-get i (w ∷ ws) ts e m =
     there : Of-words (suc i) ws ts e → Of-words i (w ∷ ws) ts e
     there f =
         let next : i + suc (f .number) ≡ suc i + f .number = omega arith in
-        record { number = suc (f .number); below = omega (arith, f .below); of = rw next (f .of) }
+        record { number = suc (f .number); below = omega arith; of = rw next (f .of) }
 
 word-entries-put :
     (i : ℕ) (ws : List (List ℕ)) {ts : List ℕ} {e : Entry} (j : ℕ) → j < length ws → 1 ≤ length (getD ws j []) →
@@ -91,7 +91,7 @@ word-entries-put i [] j b l h = absurd (omega arith)
 word-entries-put i (w ∷ ws) {ts} {e} zero b l h =
     let first : i + 0 ≡ i = omega arith in
     in-append-left e (key-entries (length ts) 1 (key 0 i) w ts) (word-entries (suc i) ws ts)
-    (key-entries-put (length ts) 1 (rw first at h) (h .stand .from) (omega (arith, h .stand .within)))
+    (key-entries-put (length ts) 1 (rw first at h) (h .stand .from) (omega arith))
 word-entries-put i (w ∷ ws) {ts} {e} (suc j) b l h =
     let next : i + suc j ≡ suc i + j = omega arith in
     in-append-right e (key-entries (length ts) 1 (key 0 i) w ts) (word-entries (suc i) ws ts)
@@ -131,10 +131,10 @@ lone-entries-get p lex (c ∷ cs) e m =
     there f =
         record {
           number = suc (f .number);
-          below = omega (arith, f .below);
+          below = omega arith;
           no-word = f .no-word;
           key-is = f .key-is;
-          at-is = omega (arith, f .at-is);
+          at-is = omega arith;
           len-is = f .len-is;
         }
 
@@ -166,7 +166,7 @@ complete-get lex ts cs e m =
         let spelt : spells lex (e .key-of) ≡ getD (lex .words) (f .number) [] =
         spells-word lex (e .key-of) kind ∙ ap (λ (i : ℕ). getD (lex .words) i []) value in
         record {
-          is-key = word-is-key lex (e .key-of) (record { kind-is = kind; below = omega (arith, f .below) });
+          is-key = word-is-key lex (e .key-of) (record { kind-is = kind; below = omega arith });
           len-is = f .of .len-is ∙ ap length (sym spelt);
           stand = rw spelt (f .of .stand);
         }
@@ -177,7 +177,7 @@ complete-get lex ts cs e m =
         let value : e .key-of .value ≡ getD ts (f .number) 0 = ap (λ (k : Key). k .value) (f .key-is) in
         let spelt : spells lex (e .key-of) ≡ getD ts (f .number) 0 ∷ [] =
         spells-lone lex (e .key-of) kind ∙ ap (λ (c : ℕ). c ∷ []) value in
-        let at : e .at ≡ suc (f .number) = omega (arith, f .at-is) in
+        let at : e .at ≡ suc (f .number) = omega arith in
         let char : getD ts (f .number) 0 < 65536 = cs (f .number) (f .below) in
         record {
           is-key =
@@ -215,8 +215,8 @@ complete-put {lex} {ts} good {e} h = ⊎-elim word lone (key-kinds lex (e .key-o
         stand-at 0 stand (omega arith)
         ∙ ap (λ (x : ℕ). getD ts (x - 1) 0) (add-zero (e .at)) in
         in-append-right e (word-entries 0 (lex .words) ts) (lone-entries 1 lex ts)
-        (lone-entries-put 1 lex ts e (e .at - 1) (omega (arith, stand .from, stand .within))
+        (lone-entries-put 1 lex ts e (e .at - 1) (omega arith)
         (rw (← char)
         (false-put (is-word lex (e .key-of .value ∷ [])) (λ t. c .no-word (is-word-get lex (e .key-of .value ∷ []) t))))
-        (key-eq (e .key-of) (key 1 (getD ts (e .at - 1) 0)) (c .kind-is) char) (omega (arith, stand .from))
+        (key-eq (e .key-of) (key 1 (getD ts (e .at - 1) 0)) (c .kind-is) char) (omega arith)
         (h .len-is ∙ ap length spelt))

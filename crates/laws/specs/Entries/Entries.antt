@@ -83,8 +83,8 @@ pub in-text : {lex : Lexicon} → Good-lexicon lex → {ts : List ℕ} {e : Entr
 in-text {lex} good {e} h =
     record {
       from = h .stand .from;
-      some = omega (arith, h .len-is, spells-some good (e .key-of) (h .is-key));
-      within = omega (arith, h .len-is, h .stand .within);
+      some = omega (arith, spells-some good (e .key-of) (h .is-key));
+      within = omega arith;
     }
 
 -- MAXIMAL ENTRIES

@@ -13,11 +13,11 @@ Positions-rise a (e ∷ es) = (a ≤ e .at) × Positions-rise (suc (e .at)) es
 
 pub positions-rise-from : (a b : ℕ) (es : List Entry) → b ≤ a → Positions-rise a es → Positions-rise b es
 positions-rise-from a b [] h r = tt
-positions-rise-from a b (e ∷ es) h r = (omega (arith, r .0), r .1)
+positions-rise-from a b (e ∷ es) h r = (omega arith, r .1)
 
 pub positions-rise-in : (a : ℕ) (es : List Entry) (e : Entry) → Positions-rise a es → In e es → a ≤ e .at
 positions-rise-in a [] e r m = absurd m
 positions-rise-in a (f ∷ es) e r (inl p) = rw p (r .0)
 positions-rise-in a (f ∷ es) e r (inr m) =
     let later : suc (f .at) ≤ e .at = positions-rise-in (suc (f .at)) es e (r .1) m in
-    omega (arith, r .0)
+    omega arith

@@ -33,14 +33,14 @@ pub record Longest-of (p : ℕ) (best : Entry) (es : List Entry) (r : Entry) : T
 longer-of :
     {p : ℕ} (best : Entry) {e r : Entry} {es : List Entry} → e .at ≡ p → best .len < e .len → Longest-of p e es r →
     Longest-of p best (e ∷ es) r
-longer-of {p} best {e} {r} {es} here longer l = record { source = source (l .source); over-best = omega (arith, l .over-best); over-all = all }
+longer-of {p} best {e} {r} {es} here longer l = record { source = source (l .source); over-best = omega arith; over-all = all }
   where
     source : (In r es × (r .at ≡ p)) ⊎ (r ≡ e) → (In r (e ∷ es) × (r .at ≡ p)) ⊎ (r ≡ best)
     source (inl m) = inl (inr (m .0), m .1)
     source (inr q) = inl (inl q, ap (λ (x : Entry). x .at) q ∙ here)
 
     all : (f : Entry) → In f (e ∷ es) → f .at ≡ p → f .len ≤ r .len
-    all f (inl q) a = omega (arith, ap (λ (x : Entry). x .len) q, l .over-best)
+    all f (inl q) a = omega (arith, ap (λ (x : Entry). x .len) q)
     all f (inr m) a = l .over-all f m a
 
 not-longer-of :
@@ -55,7 +55,7 @@ not-longer-of {p} {best} e {r} {es} none l = record { source = source (l .source
     all : (f : Entry) → In f (e ∷ es) → f .at ≡ p → f .len ≤ r .len
     all f (inl q) a =
         let small : e .len ≤ best .len = none (ap (λ (x : Entry). x .at) (sym q) ∙ a) in
-        omega (arith, ap (λ (x : Entry). x .len) q, l .over-best)
+        omega (arith, ap (λ (x : Entry). x .len) q)
     all f (inr m) a = l .over-all f m a
 
 pub longest-of-is : (p : ℕ) (best : Entry) (es : List Entry) → Longest-of p best es (longest-of p best es)

@@ -53,10 +53,10 @@ module _ (lex : Lexicon) (good : Good-lexicon lex) (ts : List ℕ) where
       alone f hf c =
           ⊎-elim
           (λ (p : e .at ≤ f .at).
-          let here : f .at ≡ e .at = omega (arith, c .starts) in
+          let here : f .at ≡ e .at = omega arith in
           entry-unique good hf (h .is-longest .is-entry) here
-          (omega (arith, c .ends, h .is-longest .longest f hf here)))
-          (λ (q : f .at < e .at). absurd (omega (arith, c .ends, h .after f hf q))) (le-or-lt (e .at) (f .at))
+          (omega (arith, h .is-longest .longest f hf here)))
+          (λ (q : f .at < e .at). absurd (omega (arith, h .after f hf q))) (le-or-lt (e .at) (f .at))
 
   pub longest-unique : {e f : Entry} → Is-longest lex ts e → Is-longest lex ts f → e .at ≡ f .at → e ≡ f
   longest-unique {e} {f} he hf a =
@@ -94,8 +94,8 @@ module _ (lex : Lexicon) (good : Good-lexicon lex) (ts : List ℕ) (chars : Char
           let hf : Is-entry lex ts f = complete-get lex ts chars f m in
           ⊎-elim
           (λ (p : f .len ≤ e .len).
-          let a : e .at ≡ f .at = omega (arith, c .starts, c .ends) in
-          let l : e .len ≡ f .len = omega (arith, c .starts, c .ends) in
+          let a : e .at ≡ f .at = omega arith in
+          let l : e .len ≡ f .len = omega arith in
           clash (same-entry-put e f (entry-unique good h hf a l)) d)
           (λ (q : e .len < f .len). inr (f, hf, c, q)) (le-or-lt (f .len) (e .len))
 
@@ -108,7 +108,7 @@ module _ (lex : Lexicon) (good : Good-lexicon lex) (ts : List ℕ) (chars : Char
       (λ (l : (f : Entry) × Is-entry lex ts f × Contains f e × (e .len < f .len)).
       let (f, hf, c, q) = l in
       let (g, mg, d) = in-maximal-from n hf (omega arith) in
-      (g, mg, record { starts = omega (arith, c .starts, d .starts); ends = omega (arith, c .ends, d .ends) }))
+      (g, mg, record { starts = omega arith; ends = omega arith }))
       (maximal-or-longer h)
 
   pub in-maximal : {e : Entry} → Is-entry lex ts e → (f : Entry) × Is-maximal lex ts f × Contains f e
@@ -129,4 +129,4 @@ module _ (lex : Lexicon) (good : Good-lexicon lex) (ts : List ℕ) (chars : Char
   maximal-covers p lo hi =
       let (e, he, a, l) = char-entry p lo hi in
       let (f, hf, c) = in-maximal he in
-      (f, hf, omega (arith, c .starts), omega (arith, c .ends))
+      (f, hf, omega arith, omega arith)

@@ -78,7 +78,7 @@ module _ {lex : Lexicon} (good : Good-lexicon lex) (ts : List ℕ) where
       leading-maximal lex good ts
       (record {
         is-longest = l .is-longest;
-        after = λ f hf b. omega (arith, l .here, s .behind f hf (omega (arith, l .here)));
+        after = λ f hf b. omega (arith, s .behind f hf (omega arith));
       })
 
   pub scanned-registered :
@@ -88,11 +88,11 @@ module _ {lex : Lexicon} (good : Good-lexicon lex) (ts : List ℕ) where
       record {
         behind = λ f hf b. behind hf b (le-or-lt p (f .at));
         ahead =
-            λ f hf b. omega (arith, l .here, maximal-leading lex ts f hf .after e (l .is-longest .is-entry) (omega (arith, l .here)));
+            λ f hf b. omega (arith, maximal-leading lex ts f hf .after e (l .is-longest .is-entry) (omega arith));
       }
     where
       behind : {f : Entry} → Is-entry lex ts f → f .at < suc p → ((p ≤ f .at) ⊎ (f .at < p)) → f .at + f .len ≤ p + e .len
-      behind {f} hf b (inl q) = omega (arith, l .is-longest .longest f hf (omega (arith, l .here)))
+      behind {f} hf b (inl q) = omega (arith, l .is-longest .longest f hf (omega arith))
       behind {f} hf b (inr q) = omega (arith, s .behind f hf q)
 
   -- otherwise p has no maximal entry, and `last` stays
@@ -100,7 +100,7 @@ module _ {lex : Lexicon} (good : Good-lexicon lex) (ts : List ℕ) where
       {p last : ℕ} {e f : Entry} → Scanned lex ts p last → Longest-at lex ts p e → p + e .len ≤ last → Is-maximal lex ts f →
       f .at ≡ p → ⊥
   scanned-none {f} s l h hf a =
-      omega (arith, s .ahead f hf (omega arith), l .is-longest .longest f (hf .is-entry) (omega (arith, l .here)))
+      omega (arith, s .ahead f hf (omega arith), l .is-longest .longest f (hf .is-entry) (omega arith))
 
   pub scanned-passed :
       {p last : ℕ} {e : Entry} → Scanned lex ts p last → Longest-at lex ts p e → p + e .len ≤ last → Scanned lex ts (suc p) last
@@ -111,7 +111,7 @@ module _ {lex : Lexicon} (good : Good-lexicon lex) (ts : List ℕ) where
       }
     where
       behind : {f : Entry} → Is-entry lex ts f → f .at < suc p → ((p ≤ f .at) ⊎ (f .at < p)) → f .at + f .len ≤ last
-      behind {f} hf b (inl q) = omega (arith, l .is-longest .longest f hf (omega (arith, l .here)))
+      behind {f} hf b (inl q) = omega (arith, l .is-longest .longest f hf (omega arith))
       behind {f} hf b (inr q) = s .behind f hf q
 
 -- THE WHOLE SCAN
@@ -134,7 +134,7 @@ module _ (lex : Lexicon) (good : Good-lexicon lex) (ts : List ℕ) where
   maximal-from-registered :
       {p : ℕ} {e : Entry} {es : List Entry} → Longest-at lex ts p e → Is-maximal lex ts e → Maximal-from lex ts (suc p) es →
       Maximal-from lex ts p (e ∷ es)
-  maximal-from-registered {p} {e} {es} l h more = record { get = get; put = put; rise = (omega (arith, l .here), rw (l .here) (more .rise)) }
+  maximal-from-registered {p} {e} {es} l h more = record { get = get; put = put; rise = (omega arith, rw (l .here) (more .rise)) }
     where
       get : (f : Entry) → In f (e ∷ es) → Is-maximal lex ts f
       get f (inl q) = rw q h
@@ -142,7 +142,7 @@ module _ (lex : Lexicon) (good : Good-lexicon lex) (ts : List ℕ) where
 
       put : (f : Entry) → Is-maximal lex ts f → p ≤ f .at → In f (e ∷ es)
       put f hf b =
-          ⊎-elim (λ (q : f .at ≤ p). inl (maximal-unique lex good ts hf h (omega (arith, l .here))))
+          ⊎-elim (λ (q : f .at ≤ p). inl (maximal-unique lex good ts hf h (omega arith)))
           (λ (q : p < f .at). inr (more .put f hf q)) (le-or-lt (f .at) p)
 
   maximal-from-passed :

@@ -36,8 +36,8 @@ entry-bounded {lex} {ts} p most {e} h a one words =
     (λ (w : Is-word-key lex (e .key-of)).
     let spelt : spells lex (e .key-of) ≡ getD (lex .words) (e .key-of .value) [] = spells-word lex (e .key-of) (w .kind-is) in
     let stand : Stand (getD (lex .words) (e .key-of .value) []) ts p = rw (← spelt, ← a) (h .stand) in
-    omega (arith, h .len-is, ap length spelt, words (e .key-of .value) (w .below) stand))
-    (λ (c : Is-lone-key lex (e .key-of)). omega (arith, h .len-is, ap length (spells-lone lex (e .key-of) (c .kind-is))))
+    omega (arith, ap length spelt, words (e .key-of .value) (w .below) stand))
+    (λ (c : Is-lone-key lex (e .key-of)). omega (arith, ap length (spells-lone lex (e .key-of) (c .kind-is))))
     (key-kinds lex (e .key-of) (h .is-key))
 
 module _ (lex : Lexicon) (good : Good-lexicon lex) (ts : List ℕ) (chars : Chars ts) where

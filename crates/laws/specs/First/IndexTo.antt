@@ -52,7 +52,7 @@ module _ (q : ℕ) where
       by-test true later = (r .0, later)
       by-test false later =
           rise-more (suc p) a (positions-to q ps) later
-          (λ x m. omega (arith, r .0, rise-least (suc p) (positions-to q ps) x later m))
+          (λ x m. omega (arith, rise-least (suc p) (positions-to q ps) x later m))
 
   -- LINES UP TO q
 

@@ -31,7 +31,7 @@ first-of-rising [] r =
     record { none = λ e. refl; empty = λ e. refl; among = λ h. absurd (omega arith); least = λ a m. absurd m }
 first-of-rising (p ∷ ps) r =
     record {
-      none = λ e. absurd (omega (arith, r .0));
+      none = λ e. absurd (omega arith);
       empty = λ e. let none : suc (length ps) ≡ 0 = ap length e in absurd (omega arith);
       among = λ h. inl refl;
       least = least;
@@ -81,14 +81,14 @@ module _ (lex : Lexicon) (xs ys s : List ℕ) (q : ℕ) (n : n-of xs ≡ n-of ys
       find-put lex ys s
       (record {
         from = h .from;
-        within = omega (arith, h .within);
+        within = omega arith;
         each =
             λ x lo hi.
             let e = covered-get lex (lines-in xs) s a x (h .each x lo hi) in
             covered-put lex (lines-in ys) s a x
             (record {
               among =
-                  under-flat lex xs ys (e .0) (there (e .0 .key-of) (e .0 .at) (omega (arith, e .1 .from))) (e .1 .among);
+                  under-flat lex xs ys (e .0) (there (e .0 .key-of) (e .0 .at) (omega arith)) (e .1 .among);
               from = e .1 .from;
               to = e .1 .to;
               agree = e .1 .agree;
@@ -113,6 +113,6 @@ module _ (lex : Lexicon) (xs ys s : List ℕ) (p : ℕ) (some : 1 ≤ p) (same :
             arith,
             is,
             first-heads-find lex xs s .least a
-                (found-there lex ys xs s (p + length s - 1) (omega (arith, same .n-is)) (same .back) a (omega arith) m),
+                (found-there lex ys xs s (p + length s - 1) (omega arith) (same .back) a (omega arith) m),
           ))
           (le-or-lt p a)

@@ -114,7 +114,7 @@ module _ (e : ℕ) (cs ls ds : List ℕ) (good : admitted cs ls ≡ true) (can :
   restored-below : Below (suc e) (all-positions (lines-in (restored ds)))
   restored-below =
       let r = readable-get e lex (restored ds) can in
-      positions-below (admitted-lexicon cs ls good) (suc e) (n-of (restored ds)) (omega (arith, r .length-allowed))
+      positions-below (admitted-lexicon cs ls good) (suc e) (n-of (restored ds)) (omega arith)
       (lines-in (restored ds)) (r .lines .each)
 
   positions-are : all-positions (lines-in (restored ds)) ≡ drop first (restored ds)

@@ -36,7 +36,7 @@ gaps-of-sums b (d ∷ ds) = let e : b + d - b ≡ d = omega arith in rw (e, gaps
 pub sums-of-gaps : (b : ℕ) (ps : List ℕ) → Rise (suc b) ps → sums-after b (gaps-after b ps) ≡ ps
 unfolding gaps-after sums-after
 sums-of-gaps b [] r = refl
-sums-of-gaps b (p ∷ ps) r = let e : b + (p - b) ≡ p = omega (arith, r .0) in rw (e, sums-of-gaps p ps (r .1))
+sums-of-gaps b (p ∷ ps) r = let e : b + (p - b) ≡ p = omega arith in rw (e, sums-of-gaps p ps (r .1))
 
 -- a position other than the first becomes its distance from the one before
 pub gaps-later : (b : ℕ) (ps : List ℕ) (i : ℕ) → suc i < length ps → getD (gaps-after b ps) (suc i) 0 ≡ getD ps (suc i) 0 - getD ps i 0
@@ -84,13 +84,13 @@ module _ {ds : List ℕ} {good : Bool} {sum i : ℕ} (h : Summed ds good sum i) 
       let d = getD ds i 0 in
       record {
         within = omega arith;
-        added = let t : total (drop i ds) ≡ d + total (drop (i + 1) ds) = ap total next in omega (arith, h .added);
+        added = let t : total (drop i ds) ≡ d + total (drop (i + 1) ds) = ap total next in omega arith;
         tested =
             and-assoc good (ltb 0 d) (rise-from (suc (sum + d)) (sums-after (sum + d) (drop (i + 1) ds)))
             ∙ ap (λ (b : Bool). good && (b && rise-from (suc (sum + d)) (sums-after (sum + d) (drop (i + 1) ds)))) (sym (some-gap sum d))
             ∙ ap (λ (l : List ℕ). good && rise-from (suc sum) (sums-after sum l)) (sym next)
             ∙ h .tested;
-        small = omega (arith, h .small);
+        small = omega arith;
       }
 
   module _ (past : length ds ≤ i) where
@@ -102,7 +102,7 @@ module _ {ds : List ℕ} {good : Bool} {sum i : ℕ} (h : Summed ds good sum i) 
     unfolding total
     summed-last some =
         let none : total (drop i ds) ≡ 0 = ap total (drop-of-length-le ds past) in
-        omega (arith, h .added, last-prefix-sums ds some)
+        omega (arith, last-prefix-sums ds some)
 
     pub summed-late : (n l : ℕ) → 1 ≤ length ds → n + 1 < sum + l → false ≡ list-good prefix-sums n l ds
     unfolding list-good

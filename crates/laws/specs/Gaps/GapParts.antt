@@ -45,7 +45,7 @@ pub record Writable (restore : Bool) (xs : List ℕ) : Type 0 where
 -- the counts add up to the number of positions
 pub counts-all : (xs : List ℕ) → Fits xs → counts-from (keys-of xs) 0 xs ≡ length (drop (header + 3 * keys-of xs) xs)
 unfolding entries-of
-counts-all xs fits = omega (arith, fits .is-long, length-drop (header + 3 * keys-of xs) xs)
+counts-all xs fits = omega (arith, length-drop (header + 3 * keys-of xs) xs)
 
 length-apart : (y : ℕ → ℕ) (x : ℕ → ℕ → ℕ) (ps : List ℕ) → length (first-apart y x ps) ≡ length ps
 unfolding first-apart
@@ -63,7 +63,7 @@ module _ {xs : List ℕ} (fits : Fits xs) (keys : ℕ) (is : keys ≡ keys-of xs
   pub run-long : length run ≡ suc (length positions)
   run-long =
       ap length (lent-tail-is (1 + 3 * keys) xs)
-      ∙ omega (arith, length-drop (1 + 3 * keys) xs, length-drop (header + 3 * keys-of xs) xs, fits .has-directory, is)
+      ∙ omega (arith, length-drop (1 + 3 * keys) xs, length-drop (header + 3 * keys-of xs) xs, is)
 
   run-positions : drop 1 run ≡ positions
   run-positions =
@@ -113,7 +113,7 @@ module _ {xs : List ℕ} (fits : Fits xs) (keys : ℕ) (is : keys ≡ keys-of xs
 module _ (f : List ℕ → List ℕ) (keeps : Keeps-length f) {xs : List ℕ} (fits : Fits xs)
     (first : ℕ) (is : first ≡ header + 3 * keys-of xs) where
   pub front-long : first ≡ length (take first xs)
-  front-long = sym (length-take-le first xs (omega (arith, fits .has-directory, is)))
+  front-long = sym (length-take-le first xs (omega (arith, is)))
 
   module _ (old now : List ℕ) (even : length old ≡ length xs) (copied : now ≡ over (take 0 old ++ take first xs) old) where
     front-way : Writing (with-lists f xs) old now (lists-from f (keys-of xs) 0 xs (drop (header + 3 * keys-of xs) xs)) first
@@ -132,16 +132,9 @@ module _ (f : List ℕ → List ℕ) (keeps : Keeps-length f) {xs : List ℕ} (f
           len =
               ap length copied
               ∙ length-append (take first xs) (drop (length (take first xs)) old)
-              ∙ omega (arith, length-drop (length (take first xs)) old, front-long, even, fits .has-directory, is);
+              ∙ omega (arith, length-drop (length (take first xs)) old, front-long, even, is);
           room =
-              omega (
-                arith,
-                length-lists f keeps (keys-of xs) 0 xs (drop (header + 3 * keys-of xs) xs),
-                length-drop (header + 3 * keys-of xs) xs,
-                even,
-                fits .has-directory,
-                is,
-              );
+              omega (arith, length-lists f keeps (keys-of xs) 0 xs (drop (header + 3 * keys-of xs) xs), length-drop (header + 3 * keys-of xs) xs, even, is);
         }
 
     pub part-long : length (lent-tail first now) ≡ length (drop (header + 3 * keys-of xs) xs)
@@ -176,7 +169,7 @@ line-there {b} {xs} {part} {i} {at} can h below =
     first-room (first-as b) (pair-as b) xs (drop (header + 3 * keys-of xs) xs) part i at h below (can .some i below) in
     let len = length-drop (header + 3 * keys-of xs) xs in
     record {
-      read = omega (arith, write, h .len, len);
+      read = omega (arith, write, len);
       write = write;
       next = omega (arith, list-room (first-as b) (pair-as b) xs (drop (header + 3 * keys-of xs) xs) part i at h below, len);
     }

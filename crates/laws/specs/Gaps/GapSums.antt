@@ -85,7 +85,7 @@ module _ (ms ds : List ℕ) (even : length ms ≡ length ds) where
     adding-end past =
         let few : length ms ≤ i = omega (arith, even) in
         let none : drop i ms ≡ [] = drop-of-length-le ms few in
-        sym (take-all i now (omega (arith, even, h .len))) ∙ sym (append-nil (take i now)) ∙ rw none at (h .so-far)
+        sym (take-all i now (omega (arith, even))) ∙ sym (append-nil (take i now)) ∙ rw none at (h .so-far)
 
     module _ (below : i < length ds) where
       abbrev mask : ℕ
@@ -97,7 +97,7 @@ module _ (ms ds : List ℕ) (even : length ms ≡ length ds) where
       mask-is : getD now i 0 ≡ getD ms i 0
       mask-is =
           ap (λ (l : List ℕ). getD l 0 0)
-          (sym (drop-cons now i 0 (omega (arith, even, h .len))) ∙ h .rest ∙ drop-cons ms i 0 (omega (arith, even)))
+          (sym (drop-cons now i 0 (omega (arith, even))) ∙ h .rest ∙ drop-cons ms i 0 (omega (arith, even)))
 
       so-far-next : take i now ++ (raised ∷ masked-sums raised (drop (suc i) ms) (drop (suc i) ds)) ≡ masked-sums 0 ms ds
       unfolding masked-sums
@@ -109,7 +109,7 @@ module _ (ms ds : List ℕ) (even : length ms ≡ length ds) where
       next-is =
           ap (λ (l : List ℕ). getD l i 0) (sym so-far-next)
           ∙ getD-at (take i now) raised (masked-sums raised (drop (suc i) ms) (drop (suc i) ds)) 0 i
-          (length-take-le i now (omega (arith, even, h .len)))
+          (length-take-le i now (omega (arith, even)))
 
       pub adding-step : Adding ms ds (set now i raised) raised (i + 1)
       adding-step =
@@ -117,7 +117,7 @@ module _ (ms ds : List ℕ) (even : length ms ≡ length ds) where
             so-far =
                 rw (
                   add-one i,
-                  take-suc-set now i raised (omega (arith, even, h .len)),
+                  take-suc-set now i raised (omega (arith, even)),
                   append-assoc (take i now) (raised ∷ []) (masked-sums raised (drop (suc i) ms) (drop (suc i) ds)),
                 )
                 so-far-next;

@@ -99,11 +99,11 @@ module _ (y : ℕ → ℕ) (x : ℕ → ℕ → ℕ) (xs ps : List ℕ) where
     pub firsts-end : keys-of xs ≤ i → now ≡ lists-from (first-apart y x) (keys-of xs) 0 xs ps
     unfolding lists-from counts-from
     firsts-end past =
-        let z : keys-of xs - i ≡ 0 = omega (arith, h .within) in
+        let z : keys-of xs - i ≡ 0 = omega arith in
         let all : at ≡ length ps = omega (arith, rw z at (h .counted)) in
         let few : length ps ≤ at = omega (arith, all) in
         let none : drop at ps ≡ [] = drop-of-length-le ps few in
-        sym (take-all at now (omega (arith, all, h .len)))
+        sym (take-all at now (omega (arith, all)))
         ∙ sym (append-nil (take at now))
         ∙ rw (z, none) at (h .so-far)
 
@@ -119,7 +119,7 @@ module _ (y : ℕ → ℕ) (x : ℕ → ℕ → ℕ) (xs ps : List ℕ) where
       list-room = omega (arith, counted-next)
 
       pub first-room : 1 ≤ count-at xs i → at < length now
-      first-room some = omega (arith, list-room, h .len)
+      first-room some = omega (arith, list-room)
 
       pub firsts-step : 1 ≤ count-at xs i → Firsts (set now at (y (getD ps at 0))) (i + 1) (at + count-at xs i)
       unfolding lists-from
@@ -129,7 +129,7 @@ module _ (y : ℕ → ℕ) (x : ℕ → ℕ → ℕ) (xs ps : List ℕ) where
           p = getD ps at 0
 
           there : at < length ps
-          there = omega (arith, first-room some, h .len)
+          there = omega (arith, first-room some)
 
           cut : drop at ps ≡ p ∷ drop (suc at) ps
           cut = drop-cons ps at 0 there
@@ -186,7 +186,7 @@ module _ (run old : List ℕ) (even : length run ≡ suc (length old)) where
     pub distances-step : i < length now → Distances run old (set now i (getD run (i + 1) 0 - getD run i 0)) (i + 1)
     unfolding gaps-after
     distances-step below =
-        let there : i + 1 < length run = omega (arith, h .way .len) in
+        let there : i + 1 < length run = omega arith in
         let next : drop (i + 1) run ≡ getD run (i + 1) 0 ∷ drop (i + 1 + 1) run = rw (add-one (i + 1)) (drop-cons run (i + 1) 0 there) in
         record {
           within = there;
@@ -198,7 +198,7 @@ module _ (run old : List ℕ) (even : length run ≡ suc (length old)) where
     pub distances-end : length now ≤ i → now ≡ gaps-after (getD run 0 0) (drop 1 run)
     unfolding gaps-after
     distances-end past =
-        let few : length run ≤ i + 1 = omega (arith, h .way .len) in
+        let few : length run ≤ i + 1 = omega arith in
         let none : drop (i + 1) run ≡ [] = drop-of-length-le run few in
         let all : List ℕ = gaps-after (getD run 0 0) (drop 1 run) in
         let all-long : length old ≤ length all = omega (arith, length-gaps (getD run 0 0) (drop 1 run), length-drop 1 run) in

@@ -183,18 +183,18 @@ module _ (f : List ℕ → List ℕ) (keeps : Keeps-length f) where
     pub fits-with : Fits xs → Fits (with-lists f xs)
     fits-with fits =
         record {
-          has-header = omega (arith, length-with xs, fits .has-header);
-          has-directory = omega (arith, length-with xs, keys-with xs, fits .has-directory);
-          is-long = omega (arith, length-with xs, keys-with xs, entries-with (fits .has-directory), fits .is-long);
+          has-header = omega (arith, length-with xs);
+          has-directory = omega (arith, length-with xs, keys-with xs);
+          is-long = omega (arith, length-with xs, keys-with xs, entries-with (fits .has-directory));
         }
 
     pub fits-back : Fits (with-lists f xs) → Fits xs
     fits-back fits =
-        let dir : header + 3 * keys-of xs ≤ length xs = omega (arith, length-with xs, keys-with xs, fits .has-directory) in
+        let dir : header + 3 * keys-of xs ≤ length xs = omega (arith, length-with xs, keys-with xs) in
         record {
-          has-header = omega (arith, length-with xs, fits .has-header);
+          has-header = omega (arith, length-with xs);
           has-directory = dir;
-          is-long = omega (arith, length-with xs, keys-with xs, entries-with dir, fits .is-long);
+          is-long = omega (arith, length-with xs, keys-with xs, entries-with dir);
         }
 
     -- the same n and keys, and f applied to each list

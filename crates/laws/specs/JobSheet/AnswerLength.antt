@@ -47,7 +47,7 @@ module _ (s : List ℕ) where
       (chars-small (index-of (lexicon cs ls) (replaced ts))
       (index-chars (replaced ts) (reached-lexicon cs ls (words-on-chars s) (good .admits))
       (replaced-chars ts (text-on-chars s))
-      (omega (arith, good .text-short, length-replaced ts))))
+      (omega (arith, length-replaced ts))))
       (good .finds-few))
 
   pub answer-short : length (job-answer s) ≤ 700000

@@ -52,7 +52,7 @@ module _ {lex : Lexicon} {xs fs ls : List ℕ} {start : ℕ} {old : List ℕ} {f
     next-total = ap total (drop-next ls i below)
 
     pub string-fits : from + getD ls i 0 ≤ length fs
-    string-fits = omega (arith, h .fits, next-total)
+    string-fits = omega (arith, next-total)
 
     part : from + getD ls i 0 - from ≡ getD ls i 0
     part = omega arith

@@ -89,5 +89,5 @@ pub index-lines-parts :
     (xs : List ℕ) → Whole xs → index-lines xs ≡ index-line (n-of xs) (keys-of xs) (length xs - 2 - 3 * keys-of xs) ++ key-lines (lines-in xs)
 unfolding index-lines
 index-lines-parts xs whole =
-    let m : entries-of xs ≡ length xs - 2 - 3 * keys-of xs = omega (arith, whole .exact) in
+    let m : entries-of xs ≡ length xs - 2 - 3 * keys-of xs = omega arith in
     rw m

@@ -74,13 +74,7 @@ pub shown-short :
     {cs ls xs : List ℕ} (ss : List (List ℕ)) → Usable cs ls xs → Small xs → length ss ≤ 50 →
     length (index-lines xs ++ found-lines (lexicon cs ls) xs ss) ≤ 700000
 shown-short {cs} {ls} {xs} ss u small few =
-    omega (
-      arith,
-      length-append (index-lines xs) (found-lines (lexicon cs ls) xs ss),
-      index-lines-short xs (usable-whole cs ls xs u) small (omega (arith, u .few)),
-      found-lines-short (lexicon cs ls) xs (u .short) ss,
-      u .few,
-    )
+    omega (arith, length-append (index-lines xs) (found-lines (lexicon cs ls) xs ss), index-lines-short xs (usable-whole cs ls xs u) small (omega arith), found-lines-short (lexicon cs ls) xs (u .short) ss)
 
 module _ {cs ls xs fs ns : List ℕ} (out : List ℕ) (u : Usable cs ls xs) (small : Small xs) (good : Strings-good fs ns) (room : 700000 ≤ length out) where
   finds-lines : List ℕ
@@ -90,7 +84,7 @@ module _ {cs ls xs fs ns : List ℕ} (out : List ℕ) (u : Usable cs ls xs) (sma
   unfolding shown finds-lines
   first =
       writing-start (shown cs ls xs fs ns) 0 out
-      (omega (arith, shown-short (words-from ns fs) u small (omega (arith, length-words ns fs, good .few))))
+      (omega (arith, shown-short (words-from ns fs) u small (omega (arith, length-words ns fs))))
 
   pub index-lines-fit : 0 + length (index-lines xs) ≤ length out
   index-lines-fit = writing-room (index-lines xs) finds-lines first
@@ -121,7 +115,7 @@ index-shown cs ls ts fs ns xs e = rw e
 pub written-in-hand : {ys old : List ℕ} {end : ℕ} {now : List ℕ} → Wrote ys 0 old end now → In-hand ys end now
 unfolding placed
 written-in-hand {ys} {old} {end} {now} w =
-    in-hand ys end now (drop (0 + length ys) old) (omega (arith, w .ends)) (w .content)
+    in-hand ys end now (drop (0 + length ys) old) (omega arith) (w .content)
 
 -- bytes at the start of an output that holds them
 pub handed-over :

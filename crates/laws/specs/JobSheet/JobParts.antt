@@ -132,7 +132,7 @@ module _ {s : List ℕ} {words dictionary text finds : ℕ} {chars lengths : Lis
 
   pub parts-there : Parts-there words dictionary text finds chars lengths
   parts-there =
-      record { good = parts-good; chars-fit = omega (arith, p .chars-fit); lengths-fit = p .lengths-fit }
+      record { good = parts-good; chars-fit = omega arith; lengths-fit = p .lengths-fit }
 
   pub parts-answer : printed-there words dictionary text finds chars lengths ≡ job-answer s
   unfolding printed-of shown job-answer printed lexicon-on

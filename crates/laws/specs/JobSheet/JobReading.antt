@@ -138,9 +138,9 @@ module _ {s chars₀ lengths₀ : List ℕ} {good : Bool} {words dictionary text
         words-counted = r .words-counted;
         text-counted = text-long;
         finds-counted = r .finds-counted;
-        words-few = omega (arith, r .words-counted, leb-true (length (words-on s)) 200 (and-left (leb (length (words-on s)) 200) (leb (length (text-on s)) 2000) (and-left (leb (length (words-on s)) 200 && leb (length (text-on s)) 2000) (leb (length (finds-on s)) 50) counts)));
+        words-few = omega (arith, leb-true (length (words-on s)) 200 (and-left (leb (length (words-on s)) 200) (leb (length (text-on s)) 2000) (and-left (leb (length (words-on s)) 200 && leb (length (text-on s)) 2000) (leb (length (finds-on s)) 50) counts)));
         text-short = omega (arith, text-long, leb-true (length (text-on s)) 2000 (and-right (leb (length (words-on s)) 200) (leb (length (text-on s)) 2000) (and-left (leb (length (words-on s)) 200 && leb (length (text-on s)) 2000) (leb (length (finds-on s)) 50) counts)));
-        finds-few = omega (arith, r .finds-counted, leb-true (length (finds-on s)) 50 (and-right (leb (length (words-on s)) 200 && leb (length (text-on s)) 2000) (leb (length (finds-on s)) 50) counts));
+        finds-few = omega (arith, leb-true (length (finds-on s)) 50 (and-right (leb (length (words-on s)) 200 && leb (length (text-on s)) 2000) (leb (length (finds-on s)) 50) counts));
         words-are = rw (r .dictionary-counted) (first-part (run-together (words-on s)) (run-together (texts-on s)) (run-together (finds-on s)) _ chars chars-whole);
         words-lengths = rw (r .words-counted, ← length-lengths (words-on s)) (first-part (lengths-of (words-on s)) (lengths-of (texts-on s)) (lengths-of (finds-on s)) _ lengths lengths-whole);
         text-is =
@@ -152,29 +152,15 @@ module _ {s chars₀ lengths₀ : List ℕ} {good : Bool} {words dictionary text
             (third-part (run-together (words-on s)) (run-together (texts-on s)) (run-together (finds-on s)) _ chars chars-whole);
         finds-lengths = finds-lengths;
         chars-fit =
-            omega (
-              arith,
-              r .dictionary-counted,
-              r .text-counted,
-              parts-fit (run-together (words-on s)) (run-together (texts-on s)) (run-together (finds-on s)) _ chars chars-whole,
-            );
+            omega (arith, parts-fit (run-together (words-on s)) (run-together (texts-on s)) (run-together (finds-on s)) _ chars chars-whole);
         lengths-fit =
-            omega (
-              arith,
-              one,
-              r .words-counted,
-              r .finds-counted,
-              length-lengths (words-on s),
-              length-lengths (texts-on s),
-              length-lengths (finds-on s),
-              parts-fit (lengths-of (words-on s)) (lengths-of (texts-on s)) (lengths-of (finds-on s)) _ lengths lengths-whole,
-            );
+            omega (arith, one, length-lengths (words-on s), length-lengths (texts-on s), length-lengths (finds-on s), parts-fit (lengths-of (words-on s)) (lengths-of (texts-on s)) (lengths-of (finds-on s)) _ lengths lengths-whole);
       }
     where
       finds-lengths : take finds (drop (words + 1) lengths) ≡ lengths-of (finds-on s)
       finds-lengths =
           let skipped : words + 1 ≡ length (lengths-of (words-on s)) + length (lengths-of (texts-on s)) =
-          omega (arith, r .words-counted, one, length-lengths (words-on s), length-lengths (texts-on s)) in
+          omega (arith, one, length-lengths (words-on s), length-lengths (texts-on s)) in
           let many : finds ≡ length (lengths-of (finds-on s)) = r .finds-counted ∙ sym (length-lengths (finds-on s)) in
           rw (skipped, many) (third-part (lengths-of (words-on s)) (lengths-of (texts-on s)) (lengths-of (finds-on s)) _ lengths lengths-whole)
 

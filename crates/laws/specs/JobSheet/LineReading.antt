@@ -95,7 +95,7 @@ module _ {s : List ℕ} {at i : ℕ} (h : Line-read s at i) where
   pub line-step : i < length s → (getD s i 0 ≡ line-feed → ⊥) → Line-read s at (i + 1)
   line-step below other =
       record {
-        from = omega (arith, h .from);
+        from = omega arith;
         within = omega arith;
         passed =
             ap (λ (p : List ℕ). onto-all p (lines (drop (i + 1) s))) (part-next s at i (h .from) below)

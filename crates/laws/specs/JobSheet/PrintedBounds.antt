@@ -97,16 +97,8 @@ pub index-lines-short :
     (xs : List ℕ) → Whole xs → Small xs → length xs ≤ 65535 → length (index-lines xs) ≤ 12 + 7 * length xs
 unfolding index-lines lines-in
 index-lines-short xs whole small few =
-    omega (
-      arith,
-      whole .headed,
-      whole .exact,
-      length-append (index-line (n-of xs) (keys-of xs) (entries-of xs))
-          (key-lines (lines-from (keys-of xs) 0 xs (drop (header + 3 * keys-of xs) xs))),
-      head,
-      key-lines-short (keys-of xs) 0 xs (drop (header + 3 * keys-of xs) xs) small (small-drop (header + 3 * keys-of xs) xs small),
-      length-drop (header + 3 * keys-of xs) xs,
-    )
+    omega (arith, length-append (index-line (n-of xs) (keys-of xs) (entries-of xs))
+          (key-lines (lines-from (keys-of xs) 0 xs (drop (header + 3 * keys-of xs) xs))), head, key-lines-short (keys-of xs) 0 xs (drop (header + 3 * keys-of xs) xs) small (small-drop (header + 3 * keys-of xs) xs small), length-drop (header + 3 * keys-of xs) xs)
   where
     head : length (index-line (n-of xs) (keys-of xs) (entries-of xs)) ≤ 26
     head =
@@ -119,7 +111,7 @@ index-lines-short xs whole small few =
           length-append (gap ++ decimal (entries-of xs)) ending,
           decimal-short (n-of xs) (small 0),
           decimal-short (keys-of xs) (small 1),
-          decimal-short (entries-of xs) (omega (arith, whole .exact)),
+          decimal-short (entries-of xs) (omega arith),
         ))
 
 pub found-line-short : (ps : List ℕ) → Small ps → length ps ≤ 65535 → length (found-line ps) ≤ 17 + 6 * length ps

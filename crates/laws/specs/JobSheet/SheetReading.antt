@@ -52,7 +52,7 @@ module _ {h s : List ℕ} {start used₀ count₀ : ℕ} {chars₀ lengths₀ : 
   unfolding run-together lengths-of
   forms-end past =
       record {
-        within = omega (arith, r .here .from, r .here .within);
+        within = omega arith;
         rest = sym (r .here .all-left past) ∙ r .rest;
         chars-got = writing-end (writing-as (ap run-together (r .here .none past)) (r .chars-left));
         lengths-got = writing-end (writing-as (ap lengths-of (r .here .none past)) (r .lengths-left));
@@ -89,7 +89,7 @@ module _ {h s : List ℕ} {start used₀ count₀ : ℕ} {chars₀ lengths₀ : 
         {next : ℕ} {chars' : List ℕ} → Wrote (string-in (part s at end)) used chars next chars' → {end' : ℕ} → Form-end h s (end + 1) end' →
         Forms-read h s start used₀ count₀ chars₀ lengths₀ (end + 1) next (count + 1) end' chars' (set lengths count (next - used))
     forms-step {next} w here' =
-        let len : next - used ≡ length (string-in (part s at end)) = omega (arith, w .ends) in
+        let len : next - used ≡ length (string-in (part s at end)) = omega arith in
         record {
           here = here';
           rest = sym (r .here .others below) ∙ r .rest;

@@ -52,16 +52,16 @@ wrote-then :
     Wrote (xs ++ ys) at old end now
 wrote-then {old} {mid} {now} {at} {used} {end} {xs} {ys} room first second =
     record {
-      ends = omega (arith, first .ends, second .ends, length-append xs ys);
+      ends = omega (arith, length-append xs ys);
       content = second .content ∙ rw (first .ends, first .content) (placed-append xs ys at old room);
     }
 
 module _ {s chars₀ lengths₀ cs ls : List ℕ} {rest : List (List ℕ)} {at used count : ℕ} {chars lengths : List ℕ} (st : Stage s chars₀ lengths₀ cs ls rest at used count chars lengths) where
   chars-room : 0 + length cs ≤ length chars₀
-  chars-room = omega (arith, st .sized, st .enough .for-chars)
+  chars-room = omega arith
 
   lengths-room : 0 + length ls ≤ length lengths₀
-  lengths-room = omega (arith, st .sized, st .enough .for-lengths)
+  lengths-room = omega arith
 
   pub chars-long : length chars ≡ length chars₀
   chars-long = ap length (st .chars-got .content) ∙ length-placed cs 0 chars₀ chars-room
@@ -79,10 +79,10 @@ module _ {s chars₀ lengths₀ cs ls : List ℕ} {rest : List (List ℕ)} {at u
         short = st .enough .short;
         chars-fit =
             rw (st .left)
-            (omega (arith, more-size h, st .sized, st .chars-got .ends, chars-long, st .enough .for-chars));
+            (omega (arith, more-size h, chars-long));
         lengths-fit =
             rw (st .left)
-            (omega (arith, more-size h, st .sized, st .lengths-got .ends, lengths-long, st .enough .for-lengths));
+            (omega (arith, more-size h, lengths-long));
       }
 
   pub stage-step :
@@ -94,13 +94,7 @@ module _ {s chars₀ lengths₀ cs ls : List ℕ} {rest : List (List ℕ)} {at u
         within = got .within;
         left = got .rest ∙ ap (after h) (st .left);
         sized =
-            omega (
-              arith,
-              more-size h,
-              st .sized,
-              length-append cs (run-together (forms h rest)),
-              length-append ls (lengths-of (forms h rest)),
-            );
+            omega (arith, more-size h, length-append cs (run-together (forms h rest)), length-append ls (lengths-of (forms h rest)));
         chars-got =
             wrote-then chars-room (st .chars-got)
             (rw (st .left) at (got .chars-got));
@@ -227,38 +221,24 @@ module _ (s chars₀ lengths₀ : List ℕ) (at used count : ℕ) (chars lengths
 -- how many of each there are
 module _ (s chars₀ lengths₀ : List ℕ) (at used count : ℕ) (chars lengths : List ℕ) where
   pub words-used : Words-read s chars₀ lengths₀ at used count chars lengths → used ≡ length (run-together (words-on s))
-  words-used st = omega (arith, st .chars-got .ends)
+  words-used st = omega arith
 
   pub words-count : Words-read s chars₀ lengths₀ at used count chars lengths → count ≡ length (words-on s)
-  words-count st = omega (arith, st .lengths-got .ends, length-lengths (words-on s))
+  words-count st = omega (arith, length-lengths (words-on s))
 
   pub texts-used :
       Texts-read s chars₀ lengths₀ at used count chars lengths →
       used ≡ length (run-together (words-on s)) + length (run-together (texts-on s))
-  texts-used st = omega (arith, st .chars-got .ends, length-append (run-together (words-on s)) (run-together (texts-on s)))
+  texts-used st = omega (arith, length-append (run-together (words-on s)) (run-together (texts-on s)))
 
   pub texts-count : Texts-read s chars₀ lengths₀ at used count chars lengths → count ≡ length (words-on s) + length (texts-on s)
   texts-count st =
-      omega (
-        arith,
-        st .lengths-got .ends,
-        length-append (lengths-of (words-on s)) (lengths-of (texts-on s)),
-        length-lengths (words-on s),
-        length-lengths (texts-on s),
-      )
+      omega (arith, length-append (lengths-of (words-on s)) (lengths-of (texts-on s)), length-lengths (words-on s), length-lengths (texts-on s))
 
   pub finds-count :
       Finds-read s chars₀ lengths₀ at used count chars lengths → count ≡ length (words-on s) + length (texts-on s) + length (finds-on s)
   finds-count st =
-      omega (
-        arith,
-        st .lengths-got .ends,
-        length-append (lengths-of (words-on s) ++ lengths-of (texts-on s)) (lengths-of (finds-on s)),
-        length-append (lengths-of (words-on s)) (lengths-of (texts-on s)),
-        length-lengths (words-on s),
-        length-lengths (texts-on s),
-        length-lengths (finds-on s),
-      )
+      omega (arith, length-append (lengths-of (words-on s) ++ lengths-of (texts-on s)) (lengths-of (finds-on s)), length-append (lengths-of (words-on s)) (lengths-of (texts-on s)), length-lengths (words-on s), length-lengths (texts-on s), length-lengths (finds-on s))
 
   pub finds-chars-long : Finds-read s chars₀ lengths₀ at used count chars lengths → length chars ≡ length chars₀
   finds-chars-long st =
@@ -288,6 +268,6 @@ sheet-read s chars₀ lengths₀ at used count chars lengths good words dictiona
       finds-counted = ef;
       chars-are = st .chars-got .content;
       lengths-are = st .lengths-got .content;
-      chars-fit = omega (arith, st .sized, st .enough .for-chars);
-      lengths-fit = omega (arith, st .sized, st .enough .for-lengths);
+      chars-fit = omega arith;
+      lengths-fit = omega arith;
     }

@@ -75,7 +75,7 @@ module _
     {cs ls ss : List ℕ} (t : Started cs ls ss) {ts : List ℕ} {p k lo hi d best : ℕ}
     (h : Narrowed (lexicon cs ls .words) ts p k lo hi d best) where
   known : (i : ℕ) → i < hi → i < length ls
-  known i b = omega (arith, h .within, h .known, many-words cs ls (t .dictionary))
+  known i b = omega (arith, many-words cs ls (t .dictionary))
 
   pub run-known : lo < hi → lo < length ls
   run-known some = known lo some
@@ -113,7 +113,7 @@ module _
     run-column =
         record {
           order = h .order;
-          known = omega (arith, known (hi - 1) (omega arith), t .starts-long);
+          known = omega (arith, known (hi - 1) (omega arith));
           room = λ i a b. omega (arith, start i b, longer i a b, word-room cs ls (t .dictionary) i (known i b));
           rises =
               λ i j a b c.
@@ -130,8 +130,8 @@ module _
         record {
           from = q .from;
           to = q .to;
-          below = λ i a b. omega (arith, column-word i (omega arith) (omega (arith, q .to)), q .below i a b);
-          above = λ i a b. omega (arith, column-word i (omega (arith, q .from)) b, q .above i a b);
+          below = λ i a b. omega (arith, column-word i (omega arith) (omega arith), q .below i a b);
+          above = λ i a b. omega (arith, column-word i (omega arith) b, q .above i a b);
         }
 
     pub run-stop : suc (length ts) ≤ p + d → Last-standing (lexicon cs ls .words) ts p k best

@@ -55,12 +55,12 @@ Descending k (x ∷ xs) = (x < k) × Descending x xs
 
 pub fall-below : (k : ℕ) (xs : List ℕ) (j : ℕ) → Descending k xs → In j xs → j < k
 fall-below k [] j f m = absurd m
-fall-below k (x ∷ xs) j f (inl e) = omega (arith, f .0)
-fall-below k (x ∷ xs) j f (inr m) = omega (arith, f .0, fall-below x xs j (f .1) m)
+fall-below k (x ∷ xs) j f (inl e) = omega arith
+fall-below k (x ∷ xs) j f (inr m) = omega (arith, fall-below x xs j (f .1) m)
 
 pub fall-more : (k l : ℕ) (xs : List ℕ) → k ≤ l → Descending k xs → Descending l xs
 fall-more k l [] h f = tt
-fall-more k l (x ∷ xs) h f = (omega (arith, f .0), f .1)
+fall-more k l (x ∷ xs) h f = (omega arith, f .1)
 
 module _ (f : ℕ → ℕ) (b : ℕ) where
   pub chained-falls : (n : ℕ) → Descending n (chained f b n)
@@ -144,27 +144,27 @@ module _ (links : List ℕ) (f : ℕ → ℕ) (b n : ℕ) (Q : ℕ → Type 0) w
   stop-at next [] some c fall mine rest = absurd (some c)
   stop-at next (x ∷ xs) some c fall mine rest =
       record {
-        below = omega (arith, c .0, fall .0);
+        below = omega arith;
         linked = rw at (c .1);
         mine = rw at (mine x (inl refl));
         falls = rw at (lower xs (c .2) (fall .1));
-        left = λ j l e. ⊎-elim (λ (m : In j (x ∷ xs)). inl (omega (arith, c .0, fall-below (suc x) (x ∷ xs) j (omega arith, fall .1) m))) (λ (q : Q j). inr q) (rest j l e);
+        left = λ j l e. ⊎-elim (λ (m : In j (x ∷ xs)). inl (omega (arith, fall-below (suc x) (x ∷ xs) j (omega arith, fall .1) m))) (λ (q : Q j). inr q) (rest j l e);
         onward = onward;
       }
     where
       at : next - 1 ≡ x
-      at = omega (arith, c .0)
+      at = omega arith
 
       lower : (ys : List ℕ) → Chain links (getD links x 0) ys → Descending x ys → getD links x 0 < next
-      lower [] d g = omega (arith, c .0, d)
-      lower (y ∷ ys) d g = omega (arith, c .0, d .0, g .0)
+      lower [] d g = omega (arith, d)
+      lower (y ∷ ys) d g = omega arith
 
       onward : Q (next - 1) → Walk links f b n Q (getD links (next - 1) 0)
       onward q =
           record {
             ahead = xs;
             chain = rw at (c .2);
-            falls = fall-more x n xs (omega (arith, fall .0)) (fall .1);
+            falls = fall-more x n xs (omega arith) (fall .1);
             mine = λ j m. mine j (inr m);
             rest = λ j l e. passed j (rest j l e);
           }
@@ -182,4 +182,4 @@ module _ (links : List ℕ) (f : ℕ → ℕ) (b n : ℕ) (Q : ℕ → Type 0) w
     where
       none : (xs : List ℕ) → Chain links 0 xs → In j xs → ⊥
       none [] c m = m
-      none (x ∷ xs) c m = omega (arith, c .0)
+      none (x ∷ xs) c m = omega arith

@@ -59,7 +59,7 @@ module _ (cs ls : List ℕ) (a : admitted cs ls ≡ true) (ts : List ℕ) (q e :
   -- the text ends after one character
   pub pair-past : (len : ℕ) → length ts ≤ q + 1 → Pair-longest (lexicon cs ls) ts (q + 1) (e + 1) 0 len
   pair-past len end =
-      record { none = λ z j b l s. absurd (omega (arith, s .within)); some = λ i z. absurd (omega arith) }
+      record { none = λ z j b l s. absurd (omega arith); some = λ i z. absurd (omega arith) }
 
   module _ {number : ℕ} (h : Pair-found (lexicon cs ls .words) ts (q + 1) (e + 1) number) where
     pub pair-missing : (len : ℕ) → number ≡ 0 → Pair-longest (lexicon cs ls) ts (q + 1) (e + 1) 0 len
@@ -75,10 +75,10 @@ module _ (cs ls : List ℕ) (a : admitted cs ls ≡ true) (ts : List ℕ) (q e :
 
     module _ (some : number ≡ 0 → ⊥) where
       pub pair-in : number - 1 < length ls
-      pair-in = omega (arith, some, h .below, many-words cs ls a)
+      pair-in = omega (arith, some, many-words cs ls a)
 
       there : number - 1 < length (lexicon cs ls .words)
-      there = omega (arith, some, h .below)
+      there = omega (arith, some)
 
       standing : Stand (word cs ls (number - 1)) ts (q + 1)
       standing = h .stand (number - 1) (omega (arith, some))
@@ -158,7 +158,7 @@ module _ (cs ls : List ℕ) (a : admitted cs ls ≡ true) (ts : List ℕ) (q e :
                 record {
                   is-word =
                       record {
-                        below = omega (arith, s .below);
+                        below = omega arith;
                         stand = s .stand i z;
                         longest = λ j b r. omega (arith, short j b r, s .one i z);
                       };

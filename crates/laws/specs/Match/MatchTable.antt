@@ -226,14 +226,14 @@ module _ (cs ls heads links starts : List ℕ) where
         ⊎-elim
         (λ (t : eqb i n ≡ true).
         let here : i ≡ n = eqb-true i n t in
-        rw here (getD-set-same starts n at 0 (omega (arith, h .within, h .starts-long)) ∙ h .at-is))
+        rw here (getD-set-same starts n at 0 (omega arith) ∙ h .at-is))
         (λ (t : eqb i n ≡ false).
         let other : i ≡ n → ⊥ = eqb-false i n t in
         getD-set-other starts n i at 0 other ∙ h .started i (omega (arith, other)))
         (true-or-false (eqb i n))
 
     pub chained-small : admitted cs ls ≡ true → at ≤ 65535
-    chained-small a = omega (arith, h .at-is, start-small cs ls a n (h .within))
+    chained-small a = omega (arith, start-small cs ls a n (h .within))
 
     pub chained-step :
         (b : ℕ) → n < length ls → b ≡ bucket-of cs ls n → b < 10240 →
@@ -250,14 +250,14 @@ module _ (cs ls heads links starts : List ℕ) where
         }
       where
         room : n < length links
-        room = omega (arith, h .links-long)
+        room = omega arith
 
         chain :
             (x : ℕ) → x < 10240 → (eqb x b ≡ true) ⊎ (eqb x b ≡ false) →
             Chain (set links n (getD heads b 0)) (getD (set heads b (n + 1)) x 0) (chained (bucket-of cs ls) x (n + 1))
         chain x l (inl t) =
             let here : x ≡ b = eqb-true x b t in
-            rw (here, getD-set-same heads b (n + 1) 0 (omega (arith, h .heads-long)), add-one n)
+            rw (here, getD-set-same heads b (n + 1) 0 (omega arith), add-one n)
             (chained-here (bucket-of cs ls) b links n (getD heads b 0) room (h .chains b small) (sym e))
         chain x l (inr t) =
             let other : x ≡ b → ⊥ = eqb-false x b t in
@@ -267,7 +267,7 @@ module _ (cs ls heads links starts : List ℕ) where
 
     pub chained-end : admitted cs ls ≡ true → length ls ≤ n → Tables cs ls heads links (set starts n at)
     chained-end a past =
-        let all : n ≡ length ls = omega (arith, h .within) in
+        let all : n ≡ length ls = omega arith in
         record {
           words =
               record {

@@ -35,7 +35,7 @@ unfolding word-before
 next-rises [] w d t a b same = absurd (omega arith)
 next-rises (x ∷ xs) [] d t a b same = absurd (omega arith)
 next-rises (x ∷ xs) (y ∷ ys) zero t a b same =
-    ⊎-elim (λ (p : x < y). omega arith) (λ (q : (x ≡ y) × (word-before xs ys ≡ true)). omega (arith, q .0)) (word-before-get x y xs ys t)
+    ⊎-elim (λ (p : x < y). omega arith) (λ (q : (x ≡ y) × (word-before xs ys ≡ true)). omega arith) (word-before-get x y xs ys t)
 next-rises (x ∷ xs) (y ∷ ys) (suc d) t a b same =
     ⊎-elim (λ (p : x < y). absurd (omega (arith, same 0 (omega arith))))
     (λ (q : (x ≡ y) × (word-before xs ys ≡ true)).
@@ -93,9 +93,9 @@ module _ (ws : List (List ℕ)) (ts : List ℕ) (p k : ℕ) where
     pub narrow-end : hi ≤ lo → Last-standing ws ts p k best
     narrow-end done =
         record {
-          below = omega (arith, h .low, h .order, h .within);
+          below = omega arith;
           stand = h .stand;
-          last = λ i b s. ⊎-elim (λ (l : i < best). l) (λ (q : (lo ≤ i) × (i < hi)). absurd (omega (arith, q .0, q .1))) (h .rest i b s);
+          last = λ i b s. ⊎-elim (λ (l : i < best). l) (λ (q : (lo ≤ i) × (i < hi)). absurd (omega arith)) (h .rest i b s);
         }
 
     module _ (some : lo < hi) where
@@ -113,13 +113,13 @@ module _ (ws : List (List ℕ)) (ts : List ℕ) (p k : ℕ) where
                 λ i q.
                 let here : i ≡ lo = omega arith in
                 rw here
-                (stand-put (getD ws lo []) ts p (h .from) (omega (arith, h .reach))
+                (stand-put (getD ws lo []) ts p (h .from) (omega arith)
                 (λ j b. h .agree lo j (omega arith) some (omega arith)));
             len = λ i a b. h .len i (omega arith) b;
             agree = λ i j a b l. h .agree i j (omega arith) b l;
             rest =
                 λ i b s.
-                ⊎-elim (λ (l : i < best). inl (omega (arith, h .low)))
+                ⊎-elim (λ (l : i < best). inl (omega arith))
                 (λ (q : (lo ≤ i) × (i < hi)).
                 ⊎-elim (λ (l : i ≤ lo). inl (omega arith)) (λ (l : lo < i). inr (omega arith, q .1)) (le-or-lt i lo)) (h .rest i b s);
           }
@@ -137,7 +137,7 @@ module _ (ws : List (List ℕ)) (ts : List ℕ) (p k : ℕ) where
             no l =
                 ⊎-elim (λ (q : i ≤ lo). let here : i ≡ lo = omega arith in omega (arith, first, ap (λ (x : ℕ). length (getD ws x [])) here))
                 (λ (q : lo < i).
-                prefix-not-before (getD ws i []) (getD ws lo []) (ascend-get ws sorted lo i q (omega (arith, h .within, h .known))) (omega (arith, first))
+                prefix-not-before (getD ws i []) (getD ws lo []) (ascend-get ws sorted lo i q (omega arith)) (omega (arith, first))
                 (λ j c. h .agree lo j (omega arith) some (omega arith) ∙ sym (h .agree i j a b (omega arith))))
                 (le-or-lt i lo)
 
@@ -146,7 +146,7 @@ module _ (ws : List (List ℕ)) (ts : List ℕ) (p k : ℕ) where
         narrow-rises i j a b c =
             ⊎-elim (λ (q : j ≤ i). let here : i ≡ j = omega arith in omega (arith, ap (λ (x : ℕ). getD (getD ws x []) d 0) here))
             (λ (q : i < j).
-            next-rises (getD ws i []) (getD ws j []) d (ascend-get ws sorted i j q (omega (arith, h .within, h .known)))
+            next-rises (getD ws i []) (getD ws j []) d (ascend-get ws sorted i j q (omega arith))
             (narrow-longer i a (omega arith)) (narrow-longer j (omega arith) c)
             (λ x l. h .agree i x a (omega arith) l ∙ sym (h .agree j x (omega arith) c l)))
             (le-or-lt j i)
@@ -155,12 +155,12 @@ module _ (ws : List (List ℕ)) (ts : List ℕ) (p k : ℕ) where
         pub narrow-stop : suc (length ts) ≤ p + d → Last-standing ws ts p k best
         narrow-stop past =
             record {
-              below = omega (arith, h .low, h .order, h .within);
+              below = omega arith;
               stand = h .stand;
               last =
                   λ i b s.
                   ⊎-elim (λ (l : i < best). l)
-                  (λ (q : (lo ≤ i) × (i < hi)). absurd (omega (arith, s .within, narrow-longer i (q .0) (q .1)))) (h .rest i b s);
+                  (λ (q : (lo ≤ i) × (i < hi)). absurd (omega (arith, narrow-longer i (q .0) (q .1)))) (h .rest i b s);
             }
 
         -- the equal range of the text's next character is left
@@ -170,24 +170,24 @@ module _ (ws : List (List ℕ)) (ts : List ℕ) (p k : ℕ) where
         narrow-step {c} {from} {to} e room l r =
             record {
               order = r .from;
-              within = omega (arith, r .to, h .within);
+              within = omega arith;
               known = h .known;
               from = h .from;
               reach = omega arith;
-              low = omega (arith, h .low, l .from);
+              low = omega arith;
               stand = h .stand;
-              len = λ i a b. omega (arith, narrow-longer i (omega (arith, l .from)) (omega (arith, r .to)));
+              len = λ i a b. omega (arith, narrow-longer i (omega arith) (omega arith));
               agree = agree;
               rest = λ i b s. ⊎-elim (λ (q : i < best). inl q) (λ (q : (lo ≤ i) × (i < hi)). inr (left i s q)) (h .rest i b s);
             }
           where
             char : (i : ℕ) → from ≤ i → i < to → getD (getD ws i []) d 0 ≡ c
-            char i a b = omega (arith, l .above i a (omega (arith, r .to)), r .below i a b)
+            char i a b = omega (arith, l .above i a (omega arith), r .below i a b)
 
             agree : (i j : ℕ) → from ≤ i → i < to → j < d + 1 → getD (getD ws i []) j 0 ≡ getD ts (p + j - 1) 0
             agree i j a b q =
                 ⊎-elim (λ (z : d ≤ j). let here : j ≡ d = omega arith in rw here (char i a b ∙ e))
-                (λ (z : j < d). h .agree i j (omega (arith, l .from)) (omega (arith, r .to)) z) (le-or-lt d j)
+                (λ (z : j < d). h .agree i j (omega arith) (omega arith) z) (le-or-lt d j)
 
             left : (i : ℕ) → Stand (getD ws i []) ts p → (lo ≤ i) × (i < hi) → (from ≤ i) × (i < to)
             left i s q =

@@ -35,7 +35,7 @@ module _ {cs ls ss : List ℕ} (t : Started cs ls ss) (ts : List ℕ) (q e i : �
   ends-early h = record { yes = λ b. clash b refl; no = λ b s. omega (arith, len) }
 
   pub runs-out : length ts < q + getD ls i 0 → Stands-after (word cs ls i) ts (q + 1) (e + 1) false
-  runs-out h = record { yes = λ b. clash b refl; no = λ b s. absurd (omega (arith, len, s .within)) }
+  runs-out h = record { yes = λ b. clash b refl; no = λ b s. absurd (omega (arith, len)) }
 
   read : (j : ℕ) → j < getD ls i 0 → getD cs (getD ss i 0 + j) 0 ≡ getD (word cs ls i) j 0
   read j b =
@@ -157,7 +157,7 @@ module _ {cs ls heads links ss : List ℕ} (t : Tables cs ls heads links ss) (ts
         Pair-found (lexicon cs ls .words) ts (q + 1) (e + 1) number
     pair-narrowed {number} h =
         record {
-          below = omega (arith, h .below, pair-below);
+          below = omega (arith, pair-below);
           stand = h .stand;
           over = λ j c l s a. over number j (λ x. h .last j x s) c l s a;
         }

@@ -18,8 +18,8 @@ use Rattle.laws.specs.Numbers.Flat.{posting, entries-at-get, flat-get}
 
 pub rise-least : (a : ℕ) (ps : List ℕ) (p : ℕ) → Rise a ps → In p ps → a ≤ p
 rise-least a [] p r m = absurd m
-rise-least a (q ∷ ps) p r (inl e) = omega (arith, r .0)
-rise-least a (q ∷ ps) p r (inr m) = omega (arith, r .0, rise-least (suc q) ps p (r .1) m)
+rise-least a (q ∷ ps) p r (inl e) = omega arith
+rise-least a (q ∷ ps) p r (inr m) = omega (arith, rise-least (suc q) ps p (r .1) m)
 
 pub rise-more : (a b : ℕ) (ps : List ℕ) → Rise a ps → ((p : ℕ) → In p ps → b ≤ p) → Rise b ps
 rise-more a b [] r h = tt

@@ -49,13 +49,13 @@ key-before-strict =
   where
     not-itself : (a : Key) → Key-before a a → ⊥
     not-itself a (inl h) = omega arith
-    not-itself a (inr h) = omega (arith, h .1)
+    not-itself a (inr h) = omega arith
 
     through : (a b c : Key) → Key-before a b → Key-before b c → Key-before a c
     through a b c (inl p) (inl q) = inl (omega arith)
-    through a b c (inl p) (inr q) = inl (omega (arith, q .0))
-    through a b c (inr p) (inl q) = inl (omega (arith, p .0))
-    through a b c (inr p) (inr q) = inr (p .0 ∙ q .0, omega (arith, p .1, q .1))
+    through a b c (inl p) (inr q) = inl (omega arith)
+    through a b c (inr p) (inl q) = inl (omega arith)
+    through a b c (inr p) (inr q) = inr (p .0 ∙ q .0, omega arith)
 
 -- one is before the other, or they are equal
 pub key-before-total : (a b : Key) → (key-before a b ≡ true) ⊎ ((key-before b a ≡ true) ⊎ (a ≡ b))
@@ -117,13 +117,13 @@ entry-before-strict =
   where
     not-itself : (e : Entry) → Entry-before e e → ⊥
     not-itself e (inl h) = clash h (key-before-not-itself (e .key-of))
-    not-itself e (inr h) = omega (arith, h .1)
+    not-itself e (inr h) = omega arith
 
     through : (e f g : Entry) → Entry-before e f → Entry-before f g → Entry-before e g
     through e f g (inl p) (inl q) = inl (key-before-strict .transitive (e .key-of) (f .key-of) (g .key-of) p q)
     through e f g (inl p) (inr q) = inl (rw (← q .0) p)
     through e f g (inr p) (inl q) = inl (rw (p .0) q)
-    through e f g (inr p) (inr q) = inr (p .0 ∙ q .0, omega (arith, p .1, q .1))
+    through e f g (inr p) (inr q) = inr (p .0 ∙ q .0, omega arith)
 
 -- one is before the other, or key and position are equal
 pub entry-before-total :

@@ -225,9 +225,9 @@ numbers-lines-in xs fits =
     positions = drop (header + 3 * keys-of xs) xs
 
     counts : counts-from (keys-of xs) 0 xs ≡ length positions
-    counts = simp length-drop (omega (arith, fits .is-long))
+    counts = simp length-drop (omega arith)
 
     two : directory (lines-from (keys-of xs) 0 xs positions) ++ positions ≡ drop header xs
     two =
         let z : 0 + keys-of xs ≡ keys-of xs = omega arith in
-        rw z at (directory-lines-from (keys-of xs) 0 xs positions (omega (arith, fits .has-directory)) (omega (arith, counts)))
+        rw z at (directory-lines-from (keys-of xs) 0 xs positions (omega arith) (omega (arith, counts)))

@@ -67,7 +67,7 @@ key-entries-get (suc n) p k s ts e m =
     here q = (ap (λ (f : Entry). f .key-of) q, omega (arith, ap (λ (f : Entry). f .at) q))
 
     there : (e .key-of ≡ k) × (suc p ≤ e .at) → (e .key-of ≡ k) × (p ≤ e .at)
-    there q = (q .0, omega (arith, q .1))
+    there q = (q .0, omega arith)
 
 key-entries-apart : (n p : ℕ) (k : Key) (s ts : List ℕ) → Apart entry-before (key-entries n p k s ts)
 unfolding key-entries entry
@@ -92,7 +92,7 @@ word-entries-get i (w ∷ ws) ts e m =
     here q = (ap (λ (k : Key). k .kind) q, omega (arith, ap (λ (k : Key). k .value) q))
 
     there : (e .key-of .kind ≡ 0) × (suc i ≤ e .key-of .value) → (e .key-of .kind ≡ 0) × (i ≤ e .key-of .value)
-    there q = (q .0, omega (arith, q .1))
+    there q = (q .0, omega arith)
 
 word-entries-apart : (i : ℕ) (ws : List (List ℕ)) (ts : List ℕ) → Apart entry-before (word-entries i ws ts)
 unfolding word-entries key

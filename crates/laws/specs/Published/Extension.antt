@@ -83,14 +83,14 @@ pub contains-extends :
 unfolding item-of item
 contains-extends {lex} {ts} {e} {f} he hf c =
     nested-extends (entry-item lex ts e he) (entry-item lex ts f hf) (c .starts)
-    (omega (arith, c .ends, he .len-is, hf .len-is))
+    (omega arith)
 
 pub extends-contains :
     {lex : Lexicon} {ts : List ℕ} {e f : Entry} → Is-entry lex ts e → Is-entry lex ts f →
     Extends (item-of lex e) (item-of lex f) → Contains e f
 unfolding item-of item
 extends-contains he hf x =
-    record { starts = x .starts; ends = omega (arith, x .ends, he .len-is, hf .len-is) }
+    record { starts = x .starts; ends = omega arith }
 
 pub item-of-unique :
     {lex : Lexicon} → Good-lexicon lex → {ts : List ℕ} {e f : Entry} → Is-entry lex ts e → Is-entry lex ts f →
@@ -149,12 +149,12 @@ pub partial-order : Partial-order
 unfolding Partial-order
 partial-order lex ts i j k hi hj hk = (
   nested-extends hi hi (omega arith) (omega arith),
-  λ x y. nested-extends hi hk (omega (arith, x .starts, y .starts)) (omega (arith, x .ends, y .ends)),
+  λ x y. nested-extends hi hk (omega arith) (omega arith),
   λ x y.
-      let position : i .position ≡ j .position = omega (arith, x .starts, y .starts) in
+      let position : i .position ≡ j .position = omega arith in
       item-path i j
       (stand-unique (rw position at (stands-get (i .word) ts (i .position) (hi .stand)))
-      (stands-get (j .word) ts (j .position) (hj .stand)) (omega (arith, x .starts, x .ends, y .starts, y .ends)))
+      (stands-get (j .word) ts (j .position) (hj .stand)) (omega arith))
       position,
 )
 
@@ -190,7 +190,7 @@ claim-2 g cs ls ts a t w hw p hp =
       member = hj;
       word-in = record { is-word = hj .member .is-word; extends-word = x .extends-word };
       starts = x .starts;
-      ends = omega (arith, x .ends, word-some (lexicon cs ls) good w hw);
+      ends = omega (arith, word-some (lexicon cs ls) good w hw);
     }
   where
     good : Good-lexicon (lexicon cs ls)

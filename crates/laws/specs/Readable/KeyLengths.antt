@@ -27,8 +27,8 @@ module _ {cs ls : List ℕ} (h : Is-admitted cs ls) (kind value : ℕ) (is : Is-
     unfolding key
     word-below =
         ⊎-elim
-        (λ (w : Is-word-key (lexicon cs ls) (key kind value)). omega (arith, w .below, word-count h))
-        (λ (c : Is-lone-key (lexicon cs ls) (key kind value)). absurd (omega (arith, c .kind-is)))
+        (λ (w : Is-word-key (lexicon cs ls) (key kind value)). omega (arith, word-count h))
+        (λ (c : Is-lone-key (lexicon cs ls) (key kind value)). absurd (omega arith))
         (key-kinds (lexicon cs ls) (key kind value) is)
 
     pub word-length : getD ls value 0 ≡ length (spells (lexicon cs ls) (key kind value))

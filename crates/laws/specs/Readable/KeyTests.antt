@@ -38,7 +38,7 @@ word-longs (l ∷ ls) cs (suc v) h b = word-longs ls (drop l cs) v (omega (arith
 module _ {cs ls : List ℕ} (h : Is-admitted cs ls) where
   pub word-long : (v : ℕ) → v < length ls → length (getD (lexicon cs ls .words) v []) ≡ getD ls v 0
   unfolding lexicon
-  word-long v b = word-longs ls cs v (omega (arith, h .sum)) b
+  word-long v b = word-longs ls cs v (omega arith) b
 
   pub word-count : length (lexicon cs ls .words) ≡ length ls
   unfolding lexicon

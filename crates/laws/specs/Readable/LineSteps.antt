@@ -37,10 +37,10 @@ module _ (read : List ℕ → List ℕ) (lex : Lexicon) (xs : List ℕ) (i at le
   pub lines-end : keys-of xs ≤ i → eqb at (length xs) ≡ walk-good read lex xs
   unfolding rest-good
   lines-end past =
-      let z : keys-of xs - i ≡ 0 = omega (arith, h .within) in
+      let z : keys-of xs - i ≡ 0 = omega arith in
       iff-eq (eqb at (length xs)) (eqb (length (drop at xs)) 0)
       (λ t. eq-eqb (length (drop at xs)) 0 (omega (arith, eqb-true at (length xs) t, length-drop at xs)))
-      (λ t. eq-eqb at (length xs) (omega (arith, eqb-true (length (drop at xs)) 0 t, length-drop at xs, h .room)))
+      (λ t. eq-eqb at (length xs) (omega (arith, eqb-true (length (drop at xs)) 0 t, length-drop at xs)))
       ∙ rw z at (h .tested)
 
   module _ (below : i < keys-of xs) where
@@ -64,12 +64,7 @@ module _ (read : List ℕ → List ℕ) (lex : Lexicon) (xs : List ℕ) (i at le
         record {
           within = omega arith;
           room =
-              omega (
-                arith,
-                fits-get read lex (n-of xs) least (key-at xs i) (count-at xs i) (drop at xs) t .present,
-                length-drop at xs,
-                h .room,
-              );
+              omega (arith, fits-get read lex (n-of xs) least (key-at xs i) (count-at xs i) (drop at xs) t .present, length-drop at xs);
           tested = rw (add-one (key-code (key-at xs i))) (rw t at cut);
         }
 

@@ -121,7 +121,7 @@ module _ (lex : Lexicon) (n a : ℕ) (k : Key) (c : ℕ) (ps : List ℕ) where
   unfolding line-good line
   fits-line h =
       let len : length (take c ps) ≡ c = length-take-le c ps (h .present) in
-      and-put (and-put (h .is-good) (le-leb 1 (length (take c ps)) (omega (arith, h .some))))
+      and-put (and-put (h .is-good) (le-leb 1 (length (take c ps)) (omega arith)))
       (and-put (h .rises) (le-leb (last-of (take c ps) + length (spells lex k)) (suc n) (h .ends)))
 
   line-fit :
@@ -171,7 +171,7 @@ rest-get lex n (suc k) i a xs ps t =
         Rest lex n k (suc i) (suc (key-code (key-at xs i))) xs (drop (count-at xs i) ps) → Rest lex n (suc k) i a xs ps
     step f r =
         record {
-          counts = omega (arith, f .present, r .counts, length-drop (count-at xs i) ps);
+          counts = omega (arith, length-drop (count-at xs i) ps);
           kinds = and-put (le-leb (kind-at xs i) 1 (f .kind-small)) (r .kinds);
           order = and-put (le-leb a (key-code (key-at xs i)) (f .code-least)) (r .order);
           good = and-put (fits-line lex n a (key-at xs i) (count-at xs i) ps f) (r .good);
@@ -201,13 +201,13 @@ rest-put lex n (suc k) i a xs ps h =
         line-fit lex n a (key-at xs i) (count-at xs i) ps
         (leb-true (kind-at xs i) 1 (and-left small (kinds-good k (suc i) xs) (h .kinds)))
         (leb-true a (key-code (key-at xs i)) (and-left least (codes-ascend (suc (key-code (key-at xs i))) rest) (h .order)))
-        (omega (arith, h .counts))
+        (omega arith)
         (and-left good (lines-good lex n rest) (h .good))
 
     next : Rest lex n k (suc i) (suc (key-code (key-at xs i))) xs (drop (count-at xs i) ps)
     next =
         record {
-          counts = omega (arith, h .counts, length-drop (count-at xs i) ps);
+          counts = omega (arith, length-drop (count-at xs i) ps);
           kinds = and-right small (kinds-good k (suc i) xs) (h .kinds);
           order = and-right least (codes-ascend (suc (key-code (key-at xs i))) rest) (h .order);
           good = and-right good (lines-good lex n rest) (h .good);
@@ -264,7 +264,7 @@ module _ (g : ℕ) (lex : Lexicon) (xs : List ℕ) where
       to t =
           let r = rest-get lex (n-of xs) (keys-of xs) 0 0 xs positions t in
           let whole : length xs ≡ header + 3 * keys-of xs + counts-from (keys-of xs) 0 xs =
-          omega (arith, r .counts, length-drop (header + 3 * keys-of xs) xs) in
+          omega (arith, length-drop (header + 3 * keys-of xs) xs) in
           and-put
           (and-put
           (and-put (and-put (le-leb header (length xs) head) (le-leb (header + 3 * keys-of xs) (length xs) dir))

@@ -49,7 +49,7 @@ unfolding lexicon is-word
 passed-start cs ls h =
     record {
       within = omega arith;
-      room = omega (arith, h .sum);
+      room = omega arith;
       good = lengths-good-put ls (h .lengths);
       order = h .order;
       left = λ u b. refl;

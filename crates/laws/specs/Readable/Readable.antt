@@ -83,7 +83,7 @@ unfolding last-of
 rise-last a [] p r m = absurd m
 rise-last a (q ∷ []) p r (inl e) = omega arith
 rise-last a (q ∷ []) p r (inr m) = absurd m
-rise-last a (q ∷ u ∷ ps) p r (inl e) = omega (arith, r .1 .0, rise-last (suc q) (u ∷ ps) u (r .1) (inl refl))
+rise-last a (q ∷ u ∷ ps) p r (inl e) = omega (arith, rise-last (suc q) (u ∷ ps) u (r .1) (inl refl))
 rise-last a (q ∷ u ∷ ps) p r (inr m) = rise-last (suc q) (u ∷ ps) p (r .1) m
 
 pub keys-ascend-get : (ls : List Line) → keys-ascend ls ≡ true → Keys-rise ls

@@ -171,7 +171,7 @@ module _ (P : ℕ → Type 0) (zero-too : P 0) where
           let e = shown-get lex ls (p + i) c t in
           let line = flat-get lex ls (e .0) (e .1 .among) in
           let key : e .0 .key-of ≡ line .0 .key-of = ap (λ (f : Entry). f .key-of) (line .3) in
-          let at : (p + i) - e .0 .at < length (spells lex (e .0 .key-of)) = omega (arith, e .1 .from, e .1 .to) in
+          let at : (p + i) - e .0 .at < length (spells lex (e .0 .key-of)) = omega arith in
           rw (e .1 .char) (rw key (each (line .0) (line .1) ((p + i) - e .0 .at) (rw key at at)))
 
   pub recovered-each :

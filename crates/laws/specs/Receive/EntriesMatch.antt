@@ -84,7 +84,7 @@ module _ (s : List ℕ) where
 -- if the string stands, every part of it is equal
 pub stand-part : {s ts : List ℕ} {p : ℕ} → Stand s ts p → (a : ℕ) → Equal-part s a (length s) ts (p - 1)
 stand-part {s} {ts} {p} st a x lo hi =
-    let z : p + x - 1 ≡ p - 1 + x = omega (arith, st .from) in
+    let z : p + x - 1 ≡ p - 1 + x = omega arith in
     stand-at x st hi ∙ ap (λ (j : ℕ). getD ts j 0) z
 
 -- from b back to a
@@ -126,7 +126,7 @@ character-stands m ts p st =
 rise-next : (a : ℕ) (ps : List ℕ) → Rise a ps → (i : ℕ) → suc i < length ps → getD ps i 0 < getD ps (suc i) 0
 rise-next a [] r i b = absurd (omega arith)
 rise-next a (p ∷ []) r i b = absurd (omega arith)
-rise-next a (p ∷ q ∷ ps) r zero b = omega (arith, r .1 .0)
+rise-next a (p ∷ q ∷ ps) r zero b = omega arith
 rise-next a (p ∷ q ∷ ps) r (suc i) b = rise-next (suc p) (q ∷ ps) (r .1) i (omega arith)
 
 pub rise-after : (a : ℕ) (ps : List ℕ) → Rise a ps → (i : ℕ) → 1 ≤ i → i < length ps → getD ps (i - 1) 0 < getD ps i 0
@@ -170,8 +170,8 @@ module _ (lex : Lexicon) (xs ts : List ℕ) where
     unfolding line
     matching-step {end} lies here =
         record {
-          within = omega (arith, lies .below);
-          at-is = omega (arith, h .at-is, lies .end-is, counts-next i xs);
+          within = omega arith;
+          at-is = omega (arith, counts-next i xs);
           left =
               λ later.
               h .left

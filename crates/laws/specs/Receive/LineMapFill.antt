@@ -56,7 +56,7 @@ fill-positions-get m (q ∷ ps) ns p lo from =
     old e =
         ⊎-elim (λ (h : getD (set ns (q - 1) m) (p - 1) 0 ≡ getD ns (p - 1) 0). inl (e ∙ h))
         (λ (h : (p - 1 ≡ q - 1) × (getD (set ns (q - 1) m) (p - 1) 0 ≡ m)).
-        let same : p ≡ q = omega (arith, h .0, from q (inl refl)) in inr (inl same, e ∙ h .1))
+        let same : p ≡ q = omega (arith, from q (inl refl)) in inr (inl same, e ∙ h .1))
         (set-either 0 ns (q - 1) m (p - 1))
 
 -- a mapped position stays mapped, and the positions of the list are mapped
@@ -66,7 +66,7 @@ fill-positions-keeps m [] ns p some h = h
 fill-positions-keeps m (q ∷ ps) ns p some h =
     fill-positions-keeps m ps (set ns (q - 1) m) p some
     (⊎-elim (λ (e : getD (set ns (q - 1) m) (p - 1) 0 ≡ getD ns (p - 1) 0). omega arith)
-    (λ (e : (p - 1 ≡ q - 1) × (getD (set ns (q - 1) m) (p - 1) 0 ≡ m)). omega (arith, e .1)) (set-either 0 ns (q - 1) m (p - 1)))
+    (λ (e : (p - 1 ≡ q - 1) × (getD (set ns (q - 1) m) (p - 1) 0 ≡ m)). omega arith) (set-either 0 ns (q - 1) m (p - 1)))
 
 fill-positions-put : (m : ℕ) (ps ns : List ℕ) (p : ℕ) → 1 ≤ m → 1 ≤ p → p ≤ length ns → In p ps → 1 ≤ mapped-at (fill-positions m ps ns) p
 unfolding fill-positions mapped-at
@@ -90,7 +90,7 @@ fill-line-map-get i (l ∷ ls) ns p lo from =
     (λ (h :
     (j : ℕ) × (j < length ls) × In p (getD ls j no-line .positions)
     × (mapped-at (fill-line-map (suc i) ls (fill-positions (suc i) (l .positions) ns)) p ≡ suc (suc i + j))).
-    inr (suc (h .0), omega (arith, h .1), h .2, omega (arith, h .3)))
+    inr (suc (h .0), omega arith, h .2, omega arith))
     (fill-line-map-get (suc i) ls (fill-positions (suc i) (l .positions) ns) p lo (λ m k. from m (inr k)))
   where
     whole : ℕ
@@ -102,7 +102,7 @@ fill-line-map-get i (l ∷ ls) ns p lo from =
     old e =
         ⊎-elim (λ (h : mapped-at (fill-positions (suc i) (l .positions) ns) p ≡ mapped-at ns p). inl (e ∙ h))
         (λ (h : In p (l .positions) × (mapped-at (fill-positions (suc i) (l .positions) ns) p ≡ suc i)).
-        let value : whole ≡ suc (i + 0) = omega (arith, h .1) in inr (0, omega arith, h .0, value))
+        let value : whole ≡ suc (i + 0) = omega arith in inr (0, omega arith, h .0, value))
         (fill-positions-get (suc i) (l .positions) ns p lo (from l (inl refl)))
 
 fill-line-map-keeps : (i : ℕ) (ls : List Line) (ns : List ℕ) (p : ℕ) → 1 ≤ mapped-at ns p → 1 ≤ mapped-at (fill-line-map i ls ns) p
@@ -143,8 +143,8 @@ line-map-mapped {lex} good g xs can ns room clear = record { real = λ p i. real
         (λ (h :
         (j : ℕ) × (j < length (lines-in xs)) × In p (getD (lines-in xs) j no-line .positions)
         × (mapped-at (fill-line-map 0 (lines-in xs) ns) p ≡ suc (0 + j))).
-        let same : h .0 ≡ i = omega (arith, h .3) in
-        (omega (arith, h .1, length-lines-in xs), rw same at (h .2)))
+        let same : h .0 ≡ i = omega arith in
+        (omega (arith, length-lines-in xs), rw same at (h .2)))
         (fill-line-map-get 0 (lines-in xs) ns p lo from)
 
     each : (p i : ℕ) → i < keys-of xs → In p (line-of xs i .positions) → 1 ≤ mapped-at (fill-line-map 0 (lines-in xs) ns) p

@@ -20,13 +20,13 @@ pub record Line-lies (xs : List ℕ) (i begin end : ℕ) : Type 0 where
 
 module _ {xs : List ℕ} {i begin end : ℕ} (h : Line-lies xs i begin end) where
   pub lies-room : Fits xs → end ≤ length xs
-  lies-room fits = omega (arith, h .begin-is, h .end-is, list-room xs i (h .below) fits)
+  lies-room fits = omega (arith, list-room xs i (h .below) fits)
 
   -- the part of the index that is lent
   pub lies-positions : take (end - begin) (drop begin xs) ≡ line-of xs i .positions
   unfolding line
   lies-positions =
-      let z : end - begin ≡ count-at xs i = omega (arith, h .end-is) in
+      let z : end - begin ≡ count-at xs i = omega arith in
       rw (z, h .begin-is)
 
 -- LINE AFTER LINE
@@ -54,7 +54,7 @@ module _ (make : ℕ → List Line → List ℕ → List ℕ) (xs old : List ℕ
     passing-step below next kept e =
         record {
           within = omega arith;
-          at-is = omega (arith, h .at-is, counts-next i xs);
+          at-is = omega (arith, counts-next i xs);
           left = sym e ∙ sym (ap (λ (ls : List Line). make i ls now) (lines-next xs i below)) ∙ h .left;
           len = kept ∙ h .len;
         }

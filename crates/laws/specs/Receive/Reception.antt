@@ -29,7 +29,7 @@ set-chars us k c chars small i b =
     ⊎-elim
     (λ (e : getD (set us k c) i 0 ≡ getD us i 0).
     let old : getD us i 0 < 65536 = chars i (omega (arith, length-set us k c)) in omega arith)
-    (λ (e : (i ≡ k) × (getD (set us k c) i 0 ≡ c)). omega (arith, e .1)) (set-either 0 us k c i)
+    (λ (e : (i ≡ k) × (getD (set us k c) i 0 ≡ c)). omega arith) (set-either 0 us k c i)
 
 sets-chars : (us : List ℕ) (k : ℕ) (cs : List ℕ) → Chars us → Chars cs → Chars (sets us k cs)
 sets-chars us k [] chars cs-chars = chars

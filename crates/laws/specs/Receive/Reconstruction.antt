@@ -65,9 +65,9 @@ module _ (lex : Lexicon) (ts : List ℕ) where
       i < e .at - 1 + length (spells lex (e .key-of)) →
       getD (spells lex (e .key-of)) (i - (e .at - 1)) 0 ≡ getD ts i 0
   stood e h i lo hi =
-      let w : suc i - e .at ≡ i - (e .at - 1) = omega (arith, h .from) in
+      let w : suc i - e .at ≡ i - (e .at - 1) = omega arith in
       let y : suc i - 1 ≡ i = omega arith in
-      rw (w, y) at (h .equal (suc i) (omega (arith, h .from)) (omega (arith, h .from)))
+      rw (w, y) at (h .equal (suc i) (omega arith) (omega arith))
 
   reconstruct-keeps :
       (es : List Entry) (us : List ℕ) (i : ℕ) → ((e : Entry) → In e es → Stand (spells lex (e .key-of)) ts (e .at)) →
@@ -89,8 +89,8 @@ module _ (lex : Lexicon) (ts : List ℕ) where
       let from : f .at ≤ suc i = rw q at lo in
       let to : suc i < f .at + length (spells lex (f .key-of)) = rw q at hi in
       reconstruct-keeps es (sets us (f .at - 1) (spells lex (f .key-of))) i (λ g m. stand g (inr m))
-      (sets-writes 0 us (f .at - 1) (spells lex (f .key-of)) i (getD ts i 0) b (omega arith) (omega (arith, h .from))
-      (stood f h i (omega arith) (omega (arith, h .from))))
+      (sets-writes 0 us (f .at - 1) (spells lex (f .key-of)) i (getD ts i 0) b (omega arith) (omega arith)
+      (stood f h i (omega arith) (omega arith)))
   reconstruct-writes (f ∷ es) us i b stand e (inr m) lo hi =
       reconstruct-writes es (sets us (f .at - 1) (spells lex (f .key-of))) i
       (omega (arith, length-sets us (f .at - 1) (spells lex (f .key-of)))) (λ g n. stand g (inr n)) e m lo hi

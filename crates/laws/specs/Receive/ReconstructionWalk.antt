@@ -34,7 +34,7 @@ module _ {cs ls starts : List ℕ} (started : Started cs ls starts) where
   pub started-words : Word-starts ls (length ls) starts
   unfolding start-of
   started-words =
-      record { within = omega arith; room = omega (arith, started .starts-long); at = λ w b. started .started w (omega arith) }
+      record { within = omega arith; room = omega arith; at = λ w b. started .started w (omega arith) }
 
   pub started-read :
       (xs : List ℕ) → readable longest-text (lexicon cs ls) xs ≡ true → keys-of xs ≤ 65535 → Can-read cs ls xs

@@ -153,8 +153,8 @@ module _ (lex : Lexicon) (xs us ns : List ℕ) where
     testing-passes none =
         record {
           within = omega arith;
-          end = omega (arith, s .within);
-          few = omega (arith, t .few);
+          end = omega arith;
+          few = omega arith;
           exact =
               rw (s .passed (passed none) .1, add-one (q + 1))
               (sym
@@ -167,8 +167,8 @@ module _ (lex : Lexicon) (xs us ns : List ℕ) where
     testing-registers some right =
         record {
           within = omega arith;
-          end = omega (arith, s .within);
-          few = omega (arith, t .few);
+          end = omega arith;
+          few = omega arith;
           exact =
               rw (s .registered (registered some) .1, add-one (q + 1), add-one count)
               (sym
@@ -189,9 +189,9 @@ module _ (lex : Lexicon) (xs us ns : List ℕ) where
   testing-ends {q} {e} {count} t past fits =
       iff-eq (eqb (header + 3 * keys-of xs + count) (length xs)) (eqb count (entries-of xs))
       (λ b.
-      eq-eqb count (entries-of xs) (omega (arith, fits .is-long, eqb-true (header + 3 * keys-of xs + count) (length xs) b)))
+      eq-eqb count (entries-of xs) (omega (arith, eqb-true (header + 3 * keys-of xs + count) (length xs) b)))
       (λ b.
-      eq-eqb (header + 3 * keys-of xs + count) (length xs) (omega (arith, fits .is-long, eqb-true count (entries-of xs) b)))
+      eq-eqb (header + 3 * keys-of xs + count) (length xs) (omega (arith, eqb-true count (entries-of xs) b)))
       ∙ sym (verify-ends lex (mapped-at ns) xs us (q + 1) (e + 1) count)
       ∙ rw none at (t .exact)
     where

@@ -51,7 +51,7 @@ module _ (lex : Lexicon) (ls : List Line) (s : List ℕ) (p : ℕ) where
       stuck t near =
           let e = covered-get lex ls s p (p + r) (all-covered-get lex ls s p (length s) p t (p + r) (omega arith) (omega arith)) in
           let end : e .0 .at + e .0 .len ≤ p + r = h .closed (e .0) (e .1 .among) (e .1 .agree) (e .1 .from) in
-          omega (arith, e .1 .to)
+          omega arith
 
   pub extends-none : (r : ℕ) → Extends lex ls s p (λ e. ⊥) r r
   extends-none r = record { grows = omega arith; keeps = λ h. h; ends = λ e taken agree start. absurd taken }
@@ -62,15 +62,15 @@ module _ (lex : Lexicon) (ls : List Line) (s : List ℕ) (p : ℕ) where
       Extends lex ls s p A r t → Extends lex ls s p B t u → Extends lex ls s p C r u
   extends-then {A} {B} C {r} {t} {u} split one two =
       record {
-        grows = omega (arith, one .grows, two .grows);
+        grows = omega arith;
         keeps = λ h. two .keeps (one .keeps h);
         ends = λ e taken agree start. by-step e agree start (split e taken);
       }
     where
       by-step :
           (e : Entry) → Agree s p (spells lex (e .key-of)) (e .at) → e .at ≤ p + r → A e ⊎ B e → e .at + e .len ≤ p + u
-      by-step e agree start (inl a) = let h : e .at + e .len ≤ p + t = one .ends e a agree start in omega (arith, two .grows)
-      by-step e agree start (inr b) = two .ends e b agree (omega (arith, one .grows))
+      by-step e agree start (inl a) = let h : e .at + e .len ≤ p + t = one .ends e a agree start in omega arith
+      by-step e agree start (inr b) = two .ends e b agree (omega arith)
 
   -- one entry that agrees and starts at or before the end of the reach
   pub extends-by :
@@ -131,7 +131,7 @@ module _ (lex : Lexicon) (ls : List Line) (s : List ℕ) (p : ℕ) where
       (r < o → u ≡ r) → At-offsets lex ls s p (suc n) o r u
   at-offsets-then {n} o {r} {t} {u} offset later stop =
       record {
-        grows = omega (arith, offset .grows, later .grows);
+        grows = omega arith;
         keeps = λ h. later .keeps (offset .keeps h);
         closed = λ e m agree lo hi start. closed e m agree lo hi start (le-or-lt (e .at) (p + o)) (le-or-lt o r);
       }
@@ -143,7 +143,7 @@ module _ (lex : Lexicon) (ls : List Line) (s : List ℕ) (p : ℕ) where
       closed e m agree lo hi start (inl here) (inl near) =
           let at : e .at ≡ p + o = omega arith in
           let end : e .at + e .len ≤ p + t = offset .ends e (m, at) agree (omega arith) in
-          omega (arith, later .grows)
+          omega arith
       closed e m agree lo hi start (inl here) (inr far) = let still : u ≡ r = stop far in absurd (omega arith)
 
   -- The leading keys from a reach of 0, and the offsets above 0 after them, leave a reach that no entry can extend.
@@ -160,6 +160,6 @@ module _ (lex : Lexicon) (ls : List Line) (s : List ℕ) (p : ℕ) where
           (e : Entry) → In e (flat lex ls) → Agree s p (spells lex (e .key-of)) (e .at) → e .at ≤ p + u →
           (e .at ≤ p) ⊎ (p < e .at) → e .at + e .len ≤ p + u
       closed e m agree start (inl before) =
-          let end : e .at + e .len ≤ p + t = first .ends e (m, before) agree (omega arith) in omega (arith, offsets .grows)
+          let end : e .at + e .len ≤ p + t = first .ends e (m, before) agree (omega arith) in omega arith
       closed e m agree start (inr after) =
-          offsets .closed e m agree (omega arith) (omega (arith, agree .string-to, agree .entry-from)) start
+          offsets .closed e m agree (omega arith) (omega arith) start

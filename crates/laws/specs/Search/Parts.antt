@@ -41,7 +41,7 @@ module _ (a b : List ℕ) where
   unfolding lies-in lies-at stands
   lies-in-put p st =
       lies-from-any (suc (length b) - length a) 0
-      ∙ any-from-put (suc (length b) - length a) 0 lies-at (p - 1) (omega arith) (omega (arith, st .from, st .within))
+      ∙ any-from-put (suc (length b) - length a) 0 lies-at (p - 1) (omega arith) (omega arith)
       (and-right (leb 1 p && leb (p + length a) (suc (length b))) (same (take (length a) (drop (p - 1) b)) a) (stands-put a b p st))
 
 -- A SUFFIX OF ONE IS A PREFIX OF THE OTHER
@@ -101,16 +101,16 @@ module _ (a b : List ℕ) where
   unfolding joins joins-at
   joins-put d h =
       joins-from-any (length a) 1
-      ∙ any-from-put (length a) 1 joins-at (length a - d) (omega (arith, h .inside)) (omega (arith, h .inside))
+      ∙ any-from-put (length a) 1 joins-at (length a - d) (omega arith) (omega arith)
       (and-put (le-leb (length a - d) (length a) (omega arith))
-      (and-put (le-leb (length a - d) (length b) (omega (arith, h .room)))
+      (and-put (le-leb (length a - d) (length b) (omega arith))
       (same-put (drop (length a - (length a - d)) a) (take (length a - d) b) part)))
     where
       back : length a - (length a - d) ≡ d
-      back = omega (arith, h .inside)
+      back = omega arith
 
       len : length (drop d a) ≡ length (take (length a - d) b)
-      len = simp (length-drop, length-take) (omega (arith, h .room))
+      len = simp (length-drop, length-take) (omega arith)
 
       part : drop (length a - (length a - d)) a ≡ take (length a - d) b
       part =
@@ -134,7 +134,7 @@ module _ (a b : List ℕ) where
         string-from = omega arith;
         string-to = omega arith;
         entry-from = st .from;
-        entry-to = omega (arith, st .within);
+        entry-to = omega arith;
         equal = λ x lo hi l h. st .equal x lo hi;
       }
 
@@ -153,9 +153,9 @@ module _ (a b : List ℕ) where
       record {
         shared = d;
         string-from = omega arith;
-        string-to = omega (arith, h .inside);
+        string-to = omega arith;
         entry-from = omega arith;
-        entry-to = omega (arith, h .inside, h .room);
+        entry-to = omega arith;
         equal = λ x lo hi l u. let z : x - 0 ≡ x = omega arith in rw z (h .equal x l (omega arith));
       }
 
@@ -164,7 +164,7 @@ module _ (a b : List ℕ) where
   agree-join {p} {q} h lo hi =
       let moved = agree-move 0 (q - p) (omega arith) h in
       record {
-        inside = omega (arith, h .string-to, h .entry-from);
+        inside = omega arith;
         room = omega arith;
         equal = λ x l u. let z : x - 0 ≡ x = omega arith in rw z at (moved .equal x (omega arith) (omega arith) l (omega arith));
       }

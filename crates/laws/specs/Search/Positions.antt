@@ -52,7 +52,7 @@ module _ (s ts : List ℕ) where
   pub positions-put : 1 ≤ length s → {p : ℕ} → Stand s ts p → In p (positions s ts)
   positions-put some {p} st =
       rw positions-those
-      (those-from-put (length ts) 1 (stands s ts) p (st .from) (omega (arith, st .within)) (stands-put s ts p st))
+      (those-from-put (length ts) 1 (stands s ts) p (st .from) (omega arith) (stands-put s ts p st))
 
 -- FOUND
 
@@ -91,5 +91,5 @@ module _ (lex : Lexicon) (xs s : List ℕ) where
   pub find-put : {p : ℕ} → Is-found lex (lines-in xs) (n-of xs) s p → In p (find lex xs s)
   unfolding find
   find-put {p} h =
-      found-from-put lex (lines-in xs) s (suc (n-of xs) - length s) 1 p (h .from) (omega (arith, h .within))
+      found-from-put lex (lines-in xs) s (suc (n-of xs) - length s) 1 p (h .from) (omega arith)
       (all-covered-put lex (lines-in xs) s p (length s) p (h .each))

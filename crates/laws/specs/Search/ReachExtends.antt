@@ -54,7 +54,7 @@ module _ (lex : Lexicon) (ls : List Line) (s : List ℕ) (p : ℕ) where
           extends-fewer lex ls s p Taken
           (λ e taken a.
           let at : e .at ≡ b = ap (λ (f : Entry). f .at) (taken .0) in
-          let z : b + i ≡ p + o = omega (arith, taken .1) in
+          let z : b + i ≡ p + o = omega arith in
           eqb-false (b + i) (p + o) t z)
           (extends-none lex ls s p r)
 
@@ -96,7 +96,7 @@ module _ (lex : Lexicon) (ls : List Line) (s : List ℕ) (p : ℕ) where
           let b = entries-at-get lex k bs e (taken .0) in
           let key : e .key-of ≡ k = ap (λ (f : Entry). f .key-of) (b .2) in
           let agree : Agree s p (spells lex k) (e .at) = rw key at a in
-          clash (agrees-put s i (spells lex k) o (agree-move i o (omega (arith, taken .1)) agree)) t)
+          clash (agrees-put s i (spells lex k) o (agree-move i o (omega arith) agree)) t)
           (extends-none lex ls s p r)
 
   -- one key at n offsets from −i down
@@ -149,7 +149,7 @@ module _ (lex : Lexicon) (ls : List Line) (s : List ℕ) (p : ℕ) where
           let b = entries-at-get lex (l .key-of) (l .positions) e (taken .0) in
           let key : e .key-of ≡ l .key-of = ap (λ (f : Entry). f .key-of) (b .2) in
           let agree : Agree s p k (e .at) = rw key at a in
-          (taken .0, omega (arith, taken .1), omega (arith, agree .string-from, agree .entry-to)))
+          (taken .0, omega arith, omega arith))
           (reach-back-extends (length k) 0 (l .key-of) (l .positions) r
           (λ e m. kept e (in-append-left e (entries-at lex (l .key-of) (l .positions)) (flat lex ks) m)))
 

@@ -154,8 +154,8 @@ module _ (lex : Lexicon) (ls : List Line) (ts : List ℕ) (all : All-stand lex l
                 λ x l h.
                 let e = covered-get lex ls s p x (all-covered-get lex ls s p (length s) p t x l h) in
                 let len = flat-long lex ls (e .0) (e .1 .among) in
-                e .1 .agree .equal x l h (e .1 .from) (omega (arith, e .1 .to))
-                ∙ all (e .0) (e .1 .among) .equal x (e .1 .from) (omega (arith, e .1 .to));
+                e .1 .agree .equal x l h (e .1 .from) (omega arith)
+                ∙ all (e .0) (e .1 .among) .equal x (e .1 .from) (omega arith);
           }
 
       covered-at : Stand s ts p → (x : ℕ) → p ≤ x → x < p + length s → covered lex ls s p x ≡ true
@@ -173,7 +173,7 @@ module _ (lex : Lexicon) (ls : List Line) (ts : List ℕ) (all : All-stand lex l
                   string-from = l;
                   string-to = h;
                   entry-from = over .2;
-                  entry-to = omega (arith, over .3);
+                  entry-to = omega arith;
                   equal =
                       λ y c d f g. st .equal y c d ∙ sym (all (over .0) (over .1) .equal y f g);
                 };
@@ -195,7 +195,7 @@ module _ (lex : Lexicon) (ls : List Line) (ts : List ℕ) (show : Lines-match le
   cover-string :
       (p : ℕ) → Stand s ts p → (x : ℕ) → p ≤ x → x < p + length s →
       (e : Entry) × In e (flat lex ls) × (e .at ≤ x) × (x < e .at + e .len)
-  cover-string p st x lo hi = show .cover x (omega (arith, st .from)) (omega (arith, st .within))
+  cover-string p st x lo hi = show .cover x (omega arith) (omega arith)
 
   -- the starts found are those where the string stands; `positions` also tests starts at which the string does not fit
   pub found-positions : 1 ≤ length s → found-from (suc (length ts) - length s) 1 lex ls s ≡ positions s ts

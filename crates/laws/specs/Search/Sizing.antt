@@ -25,7 +25,7 @@ module _ (s own : List ℕ) (is : take (length s) own ≡ replaced s) where
   own-long = sym (ap length is ∙ length-replaced s)
 
   pub own-string : Is-string s → Is-string (take (length s) own)
-  own-string string = record { some = omega (arith, own-long, string .some); short = omega (arith, own-long, string .short) }
+  own-string string = record { some = omega (arith, own-long); short = omega (arith, own-long) }
 
 -- 8 if the output is too short for the result, else the result at its start
 unfoldable pub Sized : (result : List ℕ) → Answer → (out out-now : List ℕ) → Type 0
@@ -74,7 +74,7 @@ module _ (cs ls xs s : List ℕ) where
     unfolding string-refusal or-else string-wrong
     string-accepted is =
         let good : (eqb (length s) 0 || ltb 256 (length s)) ≡ false =
-        or-none (ne-eqb (length s) 0 (λ (e : length s ≡ 0). omega (arith, is .some))) (le-ltb 256 (length s) (is .short)) in
+        or-none (ne-eqb (length s) 0 (λ (e : length s ≡ 0). omega arith)) (le-ltb 256 (length s) (is .short)) in
         rw (accepts, good)
 
 -- SEARCH AND THE CUT-DOWN INDEX: these, then 8

@@ -139,7 +139,7 @@ module _ {lex : Lexicon} {xs given counts : List ℕ} {i : ℕ} (h : Tallied lex
 
     raised-here : getD raised position 0 ≡ getD counts position 0 + count-at xs i
     unfolding raised
-    raised-here = getD-set-same counts position (getD counts position 0 + count-at xs i) 0 (omega (arith, h .whole))
+    raised-here = getD-set-same counts position (getD counts position 0 + count-at xs i) 0 (omega arith)
 
     raised-other : (j : ℕ) → (j ≡ position → ⊥) → getD raised j 0 ≡ getD counts j 0
     unfolding raised
@@ -198,7 +198,7 @@ module _ {lex : Lexicon} {xs given counts : List ℕ} {i : ℕ} (h : Tallied lex
 
       each : (j : ℕ) → j < length counts → getD counts j 0 ≡ getD (added given (tally-from 32 1 lex lines)) j 0
       each j b =
-          let inside : j < 32 = omega (arith, h .whole) in
+          let inside : j < 32 = omega arith in
           let none : keys-of xs - i ≡ 0 = omega arith in
           let all : getD counts j 0 + 0 ≡ getD given j 0 + counted lex (1 + j) (keys-of xs) 0 xs = rw none at (h .summed j inside) in
           let fits = readable-fits g lex xs t in
@@ -207,9 +207,9 @@ module _ {lex : Lexicon} {xs given counts : List ℕ} {i : ℕ} (h : Tallied lex
             all,
             getD-added given (tally-from 32 1 lex lines) j (omega (arith, len)),
             getD-tally 32 1 lex lines j inside,
-            counted-lines lex (1 + j) (keys-of xs) 0 xs positions (omega (arith, fits .is-long, length-drop (header + 3 * keys-of xs) xs)),
+            counted-lines lex (1 + j) (keys-of xs) 0 xs positions (omega (arith, length-drop (header + 3 * keys-of xs) xs)),
           )
 
 -- M is the number of numbers after the directory
 pub entries-left : (g : ℕ) (lex : Lexicon) (xs : List ℕ) → readable g lex xs ≡ true → length xs - (header + 3 * keys-of xs) ≡ entries-of xs
-entries-left g lex xs t = let fits = readable-fits g lex xs t in omega (arith, fits .is-long)
+entries-left g lex xs t = let fits = readable-fits g lex xs t in omega arith

@@ -49,7 +49,7 @@ stand-within {r} {s} {ts} {q} {p} h k lo hi = stand-put r s (suc (q - p)) (omega
   where
     same : (i : ℕ) → i < length r → getD r i 0 ≡ getD s (suc (q - p) + i - 1) 0
     same i b =
-        let at : q + i - 1 ≡ p + (suc (q - p) + i - 1) - 1 = omega (arith, k .from) in
+        let at : q + i - 1 ≡ p + (suc (q - p) + i - 1) - 1 = omega arith in
         stand-at i h b
         ∙ ap (λ (j : ℕ). getD ts j 0) at
         ∙ sym (stand-at (suc (q - p) + i - 1) k (omega arith))

@@ -69,13 +69,13 @@ stands-put s ts p h =
     (same-put (take (length s) (drop (p - 1) ts)) s (ext-getD 0 (take (length s) (drop (p - 1) ts)) s len part))
   where
     len : length (take (length s) (drop (p - 1) ts)) ≡ length s
-    len = simp (length-take, length-drop) (omega (arith, h .from, h .within))
+    len = simp (length-take, length-drop) (omega arith)
 
     part : (i : ℕ) → i < length (take (length s) (drop (p - 1) ts)) → getD (take (length s) (drop (p - 1) ts)) i 0 ≡ getD s i 0
     part i below =
         let here : i < length s = omega (arith, len) in
         let back : (p + i) - p ≡ i = omega arith in
-        let at : (p + i) - 1 ≡ (p - 1) + i = omega (arith, h .from) in
+        let at : (p + i) - 1 ≡ (p - 1) + i = omega arith in
         getD-take (length s) (drop (p - 1) ts) i 0 here
         ∙ getD-drop (p - 1) ts i 0
         ∙ ap (λ (j : ℕ). getD ts j 0) (sym at)

@@ -47,14 +47,14 @@ module _ (lex : Lexicon) (ls : List Line) (n g : ℕ) (all : All-stand lex ls (r
           ⊎ ((e : Entry) × In e (flat lex ls) × (e .at - 1 ≤ x - 1) × (x - 1 < e .at - 1 + length (spells lex (e .key-of)))) →
           (e : Entry) × In e (flat lex ls) × (e .at ≤ x) × (x < e .at + e .len)
       by-place (inl bare) =
-          let within : x - 1 < n = omega (arith, st .from, st .within, length-reconstructed lex ls n g) in
+          let within : x - 1 < n = omega (arith, length-reconstructed lex ls n g) in
           absurd (other (x - p) (omega arith) (st .equal x lo hi ∙ bare ∙ getD-replicate {A = ℕ} n (x - 1) g 0 within))
       by-place (inr on) =
           let from : 1 ≤ on .0 .at = all (on .0) (on .1) .from in (
             on .0,
             on .1,
-            omega (arith, st .from, on .2),
-            omega (arith, st .from, on .3, flat-long lex ls (on .0) (on .1)),
+            omega arith,
+            omega (arith, flat-long lex ls (on .0) (on .1)),
           )
 
   -- If every entry stands in the reconstructed text, the string is found exactly where it stands there.

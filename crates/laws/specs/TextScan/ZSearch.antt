@@ -38,8 +38,8 @@ pub longest-one : {s ts : List ℕ} {at limit n k : ℕ} → Longest-prefix-at s
 longest-one {n} {k} p q =
     ⊎-elim
     (λ (a : n ≤ k).
-    ⊎-elim (λ (b : k ≤ n). omega arith) (λ (b : n < k). absurd (p .longest (omega (arith, q .bound)) (q .lies .equal n b))) (le-or-lt k n))
-    (λ (a : k < n). absurd (q .longest (omega (arith, p .bound)) (p .lies .equal k a))) (le-or-lt n k)
+    ⊎-elim (λ (b : k ≤ n). omega arith) (λ (b : n < k). absurd (p .longest (omega arith) (q .lies .equal n b))) (le-or-lt k n))
+    (λ (a : k < n). absurd (q .longest (omega arith) (p .lies .equal k a))) (le-or-lt n k)
 
 -- WHAT THE TABLES HOLD
 
@@ -151,13 +151,13 @@ module _ (first : ℕ) (s ts : List ℕ) where
       zbox-on =
           record {
             ordered = h .ordered;
-            begun = λ b. let g = h .begun (omega arith) in (g .0, omega (arith, g .1));
+            begun = λ b. let g = h .begun (omega arith) in (g .0, omega arith);
             lies = h .lies;
           }
 
       -- the Z-box is no longer than the string
       pub zbox-short : at < right → at - left < length s
-      zbox-short b = omega (arith, h .begun b .1, h .lies .short)
+      zbox-short b = omega (arith, h .begun b .1)
 
       -- this part lies there: the Z-box has the string's own characters, and these start with its prefix again
       pub known-lies :
@@ -171,8 +171,8 @@ module _ (first : ℕ) (s ts : List ℕ) where
           repeated : at < right → Prefix-at s s (at - left) (getD zs (at - left) 0) → Prefix-at s ts at n
           repeated b f =
               record {
-                short = omega (arith, known .repeated b, f .short);
-                within = omega (arith, known .reached b, h .ordered, h .lies .within);
+                short = omega (arith, known .repeated b);
+                within = omega (arith, known .reached b);
                 equal =
                     λ x c.
                     let z : left + (at - left + x) ≡ at + x = omega (arith, h .begun b .1) in
@@ -203,7 +203,7 @@ module _ (first : ℕ) (s ts : List ℕ) (P : ℕ → ℕ → Type 0) (old : Lis
       (here : P at n)
     where
       elsewhere : (j : ℕ) → (j < first) ⊎ (at + 1 ≤ j) → j ≡ at → ⊥
-      elsewhere j (inl b) e = omega (arith, h .from)
+      elsewhere j (inl b) e = omega arith
       elsewhere j (inr b) e = omega arith
 
       still : (j : ℕ) → (j < first) ⊎ (at + 1 ≤ j) → (j < first) ⊎ (at ≤ j)
@@ -213,9 +213,9 @@ module _ (first : ℕ) (s ts : List ℕ) (P : ℕ → ℕ → Type 0) (old : Lis
       kept : {a b : ℕ} → Z-box first s ts (at + 1) a b → Filling first s ts P old (set xs at n) (at + 1) a b
       kept st =
           record {
-            from = omega (arith, h .from);
+            from = omega arith;
             zbox = st;
-            told = set-more 0 P xs at n (omega (arith, h .len)) (h .told) here;
+            told = set-more 0 P xs at n (omega arith) (h .told) here;
             rest = λ j out. getD-set-other xs at j n 0 (elsewhere j out) ∙ h .rest j (still j out);
             len = length-set xs at n ∙ h .len;
           }

@@ -100,7 +100,7 @@ module _ {bs : List ℕ} {l i o q : ℕ} {old : List ℕ} {max-reach : ℕ} {rs 
                     ∙ sym
                     (extend-here i o l q (getD bs j 0) rs p own inside (done .extended t .0) (omega (arith, done .extended t .1)));
                 bounded =
-                    within-set peak rs p end (omega arith) (within-more highest peak rs (omega (arith, h .top-small)) (h .way .bounded));
+                    within-set peak rs p end (omega arith) (within-more highest peak rs (omega arith) (h .way .bounded));
               })
               (omega arith)
 
@@ -129,5 +129,5 @@ module _ {bs : List ℕ} (l : ℕ) {i o q : ℕ} (old : List ℕ) (max-reach : �
   range-end {rs} {highest} {j} h past =
       extending-end
       (extending-skip h (length bs) (h .within) (omega arith)
-      (λ x m below from. omega (arith, h .way .len, r .above x (omega arith) below)))
+      (λ x m below from. omega (arith, r .above x (omega arith) below)))
       (omega arith)

@@ -53,17 +53,17 @@ module _ (m : ℕ) (rs : List ℕ) where
         cut = rw (add-one i, drop-cons rs i 0)
 
         counted : (count + cond (leb m (getD rs i 0)) 1 0) + count-in m (drop (i + 1) rs) ≡ count-in m rs
-        counted = omega (arith, h .counted, cut)
+        counted = omega (arith, cut)
 
         few : (b : Bool) → count + cond b 1 0 ≤ i + 1
-        few true = omega (arith, h .few)
-        few false = omega (arith, h .few)
+        few true = omega arith
+        few false = omega arith
 
     pub counting-end : length rs ≤ i → count ≡ count-in m rs
     unfolding count-in
     counting-end past =
         let none : count-in m (drop i rs) ≡ 0 = rw (drop-of-length-le rs past) in
-        omega (arith, h .counted)
+        omega arith
 
 -- if no reach comes to the string's end, nothing is found
 pub none-found : (m most q : ℕ) (rs : List ℕ) → Within most rs → most < m → found-in m q rs ≡ []
@@ -110,20 +110,14 @@ module _ (m : ℕ) (rs : List ℕ) (from : ℕ) where
         none : length rs ≤ i → ⊥
         none past =
             let z : count-in m (drop i rs) ≡ 0 = rw (drop-of-length-le rs past) in
-            omega (arith, h .some)
+            omega arith
 
     pub passing-step : getD rs i 0 < m → Passing m rs from (i + 1)
     passing-step far =
         record {
-          onward = omega (arith, h .onward);
+          onward = omega arith;
           some =
-              omega (
-                arith,
-                h .some,
-                count-found m (0 + i) (drop i rs),
-                count-found m (0 + (i + 1)) (drop (i + 1) rs),
-                ap length (same 0),
-              );
+              omega (arith, count-found m (0 + i) (drop i rs), count-found m (0 + (i + 1)) (drop (i + 1) rs), ap length (same 0));
           passed = λ q. h .passed q ∙ same q;
         }
       where
@@ -161,23 +155,23 @@ module _ (m q : ℕ) (rs old : List ℕ) where
   module _ {out : List ℕ} {written i : ℕ} (h : Finding m q rs old out written i) where
     -- if a start is still to be written, one is still to come
     pub finding-more : written < length (found-in m q rs) → 1 ≤ count-in m (drop i rs)
-    finding-more some = omega (arith, h .left, count-found m (q + i) (drop i rs))
+    finding-more some = omega (arith, count-found m (q + i) (drop i rs))
 
     pub finding-next : {r : ℕ} → Next-found m rs i r → Finding m q rs old out written r
     finding-next n =
         record {
-          within = omega (arith, n .within);
+          within = omega arith;
           ahead = ap (λ (l : List ℕ). take written out ++ l) (sym (n .passed q)) ∙ h .ahead;
           rest = h .rest;
           len = h .len;
-          left = omega (arith, h .left, ap length (n .passed q));
+          left = omega (arith, ap length (n .passed q));
         }
 
     pub finding-end : length (found-in m q rs) ≤ written → out ≡ in-front (found-in m q rs) old
     unfolding in-front
     finding-end past =
-        let count : written ≡ length (found-in m q rs) = omega (arith, h .left) in
-        let none : length (found-in m (q + i) (drop i rs)) ≡ 0 = omega (arith, h .left) in
+        let count : written ≡ length (found-in m q rs) = omega arith in
+        let none : length (found-in m (q + i) (drop i rs)) ≡ 0 = omega arith in
         let front : take written out ≡ found-in m q rs =
         sym (append-nil (take written out))
         ∙ ap (λ (l : List ℕ). take written out ++ l) (sym (empty-of (found-in m (q + i) (drop i rs)) none))
@@ -192,7 +186,7 @@ module _ (m q : ℕ) (rs old : List ℕ) where
       here = rw (le-leb m (getD rs i 0) near) at (cut m q rs i below)
 
       finding-room : length (found-in m q rs) ≤ length old → written < length out
-      finding-room room = omega (arith, h .left, h .len, ap length here)
+      finding-room room = omega (arith, ap length here)
 
       pub finding-write :
           length (found-in m q rs) ≤ length old → Finding m q rs old (set out written (q + i)) (written + 1) (i + 1)
@@ -212,5 +206,5 @@ module _ (m q : ℕ) (rs old : List ℕ) where
                 ∙ ap (λ (l : List ℕ). drop 1 l) (h .rest)
                 ∙ drop-drop 1 written old;
             len = length-set out written (q + i) ∙ h .len;
-            left = omega (arith, h .left, ap length here);
+            left = omega (arith, ap length here);
           }

@@ -56,7 +56,7 @@ module _ (s k : List ℕ) where
         (false-put (any-from (length k) 0 (λ i. agrees s i k 0))
         (λ t.
         let some = any-from-get (length k) 0 (λ i. agrees s i k 0) t in
-        clash (some .3) (h (some .0) (omega (arith, some .2)))))
+        clash (some .3) (h (some .0) (omega arith))))
 
   pub leading-found : (i : ℕ) → i < length k → agrees s i k 0 ≡ true → true ≡ agrees-leading s k
   unfolding agrees-leading
@@ -142,7 +142,7 @@ module _ (lex : Lexicon) (xs s : List ℕ) where
   leading-has w is e within j b =
       let listed : List ℕ = those-from w 0 (is-leading lex xs s) in
       let m = those-from-get w 0 (is-leading lex xs s) (getD listed j 0) (in-getD listed j 0 (omega (arith, ap length e))) in
-      rw e (omega (arith, m .1))
+      rw e (omega arith)
 
   pub leading-short : (w : ℕ) → length (leading-lines lex xs s w) ≤ w
   unfolding leading-lines

@@ -71,7 +71,7 @@ module _ {cs ls xs : List ℕ} (can : Can-read cs ls xs) where
   unfolding key
   kinds-before i j h b =
       ⊎-elim (λ (p : kind-at xs i < kind-at xs j). omega arith)
-      (λ (p : (kind-at xs i ≡ kind-at xs j) × (value-at xs i < value-at xs j)). omega (arith, p .0)) (keys-before i j h b)
+      (λ (p : (kind-at xs i ≡ kind-at xs j) × (value-at xs i < value-at xs j)). omega arith) (keys-before i j h b)
 
   -- so binary search by kind finds the first lone character
   pub kinds-rise : Rising (number-at xs 0) 0 (keys-of xs)
@@ -106,7 +106,7 @@ module _ {cs ls xs : List ℕ} (can : Can-read cs ls xs) where
     word-lines-rise i j h b =
         let p : kind-at xs i ≡ 0 = split .words i (omega arith) in
         let q : kind-at xs j ≡ 0 = split .words j b in
-        let r : j < keys-of xs = omega (arith, split .within) in
+        let r : j < keys-of xs = omega arith in
         rw (spells-word (lexicon cs ls) (key-at xs i) p, spells-word (lexicon cs ls) (key-at xs j) q)
         (ascend-get (lexicon cs ls .words) (can .words-rise) (value-at xs i) (value-at xs j) (values-before i j h r (p ∙ sym q))
         (omega (arith, word-below can j r q, length-words ls cs)))
@@ -117,7 +117,7 @@ module _ {cs ls xs : List ℕ} (can : Can-read cs ls xs) where
         omega (
           arith,
           value-least i (omega arith),
-          values-before i (suc i) (omega arith) (omega (arith, split .within)) (split .words i (omega arith) ∙ sym (split .words (suc i) b)),
+          values-before i (suc i) (omega arith) (omega arith) (split .words i (omega arith) ∙ sym (split .words (suc i) b)),
         )
 
     -- no more than the dictionary has words
@@ -126,12 +126,7 @@ module _ {cs ls xs : List ℕ} (can : Can-read cs ls xs) where
       where
         last : 0 < w → w ≤ 4096
         last some =
-            omega (
-              arith,
-              value-least (w - 1) (omega arith),
-              word-below can (w - 1) (omega (arith, split .within)) (split .words (w - 1) (omega arith)),
-              can .few-words,
-            )
+            omega (arith, value-least (w - 1) (omega arith), word-below can (w - 1) (omega arith) (split .words (w - 1) (omega arith)))
 
     -- LONE CHARACTERS
 
@@ -230,11 +225,11 @@ module _ {cs ls xs : List ℕ} (can : Can-read cs ls xs) where
             where
               before : Unchanged step w r
               before i a b =
-                  offset-apart (lexicon cs ls) xs s q o i (lone-others i a (omega (arith, cut .to)) (λ e. omega arith))
+                  offset-apart (lexicon cs ls) xs s q o i (lone-others i a (omega arith) (λ e. omega arith))
 
               after : Unchanged step (r + 1) (keys-of xs)
               after i a b =
-                  offset-apart (lexicon cs ls) xs s q o i (lone-others i (omega (arith, cut .from)) b (λ e. omega arith))
+                  offset-apart (lexicon cs ls) xs s q o i (lone-others i (omega arith) b (λ e. omega arith))
 
           -- or it has none
           pub lone-none :

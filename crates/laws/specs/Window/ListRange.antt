@@ -69,7 +69,7 @@ window-range bs i o q n a b low high l h front back =
 -- the start that a position of the range falls on
 module _ {bs : List ℕ} {i o q n a b : ℕ} (r : Window-range bs i o q n a b) (k : ℕ) (from : a ≤ k) (to : k < b) where
   pub range-own : getD bs k 0 + i - (q + o) + (q + o) ≡ getD bs k 0 + i
-  range-own = omega (arith, r .from-first k from (omega (arith, r .to)))
+  range-own = omega (arith, r .from-first k from (omega arith))
 
   pub range-inside : getD bs k 0 + i - (q + o) < n
   range-inside = omega (arith, r .to-last k to, range-own)

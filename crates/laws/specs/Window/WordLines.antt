@@ -83,18 +83,18 @@ module _
 
   module _ (i : ℕ) (lo-i : lo ≤ i) (i-hi : i < hi) where
     pub shared-line : i < keys-of xs
-    shared-line = omega (arith, h .within, split .within)
+    shared-line = omega arith
 
     pub shared-word : value-at xs i < length ls
-    shared-word = word-below can i shared-line (split .words i (omega (arith, h .within)))
+    shared-word = word-below can i shared-line (split .words i (omega arith))
 
     spelt :
         take (getD ws (value-at xs i) 0 + getD ls (value-at xs i) 0 - getD ws (value-at xs i) 0) (drop (getD ws (value-at xs i) 0) cs)
         ≡ word-of i
-    spelt = word-spelt can i shared-line (split .words i (omega (arith, h .within))) table
+    spelt = word-spelt can i shared-line (split .words i (omega arith)) table
 
     room : getD ws (value-at xs i) 0 + getD ls (value-at xs i) 0 ≤ length cs
-    room = word-room can i shared-line (split .words i (omega (arith, h .within))) table
+    room = word-room can i shared-line (split .words i (omega arith)) table
 
     -- its length is in the list of lengths
     pub shared-long : length (word-of i) ≡ getD ls (value-at xs i) 0
@@ -141,7 +141,7 @@ module _
             ⊎-elim
             (λ (q : i ≤ lo). let here : i ≡ lo = omega arith in omega (arith, first, ap (λ (x : ℕ). length (word-of x)) here))
             (λ (q : lo < i).
-            prefix-not-before (word-of i) (word-of lo) (word-lines-rise can split lo i q (omega (arith, h .within)))
+            prefix-not-before (word-of i) (word-of lo) (word-lines-rise can split lo i q (omega arith))
             (omega (arith, first))
             (λ j c. h .share lo j (omega arith) some (omega arith) ∙ sym (h .share i j a b (omega arith))))
             (le-or-lt i lo)
@@ -154,7 +154,7 @@ module _
     rises i j a b c =
         ⊎-elim (λ (q : j ≤ i). let here : i ≡ j = omega arith in omega (arith, ap (λ (x : ℕ). getD (word-of x) d 0) here))
         (λ (q : i < j).
-        next-rises (word-of i) (word-of j) d (word-lines-rise can split i j q (omega (arith, h .within)))
+        next-rises (word-of i) (word-of j) d (word-lines-rise can split i j q (omega arith))
         (longer i a (omega arith)) (longer j (omega arith) c)
         (λ k l. h .share i k a (omega arith) l ∙ sym (h .share j k (omega arith) c l)))
         (le-or-lt j i)
@@ -176,7 +176,7 @@ module _
                     );
               };
           line = λ i a b. line-room can i (shared-line i a b);
-          word = λ i a b. omega (arith, shared-word i a b, table .room);
+          word = λ i a b. omega (arith, shared-word i a b);
           room = λ i a b. omega (arith, room i a b, shared-long i a b, longer i a b);
         }
 
@@ -188,15 +188,15 @@ module _
       shared-prefix-deeper =
           record {
             order = high .from;
-            within = omega (arith, high .to, h .within);
-            len = λ i a b. omega (arith, longer i (omega (arith, low .from)) (omega (arith, high .to)));
+            within = omega arith;
+            len = λ i a b. omega (arith, longer i (omega arith) (omega arith));
             share = λ i j a b l. shared i j a b l;
           }
         where
           shared : (i j : ℕ) → from ≤ i → i < to → j < d + 1 → getD (word-of i) j 0 ≡ getD s (o + j) 0
           shared i j a b l =
-              let a2 : lo ≤ i = omega (arith, low .from) in
-              let b2 : i < hi = omega (arith, high .to) in
+              let a2 : lo ≤ i = omega arith in
+              let b2 : i < hi = omega arith in
               ⊎-elim
               (λ (q : d ≤ j).
               let here : j ≡ d = omega arith in
@@ -215,10 +215,10 @@ module _
           ∙ sym is))
 
       pub apart-front : (i : ℕ) → lo ≤ i → i < from → agrees s 0 (spells (lexicon cs ls) (key-at xs i)) o ≡ false
-      apart-front i a b = apart i a (omega (arith, low .to)) (λ e. omega (arith, low .below i a b))
+      apart-front i a b = apart i a (omega arith) (λ e. omega (arith, low .below i a b))
 
       pub apart-back : (i : ℕ) → to ≤ i → i < hi → agrees s 0 (spells (lexicon cs ls) (key-at xs i)) o ≡ false
-      apart-back i a b = apart i (omega (arith, low .from, high .from)) b (λ e. omega (arith, high .above i a b))
+      apart-back i a b = apart i (omega arith) b (λ e. omega (arith, high .above i a b))
 
       module _ (q : ℕ) where
         pub unchanged-front : Unchanged (offset-at o (lexicon cs ls) xs s q) lo from
@@ -234,4 +234,4 @@ abbrev pub Words-at : (lengths numbers : List ℕ) → (w : ℕ) → Type 0
 Words-at ls xs w = (i : ℕ) → i < w → value-at xs i < length ls
 
 pub words-at : {cs ls xs : List ℕ} → Can-read cs ls xs → {w : ℕ} → Split xs w → Words-at ls xs w
-words-at {cs} {ls} {xs} can split i b = word-below can i (omega (arith, split .within)) (split .words i b)
+words-at {cs} {ls} {xs} can split i b = word-below can i (omega arith) (split .words i b)

@@ -36,7 +36,7 @@ finish-requires c κs =
     let ls = start .args .lengths .now in
     let ts = start .args .text .now in
     let w = length (start .args .work .now) in (
-      omega (arith, reached cs ls ts w (start .pre .0) .room, scanned .scan-replaced .kept .1 .1 .1 .1 .1 .1 .0),
+      omega (arith, reached cs ls ts w (start .pre .0) .room),
       front-linkable cs ls ts w (scanned .scan-replaced .last .1 .1 .1 .1 .1 .1 .0)
           (λ i h. omega (arith, given .shared-slice-known .given i)) (start .pre .0) (scanned .scan-replaced .ensures),
     )

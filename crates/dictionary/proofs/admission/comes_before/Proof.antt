@@ -18,7 +18,7 @@ lesser-requires : tie.Need-lesser-requires Inv-loop μ-loop
 lesser-requires c κs = search needs
 
 equal-fours-requires : tie.Need-equal-fours-requires Inv-loop μ-loop
-equal-fours-requires c κs = (omega (arith, c .lesser .ensures), omega (arith, c .lesser .ensures))
+equal-fours-requires c κs = (omega arith, omega arith)
 
 loop-holds : tie.Need-loop-holds Inv-loop μ-loop
 loop-holds c = c .equal-fours .ensures

@@ -23,13 +23,13 @@ code-at-requires c κs =
     record {
       some = start .pre .0;
       room = start .pre .1;
-      second-in = omega (arith, start .pre .0, start .pre .1, first .ensures .0);
-      third-in = omega (arith, start .pre .0, start .pre .1, then .ensures .0);
-      second = λ (h : 1 < start .args .end - start .args .at). first .ensures .1 (omega (arith, start .pre .1));
+      second-in = omega arith;
+      third-in = omega arith;
+      second = λ (h : 1 < start .args .end - start .args .at). first .ensures .1 (omega arith);
       third =
           λ (h : 2 < start .args .end - start .args .at).
-          let second : first .result ≡ start .args .at + 1 = first .ensures .1 (omega (arith, start .pre .1)) in
-          omega (arith, then .ensures .1 (omega (arith, start .pre .1)));
+          let second : first .result ≡ start .args .at + 1 = first .ensures .1 (omega arith) in
+          omega (arith, then .ensures .1 (omega arith));
     }
 
 returns : tie.Need-returns

@@ -29,7 +29,7 @@ cast-next c = omega (arith, c .shared-slice-known3 .given 0)
 prefix-code-requires : tie.Need-prefix-code-requires Inv-loop μ-loop
 prefix-code-requires c κs =
     let first = words-start (c .before .before .before .before .args .chars .now) (c .before .before .before .before .args .lengths .now) (c .before .before .before .before .pre) (omega arith) in
-    (first .some, omega (arith, first .room))
+    (first .some, omega arith)
 
 loop-holds : tie.Need-loop-holds Inv-loop μ-loop
 loop-holds c = (
@@ -58,7 +58,7 @@ prefix-code-requires-2 c κs = (
 neighbours-ascend-requires : tie.Need-neighbours-ascend-requires Inv-loop μ-loop
 neighbours-ascend-requires c κs =
     record {
-      first = omega (arith, c .before .before .before .loop .inv .0 .some);
+      first = omega arith;
       second = omega arith;
       room = next-room (c .before .before .before .before .before .before .before .before .before .args .chars .now) (c .before .before .before .before .before .before .before .before .before .args .lengths .now) (c .before .before .before .loop .at) (c .before .before .before .loop .next) (c .before .before .before .loop .i) (c .before .before .before .loop .inv .0) (c .before .before .loop-test .taken);
       first-code = c .before .before .before .loop .inv .1;

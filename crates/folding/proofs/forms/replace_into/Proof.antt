@@ -23,7 +23,7 @@ loop-holds c =
     let start = c .before .before in (
       omega arith,
       writing-start (replaced (start .args .text .now)) 0 (start .args .slots .now)
-          (omega (arith, start .pre, length-replaced (start .args .text .now))),
+          (omega (arith, length-replaced (start .args .text .now))),
     )
 
 mul-replace : tie.Need-mul-replace Inv-loop μ-loop
@@ -42,7 +42,7 @@ slice-write-slots : tie.Need-slice-write-slots Inv-loop μ-loop
 slice-write-slots c =
     let text = c .before .before .before .before .before .before .args .text .now in
     let turn = c .before .before .before .loop in
-    copy-room (replaced text) (turn .i) (turn .inv .1) (omega (arith, c .before .before .loop-test .taken, length-replaced text))
+    copy-room (replaced text) (turn .i) (turn .inv .1) (omega (arith, length-replaced text))
 
 add-i : tie.Need-add-i Inv-loop μ-loop
 add-i c = search needs
@@ -56,7 +56,7 @@ loop-again c =
     let turn = c .before .before .before .loop in (
       omega arith,
       rw (c .replace .ensures, ← getD-replaced text (turn .i))
-          (copy-step (replaced text) (turn .i) (turn .inv .1) (omega (arith, c .before .before .loop-test .taken, length-replaced text))),
+          (copy-step (replaced text) (turn .i) (turn .inv .1) (omega (arith, length-replaced text))),
     )
 
 same-length : tie.Need-same-length Inv-loop μ-loop
@@ -68,7 +68,7 @@ returns c =
     let turn = c .before .loop in
     text-put
     (copy-end (replaced (start .args .text .now)) (turn .i) (turn .inv .1)
-    (omega (arith, c .loop-test .left, length-replaced (start .args .text .now))))
+    (omega (arith, length-replaced (start .args .text .now))))
 
 pub replace-into-spec : {M : Type 1} → statement M
 replace-into-spec =

@@ -22,13 +22,8 @@ member c =
 inside : (c : tie.In-loop Inv-loop μ-loop) → c .before .loop .at - 1 < length (c .before .before .args .links .now)
 inside c =
     let m = member c in
-    omega (
-      arith,
-      m .is,
-      c .loop-test .taken,
-      c .before .before .pre .within (getD (chain (c .before .before .args .links .now) (c .before .before .args .head)) (c .before .loop .count) 0)
-          (in-getD (chain (c .before .before .args .links .now) (c .before .before .args .head)) (c .before .loop .count) 0 (m .below)),
-    )
+    omega (arith, c .before .before .pre .within (getD (chain (c .before .before .args .links .now) (c .before .before .args .head)) (c .before .loop .count) 0)
+          (in-getD (chain (c .before .before .args .links .now) (c .before .before .args .head)) (c .before .loop .count) 0 (m .below)))
 
 loop-holds : tie.Need-loop-holds Inv-loop μ-loop
 loop-holds c = walk-starts (c .args .links .now) (c .args .head) (c .pre)
@@ -37,7 +32,7 @@ add-count : tie.Need-add-count Inv-loop μ-loop
 add-count c = omega (arith, member c .below, chain-short (length (c .before .before .args .links .now)) (c .before .before .args .links .now) (c .before .before .args .head))
 
 sub-at : tie.Need-sub-at Inv-loop μ-loop
-sub-at c = omega (arith, c .loop-test .taken)
+sub-at c = omega arith
 
 mul-at : tie.Need-mul-at Inv-loop μ-loop
 mul-at c = omega (arith, inside c)

@@ -23,19 +23,13 @@ below c =
     let start = c .before .before .before .before .before .before in
     let l = c .before .loop in
     links-below
-    (l .p - 1) (omega (arith, c .loop-test .taken)) (l .inv)
+    (l .p - 1) (omega arith) (l .inv)
 
 text-below :
     (c : tie.After-shared-slice-known2 Inv-loop μ-loop) →
     c .before .before .before .before .loop .p - 1 < length (c .before .before .before .before .before .before .before .before .before .args .text .now)
 text-below c =
-    omega (
-      arith,
-      below (c .before .before .before),
-      c .before .before .before .before .loop .inv .linked .len,
-      c .before .before .before .before .before .before .before .before .before .pre .0 .len,
-      length-replaced (c .before .before .before .before .before .before .before .before .before .args .text .now),
-    )
+    omega (arith, below (c .before .before .before), length-replaced (c .before .before .before .before .before .before .before .before .before .args .text .now))
 
 loop-holds : tie.Need-loop-holds Inv-loop μ-loop
 loop-holds c =
@@ -47,13 +41,13 @@ sub-p : tie.Need-sub-p Inv-loop μ-loop
 sub-p c = omega arith
 
 mul-token : tie.Need-mul-token Inv-loop μ-loop
-mul-token c = omega (arith, below c, c .before .loop .inv .linked .len)
+mul-token c = omega (arith, below c)
 
 slice-read-token : tie.Need-slice-read-token Inv-loop μ-loop
 slice-read-token c = below (c .before)
 
 mul-code-of : tie.Need-mul-code-of Inv-loop μ-loop
-mul-code-of c = omega (arith, below (c .before .before), c .before .before .before .loop .inv .linked .len)
+mul-code-of c = omega (arith, below (c .before .before))
 
 shared-slice-read-code-of : tie.Need-shared-slice-read-code-of Inv-loop μ-loop
 shared-slice-read-code-of c = text-below c
@@ -64,17 +58,17 @@ code-of-requires c κs =
     let l = c .before .before .before .before .loop in
     let same : getD (l .tokens) (l .p - 1) 0 ≡ getD (start .args .tokens .now) (l .p - 1) 0 =
     links-token
-    (l .p - 1) (omega (arith, c .before .before .before .loop-test .taken)) (l .inv) in
-    (omega (arith, c .before .if1 .taken), omega (arith, start .pre .0 .small (l .p - 1) (omega (arith, below (c .before .before .before), l .inv .linked .len))))
+    (l .p - 1) (omega arith) (l .inv) in
+    (omega arith, omega (arith, start .pre .0 .small (l .p - 1) (omega (arith, below (c .before .before .before)))))
 
 mul-head : tie.Need-mul-head Inv-loop μ-loop
-mul-head c = omega (arith, c .code-of .ensures .1)
+mul-head c = omega arith
 
 slice-read-head : tie.Need-slice-read-head Inv-loop μ-loop
-slice-read-head c = omega (arith, c .before .code-of .ensures .1, c .before .before .before .before .before .before .loop .inv .codes)
+slice-read-head c = omega arith
 
 mul-tokens : tie.Need-mul-tokens Inv-loop μ-loop
-mul-tokens c = omega (arith, below (c .before .before .before .before .before), c .before .before .before .before .before .before .loop .inv .linked .len)
+mul-tokens c = omega (arith, below (c .before .before .before .before .before))
 
 slice-write-tokens : tie.Need-slice-write-tokens Inv-loop μ-loop
 slice-write-tokens c = below (c .before .before .before .before .before)
@@ -83,25 +77,25 @@ add-heads : tie.Need-add-heads Inv-loop μ-loop
 add-heads c = omega (arith, below (c .before .before .before .before .before))
 
 cast-heads : tie.Need-cast-heads Inv-loop μ-loop
-cast-heads c = omega (arith, below (c .before .before .before .before .before), c .before .before .before .before .before .before .loop .inv .linked .len, c .before .before .before .before .before .before .before .before .before .before .before .pre .0 .len, c .before .before .before .before .before .before .before .before .before .before .before .pre .0 .short)
+cast-heads c = omega (arith, below (c .before .before .before .before .before))
 
 mul-heads : tie.Need-mul-heads Inv-loop μ-loop
-mul-heads c = omega (arith, c .before .code-of .ensures .1)
+mul-heads c = omega arith
 
 slice-write-heads : tie.Need-slice-write-heads Inv-loop μ-loop
-slice-write-heads c = omega (arith, c .before .code-of .ensures .1, c .before .before .before .before .before .before .loop .inv .codes)
+slice-write-heads c = omega arith
 
 slice-write-pages : tie.Need-slice-write-pages Inv-loop μ-loop
-slice-write-pages c = omega (arith, c .before .code-of .ensures .1, c .before .before .before .before .before .before .loop .inv .codes, c .before .before .before .before .before .before .loop .inv .paged .whole)
+slice-write-pages c = omega arith
 
 add-entries : tie.Need-add-entries Inv-loop μ-loop
-add-entries c = omega (arith, c .before .before .before .before .before .before .loop .inv .counted .few-entries, c .before .before .before .before .before .before .before .before .before .before .before .pre .0 .len, c .before .before .before .before .before .before .before .before .before .before .before .pre .0 .short)
+add-entries c = omega arith
 
 add-keys : tie.Need-add-keys Inv-loop μ-loop
-add-keys c = omega (arith, c .before .before .before .before .before .before .before .loop .inv .counted .few-keys, c .before .before .before .before .before .before .before .loop .inv .counted .few-entries, c .before .before .before .before .before .before .before .before .before .before .before .before .pre .0 .len, c .before .before .before .before .before .before .before .before .before .before .before .before .pre .0 .short)
+add-keys c = omega arith
 
 loop-less : tie.Need-loop-less Inv-loop μ-loop
-loop-less c = omega (arith, c .before .before .before .before .before .before .loop-test .taken)
+loop-less c = omega arith
 
 loop-again : tie.Need-loop-again Inv-loop μ-loop
 loop-again c =
@@ -109,12 +103,12 @@ loop-again c =
     let l = c .before .before .before .before .before .before .before .loop in
     links-new
     (l .p - 1)
-    (omega (arith, c .before .before .before .before .before .before .loop-test .taken)) (l .inv) (c .before .before .code-of .result)
+    (omega arith) (l .inv) (c .before .before .code-of .result)
     (rw (← getD-replaced (start .args .text .now) (l .p - 1)) at (c .before .before .code-of .ensures .0))
     (c .before .before .code-of .ensures .1) (c .if2 .taken)
 
 loop-less-2 : tie.Need-loop-less-2 Inv-loop μ-loop
-loop-less-2 c = omega (arith, c .before .before .before .before .before .before .loop-test .taken)
+loop-less-2 c = omega arith
 
 loop-again-2 : tie.Need-loop-again-2 Inv-loop μ-loop
 loop-again-2 c =
@@ -122,12 +116,12 @@ loop-again-2 c =
     let l = c .before .before .before .before .before .before .before .loop in
     links-more
     (l .p - 1)
-    (omega (arith, c .before .before .before .before .before .before .loop-test .taken)) (l .inv) (c .before .before .code-of .result)
+    (omega arith) (l .inv) (c .before .before .code-of .result)
     (rw (← getD-replaced (start .args .text .now) (l .p - 1)) at (c .before .before .code-of .ensures .0))
     (c .before .before .code-of .ensures .1) (c .if2 .left)
 
 loop-less-3 : tie.Need-loop-less-3 Inv-loop μ-loop
-loop-less-3 c = omega (arith, c .before .before .loop-test .taken)
+loop-less-3 c = omega arith
 
 loop-again-3 : tie.Need-loop-again-3 Inv-loop μ-loop
 loop-again-3 c =
@@ -135,7 +129,7 @@ loop-again-3 c =
     let l = c .before .before .before .loop in
     links-passed
     (l .p - 1)
-    (omega (arith, c .before .before .loop-test .taken)) (l .inv)
+    (omega arith) (l .inv)
     (coded-none (getD (l .tokens) (l .p - 1) 0) (getD (replaced (start .args .text .now)) (l .p - 1) 0) (c .if1 .left))
 
 same-length : tie.Need-same-length Inv-loop μ-loop
@@ -145,11 +139,11 @@ same-length-2 : tie.Need-same-length-2 Inv-loop μ-loop
 same-length-2 c = c .before .loop .inv .codes ∙ sym (c .before .before .before .before .before .before .pre .1 .codes)
 
 same-length-3 : tie.Need-same-length-3 Inv-loop μ-loop
-same-length-3 c = omega (arith, c .before .loop .inv .codes, c .before .loop .inv .paged .whole, c .before .before .before .before .before .before .pre .1 .page-count)
+same-length-3 c = omega arith
 
 returns : tie.Need-returns Inv-loop μ-loop
 returns c =
-    let none : c .before .loop .p ≡ 0 = omega (arith, c .loop-test .left) in
+    let none : c .before .loop .p ≡ 0 = omega arith in
     rw none at (c .before .loop .inv)
 
 pub chain-positions-spec : {M : Type 1} → statement M

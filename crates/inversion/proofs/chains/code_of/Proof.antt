@@ -23,7 +23,7 @@ returns : tie.Need-returns
 returns c =
     let start = c .before .before in (
       rw (c .replace .ensures) (coded-lone (start .args .token) (replaced-char (start .args .character)) (c .before .if1 .taken)),
-      omega (arith, c .replace .ok),
+      omega arith,
     )
 
 returns-2 : tie.Need-returns-2

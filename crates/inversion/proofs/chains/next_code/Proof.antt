@@ -22,7 +22,7 @@ loop-holds : tie.Need-loop-holds Inv-loop μ-loop
 loop-holds c = passed-start (c .args .heads .now) (c .args .from) (c .pre .1)
 
 shared-slice-read-if2 : tie.Need-shared-slice-read-if2 Inv-loop μ-loop
-shared-slice-read-if2 c = omega (arith, c .before .before .before .before .pre .0 .whole)
+shared-slice-read-if2 c = omega arith
 
 add-code : tie.Need-add-code Inv-loop μ-loop
 add-code c = omega (arith, page c .within)

@@ -40,7 +40,7 @@ cast-member : tie.Need-cast-member Inv-loop μ-loop
 cast-member c = omega (arith, hand c .linked)
 
 sub-member : tie.Need-sub-member Inv-loop μ-loop
-sub-member c = omega (arith, c .loop-test .taken)
+sub-member c = omega arith
 
 mul-member : tie.Need-mul-member Inv-loop μ-loop
 mul-member c = omega (arith, hand c .linked)
@@ -49,7 +49,7 @@ shared-slice-read-member : tie.Need-shared-slice-read-member Inv-loop μ-loop
 shared-slice-read-member c = hand (c .before) .linked
 
 loop-less : tie.Need-loop-less Inv-loop μ-loop
-loop-less c = omega (arith, hand (c .before) .left, c .before .before .loop .inv .from)
+loop-less c = omega (arith, hand (c .before) .left)
 
 loop-again : tie.Need-loop-again Inv-loop μ-loop
 loop-again c = hand (c .before) .next

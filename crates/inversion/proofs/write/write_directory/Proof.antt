@@ -41,7 +41,7 @@ loop-holds c =
     (start .args .at) (start .pre .1) (c .next-code .ensures)
 
 mul-chain-length : tie.Need-mul-chain-length Inv-loop μ-loop
-mul-chain-length c = omega (arith, c .loop-test .taken, c .before .before .before .before .before .before .before .pre .0 .codes)
+mul-chain-length c = omega arith
 
 shared-slice-read-chain-length : tie.Need-shared-slice-read-chain-length Inv-loop μ-loop
 shared-slice-read-chain-length c = c .before .loop-test .taken
@@ -52,27 +52,22 @@ chain-length-requires c κs = c .before .before .before .before .before .before 
 put-line-requires : tie.Need-put-line-requires Inv-loop μ-loop
 put-line-requires c κs = (
   room (c .before .before .before),
-  omega (arith, c .before .before .before .loop-test .taken, c .before .before .before .before .before .before .before .before .before .before .pre .0 .codes),
-  omega (
-    arith,
-    c .before .chain-length .ensures,
-    c .before .before .before .before .before .before .before .before .before .before .pre .0 .short,
-    chain-short (length (c .before .before .before .before .before .before .before .before .before .before .args .links .now)) (c .before .before .before .before .before .before .before .before .before .before .args .links .now)
-        (getD (c .before .before .before .before .before .before .before .before .before .before .args .heads .now) (c .before .before .before .before .loop .code) 0),
-  ),
+  omega arith,
+  omega (arith, chain-short (length (c .before .before .before .before .before .before .before .before .before .before .args .links .now)) (c .before .before .before .before .before .before .before .before .before .before .args .links .now)
+        (getD (c .before .before .before .before .before .before .before .before .before .before .args .heads .now) (c .before .before .before .before .loop .code) 0)),
 )
 
 add-here : tie.Need-add-here Inv-loop μ-loop
-add-here c = omega (arith, room (c .before .before .before .before .before .before), c .before .before .before .before .before .before .before .loop .inv .writing .len)
+add-here c = omega (arith, room (c .before .before .before .before .before .before))
 
 add-next-code : tie.Need-add-next-code Inv-loop μ-loop
-add-next-code c = omega (arith, c .before .before .before .before .before .before .loop-test .taken, c .before .before .before .before .before .before .before .before .before .before .before .before .before .pre .0 .codes)
+add-next-code c = omega arith
 
 next-code-requires-2 : tie.Need-next-code-requires-2 Inv-loop μ-loop
-next-code-requires-2 c κs = (c .before .before .before .before .before .before .before .before .before .before .before .before .before .pre .0 .paged, omega (arith, c .before .before .before .before .before .before .loop-test .taken))
+next-code-requires-2 c κs = (c .before .before .before .before .before .before .before .before .before .before .before .before .before .pre .0 .paged, omega arith)
 
 loop-less : tie.Need-loop-less Inv-loop μ-loop
-loop-less c = omega (arith, c .before .before .before .before .before .before .before .loop-test .taken, c .next-code2 .ensures .passed .after)
+loop-less c = omega arith
 
 loop-again : tie.Need-loop-again Inv-loop μ-loop
 loop-again c =

@@ -39,10 +39,10 @@ loop-holds : tie.Need-loop-holds Inv-loop μ-loop
 loop-holds c =
     let start = c .before .before .before .before .before in
     listing-start positions-by-line (start .args .heads .now) (start .args .links .now) (start .args .part .now) 0
-    (omega (arith, start .pre .1)) (c .next-code .ensures)
+    (omega arith) (c .next-code .ensures)
 
 mul-write-chain : tie.Need-mul-write-chain Inv-loop μ-loop
-mul-write-chain c = omega (arith, c .loop-test .taken, c .before .before .before .before .before .before .before .pre .0 .codes)
+mul-write-chain c = omega arith
 
 shared-slice-read-write-chain : tie.Need-shared-slice-read-write-chain Inv-loop μ-loop
 shared-slice-read-write-chain c = c .before .loop-test .taken
@@ -54,13 +54,13 @@ write-chain-requires c κs = (
 )
 
 add-next-code : tie.Need-add-next-code Inv-loop μ-loop
-add-next-code c = omega (arith, c .before .before .before .before .before .loop-test .taken, c .before .before .before .before .before .before .before .before .before .before .before .before .pre .0 .codes)
+add-next-code c = omega arith
 
 next-code-requires-2 : tie.Need-next-code-requires-2 Inv-loop μ-loop
-next-code-requires-2 c κs = (c .before .before .before .before .before .before .before .before .before .before .before .before .pre .0 .paged, omega (arith, c .before .before .before .before .before .loop-test .taken))
+next-code-requires-2 c κs = (c .before .before .before .before .before .before .before .before .before .before .before .before .pre .0 .paged, omega arith)
 
 loop-less : tie.Need-loop-less Inv-loop μ-loop
-loop-less c = omega (arith, c .before .before .before .before .before .before .loop-test .taken, c .next-code2 .ensures .passed .after)
+loop-less c = omega arith
 
 loop-again : tie.Need-loop-again Inv-loop μ-loop
 loop-again c =

@@ -13,7 +13,7 @@ spaced-character-requires c κs = search needs
 cast-result : tie.Need-cast-result
 cast-result c =
     let entry = c .before .before in
-    omega (arith, c .spaced-character .ensures, character-fits (entry .args .line .now) (entry .args .at) (entry .pre .1))
+    omega (arith, character-fits (entry .args .line .now) (entry .args .at) (entry .pre .1))
 
 returns : tie.Need-returns
 returns c =

@@ -49,7 +49,7 @@ returns-2 c =
     sym (sym (c .before .before .loop .inv .1) ∙ ends-other (c .before .before .before .before .args .line .now) (c .before .before .loop .at) (c .before .loop-test .left) (c .before .before .loop .inv .0) (c .if2 .taken))
 
 shared-slice-read-result : tie.Need-shared-slice-read-result Inv-loop μ-loop
-shared-slice-read-result c = omega (arith, c .before .if2 .left)
+shared-slice-read-result c = omega arith
 
 returns-3 : tie.Need-returns-3 Inv-loop μ-loop
 returns-3 c =

@@ -17,19 +17,19 @@ loop-holds : tie.Need-loop-holds Inv-loop μ-loop
 loop-holds c = string-start (c .before .before .args .line .now) (c .before .before .args .at) (c .before .before .args .out .now) (c .before .before .pre .0) (c .before .before .pre .1) (c .before .before .pre .2)
 
 add-loop : tie.Need-add-loop Inv-loop μ-loop
-add-loop c = omega (arith, c .loop .inv .within)
+add-loop c = omega arith
 
 character-requires : tie.Need-character-requires Inv-loop μ-loop
 character-requires c κs = (c .loop-test .taken, spaced-here (c .before .loop .inv) (c .loop-test .taken))
 
 mul-out : tie.Need-mul-out Inv-loop μ-loop
-mul-out c = omega (arith, string-room (c .before .before .loop .inv) (c .before .loop-test .taken), c .before .before .loop .inv .writing .len)
+mul-out c = omega (arith, string-room (c .before .before .loop .inv) (c .before .loop-test .taken))
 
 slice-write-out : tie.Need-slice-write-out Inv-loop μ-loop
 slice-write-out c = string-room (c .before .before .loop .inv) (c .before .loop-test .taken)
 
 add-end : tie.Need-add-end Inv-loop μ-loop
-add-end c = omega (arith, string-room (c .before .before .loop .inv) (c .before .loop-test .taken), c .before .before .loop .inv .writing .len)
+add-end c = omega (arith, string-room (c .before .before .loop .inv) (c .before .loop-test .taken))
 
 add-from : tie.Need-add-from Inv-loop μ-loop
 add-from c = omega arith

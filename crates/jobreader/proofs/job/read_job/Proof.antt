@@ -39,7 +39,7 @@ returns-2 c =
 contents-refusal-requires : tie.Need-contents-refusal-requires
 contents-refusal-requires c κs =
     let parts = job-parts (c .before .before .before .before .before .before .before .before .read-sheet .ensures) (not-false (c .before .before .before .before .before .before .before .before .read-sheet .result .good) (c .before .before .if2 .left)) in
-    (omega (arith, parts .chars-fit), parts .lengths-fit)
+    (omega arith, parts .lengths-fit)
 
 same-length-3 : tie.Need-same-length-3
 same-length-3 c = search needs

@@ -27,13 +27,13 @@ loop-holds c = (
 )
 
 sub-put-string : tie.Need-sub-put-string Inv-loop μ-loop
-sub-put-string c = omega (arith, c .before .loop .inv .2 .here .from)
+sub-put-string c = omega arith
 
 part-put-string-start : tie.Need-part-put-string-start Inv-loop μ-loop
-part-put-string-start c = omega (arith, c .before .loop .inv .2 .here .from)
+part-put-string-start c = omega arith
 
 part-put-string-end : tie.Need-part-put-string-end Inv-loop μ-loop
-part-put-string-end c = omega (arith, c .loop-test .taken)
+part-put-string-end c = omega arith
 
 put-string-requires : tie.Need-put-string-requires Inv-loop μ-loop
 put-string-requires c κs = (
@@ -43,28 +43,28 @@ put-string-requires c κs = (
 )
 
 sub-lengths : tie.Need-sub-lengths Inv-loop μ-loop
-sub-lengths c = omega (arith, c .before .before .put-string .ensures .ends)
+sub-lengths c = omega arith
 
 cast-lengths : tie.Need-cast-lengths Inv-loop μ-loop
-cast-lengths c = omega (arith, c .before .before .put-string .ensures .ends, string-short (c .before .before .before .before .before .before .loop .inv .2) (c .before .before .before .before .before .loop-test .taken) (c .before .before .before .before .before .before .loop .inv .0))
+cast-lengths c = omega (arith, string-short (c .before .before .before .before .before .before .loop .inv .2) (c .before .before .before .before .before .loop-test .taken) (c .before .before .before .before .before .before .loop .inv .0))
 
 mul-lengths : tie.Need-mul-lengths Inv-loop μ-loop
-mul-lengths c = omega (arith, length-fits (c .before .before .before .before .before .before .loop .inv .2) (c .before .before .before .before .before .loop-test .taken), c .before .before .before .before .before .before .loop .inv .2 .lengths-left .len)
+mul-lengths c = omega (arith, length-fits (c .before .before .before .before .before .before .loop .inv .2) (c .before .before .before .before .before .loop-test .taken))
 
 slice-write-lengths : tie.Need-slice-write-lengths Inv-loop μ-loop
 slice-write-lengths c = length-fits (c .before .before .before .before .before .before .loop .inv .2) (c .before .before .before .before .before .loop-test .taken)
 
 add-i : tie.Need-add-i Inv-loop μ-loop
-add-i c = omega (arith, length-fits (c .before .before .before .before .before .before .loop .inv .2) (c .before .before .before .before .before .loop-test .taken), c .before .before .before .before .before .before .loop .inv .2 .lengths-left .len)
+add-i c = omega (arith, length-fits (c .before .before .before .before .before .before .loop .inv .2) (c .before .before .before .before .before .loop-test .taken))
 
 add-from : tie.Need-add-from Inv-loop μ-loop
-add-from c = omega (arith, c .before .before .before .before .before .before .loop .inv .0, c .before .before .before .before .before .loop-test .taken)
+add-from c = omega arith
 
 form-end-requires-2 : tie.Need-form-end-requires-2 Inv-loop μ-loop
-form-end-requires-2 c κs = (omega (arith, c .before .before .before .before .before .loop-test .taken), c .before .before .before .before .before .before .loop .inv .1)
+form-end-requires-2 c κs = (omega arith, c .before .before .before .before .before .before .loop .inv .1)
 
 loop-less : tie.Need-loop-less Inv-loop μ-loop
-loop-less c = omega (arith, c .before .before .before .before .before .before .loop-test .taken, c .before .before .before .before .before .before .before .loop .inv .2 .here .from)
+loop-less c = omega arith
 
 loop-again : tie.Need-loop-again Inv-loop μ-loop
 loop-again c = (

@@ -30,7 +30,7 @@ add-sum : tie.Need-add-sum Inv-loop μ-loop
 add-sum c =
     let start = c .before .before .before in
     let walk = c .before .before .loop in
-    omega (arith, walk .inv .small, c .before .loop-test .taken, start .pre .1, c .shared-slice-known .given (walk .i))
+    omega (arith, c .shared-slice-known .given (walk .i))
 
 add-i : tie.Need-add-i Inv-loop μ-loop
 add-i c = search needs

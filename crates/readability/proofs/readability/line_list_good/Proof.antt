@@ -36,7 +36,7 @@ cast-only c =
 add-result : tie.Need-add-result
 add-result c =
     let start = c .before .before .before .before .before in
-    omega (arith, c .shared-slice-known2 .given (start .args .at), start .pre .2)
+    omega (arith, c .shared-slice-known2 .given (start .args .at))
 
 add-result-2 : tie.Need-add-result-2
 add-result-2 c = search needs

@@ -23,13 +23,13 @@ abbrev μ-loop : tie.MeasureT-loop
 μ-loop chars lengths index from start as-gaps n keys at₀ least₀ words₀ i₀ at least words i = keys - i
 
 shared-slice-read-n : tie.Need-shared-slice-read-n Inv-loop μ-loop
-shared-slice-read-n c = omega (arith, c .before .before .before .before .pre .1)
+shared-slice-read-n c = omega arith
 
 cast-n : tie.Need-cast-n Inv-loop μ-loop
 cast-n c = omega (arith, c .shared-slice-known4 .given 0)
 
 shared-slice-read-keys : tie.Need-shared-slice-read-keys Inv-loop μ-loop
-shared-slice-read-keys c = omega (arith, c .before .before .before .before .before .pre .1)
+shared-slice-read-keys c = omega arith
 
 cast-keys : tie.Need-cast-keys Inv-loop μ-loop
 cast-keys c = omega (arith, c .shared-slice-known5 .given 1)
@@ -41,43 +41,43 @@ mul-kind : tie.Need-mul-kind Inv-loop μ-loop
 mul-kind c = search needs
 
 add-kind : tie.Need-add-kind Inv-loop μ-loop
-add-kind c = omega (arith, c .loop-test .taken, c .before .before .before .before .before .before .before .pre .1)
+add-kind c = omega arith
 
 mul-kind-2 : tie.Need-mul-kind-2 Inv-loop μ-loop
 mul-kind-2 c = search needs
 
 shared-slice-read-kind : tie.Need-shared-slice-read-kind Inv-loop μ-loop
-shared-slice-read-kind c = omega (arith, c .before .loop-test .taken, c .before .before .before .before .before .before .before .before .pre .1)
+shared-slice-read-kind c = omega arith
 
 mul-value : tie.Need-mul-value Inv-loop μ-loop
 mul-value c = search needs
 
 add-value : tie.Need-add-value Inv-loop μ-loop
-add-value c = omega (arith, c .before .loop-test .taken, c .before .before .before .before .before .before .before .before .pre .1)
+add-value c = omega arith
 
 add-value-2 : tie.Need-add-value-2 Inv-loop μ-loop
-add-value-2 c = omega (arith, c .before .loop-test .taken, c .before .before .before .before .before .before .before .before .pre .1)
+add-value-2 c = omega arith
 
 mul-value-2 : tie.Need-mul-value-2 Inv-loop μ-loop
 mul-value-2 c = search needs
 
 shared-slice-read-value : tie.Need-shared-slice-read-value Inv-loop μ-loop
-shared-slice-read-value c = omega (arith, c .before .before .loop-test .taken, c .before .before .before .before .before .before .before .before .before .pre .1)
+shared-slice-read-value c = omega arith
 
 mul-count : tie.Need-mul-count Inv-loop μ-loop
 mul-count c = search needs
 
 add-count : tie.Need-add-count Inv-loop μ-loop
-add-count c = omega (arith, c .before .before .loop-test .taken, c .before .before .before .before .before .before .before .before .before .pre .1)
+add-count c = omega arith
 
 add-count-2 : tie.Need-add-count-2 Inv-loop μ-loop
-add-count-2 c = omega (arith, c .before .before .loop-test .taken, c .before .before .before .before .before .before .before .before .before .pre .1)
+add-count-2 c = omega arith
 
 mul-count-2 : tie.Need-mul-count-2 Inv-loop μ-loop
 mul-count-2 c = search needs
 
 shared-slice-read-count : tie.Need-shared-slice-read-count Inv-loop μ-loop
-shared-slice-read-count c = omega (arith, c .before .before .before .loop-test .taken, c .before .before .before .before .before .before .before .before .before .before .pre .1)
+shared-slice-read-count c = omega arith
 
 cast-count : tie.Need-cast-count Inv-loop μ-loop
 cast-count c = omega (arith, c .shared-slice-known8 .given (2 + 3 * c .before .before .before .before .loop .i + 2))
@@ -167,7 +167,7 @@ add-at c =
     let next =
     lone-step (walk .least) (walk .inv .0) (test .loop-test .taken)
     (omega (arith, known .given (2 + 3 * walk .i + 1))) (kind .if1 .left) (low .if2 .left) unlisted good in
-    omega (arith, next .room)
+    omega arith
 
 cast-least : tie.Need-cast-least Inv-loop μ-loop
 cast-least c = omega (arith, c .before .before .before .before .before .before .before .shared-slice-known8 .given (2 + 3 * c .before .before .before .before .before .before .before .before .before .before .before .loop .i + 1))
@@ -176,10 +176,10 @@ add-least : tie.Need-add-least Inv-loop μ-loop
 add-least c = omega (arith, c .before .before .before .before .before .before .before .shared-slice-known8 .given (2 + 3 * c .before .before .before .before .before .before .before .before .before .before .before .loop .i + 1))
 
 add-i : tie.Need-add-i Inv-loop μ-loop
-add-i c = omega (arith, c .before .before .before .before .before .before .before .before .before .before .loop-test .taken, c .before .before .before .before .before .before .before .before .before .before .before .before .before .before .before .before .before .pre .1)
+add-i c = omega arith
 
 loop-less : tie.Need-loop-less Inv-loop μ-loop
-loop-less c = omega (arith, c .before .before .before .before .before .before .before .before .before .before .loop-test .taken)
+loop-less c = omega arith
 
 loop-again : tie.Need-loop-again Inv-loop μ-loop
 loop-again c =

@@ -24,7 +24,7 @@ add-if1 : tie.Need-add-if1
 add-if1 c = search needs
 
 add-if1-2 : tie.Need-add-if1-2
-add-if1-2 c = omega (arith, c .shared-slice-known2 .given (length (c .before .before .args .positions .now) - 1), c .before .before .pre .2)
+add-if1-2 c = omega (arith, c .shared-slice-known2 .given (length (c .before .before .args .positions .now) - 1))
 
 returns : tie.Need-returns
 returns c =

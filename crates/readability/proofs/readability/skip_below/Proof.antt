@@ -48,7 +48,7 @@ loop-again : tie.Need-loop-again Inv-loop μ-loop
 loop-again c = passed-step (c .before .before .before .before .before .args .chars .now) (c .before .before .before .before .before .args .lengths .now) (c .before .before .before .before .loop .word) (c .before .before .before .before .loop .at) (c .before .before .before .before .before .args .value) (c .before .before .before .before .loop .inv) (c .before .before .before .loop-test .taken) (c .before .if1 .left)
 
 returns-2 : tie.Need-returns-2 Inv-loop μ-loop
-returns-2 c = record { passed = c .before .loop .inv; first = λ h. absurd (omega (arith, c .loop-test .left)) }
+returns-2 c = record { passed = c .before .loop .inv; first = λ h. absurd (omega arith) }
 
 pub skip-below-spec : {M : Type 1} → statement M
 skip-below-spec =

@@ -30,7 +30,7 @@ slice-aggregate-put-text c =
 put-text-requires : tie.Need-put-text-requires
 put-text-requires c κs =
     let start = c .before .before .before .before .before in
-    omega (arith, length-take-le (start .args .n) (start .args .work .now) (start .pre), c .before .before .if1 .left)
+    omega (arith, length-take-le (start .args .n) (start .args .work .now) (start .pre))
 
 clear-requires : tie.Need-clear-requires
 clear-requires c κs = search needs

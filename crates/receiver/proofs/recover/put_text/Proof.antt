@@ -17,7 +17,7 @@ abbrev μ-loop : tie.MeasureT-loop
 μ-loop text output₀ i₀ output i = length text - i
 
 loop-holds : tie.Need-loop-holds Inv-loop μ-loop
-loop-holds c = (omega arith, writing-start (c .args .text .now) 0 (c .args .output .now) (omega (arith, c .pre)))
+loop-holds c = (omega arith, writing-start (c .args .text .now) 0 (c .args .output .now) (omega arith))
 
 mul-output : tie.Need-mul-output Inv-loop μ-loop
 mul-output c = search needs

@@ -75,7 +75,7 @@ give-text-requires c κs =
     let ls = start .args .lengths .now in
     let xs = start .args .index .now in
     let w = start .args .work .now in
-    omega (arith, delivered cs ls xs (length w) (sym (opened-delivery cs ls xs (length w) (start .args .refusal) (c .before .before .before .before .before .before .before .before .before .delivery-refusal .result) (start .pre) (c .before .before .before .before .before .before .before .before .before .delivery-refusal .ensures)) ∙ c .before .before .before .before .before .before .before .before .if1 .left) .room, c .before .before .before .before .before .before .text-of .kept .1 .1 .1 .0)
+    omega (arith, delivered cs ls xs (length w) (sym (opened-delivery cs ls xs (length w) (start .args .refusal) (c .before .before .before .before .before .before .before .before .before .delivery-refusal .result) (start .pre) (c .before .before .before .before .before .before .before .before .before .delivery-refusal .ensures)) ∙ c .before .before .before .before .before .before .before .before .if1 .left) .room)
 
 same-length-3 : tie.Need-same-length-3
 same-length-3 c = search needs

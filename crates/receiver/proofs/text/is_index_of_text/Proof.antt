@@ -29,7 +29,7 @@ reconstruct-front-requires c κs =
     let start = c .before .before .before .before .before .before .before .before .before in
     let met = delivered (start .args .chars .now) (start .args .lengths .now) (start .args .index .now) (length (start .args .work .now))
     (start .pre .0) in
-    (start .pre .1 .words, met .can-read, refl, omega (arith, met .room))
+    (start .pre .1 .words, met .can-read, refl, omega arith)
 
 fill-line-map-behind-requires : tie.Need-fill-line-map-behind-requires
 fill-line-map-behind-requires c κs =
@@ -43,7 +43,7 @@ fill-line-map-behind-requires c κs =
     let words = delivered-lexicon cs ls xs (length w) (λ i h. omega (arith, given .shared-slice-known .given i)) (start .pre .0) in
     let met = delivered cs ls xs (length w) (start .pre .0) in (
       readable-line-map words longest-text xs (met .can-read) (n-of xs) (omega arith),
-      omega (arith, met .room, reconstructed .reconstruct-front .kept .1 .1 .1 .1 .1 .0),
+      omega arith,
     )
 
 test-parts-requires : tie.Need-test-parts-requires
@@ -64,7 +64,7 @@ test-parts-requires c κs =
       tried-mapped cs ls xs w (λ i h. omega (arith, given .shared-slice-known .given i)) (λ i h. omega (arith, slices .slice-known .given i))
           (start .pre .0) (reconstructed .reconstruct-front .last .1 .1 .1 .1 .1 .0) behind (take (n-of xs) (drop (n-of xs) behind))
           (reconstructed .reconstruct-front .ensures) (mapped .fill-line-map-behind .ensures .0) (mapped .fill-line-map-behind .ensures .1),
-      omega (arith, met .room, reconstructed .reconstruct-front .kept .1 .1 .1 .1 .1 .0, mapped .fill-line-map-behind .kept .1 .1 .0),
+      omega arith,
     )
 
 same-length : tie.Need-same-length

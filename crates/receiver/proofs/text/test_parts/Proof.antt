@@ -14,7 +14,7 @@ mul-end c = search needs
 slice-aggregate-verify : tie.Need-slice-aggregate-verify
 slice-aggregate-verify c =
     let start = c .before .before .before .before .before .before .before .before in
-    sym (length-take-le (start .args .n) (start .args .work .now) (omega (arith, start .pre .3)))
+    sym (length-take-le (start .args .n) (start .args .work .now) (omega arith))
 
 mul-verify : tie.Need-mul-verify
 mul-verify c = search needs
@@ -35,7 +35,7 @@ verify-requires c κs =
       start .pre .0,
       start .pre .1,
       rw same (start .pre .2),
-      omega (arith, length-take-le (start .args .n) (start .args .work .now) (omega (arith, start .pre .3)), behind-long (start .args .n) (start .args .work .now) (start .pre .3)),
+      omega (arith, length-take-le (start .args .n) (start .args .work .now) (omega arith), behind-long (start .args .n) (start .args .work .now) (start .pre .3)),
     )
 
 returns : tie.Need-returns

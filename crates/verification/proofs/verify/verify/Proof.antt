@@ -44,7 +44,7 @@ shared-slice-read-line-has-key-2 c = search needs
 line-has-key-requires : tie.Need-line-has-key-requires Inv-loop μ-loop
 line-has-key-requires c κs =
     let start = c .before .before .before .before .before .before .before .before .before .before .before .before .before .before in
-    (start .pre .1, map-small (start .args .index .now) (start .args .line-map .now) (start .pre .2) (c .before .before .before .before .before .loop .at), omega (arith, c .before .before .if1 .taken))
+    (start .pre .1, map-small (start .args .index .now) (start .args .line-map .now) (start .pre .2) (c .before .before .before .before .before .loop .at), omega arith)
 
 returns : tie.Need-returns Inv-loop μ-loop
 returns c =

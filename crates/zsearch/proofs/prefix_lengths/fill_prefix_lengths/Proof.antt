@@ -25,14 +25,14 @@ known-from-requires c κs =
     let l = c .before .loop in
     λ b.
     let short = zbox-short 0 (s .args .string .now) (s .args .text .now) (l .at) (l .inv .zbox) b in
-    (omega (arith, l .inv .zbox .begun b .1), omega (arith, s .pre .2, short))
+    (omega (arith, l .inv .zbox .begun b .1), omega (arith, short))
 
 extend-requires : tie.Need-extend-requires Inv-loop μ-loop
 extend-requires c κs =
     let s = c .before .before .before .before .before .before .before in
     let l = c .before .before .loop in
     let fits : l .at + length (s .args .string .now) ≤ length (s .args .text .now) =
-    omega (arith, c .before .loop-test .taken, l .inv .len, s .pre .3) in
+    omega arith in
     let lies : Prefix-at (s .args .string .now) (s .args .text .now) (l .at) (c .known-from .result) =
     known-lies 0 (s .args .string .now) (s .args .text .now) (l .at) (l .inv .zbox)
     (length (s .args .string .now)) (s .pre .0)
@@ -69,7 +69,7 @@ loop-again c =
     let end = c .before .extend .ensures in
     let below = c .before .before .before .loop-test .taken in
     filling-new 0 (s .args .string .now) (s .args .text .now) (Prefix-length (s .args .string .now) (s .args .text .now)) (s .args .reach .now)
-    len (l .inv) (omega (arith, below, l .inv .len))
+    len (l .inv) (omega (arith, below))
     end (end .lies)
 
 loop-less-2 : tie.Need-loop-less-2 Inv-loop μ-loop
@@ -83,14 +83,14 @@ loop-again-2 c =
     let end = c .before .extend .ensures in
     let below = c .before .before .before .loop-test .taken in
     filling-on 0 (s .args .string .now) (s .args .text .now) (Prefix-length (s .args .string .now) (s .args .text .now)) (s .args .reach .now)
-    len (l .inv) (omega (arith, below, l .inv .len))
+    len (l .inv) (omega (arith, below))
     end
 
 same-length : tie.Need-same-length Inv-loop μ-loop
 same-length c = c .before .loop .inv .len
 
 returns : tie.Need-returns Inv-loop μ-loop
-returns c = λ j b. c .before .loop .inv .told j (omega (arith, b, c .loop-test .left))
+returns c = λ j b. c .before .loop .inv .told j (omega (arith, b))
 
 pub fill-prefix-lengths-spec : {M : Type 1} → statement M
 fill-prefix-lengths-spec =

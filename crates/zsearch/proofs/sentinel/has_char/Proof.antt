@@ -50,7 +50,7 @@ returns-2 c =
     reflects-no
     (λ m.
     let place = in-place (a .character) (a .string .now) 0 m in
-    c .before .loop .inv .1 (place .0) (omega (arith, place .1, c .loop-test .left)) (place .2))
+    c .before .loop .inv .1 (place .0) (omega arith) (place .2))
 
 pub has-char-spec : {M : Type 1} → statement M
 has-char-spec =

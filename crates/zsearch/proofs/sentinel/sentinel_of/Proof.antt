@@ -30,7 +30,7 @@ more c =
 add-ground : tie.Need-add-ground Inv-loop μ-loop
 add-ground c =
     let s = c .before .before .before .before in
-    omega (arith, s .pre, lower-few (s .args .string .now) (c .before .before .loop .ground + 1) (more c))
+    omega (arith, lower-few (s .args .string .now) (c .before .before .loop .ground + 1) (more c))
 
 loop-less : tie.Need-loop-less Inv-loop μ-loop
 loop-less c =

@@ -29,7 +29,7 @@ known-from-requires c κs =
     let l = c .before .before .loop in
     λ b.
     let short = zbox-short 1 (s .args .string .now) (s .args .string .now) (l .at) (l .inv .0 .zbox) b in
-    (omega (arith, l .inv .0 .zbox .begun b .1), omega (arith, s .pre .1, l .inv .0 .len, short))
+    (omega (arith, l .inv .0 .zbox .begun b .1), omega (arith, short))
 
 sub-extend : tie.Need-sub-extend Inv-loop μ-loop
 sub-extend c = search needs
@@ -43,7 +43,7 @@ extend-requires c κs =
     known-lies 1 (s .args .string .now) (s .args .string .now) (l .at) (l .inv .0 .zbox) (l .at)
     (l .inv .0 .told) (λ b. omega (arith, l .inv .0 .zbox .begun b .0, l .inv .0 .zbox .begun b .1))
     (omega (arith, below)) (c .known-from .ensures) in
-    (lies, omega (arith, lies .within), omega arith, omega (arith, below))
+    (lies, omega arith, omega arith, omega (arith, below))
 
 cast-zarray : tie.Need-cast-zarray Inv-loop μ-loop
 cast-zarray c = search needs
@@ -74,7 +74,7 @@ loop-again c =
     let below = c .before .before .before .before .loop-test .taken in (
       filling-new 1 (a .string .now) (a .string .now) (Z-value (a .string .now)) (a .zarray .now)
           (c .before .extend .result) (l .inv .0)
-          (omega (arith, below, c .before .before .before .before .before .before .before .before .pre .1))
+          (omega (arith, below))
           (λ from. end) (end .lies),
       λ more. omega (arith, below),
     )
@@ -90,7 +90,7 @@ loop-again-2 c =
     let below = c .before .before .before .before .loop-test .taken in (
       filling-on 1 (a .string .now) (a .string .now) (Z-value (a .string .now)) (a .zarray .now)
           (c .before .extend .result) (l .inv .0)
-          (omega (arith, below, c .before .before .before .before .before .before .before .before .pre .1))
+          (omega (arith, below))
           (λ from. end),
       λ more. omega (arith, below),
     )
@@ -102,7 +102,7 @@ returns : tie.Need-returns Inv-loop μ-loop
 returns c =
     let a = c .before .before .before .before .args in
     let l = c .before .loop in (
-      λ j b. l .inv .0 .told j (omega (arith, c .loop-test .left)),
+      λ j b. l .inv .0 .told j (omega arith),
       filled-rest
           (l .inv .0) (l .inv .1),
     )

@@ -46,15 +46,15 @@ loop-again c =
     let s = c .before .before .before .before .before in
     let l = c .before .before .before .before .loop in
     let below = c .before .before .before .loop-test .taken in (
-      prefix-more (s .args .string .now) (s .args .text .now) (s .args .at) (l .inv .0) (omega (arith, s .pre .2, below))
-          (omega (arith, s .pre .3, below)) (c .if1 .left),
+      prefix-more (s .args .string .now) (s .args .text .now) (s .args .at) (l .inv .0) (omega (arith, below))
+          (omega (arith, below)) (c .if1 .left),
       omega (arith, below),
     )
 
 returns-2 : tie.Need-returns-2 Inv-loop μ-loop
 returns-2 c =
     let l = c .before .loop in
-    record { lies = l .inv .0; bound = l .inv .1; longest = λ b. absurd (omega (arith, c .loop-test .left)) }
+    record { lies = l .inv .0; bound = l .inv .1; longest = λ b. absurd (omega arith) }
 
 pub extend-spec : {M : Type 1} → statement M
 extend-spec =

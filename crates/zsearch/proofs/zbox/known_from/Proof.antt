@@ -12,7 +12,7 @@ sub-known : tie.Need-sub-known
 sub-known c = c .before .pre (c .if1 .left) .0
 
 mul-known : tie.Need-mul-known
-mul-known c = omega (arith, c .before .good, c .before .pre (c .if1 .left) .1)
+mul-known c = omega (arith, c .before .pre (c .if1 .left) .1)
 
 shared-slice-read-known : tie.Need-shared-slice-read-known
 shared-slice-read-known c = c .before .before .pre (c .before .if1 .left) .1
