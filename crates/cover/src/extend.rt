@@ -7,8 +7,8 @@
 ghost use mathlib.Core.Path.{_≡_};
 ghost use Prim.Native.Nat.{_-_, _≤_, _<_, max};
 ghost use lib.ListN.{length};
+ghost use Rattle.models.specs.Window.{positions-all, key-all};
 ghost use Rattle.laws.specs.Window.Window.{Within, Reaches};
-ghost use Rattle.laws.specs.Window.WindowSearch.{positions-all, key-all};
 ghost use Rattle.laws.specs.Window.ListRange.{Ascending, Window-range};
 ghost use Rattle.laws.specs.Window.ExtendAtPositions.{Offset-fits, Extends};
 use crate::lower_bound::lower_bound;

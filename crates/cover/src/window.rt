@@ -6,11 +6,10 @@ ghost use Prim.Native.Nat.{_-_, _≤_};
 ghost use lib.ListN.{length};
 ghost use Rattle.spec.specs.Dictionary.{lexicon};
 ghost use Rattle.spec.specs.Index.{lines-in};
+ghost use Rattle.models.specs.Window.{leading-all, offsets-all, leading-lines};
 ghost use Rattle.laws.specs.Window.Window.{Within, Reaches};
-ghost use Rattle.laws.specs.Window.WindowSearch.{leading-all, offsets-all};
 ghost use Rattle.laws.specs.Directory.Tables.{Opened};
 ghost use Rattle.laws.specs.Window.LineRanges.{Split};
-ghost use Rattle.laws.specs.Window.LeadingLines.{leading-lines};
 use crate::leading::extend_leading;
 use crate::offsets::extend_offsets;
 

@@ -7,8 +7,8 @@ ghost use lib.ListN.{length, getD, take, drop};
 ghost use Rattle.spec.specs.Dictionary.{lexicon};
 ghost use Rattle.spec.specs.Words.{spells};
 ghost use Rattle.spec.specs.Index.{keys-of, value-at, count-at, key-at};
+ghost use Rattle.models.specs.Window.{list-start};
 ghost use Rattle.laws.specs.Numbers.Slices.{Fits};
-ghost use Rattle.laws.specs.Directory.Opened.{list-start};
 ghost use Rattle.laws.specs.Directory.Tables.{Can-read, Word-starts, List-starts};
 
 // What the key of a line spells.

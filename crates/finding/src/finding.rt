@@ -6,8 +6,8 @@ ghost use Prim.Native.Nat.{_+_, _≤_};
 ghost use lib.ListN.{length, drop};
 ghost use Rattle.spec.specs.Calls.{in-front};
 ghost use Rattle.spec.specs.First.{first-of};
-ghost use Rattle.laws.specs.Window.Window.{found-in};
-ghost use Rattle.laws.specs.Window.Finding.{count-in, Next-found};
+ghost use Rattle.models.specs.Window.{found-in, count-in};
+ghost use Rattle.laws.specs.Window.Finding.{Next-found};
 
 // The first start whose reach is `len` or more, counted from `first`; 0 where there is none.
 pub fn first_found(reach: &[u16], len: usize, first: usize) -> usize

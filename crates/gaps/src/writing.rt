@@ -9,9 +9,8 @@ ghost use Prim.Native.Nat.{ℕ, suc, _+_, _*_, _-_, _≤_};
 ghost use lib.ListN.{length, getD, drop};
 ghost use Rattle.spec.specs.Index.{header, keys-of};
 ghost use Rattle.spec.specs.Gaps.{gaps-after, gaps, prefix-sums, lists-from};
-ghost use Rattle.laws.specs.Gaps.GapWriting.{by-pairs, first-apart};
-ghost use Rattle.laws.specs.Gaps.GapSums.{masked-sums, carry};
-ghost use Rattle.laws.specs.Gaps.GapParts.{pair-as, first-as, Writable};
+ghost use Rattle.models.specs.Gaps.{by-pairs, first-apart, masked-sums, carry, pair-as, first-as};
+ghost use Rattle.laws.specs.Gaps.GapParts.{Writable};
 use copying::slices::fill;
 
 // The distance of a position from the one before; 0 where it is not after it, which happens only at the first of a list.

@@ -9,7 +9,7 @@ ghost use Prim.Native.Nat.{suc, _+_, _≤_, _<_};
 ghost use lib.ListN.{length};
 ghost use Rattle.basics.specs.Chain.{chain, Threaded};
 ghost use Rattle.spec.specs.Replaced.{replaced-char, replaced};
-ghost use Rattle.laws.specs.Build.KeyCode.{coded};
+ghost use Rattle.models.specs.Inversion.{coded};
 ghost use Rattle.laws.specs.Build.Pages.{Paged};
 ghost use Rattle.laws.specs.Build.PostingChains.{Linkable, Fresh, Links};
 ghost use Rattle.laws.specs.Build.CodeWalk.{Next};

@@ -9,7 +9,7 @@ ghost use lib.ListN.{length, take};
 ghost use Rattle.basics.specs.Chain.{chain, Threaded};
 ghost use Rattle.basics.specs.Writing.{over};
 ghost use Rattle.spec.specs.Numbers.{directory, all-positions, numbers};
-ghost use Rattle.laws.specs.Build.KeyCode.{code-key};
+ghost use Rattle.models.specs.Inversion.{code-key};
 ghost use Rattle.laws.specs.Build.PostingChains.{lines-at};
 ghost use Rattle.laws.specs.Build.CodeWalk.{Listable};
 use crate::chains::chain_length;

@@ -7,8 +7,7 @@ ghost use lib.ListN.{length, take, drop};
 ghost use Rattle.basics.specs.Placed.{Wrote};
 ghost use Rattle.spec.specs.Words.{same};
 ghost use Rattle.spec.specs.JobSheet.{ends-well, is-form, string-in};
-ghost use Rattle.laws.specs.JobSheet.FormReading.{spaced-at, character-at};
-ghost use Rattle.laws.specs.JobSheet.Digits.{spaced-character};
+ghost use Rattle.models.specs.JobSheet.{spaced-at, character-at, spaced-character};
 use crate::digits;
 
 // No character: one more than the greatest.

@@ -4,7 +4,8 @@ ghost use mathlib.Core.Path.{_≡_};
 ghost use Prim.Native.Nat.{_+_, _≤_};
 ghost use lib.ListN.{length, take, drop};
 ghost use Rattle.spec.specs.JobSheet.{sheet-refusal};
-ghost use Rattle.laws.specs.JobSheet.JobReading.{some-length-wrong, parts-refusal, Job-parts};
+ghost use Rattle.models.specs.JobSheet.{some-length-wrong, parts-refusal};
+ghost use Rattle.laws.specs.JobSheet.JobReading.{Job-parts};
 use crate::sheet;
 use dictionary::admission;
 

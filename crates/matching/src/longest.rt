@@ -7,7 +7,8 @@
 ghost use Prim.Native.Nat.{_+_, _≤_, _<_};
 ghost use lib.ListN.{length};
 ghost use Rattle.spec.specs.Dictionary.{lexicon};
-ghost use Rattle.laws.specs.Match.MatchTable.{Started, Tables, word};
+ghost use Rattle.models.specs.MatchTable.{word};
+ghost use Rattle.laws.specs.Match.MatchTable.{Started, Tables};
 ghost use Rattle.laws.specs.Match.WordChains.{Same-run, Stands-after, Pair-found, Single-found};
 ghost use Rattle.laws.specs.Match.LongestWord.{Found as Found-at, Pair-longest};
 use crate::ranges::find_last_standing;

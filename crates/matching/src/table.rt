@@ -7,7 +7,8 @@
 ghost use mathlib.Core.Path.{_≡_};
 ghost use Prim.Native.Nat.{_+_, _≤_, _<_};
 ghost use lib.ListN.{length};
-ghost use Rattle.laws.specs.Match.MatchTable.{pair-bucket, char-bucket, Bucket-read, Room, Tables};
+ghost use Rattle.models.specs.MatchTable.{pair-bucket, char-bucket};
+ghost use Rattle.laws.specs.Match.MatchTable.{Bucket-read, Room, Tables};
 
 // The bucket of words that begin with these two characters.
 pub(crate) fn bucket_of_pair(x: u16, y: u16) -> usize

@@ -9,10 +9,10 @@ ghost use Rattle.spec.specs.Words.{key, spells};
 ghost use Rattle.spec.specs.Index.{header, keys-of, readable};
 ghost use Rattle.spec.specs.Tally.{tally};
 ghost use Rattle.spec.specs.Calls.{Tally-says};
+ghost use Rattle.models.specs.Tally.{added};
 ghost use Rattle.laws.specs.Text.Facts.{Is-key};
 ghost use Rattle.laws.specs.Dictionary.Lexicon.{Is-admitted};
 ghost use Rattle.laws.specs.Readable.Opening.{Bounded};
-ghost use Rattle.laws.specs.Tally.Walk.{added};
 use opening::opened::open_index;
 use spec::TallyAnswer;
 

@@ -9,8 +9,8 @@ ghost use Rattle.spec.specs.Words.{key};
 ghost use Rattle.spec.specs.Numbers.{line};
 ghost use Rattle.spec.specs.Index.{lines-in};
 ghost use Rattle.spec.specs.JobAnswer.{decimal, digit-byte, hexadecimal, gap, spaced, index-line, found-line, refused-line, key-name, key-line, key-lines, index-lines};
+ghost use Rattle.models.specs.JobSheet.{each-spaced, listed};
 ghost use Rattle.laws.specs.JobSheet.IndexPrinting.{Whole};
-ghost use Rattle.laws.specs.JobSheet.Printing.{each-spaced, listed};
 
 // Writes one byte.
 fn put_byte(out: &mut [u8], at: usize, byte: u8) -> usize

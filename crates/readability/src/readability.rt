@@ -13,9 +13,8 @@ ghost use Rattle.spec.specs.Words.{key, is-word};
 ghost use Rattle.spec.specs.Index.{header, keys-of, rise-from, readable};
 ghost use Rattle.spec.specs.Gaps.{prefix-sums, with-lists};
 ghost use Rattle.spec.specs.Calls.{index-refusal};
+ghost use Rattle.models.specs.Readability.{as-is, list-good, line-list-good, line-fits, walk-good, read-as};
 ghost use Rattle.laws.specs.Dictionary.Lexicon.{Is-admitted};
-ghost use Rattle.laws.specs.Readable.LineWalk.{as-is, list-good, line-list-good, line-fits, walk-good};
-ghost use Rattle.laws.specs.Gaps.ReadLists.{read-as};
 ghost use Rattle.laws.specs.Readable.LineSteps.{Lines-read};
 ghost use Rattle.laws.specs.Readable.LoneWords.{Passed, Reached};
 

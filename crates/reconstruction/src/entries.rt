@@ -10,10 +10,10 @@ ghost use lib.Seq.{sets};
 ghost use Rattle.spec.specs.Dictionary.{lexicon};
 ghost use Rattle.spec.specs.Words.{spells};
 ghost use Rattle.spec.specs.Index.{n-of, key-at, lines-in};
-ghost use Rattle.laws.specs.Text.Facts.{flat};
+ghost use Rattle.models.specs.Entries.{flat};
+ghost use Rattle.models.specs.Reception.{reconstruct, reconstruct-positions};
 ghost use Rattle.laws.specs.Directory.Tables.{Can-read, Word-starts};
-ghost use Rattle.laws.specs.Receive.Reconstruction.{reconstruct};
-ghost use Rattle.laws.specs.Receive.PositionWalk.{reconstruct-positions, Lie-within};
+ghost use Rattle.laws.specs.Receive.PositionWalk.{Lie-within};
 ghost use Rattle.laws.specs.Receive.LinePass.{Line-lies};
 use crate::line_map::fill_at;
 

@@ -5,7 +5,7 @@
 ghost use mathlib.Core.Path.{_≡_};
 ghost use lib.ListN.{length};
 ghost use Rattle.spec.specs.Index.{lines-in};
-ghost use Rattle.laws.specs.Receive.LineMapFill.{fill-positions, fill-line-map};
+ghost use Rattle.models.specs.Reception.{fill-positions, fill-line-map};
 ghost use Rattle.laws.specs.Receive.PositionWalk.{Lie-within};
 ghost use Rattle.laws.specs.Receive.LineMapWalk.{Can-map};
 

@@ -19,7 +19,6 @@ use Rattle.spec.specs.Search.{find, offset, in-offsets, agrees-at, overl
 use Rattle.spec.specs.Cut.{bears, cut-down, lies-from, lies-in, joins-from, joins, bearing}
 use Rattle.spec.specs.Tally.{tally, shorter, of-length, tally-from}
 use Rattle.spec.specs.Theorems.{positions, positions-from}
-use Rattle.spec.specs.Models.{scan, extend, reach-positions, reach-key, reach-back, reach-leading, reach-offset, reach-offsets, reach}
 use Rattle.spec.specs.Calls.{index-refusal, reception-refusal, recovery-refusal, unreadable, work-short, output-short, no-text, or-else}
 use Rattle.spec.specs.JobAnswer.{decimal-within, decimal, digit-byte, hexadecimal, spaced, index-line, key-name, key-line, key-lines, index-lines}
 use Rattle.spec.specs.Bytes.{bytes}
@@ -77,11 +76,6 @@ one-lone = 2 ∷ 1 ∷ 1 ∷ a ∷ 1 ∷ 1 ∷ []
 abbrev pub lone-a-c : List ℕ
 lone-a-c = 3 ∷ 2 ∷ 1 ∷ a ∷ 1 ∷ 1 ∷ c ∷ 1 ∷ 1 ∷ 3 ∷ []
 
--- the longest entry at each position of abcd over A: abc, bcd, c, d
-abbrev pub longest-in-abcd : ℕ → Entry
-longest-in-abcd p =
-    cond (eqb p 1) (entry (key 0 1) 1 3) (cond (eqb p 2) (entry (key 0 2) 2 3) (cond (eqb p 3) (entry (key 1 c) 3 1) (entry (key 1 d) 4 1)))
-
 -- The starred examples, in document 01's order.
 pub record Starred : Type 0 where
   pub overlapping-words : index-of A abcdab ≡ 6 ∷ 3 ∷ 0 ∷ 0 ∷ 1 ∷ 0 ∷ 1 ∷ 1 ∷ 0 ∷ 2 ∷ 1 ∷ 5 ∷ 1 ∷ 2 ∷ []
@@ -128,8 +122,6 @@ pub record Tried : Type 0 where
   pub cut-for-dd : cut-down A (index-of A abcdab) (d ∷ d ∷ []) ≡ 6 ∷ 1 ∷ 0 ∷ 2 ∷ 1 ∷ 2 ∷ []
   pub unreceived-search : find A two-lone (a ∷ b ∷ []) ≡ 1 ∷ []
   pub unreceived-cut : cut-down A two-lone (b ∷ []) ≡ 2 ∷ 1 ∷ 1 ∷ b ∷ 1 ∷ 2 ∷ []
-  pub scan-is-strict : scan longest-in-abcd 4 1 1 ≡ entry (key 0 1) 1 3 ∷ entry (key 0 2) 2 3 ∷ []
-  pub reach-stops : reach A (lines-in lone-a-c) (a ∷ b ∷ c ∷ []) 1 ≡ 1
   pub fewer-find-none : find A one-lone (a ∷ b ∷ []) ≡ []
   pub tally-of-aaaa : tally B (index-of B (replicate 4 a)) ≡ 0 ∷ 0 ∷ 2 ∷ replicate 29 0
   pub tally-of-axa : tally A (index-of A axa) ≡ 3 ∷ replicate 31 0
@@ -152,8 +144,7 @@ pub no-place : (m : ℕ) → 1 - suc m ≡ 0
 no-place m = omega arith
 
 pub examples : Examples
-unfolding scan extend reach-positions reach-key reach-back reach-leading reach-offset reach-offsets reach is-char words-from lexicon total
-    too-large length-good lengths-good lengths-wrong word-before ascend disordered is-full-width replaced-char replaced holds-full-width
+unfolding is-char words-from lexicon total too-large length-good lengths-good lengths-wrong word-before ascend disordered is-full-width replaced-char replaced holds-full-width
     some-full-width unreplaced dictionary-refusal key same listed is-word spells stands entry contains same-key same-entry key-entries
     word-entries lone-entries complete in-another maximal entries key-before entry-before into sorted line with-entry lines-of directory
     all-positions numbers index-of counts-from entries-of lines-from lines-in kinds-good key-good keys-ascend rise-from last-of line-good
@@ -201,8 +192,6 @@ examples =
             cut-for-dd = refl;
             unreceived-search = refl;
             unreceived-cut = refl;
-            scan-is-strict = refl;
-            reach-stops = refl;
             fewer-find-none = refl;
             tally-of-aaaa = refl;
             tally-of-axa = refl;

@@ -24,7 +24,6 @@ pub mod SheetForms
 pub mod RefusalTable
 pub mod ProgramDemand
 pub mod Demands
-pub mod Models
 pub mod Examples
 pub mod FirstExamples
 pub mod ReplacedExamples

@@ -8,11 +8,10 @@ ghost use Prim.Native.Nat.{_≤_};
 ghost use lib.ListN.{length};
 ghost use Rattle.spec.specs.Dictionary.{lexicon};
 ghost use Rattle.spec.specs.Index.{keys-of};
+ghost use Rattle.models.specs.Reception.{mapped-at, verify, token-mapped};
 ghost use Rattle.laws.specs.Numbers.Slices.{Fits};
 ghost use Rattle.laws.specs.Match.MatchTable.{Tables};
-ghost use Rattle.laws.specs.Receive.LineMapFill.{mapped-at};
-ghost use Rattle.laws.specs.Receive.LineMap.{Line-map, verify};
-ghost use Rattle.laws.specs.Receive.Verify.{token-mapped};
+ghost use Rattle.laws.specs.Receive.LineMap.{Line-map};
 use scanning::scan::step;
 
 // Whether `mapped`, the line map's number at a position, is that of a line with the key of `token`; `character` is the text's there.

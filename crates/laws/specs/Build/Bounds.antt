@@ -10,12 +10,13 @@ use Rattle.basics.specs.Member.{In, in-append-get, in-getD}
 use Rattle.spec.specs.Dictionary.{Lexicon}
 use Rattle.spec.specs.Words.{entries}
 use Rattle.spec.specs.Numbers.{Line, sorted, lines-of, directory, all-positions, numbers, index-of}
+use Rattle.models.specs.Entries.{longest-at}
+use Rattle.models.specs.Scan.{make-index}
 use Rattle.laws.specs.Text.Facts.{Chars, Good-lexicon, Good-line, Good-lines}
 use Rattle.laws.specs.Dictionary.Keys.{spells-some, value-below}
 use Rattle.laws.specs.Numbers.Slices.{entries-of-numbers, length-numbers}
 use Rattle.laws.specs.Readable.IndexOf.{lines-in-index, index-lines-good, entries-of-index}
 use Rattle.laws.specs.Entries.Scan.{length-scan}
-use Rattle.laws.specs.Entries.Longest.{longest-at, make-index}
 use Rattle.laws.specs.Build.Inverted.{scan-count}
 
 -- AT MOST n ENTRIES

@@ -15,6 +15,8 @@ use Rattle.spec.specs.Replaced.{replaced}
 use Rattle.spec.specs.Dictionary.{Lexicon, lexicon, dictionary-refusal, admitted}
 use Rattle.spec.specs.Numbers.{numbers, index-of}
 use Rattle.spec.specs.Calls.{text-too-long, work-short, output-short, or-else, build-refusal, in-front, Puts}
+use Rattle.models.specs.Inversion.{inverted}
+use Rattle.models.specs.Inversion.{token-numbers}
 use Rattle.laws.specs.Text.Facts.{Chars, Good-lexicon}
 use Rattle.laws.specs.Text.WidthFolding.{length-replaced, replaced-chars}
 use Rattle.laws.specs.Text.Chars.{all-chars-put}
@@ -24,7 +26,6 @@ use Rattle.laws.specs.Dictionary.Answering.{accepted-yes, accepted-no, a
 use Rattle.laws.specs.Numbers.Slices.{length-numbers}
 use Rattle.laws.specs.Build.Tokens.{Tokens}
 use Rattle.laws.specs.Build.TokenLines.{token-index}
-use Rattle.laws.specs.Build.PostingsByKey.{inverted}
 use Rattle.laws.specs.Build.PostingChains.{lines-at, linked-threads, linked-lines, Linkable, Fresh, Links}
 use Rattle.laws.specs.Build.CodeWalk.{Listable}
 
@@ -131,10 +132,6 @@ module _ (cs ls ts : List ℕ) (w : ℕ) where
       rw (eq-eqb (dictionary-refusal cs ls) 0 (r .admits), le-ltb 65535 (length ts) (r .short), le-ltb w (8 * length ts) (r .room))
 
 -- THE RESULT FROM THE TOKENS
-
--- the index that the tokens of a text make, as numbers
-unfoldable pub token-numbers : (tokens text : List ℕ) → List ℕ
-token-numbers ms ts = numbers (length ts) (inverted ms ts)
 
 -- what is answered and written for tokens: these numbers, or 8
 abbrev pub Tokens-say : (tokens text : List ℕ) → Answer → (out out-now : List ℕ) → Type 0

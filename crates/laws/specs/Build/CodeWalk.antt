@@ -10,8 +10,9 @@ use Rattle.basics.specs.Bools.{le-or-lt}
 use Rattle.basics.specs.Chain.{chain, chain-none, chained-some}
 use Rattle.basics.specs.Writing.{over, Writing, starts, appends, written}
 use Rattle.spec.specs.Numbers.{Line, line, directory, all-positions}
-use Rattle.laws.specs.Build.KeyCode.{code-key}
-use Rattle.laws.specs.Build.PostingLists.{lines-from, lines-some, lines-skip}
+use Rattle.models.specs.Inversion.{code-key, lines-from}
+use Rattle.models.specs.Inversion.{line-numbers, line-positions}
+use Rattle.laws.specs.Build.PostingLists.{lines-some, lines-skip}
 use Rattle.laws.specs.Build.Pages.{Paged}
 use Rattle.laws.specs.Build.PostingChains.{Threads, lines-at}
 
@@ -153,15 +154,9 @@ module _ {give : List Line → List ℕ} {each : Line → List ℕ} (by : Line-b
 
 -- THE DIRECTORY AND THE POSITIONS
 
-unfoldable pub line-numbers : Line → List ℕ
-line-numbers l = l .key-of .kind ∷ l .key-of .value ∷ length (l .positions) ∷ []
-
 pub directory-by-line : Line-by-line directory line-numbers
 unfolding directory line-numbers
 directory-by-line = record { none = refl; more = λ l ls. refl }
-
-abbrev pub line-positions : Line → List ℕ
-line-positions l = l .positions
 
 pub positions-by-line : Line-by-line all-positions line-positions
 unfolding all-positions

@@ -10,10 +10,12 @@ use Rattle.basics.specs.Order.{Apart, ascend-unique}
 use Rattle.spec.specs.Dictionary.{Lexicon}
 use Rattle.spec.specs.Words.{Entry, entries}
 use Rattle.spec.specs.Numbers.{entry-before, sorted, Line, numbers, lines-of, index-of}
-use Rattle.laws.specs.Text.Facts.{Chars, Good-lexicon, flat, Good-lines}
+use Rattle.models.specs.Entries.{flat}
+use Rattle.models.specs.Scan.{make-index}
+use Rattle.laws.specs.Text.Facts.{Chars, Good-lexicon, Good-lines}
 use Rattle.laws.specs.Numbers.KeyOrder.{entry-before-strict}
 use Rattle.laws.specs.Entries.EntryPositions.{Positions-rise, positions-rise-in}
-use Rattle.laws.specs.Entries.Longest.{make-index, make-index-exact, make-index-get, make-index-put}
+use Rattle.laws.specs.Entries.Longest.{make-index-exact, make-index-get, make-index-put}
 use Rattle.laws.specs.Numbers.Lines.{lines-unique}
 use Rattle.laws.specs.Numbers.Sorted.{differ-apart, in-sorted-get, in-sorted-put, length-sorted, sorted-ascends, sorted-entries-ascend}
 use Rattle.laws.specs.Readable.IndexOf.{lines-in-index, index-lines-good, in-index-get, in-index-put}

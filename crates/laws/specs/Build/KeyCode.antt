@@ -9,13 +9,10 @@ use borrow.Author.Tests.{lt-ltb, le-ltb, eq-eqb, ne-eqb}
 use Rattle.basics.specs.Bools.{le-or-lt}
 use Rattle.spec.specs.Words.{Key, key}
 use Rattle.spec.specs.Numbers.{key-before}
+use Rattle.models.specs.Inversion.{coded, code-key}
 use Rattle.laws.specs.Numbers.KeyOrder.{key-before-put}
 
 -- FROM A TOKEN TO ITS CODE
-
--- one more than the key code of a token, c being the character there; 0 if the token is 0
-unfoldable pub coded : (token c : ℕ) → ℕ
-coded m c = cond (eqb m 0) 0 (cond (eqb m 4097) (4097 + c) m)
 
 pub coded-none : (m c : ℕ) → m ≡ 0 → coded m c ≡ 0
 unfolding coded
@@ -35,9 +32,6 @@ coded-word m c some other =
     rw (ne-eqb m 0 some, ne-eqb m 4097 other) back
 
 -- FROM A CODE TO ITS KEY
-
-unfoldable pub code-key : (code : ℕ) → Key
-code-key k = cond (ltb k 4096) (key 0 k) (key 1 (k - 4096))
 
 pub code-key-word : (k : ℕ) → k < 4096 → code-key k ≡ key 0 k
 unfolding code-key

@@ -11,9 +11,9 @@ use Rattle.basics.specs.Member.{In}
 use Rattle.basics.specs.Order.{less-equal-more}
 use Rattle.basics.specs.Chain.{Chained, chained-elsewhere, chained-more, chain, chain-is, Threaded, threaded, chained-empty, chained-some}
 use Rattle.spec.specs.Numbers.{Line}
-use Rattle.laws.specs.Build.KeyCode.{coded}
-use Rattle.laws.specs.Build.PostingLists.{lines-from, lines-alike}
-use Rattle.laws.specs.Build.PostingsByKey.{holds, postings, inverted-after, those-short, postings-end, postings-here, postings-not-here, postings-range, Counted, counted-start, counted-passed, counted-new, counted-more}
+use Rattle.models.specs.Inversion.{coded, lines-from, holds, postings, inverted-after}
+use Rattle.laws.specs.Build.PostingLists.{lines-alike}
+use Rattle.laws.specs.Build.PostingsByKey.{those-short, postings-end, postings-here, postings-not-here, postings-range, Counted, counted-start, counted-passed, counted-new, counted-more}
 use Rattle.laws.specs.Build.Pages.{No-heads, Paged, paged-start, paged-chained}
 
 -- THE STATE BETWEEN TWO POSITIONS

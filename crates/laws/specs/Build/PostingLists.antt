@@ -9,17 +9,10 @@ use lib.ListN.{length, length-append}
 use Rattle.basics.specs.Bools.{le-or-lt}
 use Rattle.basics.specs.Member.{In}
 use Rattle.spec.specs.Numbers.{key-before, Line, line, all-positions}
+use Rattle.models.specs.Inversion.{code-key}
+use Rattle.models.specs.Inversion.{with-positions, lines-from}
 use Rattle.laws.specs.Text.Facts.{Keys-rise}
-use Rattle.laws.specs.Build.KeyCode.{code-key, code-key-before}
-
-unfoldable pub with-positions : (code : ℕ) → (positions : List ℕ) → List Line → List Line
-with-positions k [] ls = ls
-with-positions k (p ∷ ps) ls = line (code-key k) (p ∷ ps) ∷ ls
-
--- the lines of the codes k, k + 1, .., whose positions f gives
-unfoldable pub lines-from : (left k : ℕ) → (ℕ → List ℕ) → List Line
-lines-from zero k f = []
-lines-from (suc n) k f = with-positions k (f k) (lines-from n (suc k) f)
+use Rattle.laws.specs.Build.KeyCode.{code-key-before}
 
 pub lines-some :
     (n k : ℕ) (f : ℕ → List ℕ) → 1 ≤ length (f k) → lines-from (suc n) k f ≡ line (code-key k) (f k) ∷ lines-from n (suc k) f

@@ -10,26 +10,11 @@ use borrow.Author.Tests.{eq-eqb, ne-eqb}
 use Rattle.basics.specs.Member.{In}
 use Rattle.basics.specs.Steps.{those-from, those-from-get}
 use Rattle.spec.specs.Numbers.{Line, all-positions}
-use Rattle.laws.specs.Build.KeyCode.{coded}
-use Rattle.laws.specs.Build.PostingLists.{lines-from, lines-empty, lines-alike, Grown, lines-grow}
+use Rattle.models.specs.Inversion.{coded, lines-from}
+use Rattle.models.specs.Inversion.{holds, postings, inverted-after}
+use Rattle.laws.specs.Build.PostingLists.{lines-empty, lines-alike, Grown, lines-grow}
 
 -- THE POSITIONS OF A CODE
-
--- whether the token at position x has the code k
-abbrev pub holds : (tokens text : List ℕ) → (k x : ℕ) → Bool
-holds ms ts k x = eqb (coded (getD ms (x - 1) 0) (getD ts (x - 1) 0)) (suc k)
-
--- the posting list of code k: the positions after p of the tokens with that code
-unfoldable pub postings : (tokens text : List ℕ) → (p k : ℕ) → List ℕ
-postings ms ts p k = those-from (length ms - p) (suc p) (holds ms ts k)
-
--- the lines of the tokens after p, for codes below `codes`
-abbrev pub inverted-after : (codes : ℕ) → (tokens text : List ℕ) → (p : ℕ) → List Line
-inverted-after codes ms ts p = lines-from codes 0 (postings ms ts p)
-
--- 4,096 words and 65,536 characters
-unfoldable pub inverted : (tokens text : List ℕ) → List Line
-inverted ms ts = inverted-after 69632 ms ts 0
 
 pub those-short : (n p : ℕ) (f : ℕ → Bool) → length (those-from n p f) ≤ n
 unfolding those-from

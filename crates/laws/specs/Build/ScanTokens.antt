@@ -13,12 +13,14 @@ use borrow.Author.Tests.{ne-eqb}
 use Rattle.basics.specs.Bools.{le-or-lt}
 use Rattle.spec.specs.Dictionary.{Lexicon}
 use Rattle.spec.specs.Words.{Key, key, Entry, entry}
+use Rattle.models.specs.Scan.{scan, make-index}
+use Rattle.models.specs.Entries.{longest-at}
+use Rattle.models.specs.Inversion.{token-entry, entries-of-tokens}
 use Rattle.laws.specs.Text.Facts.{Chars, Good-lexicon}
-use Rattle.spec.specs.Models.{scan}
 use Rattle.laws.specs.Entries.Scan.{scan-registers, scan-passes, Longest-at}
-use Rattle.laws.specs.Entries.Longest.{longest-at, longest-at-is, longest-at-unique, make-index}
+use Rattle.laws.specs.Entries.Longest.{longest-at-is, longest-at-unique}
 use Rattle.laws.specs.Entries.WordAt.{word-at-longest, none-after-lone, none-after-passes}
-use Rattle.laws.specs.Build.Tokens.{token-entry, entries-of-tokens, Tokens}
+use Rattle.laws.specs.Build.Tokens.{Tokens}
 use Rattle.laws.specs.Match.LongestWord.{Found, Found-word}
 
 -- ONE STEP

@@ -11,17 +11,19 @@ use Rattle.basics.specs.Steps.{those-from-get, those-from-put}
 use Rattle.spec.specs.Dictionary.{Lexicon}
 use Rattle.spec.specs.Words.{Key, key, spells, Entry, entry}
 use Rattle.spec.specs.Numbers.{Line, line, numbers, index-of}
-use Rattle.laws.specs.Text.Facts.{Chars, Good-lexicon, Sound-entry, flat, Rise, Good-line, Good-lines}
+use Rattle.models.specs.Entries.{flat}
+use Rattle.models.specs.Scan.{make-index}
+use Rattle.models.specs.Inversion.{token-entry, entries-of-tokens, coded, code-key, holds, postings, inverted}
+use Rattle.laws.specs.Text.Facts.{Chars, Good-lexicon, Sound-entry, Rise, Good-line, Good-lines}
 use Rattle.laws.specs.Dictionary.Keys.{spells-word, spells-lone}
 use Rattle.laws.specs.Entries.Sound.{entries-sound}
-use Rattle.laws.specs.Entries.Longest.{make-index, make-index-get}
-use Rattle.laws.specs.Build.Tokens.{token-entry, entries-of-tokens, Tokens}
+use Rattle.laws.specs.Entries.Longest.{make-index-get}
+use Rattle.laws.specs.Build.Tokens.{Tokens}
 use Rattle.laws.specs.Numbers.Flat.{posting, flat-get, flat-put}
 use Rattle.laws.specs.Search.Positions.{those-from-rise}
 use Rattle.laws.specs.Build.Inverted.{inverted-scan}
-use Rattle.laws.specs.Build.KeyCode.{coded, coded-none, coded-lone, coded-word, code-key, code-key-word, code-key-lone}
+use Rattle.laws.specs.Build.KeyCode.{coded-none, coded-lone, coded-word, code-key-word, code-key-lone}
 use Rattle.laws.specs.Build.PostingLists.{Line-of, lines-get, lines-put, lines-order}
-use Rattle.laws.specs.Build.PostingsByKey.{holds, postings, inverted}
 
 -- A TOKEN AND ITS ENTRY
 

@@ -9,17 +9,8 @@ use lib.Dec.{eqb}
 use lib.ListN.{length, getD}
 use Rattle.spec.specs.Dictionary.{Lexicon}
 use Rattle.spec.specs.Words.{key, Entry, entry}
-use Rattle.laws.specs.Entries.Longest.{make-index}
-
--- the entry of a token at p, c being the character there
-unfoldable pub token-entry : Lexicon → (p token c : ℕ) → List Entry
-token-entry lex p zero c = []
-token-entry lex p (suc i) c = cond (eqb i 4096) (entry (key 1 c) p 1) (entry (key 0 i) p (length (getD (lex .words) i []))) ∷ []
-
-unfoldable pub entries-of-tokens : Lexicon → (p : ℕ) → (tokens text : List ℕ) → List Entry
-entries-of-tokens lex p [] ts = []
-entries-of-tokens lex p (m ∷ ms) [] = []
-entries-of-tokens lex p (m ∷ ms) (c ∷ cs) = token-entry lex p m c ++ entries-of-tokens lex (suc p) ms cs
+use Rattle.models.specs.Scan.{make-index}
+use Rattle.models.specs.Inversion.{entries-of-tokens}
 
 -- the tokens of a text: their entries are its maximal entries, in the order of their positions
 pub record Tokens (lex : Lexicon) (ts ms : List ℕ) : Type 0 where

@@ -13,8 +13,9 @@ use Rattle.spec.specs.Numbers.{Line, line, directory, all-positions, numbers}
 use Rattle.spec.specs.Index.{header, n-of, keys-of, kind-at, value-at, count-at, counts-from, lines-in}
 use Rattle.spec.specs.Cut.{bearing, cut-down}
 use Rattle.spec.specs.Calls.{in-front}
+use Rattle.models.specs.Window.{list-start}
 use Rattle.laws.specs.Numbers.Slices.{Fits, length-numbers}
-use Rattle.laws.specs.Directory.Opened.{list-start, counts-next, list-room}
+use Rattle.laws.specs.Directory.Opened.{counts-next, list-room}
 use Rattle.basics.specs.Writing.{over, Writing, starts, has-room, writes, appends, written}
 use Rattle.laws.specs.Cut.ExactFlags.{bearing-from, bears-at, bearing-done, bearing-kept, bearing-left, positions-length, Is-size}
 

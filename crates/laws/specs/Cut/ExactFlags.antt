@@ -11,8 +11,9 @@ use Rattle.spec.specs.Words.{spells}
 use Rattle.spec.specs.Numbers.{Line, line, all-positions}
 use Rattle.spec.specs.Index.{keys-of, count-at, key-at, lines-in}
 use Rattle.spec.specs.Cut.{bears, bearing}
+use Rattle.models.specs.Window.{list-start}
 use Rattle.laws.specs.Numbers.Slices.{Fits}
-use Rattle.laws.specs.Directory.Opened.{list-start, line-of, lines-next, lines-none, list-room}
+use Rattle.laws.specs.Directory.Opened.{line-of, lines-next, lines-none, list-room}
 
 module _ (lex : Lexicon) (xs s : List ℕ) where
   -- the bearing lines from line i on

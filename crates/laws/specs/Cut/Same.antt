@@ -13,7 +13,7 @@ use Rattle.spec.specs.Numbers.{Line}
 use Rattle.spec.specs.Index.{n-of, lines-in}
 use Rattle.spec.specs.Search.{covered, all-covered, found-from, find}
 use Rattle.spec.specs.Cut.{bears, bearing}
-use Rattle.laws.specs.Text.Facts.{flat}
+use Rattle.models.specs.Entries.{flat}
 use Rattle.laws.specs.Numbers.Flat.{Fewer, flat-get, flat-put}
 use Rattle.laws.specs.Search.Search.{covered-get, covered-put}
 use Rattle.laws.specs.Cut.Bears.{bears-put}

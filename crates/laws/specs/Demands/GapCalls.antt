@@ -15,14 +15,16 @@ use Rattle.spec.specs.Gaps.{gaps, prefix-sums, with-lists, gap-form, restored}
 use Rattle.spec.specs.GapsTheorems.{Gap-calls}
 use Rattle.spec.specs.Calls.{output-short, or-else, index-refusal, gaps-refusal, Answers, in-front, Puts, To-gaps-says, From-gaps-says}
 use Rattle.spec.specs.RefusalTable.{Written, Untouched, Unreadable, Output-short, row, gaps-rows, dictionary-rows, index-rows}
+use Rattle.models.specs.Readability.{read-as}
+use Rattle.models.specs.Gaps.{write-as}
 use Rattle.laws.specs.Dictionary.Answering.{or-else-some, or-else-none}
 use Rattle.laws.specs.Dictionary.WordCode.{Small}
 use Rattle.laws.specs.Readable.LineWalk.{readable-fits}
 use Rattle.laws.specs.Readable.KeyTests.{no-refusal}
 use Rattle.laws.specs.Gaps.GapLists.{length-gaps, length-sums}
 use Rattle.laws.specs.Gaps.WithLists.{length-with}
-use Rattle.laws.specs.Gaps.ReadLists.{read-as, read-positions, read-gaps}
-use Rattle.laws.specs.Gaps.GapParts.{write-as, Writable}
+use Rattle.laws.specs.Gaps.ReadLists.{read-positions, read-gaps}
+use Rattle.laws.specs.Gaps.GapParts.{Writable}
 use Rattle.laws.specs.Readable.IndexRefusal.{refuses-unreadable, accepts-index, index-accepted}
 use Rattle.laws.specs.Search.Sizing.{Sized, refused}
 use Rattle.laws.specs.Gaps.GapForms.{gaps-restored, restored-gaps, count-some, restored-fits, restored-some, totals-small, sums-small}

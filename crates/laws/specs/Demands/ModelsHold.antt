@@ -7,13 +7,15 @@ use native.Mathlib.Omega.{arith}
 use lib.ListN.{length}
 use Rattle.spec.specs.Dictionary.{Lexicon, lexicon}
 use Rattle.spec.specs.Words.{Entry}
-use Rattle.spec.specs.Models.{scan, Longest-entry, Scan-builds, Greedy-cover}
+use Rattle.models.specs.Scan.{scan, Longest-entry, Scan-builds, make-index}
+use Rattle.models.specs.Reach.{Greedy-cover}
+use Rattle.models.specs.Entries.{longest-at}
 use Rattle.laws.specs.Text.Facts.{Chars, Good-lexicon}
 use Rattle.laws.specs.Text.Chars.{is-text-get}
 use Rattle.laws.specs.Dictionary.Lexicon.{admitted-lexicon}
 use Rattle.laws.specs.Entries.Complete.{complete-get, complete-put}
 use Rattle.laws.specs.Entries.Scan.{Longest-at}
-use Rattle.laws.specs.Entries.Longest.{longest-at, longest-at-unique, make-index, make-index-get, make-index-put}
+use Rattle.laws.specs.Entries.Longest.{longest-at-unique, make-index-get, make-index-put}
 use Rattle.laws.specs.Build.Inverted.{scan-index}
 use Rattle.laws.specs.Search.ReachExact.{reach-exact}
 

@@ -9,6 +9,7 @@ use lib.Seq.{drop-drop}
 use Rattle.spec.specs.Dictionary.{words-from, total}
 use Rattle.spec.specs.Numbers.{Line, line}
 use Rattle.spec.specs.Index.{header, keys-of, count-at, key-at, counts-from, entries-of, lines-from, lines-in}
+use Rattle.models.specs.Window.{list-start}
 use Rattle.laws.specs.Numbers.Slices.{length-lines-from, Fits}
 
 -- WORDS
@@ -41,10 +42,6 @@ word-there (l ∷ ls) cs (suc w) h =
     word-there ls (drop l cs) w (omega arith) ∙ ap (λ (d : List ℕ). take (getD ls w 0) d) (drop-drop (word-start ls w) l cs)
 
 -- LINES
-
--- the index at which the positions of line i start
-abbrev pub list-start : (numbers : List ℕ) → (i : ℕ) → ℕ
-list-start xs i = header + 3 * keys-of xs + counts-from i 0 xs
 
 -- line i with its positions
 abbrev pub line-of : (numbers : List ℕ) → (i : ℕ) → Line

@@ -16,6 +16,7 @@ use Rattle.spec.specs.Words.{key, spells}
 use Rattle.spec.specs.Numbers.{Line, line}
 use Rattle.spec.specs.Index.{header, n-of, keys-of, kind-at, value-at, count-at, key-at, counts-from, lines-in, kinds-good, keys-ascend, lines-good, lengths-fit, readable}
 use Rattle.spec.specs.Calls.{index-refusal}
+use Rattle.models.specs.Window.{list-start}
 use Rattle.laws.specs.Text.Facts.{Good-lexicon, Is-key, Good-line, Good-lines}
 use Rattle.laws.specs.Dictionary.Keys.{Is-word-key, Is-lone-key, key-kinds, spells-word, spells-lone, spells-short, spells-some}
 use Rattle.laws.specs.Dictionary.Lexicon.{Is-admitted, length-words, admitted-lexicon, admitted-ascend}
@@ -24,7 +25,7 @@ use Rattle.laws.specs.Readable.KeyTests.{no-refusal, dictionary-read}
 use Rattle.laws.specs.Readable.IndexRefusal.{Accepted, index-accepted}
 use Rattle.laws.specs.Readable.Readable.{readable-get}
 use Rattle.laws.specs.Numbers.Slices.{Fits, lengths-fit-get}
-use Rattle.laws.specs.Directory.Opened.{word-start, word-there, word-start-room, list-start, line-of, lines-next, list-room}
+use Rattle.laws.specs.Directory.Opened.{word-start, word-there, word-start-room, line-of, lines-next, list-room}
 
 -- what holds if 1, 2, 3 and 5 are not met
 pub record Can-read (cs ls xs : List ℕ) : Type 0 where

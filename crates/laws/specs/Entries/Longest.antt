@@ -12,17 +12,14 @@ use Rattle.basics.specs.Bools.{clash, and-put, and-left, and-right, le-or-lt}
 use Rattle.basics.specs.Member.{In}
 use Rattle.spec.specs.Dictionary.{Lexicon}
 use Rattle.spec.specs.Words.{key, Entry, entry, complete, entries}
+use Rattle.models.specs.Scan.{scan}
+use Rattle.models.specs.Entries.{longest-of, longest-at}
+use Rattle.models.specs.Scan.{make-index}
 use Rattle.laws.specs.Text.Facts.{Chars, Good-lexicon, Is-maximal}
 use Rattle.laws.specs.Entries.Complete.{complete-get, complete-put}
 use Rattle.laws.specs.Entries.Entries.{entries-get, entries-put}
 use Rattle.laws.specs.Entries.Maximal.{longest-unique, char-entry}
-use Rattle.spec.specs.Models.{scan}
 use Rattle.laws.specs.Entries.Scan.{Longest-at, Maximal-from, scan-exact}
-
--- the longest of `best` and the entries of a list that start at p
-unfoldable pub longest-of : (p : ℕ) (best : Entry) → List Entry → Entry
-longest-of p best [] = best
-longest-of p best (e ∷ es) = longest-of p (cond (eqb (e .at) p && ltb (best .len) (e .len)) e best) es
 
 -- r is an entry of the list that starts at p, or `best`, and none of these is longer
 pub record Longest-of (p : ℕ) (best : Entry) (es : List Entry) (r : Entry) : Type 0 where
@@ -78,14 +75,6 @@ longest-of-is p best (e ∷ es) =
         (λ (q : best .len < e .len). clash (and-put (eq-eqb (e .at) p a) (lt-ltb (best .len) (e .len) q)) t)
         (le-or-lt (e .len) (best .len)))
         k
-
--- the longest entry at p; of length 0 if none starts there, which happens at no position of a text
-unfoldable pub longest-at : Lexicon → (text : List ℕ) → (p : ℕ) → Entry
-longest-at lex ts p = longest-of p (entry (key 1 0) p 0) (complete lex ts)
-
--- source 000's figure 1
-unfoldable pub make-index : Lexicon → (text : List ℕ) → List Entry
-make-index lex ts = scan (longest-at lex ts) (length ts) 1 1
 
 module _ (lex : Lexicon) (good : Good-lexicon lex) (ts : List ℕ) (chars : Chars ts) where
   pub longest-at-is : (p : ℕ) → 1 ≤ p → p ≤ length ts → Longest-at lex ts p (longest-at lex ts p)

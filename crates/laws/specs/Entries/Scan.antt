@@ -13,11 +13,11 @@ use Rattle.basics.specs.Bools.{le-or-lt}
 use Rattle.basics.specs.Member.{In}
 use Rattle.spec.specs.Dictionary.{Lexicon}
 use Rattle.spec.specs.Words.{Entry}
+use Rattle.models.specs.Scan.{scan}
 use Rattle.laws.specs.Text.Facts.{Good-lexicon, Is-entry, Is-maximal}
 use Rattle.laws.specs.Entries.Entries.{in-text}
 use Rattle.laws.specs.Entries.Maximal.{Is-longest, maximal-leading, leading-maximal, maximal-unique}
 use Rattle.laws.specs.Entries.EntryPositions.{Positions-rise, positions-rise-from}
-use Rattle.spec.specs.Models.{scan}
 
 pub scan-registers :
     (longest : ℕ → Entry) (n p last : ℕ) → last < p + longest p .len →

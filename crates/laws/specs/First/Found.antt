@@ -12,9 +12,9 @@ use Rattle.spec.specs.Numbers.{Line}
 use Rattle.spec.specs.Index.{n-of, lines-in}
 use Rattle.spec.specs.Search.{all-covered, found-from, find}
 use Rattle.spec.specs.First.{first-of, first-position}
+use Rattle.models.specs.Window.{found-in, leading-all, offsets-all}
 use Rattle.laws.specs.Search.Search.{found-from-append}
-use Rattle.laws.specs.Window.Window.{Reaches, found-in}
-use Rattle.laws.specs.Window.WindowSearch.{leading-all, offsets-all}
+use Rattle.laws.specs.Window.Window.{Reaches}
 use Rattle.laws.specs.Window.Finding.{cut, none-found}
 use Rattle.laws.specs.Window.Searching.{in-window}
 use Rattle.laws.specs.TextScan.ReconstructedSearch.{Finds}

@@ -15,9 +15,10 @@ use Rattle.spec.specs.Numbers.{Line, line, all-positions}
 use Rattle.spec.specs.Index.{header, n-of, keys-of, count-at, counts-from, last-of, lines-in, readable}
 use Rattle.spec.specs.Gaps.{gaps-after, sums-after, gaps, prefix-sums, lists-from, gap-form, restored}
 use Rattle.spec.specs.GapsTheorems.{Gap-list, Gaps-under-keys, Gaps-there-and-back, Sums-fit}
+use Rattle.models.specs.Entries.{line-of}
 use Rattle.laws.specs.Dictionary.Lexicon.{admitted-lexicon}
 use Rattle.laws.specs.Numbers.Slices.{Fits, keys-of-numbers, positions-start}
-use Rattle.laws.specs.Numbers.LineNumbers.{line-of, line-of-is, line-of-in}
+use Rattle.laws.specs.Numbers.LineNumbers.{line-of-is, line-of-in}
 use Rattle.laws.specs.Readable.Readable.{Readable, readable-get, last-in}
 use Rattle.laws.specs.Build.Bounds.{Below, place-below, positions-below}
 use Rattle.laws.specs.Readable.LineWalk.{readable-fits}

@@ -13,8 +13,8 @@ use borrow.Author.Tests.{le-leb, lt-leb, lt-ltb}
 use Rattle.spec.specs.Dictionary.{total}
 use Rattle.spec.specs.Index.{rise-from, last-of}
 use Rattle.spec.specs.Gaps.{gaps-after, sums-after, prefix-sums}
+use Rattle.models.specs.Readability.{list-good}
 use Rattle.laws.specs.Text.Facts.{Rise}
-use Rattle.laws.specs.Readable.LineWalk.{list-good}
 
 -- THERE AND BACK
 

@@ -13,27 +13,15 @@ use Rattle.spec.specs.Dictionary.{total}
 use Rattle.spec.specs.Numbers.{Line}
 use Rattle.spec.specs.Index.{header, keys-of, count-at, counts-from, entries-of, lines-in}
 use Rattle.spec.specs.Gaps.{gaps-after, gaps, prefix-sums, lists-from, with-lists}
+use Rattle.models.specs.Gaps.{by-pairs, first-apart, carry, masks, masked-sums}
+use Rattle.models.specs.Gaps.{pair-as, first-as}
 use Rattle.laws.specs.Numbers.Slices.{Fits}
 use Rattle.laws.specs.Gaps.WithLists.{Keeps-length, length-lists, length-with}
-use Rattle.laws.specs.Gaps.GapWriting.{by-pairs, first-apart, length-pairs, gaps-pairs, gaps-apart, lists-alike}
+use Rattle.laws.specs.Gaps.GapWriting.{length-pairs, gaps-pairs, gaps-apart, lists-alike}
 use Rattle.laws.specs.Gaps.GapWriting.{Firsts, first-room, list-room}
-use Rattle.laws.specs.Gaps.GapSums.{carry, masks, masked-sums, masked-lists, carry-pairs}
+use Rattle.laws.specs.Gaps.GapSums.{masked-lists, carry-pairs}
 
 -- WHAT IS WRITTEN, by the direction: gaps of positions, or positions of gaps
-
--- a list's numbers as written
-abbrev pub write-as : (restore : Bool) → List ℕ → List ℕ
-write-as true ps = prefix-sums ps
-write-as false ps = gaps ps
-
--- all numbers as the pass over all lists writes them, and the first of a list: masks, or distances
-abbrev pub pair-as : (restore : Bool) → (before number : ℕ) → ℕ
-pair-as true b p = carry
-pair-as false b p = p - b
-
-abbrev pub first-as : (restore : Bool) → ℕ → ℕ
-first-as true p = 0
-first-as false p = p
 
 -- what this requires of the numbers
 pub record Writable (restore : Bool) (xs : List ℕ) : Type 0 where

@@ -14,23 +14,10 @@ use Rattle.spec.specs.Dictionary.{total}
 use Rattle.spec.specs.Numbers.{Line, line}
 use Rattle.spec.specs.Index.{count-at, key-at, counts-from, lines-from}
 use Rattle.spec.specs.Gaps.{sums-after, gaps, prefix-sums, lists-from}
-use Rattle.laws.specs.Gaps.GapWriting.{by-pairs, first-apart}
+use Rattle.models.specs.Gaps.{by-pairs, first-apart}
+use Rattle.models.specs.Gaps.{carry, masked-sums, masks}
 
 -- SUMS THAT RESTART
-
--- all ones: the sum is carried on
-abbrev pub carry : ℕ
-carry = 65535
-
--- each gap added to the sum before it, masked
-unfoldable pub masked-sums : (sum : ℕ) → (masks gaps : List ℕ) → List ℕ
-masked-sums s [] ds = []
-masked-sums s (m ∷ ms) [] = []
-masked-sums s (m ∷ ms) (d ∷ ds) = (bitAnd s m + d) ∷ masked-sums (bitAnd s m + d) ms ds
-
--- a list's masks: 0 for its first gap
-abbrev pub masks : List ℕ → List ℕ
-masks ds = first-apart (λ d. 0) (λ b d. carry) ds
 
 -- the gaps of one list after its first
 carried :

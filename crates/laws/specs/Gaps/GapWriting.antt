@@ -9,19 +9,10 @@ use lib.Seq.{drop-cons, drop-drop, take-all, take-add, take-suc-set, drop-set-lt
 use Rattle.basics.specs.Writing.{Writing, writes, written}
 use Rattle.spec.specs.Index.{keys-of, count-at, counts-from}
 use Rattle.spec.specs.Gaps.{gaps-after, gaps, lists-from}
+use Rattle.models.specs.Gaps.{by-pairs, first-apart}
 use Rattle.laws.specs.Gaps.GapLists.{length-gaps}
 
 -- EACH NUMBER BY THE ONE BEFORE
-
--- a list in which each number is made of itself and the one before
-unfoldable pub by-pairs : (x : ℕ → ℕ → ℕ) → (before : ℕ) → List ℕ → List ℕ
-by-pairs x b [] = []
-by-pairs x b (p ∷ ps) = x b p ∷ by-pairs x p ps
-
--- and its first number made by another function
-unfoldable pub first-apart : (first : ℕ → ℕ) → (x : ℕ → ℕ → ℕ) → List ℕ → List ℕ
-first-apart y x [] = []
-first-apart y x (p ∷ ps) = y p ∷ by-pairs x p ps
 
 pub length-pairs : (x : ℕ → ℕ → ℕ) (b : ℕ) (ps : List ℕ) → length (by-pairs x b ps) ≡ length ps
 unfolding by-pairs

@@ -13,11 +13,11 @@ use Rattle.spec.specs.Dictionary.{Lexicon}
 use Rattle.spec.specs.Words.{Key}
 use Rattle.spec.specs.Index.{header, n-of, keys-of, value-at, count-at, key-at, rise-from, last-of, readable}
 use Rattle.spec.specs.Gaps.{sums-after, prefix-sums, lists-from, with-lists, restored}
-use Rattle.laws.specs.Numbers.KeyNumbers.{key-code}
+use Rattle.models.specs.Readability.{key-code, as-is, list-good, line-list-good, line-fits, rest-good, walk-good}
+use Rattle.models.specs.Readability.{read-as}
 use Rattle.laws.specs.Gaps.GapLists.{length-sums}
 use Rattle.laws.specs.Gaps.WithLists.{Keeps-length, Same-lines, length-lists, front-list, later-lists}
 use Rattle.laws.specs.Gaps.WithLists.{length-with, same-with, positions-with, n-with, keys-with}
-use Rattle.laws.specs.Readable.LineWalk.{as-is, list-good, line-list-good, line-fits, rest-good, walk-good}
 use Rattle.laws.specs.Readable.LineWalk.{unreadable-header, unreadable-directory, readable-walk}
 use Rattle.laws.specs.Readable.LineSteps.{positions-there}
 
@@ -77,10 +77,6 @@ module _ (read : List ℕ → List ℕ) (keeps : Keeps-length read) where
             ∙ rw (n-with read keeps xs, keys-with read keeps xs, positions-with read keeps xs dir)
 
 -- POSITIONS, OR THEIR GAPS
-
--- a line's numbers as positions: prefix sums of gaps, or themselves
-unfoldable pub read-as : (gaps : Bool) → List ℕ → List ℕ
-read-as b ps = cond b (prefix-sums ps) ps
 
 pub read-keeps : (gaps : Bool) → Keeps-length (read-as gaps)
 unfolding read-as

@@ -10,8 +10,9 @@ use lib.ListN.{getD}
 use borrow.Author.Tests.{eqb-true, eq-eqb, lt-ltb}
 use Rattle.basics.specs.Bools.{clash, true-or-false, false-put, and-put, and-left, and-right}
 use Rattle.spec.specs.JobSheet.{space, no-digit, digit, is-digit, character, is-spaced}
+use Rattle.models.specs.JobSheet.{spaced-at, character-at}
+use Rattle.models.specs.JobSheet.{spaced-character}
 use Rattle.laws.specs.JobSheet.Hexadecimal.{character-small}
-use Rattle.laws.specs.JobSheet.FormReading.{spaced-at, character-at}
 
 -- FIVE BYTES
 
@@ -54,10 +55,6 @@ module _ (b : ℕ) {v : ℕ} where
   digit-put (is, small) some = rw (sym is) (lt-ltb v no-digit (omega arith))
 
 -- THE CHARACTER AT AN INDEX
-
--- 65,536, which is no character, unless a space and four digits are there
-unfoldable pub spaced-character : List ℕ → (at : ℕ) → ℕ
-spaced-character l at = cond (spaced-at l at) (character-at l at) 65536
 
 module _ (l : List ℕ) (at : ℕ) where
   -- the byte at the index k bytes on

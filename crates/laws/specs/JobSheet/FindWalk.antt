@@ -14,7 +14,8 @@ use Rattle.spec.specs.Replaced.{replaced}
 use Rattle.spec.specs.Dictionary.{Lexicon, words-from, total}
 use Rattle.spec.specs.Search.{find}
 use Rattle.spec.specs.JobAnswer.{found-line, found-lines}
-use Rattle.laws.specs.JobSheet.JobReading.{some-length-wrong, length-none, length-many, length-right}
+use Rattle.models.specs.JobSheet.{some-length-wrong}
+use Rattle.laws.specs.JobSheet.JobReading.{length-none, length-many, length-right}
 use Rattle.laws.specs.Search.Sizing.{Is-string}
 
 -- i finds are printed; `from` is the index at which the string of find i starts

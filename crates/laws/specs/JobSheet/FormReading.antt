@@ -13,6 +13,7 @@ use Rattle.basics.specs.Placed.{Wrote, Writing, writing-start, writing-as, writ
 use Rattle.spec.specs.Words.{same}
 use Rattle.spec.specs.JobSheet.{closing, head-length, character, is-spaced, ends-well, characters, is-form, string-in}
 use Rattle.basics.specs.PlacedCopies.{drop-next}
+use Rattle.models.specs.JobSheet.{spaced-at, character-at}
 
 -- THE HEAD
 
@@ -76,13 +77,6 @@ module _ {l h : List ℕ} {i : ℕ} (r : Head-read l h i) where
         (λ (e : getD (take (length h) l) i 0 ≡ getD h i 0). ne (sym (getD-take (length h) l i 0 below) ∙ e))
 
 -- THE CHARACTERS
-
--- the five bytes at an index are a space and four digits
-unfoldable pub spaced-at : List ℕ → (at : ℕ) → Bool
-spaced-at l at = is-spaced (getD l at 0) (getD l (at + 1) 0) (getD l (at + 2) 0) (getD l (at + 3) 0) (getD l (at + 4) 0)
-
-unfoldable pub character-at : List ℕ → (at : ℕ) → ℕ
-character-at l at = character (getD l (at + 1) 0) (getD l (at + 2) 0) (getD l (at + 3) 0) (getD l (at + 4) 0)
 
 drop-to : (l : List ℕ) (i j : ℕ) → j ≡ i + 1 → i < length l → drop i l ≡ getD l i 0 ∷ drop j l
 drop-to l i j e h = rw e (drop-next l i h)

@@ -11,6 +11,7 @@ use Rattle.basics.specs.Placed.{Wrote, Writing, writing-start, writing-as, writ
 use Rattle.spec.specs.Numbers.{line}
 use Rattle.spec.specs.Index.{header, n-of, keys-of, count-at, key-at, counts-from, entries-of, lines-from, lines-in}
 use Rattle.spec.specs.JobAnswer.{index-line, key-line, key-lines, index-lines}
+use Rattle.models.specs.JobSheet.{left-from}
 
 -- the numbers are header, directory and positions, as in every readable index
 pub record Whole (xs : List ℕ) : Type 0 where
@@ -20,10 +21,6 @@ pub record Whole (xs : List ℕ) : Type 0 where
 -- the positions of line i, which start at index `position`
 abbrev pub positions-at : List ℕ → (position i : ℕ) → List ℕ
 positions-at xs position i = take (position + count-at xs i - position) (drop position xs)
-
--- what is printed for the lines from line i on
-unfoldable pub left-from : List ℕ → (position i : ℕ) → List ℕ
-left-from xs position i = key-lines (lines-from (keys-of xs - i) i xs (drop position xs))
 
 -- i lines are printed; `position` is the index at which the positions of line i start
 pub record Keys-printed (xs : List ℕ) (start : ℕ) (old : List ℕ) (position end i : ℕ) (now : List ℕ) : Type 0 where

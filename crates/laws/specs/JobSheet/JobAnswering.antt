@@ -14,10 +14,11 @@ use Rattle.spec.specs.declared.Answer.{Answer}
 use Rattle.spec.specs.Calls.{or-else, in-front}
 use Rattle.spec.specs.JobSheet.{words-on, finds-on, run-together, lengths-of, sheet-too-long, sheet-wrong, some-string-wrong, contents-refusal, sheet-refusal}
 use Rattle.spec.specs.JobAnswer.{refused-line, index-lines, found-lines, printed, job-answer, Job-says}
+use Rattle.models.specs.JobSheet.{some-length-wrong}
+use Rattle.models.specs.JobSheet.{shown, printed-of}
 use Rattle.laws.specs.Dictionary.Answering.{accepted-no}
 use Rattle.laws.specs.Dictionary.WordCode.{Small}
 use Rattle.laws.specs.Dictionary.Lexicon.{length-words}
-use Rattle.laws.specs.JobSheet.JobReading.{some-length-wrong}
 use Rattle.laws.specs.JobSheet.PrintedBounds.{refused-line-short, index-lines-short, found-lines-short}
 use Rattle.laws.specs.JobSheet.AcceptedCalls.{In-hand, in-hand, Usable, usable-whole}
 use Rattle.laws.specs.Search.Sizing.{Sized, sized-written}
@@ -66,10 +67,6 @@ pub record Strings-good (fs ns : List ℕ) : Type 0 where
   pub tested : some-length-wrong ns ≡ false
   pub fits : total ns ≤ length fs
 
--- what is printed for an index and such strings
-unfoldable pub shown : (chars lengths index strings counts : List ℕ) → List ℕ
-shown cs ls xs fs ns = index-lines xs ++ found-lines (lexicon cs ls) xs (words-from ns fs)
-
 pub shown-short :
     {cs ls xs : List ℕ} (ss : List (List ℕ)) → Usable cs ls xs → Small xs → length ss ≤ 50 →
     length (index-lines xs ++ found-lines (lexicon cs ls) xs ss) ≤ 700000
@@ -100,9 +97,6 @@ pub record Parts-good (cs ls ts fs ns : List ℕ) : Type 0 where
   pub admits : dictionary-refusal cs ls ≡ 0
   pub short : length ts ≤ 2000
   pub strings : Strings-good fs ns
-
-unfoldable pub printed-of : (chars lengths text strings counts : List ℕ) → List ℕ
-printed-of cs ls ts fs ns = shown cs ls (index-of (lexicon cs ls) (replaced ts)) fs ns
 
 pub index-shown :
     (cs ls ts fs ns xs : List ℕ) → xs ≡ index-of (lexicon cs ls) (replaced ts) → shown cs ls xs fs ns ≡ printed-of cs ls ts fs ns

@@ -13,10 +13,11 @@ use Rattle.spec.specs.Dictionary.{words-from, total, dictionary-refusal}
 use Rattle.spec.specs.Calls.{or-else}
 use Rattle.spec.specs.JobSheet.{words-on, text-on, finds-on, in-form, in-counts, run-together, lengths-of, sheet-too-long, sheet-wrong, some-string-wrong, contents-refusal, sheet-refusal}
 use Rattle.spec.specs.JobAnswer.{refused-line, lexicon-on, printed, job-answer}
+use Rattle.models.specs.JobSheet.{shown, printed-of}
 use Rattle.laws.specs.Dictionary.Answering.{accepted-yes}
 use Rattle.laws.specs.JobSheet.WholeSheet.{length-lengths}
 use Rattle.laws.specs.JobSheet.JobReading.{strings-by-length, Job-parts}
-use Rattle.laws.specs.JobSheet.JobAnswering.{Parts-good, shown, printed-of}
+use Rattle.laws.specs.JobSheet.JobAnswering.{Parts-good}
 
 -- NOT REFUSED
 

@@ -15,13 +15,10 @@ use Rattle.spec.specs.Dictionary.{dictionary-refusal}
 use Rattle.spec.specs.Calls.{string-wrong, or-else}
 use Rattle.spec.specs.JobSheet.{words-on, texts-on, text-on, finds-on, nothing-left, left-on, in-form, in-counts, run-together, lengths-of, sheet-too-long, sheet-wrong, some-string-wrong, contents-refusal, sheet-refusal}
 use Rattle.basics.specs.PlacedCopies.{drop-next}
+use Rattle.models.specs.JobSheet.{some-length-wrong, parts-refusal}
 use Rattle.laws.specs.JobSheet.WholeSheet.{Sheet-read, one-text, length-lengths}
 
 -- EVERY FIND IS TESTED, by its length
-
-unfoldable pub some-length-wrong : List ℕ → Bool
-some-length-wrong [] = false
-some-length-wrong (l ∷ ls) = (eqb l 0 || ltb 256 l) || some-length-wrong ls
 
 pub strings-by-length : (ss : List (List ℕ)) → some-string-wrong ss ≡ some-length-wrong (lengths-of ss)
 unfolding some-string-wrong string-wrong some-length-wrong lengths-of
@@ -48,10 +45,6 @@ module _ (ls : List ℕ) (i : ℕ) where
   lengths-end past = rw (drop-of-length-le ls past)
 
 -- THE REFUSAL
-
--- the first line met by a dictionary and then by the lengths of the finds
-unfoldable pub parts-refusal : (chars words finds : List ℕ) → ℕ
-parts-refusal cs ws fs = or-else (dictionary-refusal cs ws) (cond (some-length-wrong fs) 6 0)
 
 module _ (cs ws fs : List ℕ) where
   pub dictionary-first : (dictionary-refusal cs ws ≡ 0 → ⊥) → parts-refusal cs ws fs ≡ dictionary-refusal cs ws

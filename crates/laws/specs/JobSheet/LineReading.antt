@@ -8,6 +8,7 @@ use lib.Dec.{eqb}
 use lib.ListN.{length, getD, take, drop, length-append, length-drop, drop-of-length-le}
 use lib.Seq.{take-suc, getD-drop}
 use borrow.Author.Tests.{eq-eqb, ne-eqb}
+use Rattle.models.specs.JobSheet.{onto-all, size}
 use Rattle.laws.specs.Dictionary.WordCode.{part}
 use Rattle.spec.specs.JobSheet.{line-feed, is-form, string-in, onto-first, lines, forms, after, run-together}
 use Rattle.basics.specs.PlacedCopies.{drop-next}
@@ -27,11 +28,6 @@ module _ (s : List ℕ) (i : ℕ) where
   lines-end : length s ≤ i → lines (drop i s) ≡ [] ∷ []
   unfolding lines
   lines-end past = rw (drop-of-length-le s past)
-
--- bytes put before the first line
-unfoldable pub onto-all : List ℕ → List (List ℕ) → List (List ℕ)
-onto-all p [] = p ∷ []
-onto-all p (l ∷ ls) = (p ++ l) ∷ ls
 
 onto-next : (p : List ℕ) (b : ℕ) (ls : List (List ℕ)) → onto-all p (onto-first b ls) ≡ onto-all (p ++ b ∷ []) ls
 unfolding onto-all onto-first
@@ -197,11 +193,6 @@ module _ (h : List ℕ) {s : List ℕ} {at r : ℕ} (e : Line-end s at r) where
         }
 
 -- HOW MANY FORMS AND CHARACTERS THERE CAN BE
-
--- the number of bytes of lines, each with its LF
-unfoldable pub size : List (List ℕ) → ℕ
-size [] = 0
-size (l ∷ ls) = suc (length l) + size ls
 
 pub size-lines : (bs : List ℕ) → size (lines bs) ≡ suc (length bs)
 unfolding size lines onto-first

@@ -15,8 +15,9 @@ use Rattle.spec.specs.Numbers.{Line, line}
 use Rattle.spec.specs.Index.{header, n-of, keys-of, count-at, key-at, entries-of, lines-from, lines-in}
 use Rattle.spec.specs.Search.{all-covered, found-from, find}
 use Rattle.spec.specs.JobAnswer.{decimal, hexadecimal, index-head, key-word-head, key-lone-head, found-head, refused-head, gap, opening-list, ending, ending-list, spaced, index-line, found-line, refused-line, key-name, key-line, key-lines, index-lines, found-lines}
+use Rattle.models.specs.JobSheet.{each-spaced, listed}
 use Rattle.laws.specs.Dictionary.WordCode.{Small, small-drop, small-take}
-use Rattle.laws.specs.JobSheet.Printing.{decimal-small, decimal-large, length-hexadecimal, each-spaced, spaced-first, listed, index-line-parts, found-line-parts, refused-line-parts, key-line-parts}
+use Rattle.laws.specs.JobSheet.Printing.{decimal-small, decimal-large, length-hexadecimal, spaced-first, index-line-parts, found-line-parts, refused-line-parts, key-line-parts}
 use Rattle.laws.specs.JobSheet.IndexPrinting.{Whole}
 
 -- NUMBERS

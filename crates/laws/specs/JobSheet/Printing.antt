@@ -12,6 +12,7 @@ use Rattle.basics.specs.PlacedCopies.{drop-next}
 use Rattle.spec.specs.Words.{Key, key}
 use Rattle.spec.specs.Numbers.{line}
 use Rattle.spec.specs.JobAnswer.{decimal-within, decimal, digit-byte, hexadecimal, index-head, key-word-head, key-lone-head, found-head, refused-head, gap, opening-list, ending, ending-list, spaced, index-line, found-line, refused-line, key-name, key-line}
+use Rattle.models.specs.JobSheet.{each-spaced, listed}
 
 -- DECIMAL NUMBERS
 
@@ -58,11 +59,6 @@ length-hexadecimal c = refl
 
 -- LISTS OF POSITIONS
 
--- each number after a space
-unfoldable pub each-spaced : List ℕ → List ℕ
-each-spaced [] = []
-each-spaced (p ∷ ps) = (gap ++ decimal p) ++ each-spaced ps
-
 pub spaced-first : (p : ℕ) (ps : List ℕ) → spaced (p ∷ ps) ≡ decimal p ++ each-spaced ps
 unfolding spaced each-spaced
 spaced-first p [] = sym (append-nil (decimal p))
@@ -84,10 +80,6 @@ each-next ps i h = rw (drop-next ps i h)
 pub each-end : (ps : List ℕ) (i : ℕ) → length ps ≤ i → each-spaced (drop i ps) ≡ []
 unfolding each-spaced
 each-end ps i h = rw (drop-of-length-le ps h)
-
--- in parentheses, at the end of a line
-unfoldable pub listed : List ℕ → List ℕ
-listed ps = opening-list ++ (spaced ps ++ ending-list)
 
 pub listed-parts : (ps : List ℕ) → listed ps ≡ opening-list ++ (spaced ps ++ ending-list)
 unfolding listed

@@ -11,7 +11,8 @@ use borrow.Author.Tests.{eq-eqb, ne-eqb, eqb-true, eqb-false}
 use Rattle.basics.specs.Bools.{true-or-false}
 use Rattle.basics.specs.Placed.{placed, length-placed, placed-none, placed-append, Wrote}
 use Rattle.spec.specs.JobSheet.{word-head, text-head, find-head, line-feed, onto-first, lines, forms, after, nothing-left, words-on, texts-on, finds-on, left-on, text-on, in-form, in-counts, run-together, lengths-of}
-use Rattle.laws.specs.JobSheet.LineReading.{size, size-lines, forms-size, lines-some}
+use Rattle.models.specs.JobSheet.{size}
+use Rattle.laws.specs.JobSheet.LineReading.{size-lines, forms-size, lines-some}
 use Rattle.laws.specs.JobSheet.SheetReading.{Room, Forms-got}
 
 -- ONE READ AFTER THE OTHER

@@ -9,8 +9,9 @@ use lib.ListN.{length, getD}
 use Rattle.spec.specs.Dictionary.{lexicon, ascend}
 use Rattle.basics.specs.LowerBound.{Rising}
 use Rattle.basics.specs.LowerBound as halving
+use Rattle.models.specs.MatchTable.{word, start-of}
 use Rattle.laws.specs.Dictionary.Lexicon.{admitted-ascend}
-use Rattle.laws.specs.Match.MatchTable.{word, start-of, Started, many-words, word-long, word-short, word-room, word-char}
+use Rattle.laws.specs.Match.MatchTable.{Started, many-words, word-long, word-short, word-room, word-char}
 use Rattle.laws.specs.Match.PrefixRanges.{Last-standing, Narrowed, Lower-bound-at, narrow-hit, narrow-longer, narrow-rises, narrow-stop, narrow-step}
 
 abbrev pub column : (cs ss : List ℕ) (d i : ℕ) → ℕ

@@ -12,6 +12,7 @@ use lib.Seq.{getD-set-same, getD-set-other}
 use borrow.Author.Tests.{eqb-true, eqb-false, eq-eqb}
 use Rattle.basics.specs.Bools.{true-or-false}
 use Rattle.basics.specs.Member.{In, in-cond-get, in-cond-here, in-cond-there}
+use Rattle.models.specs.MatchTable.{chained}
 
 -- CHAINS
 
@@ -42,11 +43,6 @@ chain-chain links i h xs b out c = (
 )
 
 -- THE NUMBERS OF ONE BUCKET, chained in ascending order, so the chain is descending
-
--- the numbers below n whose bucket is b
-unfoldable pub chained : (bucket : ℕ → ℕ) (b n : ℕ) → List ℕ
-chained f b zero = []
-chained f b (suc n) = cond (eqb (f n) b) (n ∷ chained f b n) (chained f b n)
 
 -- strictly descending numbers below k
 abbrev pub Descending : (k : ℕ) → List ℕ → Type 0

@@ -9,11 +9,12 @@ use native.Mathlib.Omega.{arith}
 use lib.ListN.{length, getD}
 use Rattle.basics.specs.Bools.{le-or-lt}
 use Rattle.spec.specs.Dictionary.{Lexicon, lexicon, admitted}
+use Rattle.models.specs.MatchTable.{word}
 use Rattle.laws.specs.Text.Strings.{Stand}
 use Rattle.laws.specs.Dictionary.Lexicon.{admitted-ascend}
 use Rattle.laws.specs.Dictionary.Prefixes.{standing-ascend}
 use Rattle.laws.specs.Entries.WordAt.{None-after, Word-at}
-use Rattle.laws.specs.Match.MatchTable.{word, many-words, word-long, word-some}
+use Rattle.laws.specs.Match.MatchTable.{many-words, word-long, word-some}
 use Rattle.laws.specs.Match.WordChains.{Pair-found, Single-found}
 
 -- WHAT IS FOUND

@@ -14,16 +14,12 @@ use lib.Seq.{getD-take, getD-drop, getD-set-same, getD-set-other, length-take-le
 use borrow.Author.Tests.{eqb-true, eqb-false}
 use Rattle.basics.specs.Bools.{true-or-false, le-or-lt}
 use Rattle.spec.specs.Dictionary.{words-from, total, lexicon, admitted}
+use Rattle.models.specs.MatchTable.{chained}
+use Rattle.models.specs.MatchTable.{word, start-of, pair-bucket, char-bucket, bucket, bucket-of}
 use Rattle.laws.specs.Dictionary.Lexicon.{Is-admitted, admitted-get, length-words}
-use Rattle.laws.specs.Match.HashChains.{Chain, chained, chained-here, chained-elsewhere}
+use Rattle.laws.specs.Match.HashChains.{Chain, chained-here, chained-elsewhere}
 
 -- THE WORDS, read from the dictionary's characters
-
-abbrev pub word : (cs ls : List ℕ) (i : ℕ) → List ℕ
-word cs ls i = getD (lexicon cs ls .words) i []
-
-unfoldable pub start-of : (ls : List ℕ) (i : ℕ) → ℕ
-start-of ls i = total (take i ls)
 
 pub start-first : (ls : List ℕ) → start-of ls 0 ≡ 0
 unfolding start-of total
@@ -99,17 +95,6 @@ module _ (cs ls : List ℕ) (a : admitted cs ls ≡ true) where
 
 -- BUCKETS: 8,192 for words of two characters and more, 2,048 for words of one
 
-unfoldable pub pair-bucket : (x y : ℕ) → ℕ
-pair-bucket x y = (37 * x + y) % 8192
-
-unfoldable pub char-bucket : (x : ℕ) → ℕ
-char-bucket x = 8192 + x % 2048
-
-unfoldable pub bucket : List ℕ → ℕ
-bucket [] = 0
-bucket (x ∷ []) = char-bucket x
-bucket (x ∷ y ∷ zs) = pair-bucket x y
-
 pub pair-small : (x y : ℕ) → pair-bucket x y < 8192
 unfolding pair-bucket
 pair-small x y = mod-lt (37 * x + y) (omega arith)
@@ -144,9 +129,6 @@ bucket-single (x ∷ []) h = refl
 bucket-single (x ∷ y ∷ zs) h = absurd (omega (arith, pair-small x y))
 
 -- THE TABLE
-
-abbrev pub bucket-of : (cs ls : List ℕ) (i : ℕ) → ℕ
-bucket-of cs ls i = bucket (word cs ls i)
 
 -- the bucket of the word at `at`, by its first characters
 pub record Bucket-read (cs : List ℕ) (at len r : ℕ) : Type 0 where

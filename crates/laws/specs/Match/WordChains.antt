@@ -9,10 +9,11 @@ use native.Mathlib.Omega.{arith}
 use lib.ListN.{length, getD}
 use Rattle.basics.specs.Bools.{clash}
 use Rattle.spec.specs.Dictionary.{lexicon}
+use Rattle.models.specs.MatchTable.{word, start-of, pair-bucket, char-bucket, bucket-of}
 use Rattle.laws.specs.Text.Strings.{Stand}
 use Rattle.laws.specs.Text.Overlaps.{stand-at, stand-put}
 use Rattle.laws.specs.Match.HashChains.{Walk, Stop, walk-start, walk-stop, walk-end}
-use Rattle.laws.specs.Match.MatchTable.{word, start-of, pair-bucket, char-bucket, char-large, char-small, pair-small, bucket-pair, bucket-char, bucket-single, bucket-of, Started, Tables, many-words, word-long, word-some, word-char}
+use Rattle.laws.specs.Match.MatchTable.{char-large, char-small, pair-small, bucket-pair, bucket-char, bucket-single, Started, Tables, many-words, word-long, word-some, word-char}
 use Rattle.laws.specs.Match.PrefixRanges.{Last-standing}
 
 -- ONE WORD

@@ -8,7 +8,7 @@ use Rattle.basics.specs.Member.{In, in-append-left, in-append-right, in-append-
 use Rattle.spec.specs.Dictionary.{Lexicon}
 use Rattle.spec.specs.Words.{Key, spells, Entry, entry}
 use Rattle.spec.specs.Numbers.{Line}
-use Rattle.laws.specs.Text.Facts.{entries-at, flat}
+use Rattle.models.specs.Entries.{entries-at, flat}
 
 -- the entry of a key at a position
 abbrev pub posting : Lexicon → Key → ℕ → Entry

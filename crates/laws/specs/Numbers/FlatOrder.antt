@@ -12,7 +12,8 @@ use Rattle.basics.specs.Order.{Ascend, ascend-append}
 use Rattle.spec.specs.Dictionary.{Lexicon}
 use Rattle.spec.specs.Words.{Key, Entry, entry}
 use Rattle.spec.specs.Numbers.{entry-before, Line}
-use Rattle.laws.specs.Text.Facts.{entries-at, flat, Rise, Keys-rise}
+use Rattle.models.specs.Entries.{entries-at, flat}
+use Rattle.laws.specs.Text.Facts.{Rise, Keys-rise}
 use Rattle.laws.specs.Numbers.KeyOrder.{entry-before-put}
 use Rattle.laws.specs.Numbers.Flat.{posting, entries-at-get, flat-get}
 

@@ -12,11 +12,8 @@ use Rattle.basics.specs.Bools.{iff-eq, le-or-lt}
 use Rattle.spec.specs.Words.{Key, key}
 use Rattle.spec.specs.Numbers.{key-before, Line, line}
 use Rattle.spec.specs.Index.{value-at, count-at, lines-from, keys-ascend}
+use Rattle.models.specs.Readability.{key-code}
 use Rattle.laws.specs.Numbers.KeyOrder.{key-before-get, key-before-put}
-
--- kind and value as one number
-abbrev pub key-code : Key → ℕ
-key-code k = k .kind * 65536 + k .value
 
 -- keys are ordered as their numbers
 before-code : (a b : Key) → a .value < 65536 → b .value < 65536 → leb (suc (key-code a)) (key-code b) ≡ key-before a b

@@ -9,14 +9,8 @@ use Rattle.basics.specs.Member.{In, in-getD, in-place}
 use Rattle.spec.specs.Words.{key}
 use Rattle.spec.specs.Numbers.{Line, line}
 use Rattle.spec.specs.Index.{header, keys-of, key-at, count-at, counts-from, lines-from, lines-in}
+use Rattle.models.specs.Entries.{no-line, line-of}
 use Rattle.laws.specs.Numbers.Slices.{length-lines-from}
-
-unfoldable pub no-line : Line
-no-line = line (key 0 0) []
-
--- line i, if there is one
-unfoldable pub line-of : (numbers : List ℕ) → (i : ℕ) → Line
-line-of xs i = getD (lines-in xs) i no-line
 
 -- the key of line i and its positions, read from the slice
 line-from :

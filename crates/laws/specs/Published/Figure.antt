@@ -10,15 +10,16 @@ use Rattle.basics.specs.Member.{In, in-map-get, in-map-put}
 use Rattle.spec.specs.Dictionary.{Lexicon, lexicon}
 use Rattle.spec.specs.Words.{spells, Entry}
 use Rattle.spec.specs.Published.{Item, item, Is-item, maximal-items, item-of, Longest-prefix, figure-1, Figure-1}
+use Rattle.models.specs.Scan.{scan, make-index}
+use Rattle.models.specs.Entries.{longest-at}
 use Rattle.laws.specs.Text.Strings.{stands-get}
 use Rattle.laws.specs.Text.Overlaps.{stand-unique}
 use Rattle.laws.specs.Text.Facts.{Chars, Good-lexicon, Is-entry}
 use Rattle.laws.specs.Text.Chars.{is-text-get}
 use Rattle.laws.specs.Dictionary.Lexicon.{admitted-lexicon}
 use Rattle.laws.specs.Published.Extension.{entry-item, item-entry, maximal-item, item-maximal}
-use Rattle.spec.specs.Models.{scan}
 use Rattle.laws.specs.Entries.Scan.{Longest-at}
-use Rattle.laws.specs.Entries.Longest.{longest-at, longest-at-is, make-index, make-index-exact}
+use Rattle.laws.specs.Entries.Longest.{longest-at-is, make-index-exact}
 
 module _ (lex : Lexicon) (ts : List ℕ) where
   -- what the longest entry at a position spells is the longest prefix word there

@@ -14,13 +14,14 @@ use Rattle.basics.specs.Member.{In}
 use Rattle.spec.specs.Dictionary.{Lexicon, is-char, lexicon}
 use Rattle.spec.specs.Words.{spells, stands}
 use Rattle.spec.specs.Published.{Is-word, item, Longest-prefix, figure-1, Figure-1, longest-word, grown, growing-scan, Growing-same}
+use Rattle.models.specs.Entries.{longest-at}
 use Rattle.laws.specs.Text.Strings.{Stand, stands-get, stands-put}
 use Rattle.laws.specs.Text.Overlaps.{stand-char}
 use Rattle.laws.specs.Text.Facts.{Chars}
 use Rattle.laws.specs.Text.Chars.{is-text-get}
 use Rattle.laws.specs.Dictionary.Lexicon.{admitted-lexicon}
 use Rattle.laws.specs.Dictionary.Keys.{is-word-get, is-word-put}
-use Rattle.laws.specs.Entries.Longest.{longest-at, longest-at-is}
+use Rattle.laws.specs.Entries.Longest.{longest-at-is}
 use Rattle.laws.specs.Published.Figure.{longest-prefix-put, longest-prefix-unique, figure-1-holds}
 
 -- THE LONGEST WORD

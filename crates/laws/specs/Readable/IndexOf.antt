@@ -12,7 +12,8 @@ use Rattle.spec.specs.Words.{Key, Entry, entry, entries}
 use Rattle.spec.specs.Numbers.{Line, sorted, lines-of, all-positions, index-of}
 use Rattle.spec.specs.Index.{n-of, entries-of, lines-in, readable}
 use Rattle.spec.specs.FurtherTheorems.{Among, Under, Tells}
-use Rattle.laws.specs.Text.Facts.{Chars, Good-lexicon, entry-eq, Sound, entries-at, flat, Good-lines, Lines-match}
+use Rattle.models.specs.Entries.{entries-at, flat}
+use Rattle.laws.specs.Text.Facts.{Chars, Good-lexicon, entry-eq, Sound, Good-lines, Lines-match}
 use Rattle.laws.specs.Entries.Entries.{entries-get, entries-put}
 use Rattle.laws.specs.Entries.Maximal.{maximal-covers}
 use Rattle.laws.specs.Entries.Sound.{entries-sound}

@@ -12,10 +12,10 @@ use Rattle.basics.specs.Bools.{and-put}
 use Rattle.spec.specs.Dictionary.{Lexicon, is-char, total, words-from, lexicon, dictionary-refusal, admitted}
 use Rattle.spec.specs.Words.{key, spells, is-word}
 use Rattle.spec.specs.Index.{key-good}
+use Rattle.models.specs.Readability.{line-list-good, key-fits, line-fits}
 use Rattle.laws.specs.Dictionary.WordCode.{Small}
 use Rattle.laws.specs.Text.Chars.{all-chars-put}
 use Rattle.laws.specs.Dictionary.Lexicon.{Is-admitted, admitted-get, length-words}
-use Rattle.laws.specs.Readable.LineWalk.{line-list-good, key-fits, line-fits}
 
 -- THE DICTIONARY
 

@@ -8,8 +8,7 @@ use lib.ListN.{drop}
 use Rattle.spec.specs.Dictionary.{Lexicon}
 use Rattle.spec.specs.Words.{key, is-word}
 use Rattle.spec.specs.Index.{n-of, keys-of, kind-at, value-at, count-at, key-at}
-use Rattle.laws.specs.Numbers.KeyNumbers.{key-code}
-use Rattle.laws.specs.Readable.LineWalk.{line-list-good, line-fits, walk-good}
+use Rattle.models.specs.Readability.{key-code, line-list-good, line-fits, walk-good}
 use Rattle.laws.specs.Readable.LineSteps.{Lines-read, lines-step, lines-stop}
 use Rattle.laws.specs.Readable.KeyTests.{lone-low, lone-word, lone-fits, kind-other}
 

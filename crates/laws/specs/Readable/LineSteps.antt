@@ -14,8 +14,8 @@ use Rattle.basics.specs.Bools.{iff-eq}
 use Rattle.spec.specs.Dictionary.{Lexicon}
 use Rattle.spec.specs.Words.{key}
 use Rattle.spec.specs.Index.{header, n-of, keys-of, kind-at, value-at, count-at, key-at, rise-from, last-of}
-use Rattle.laws.specs.Numbers.KeyNumbers.{key-code}
-use Rattle.laws.specs.Readable.LineWalk.{fits-get, as-is, list-good, line-list-good, key-fits, line-fits, rest-good, walk-good}
+use Rattle.models.specs.Readability.{key-code, as-is, list-good, line-list-good, key-fits, line-fits, rest-good, walk-good}
+use Rattle.laws.specs.Readable.LineWalk.{fits-get}
 
 -- THE LINES
 

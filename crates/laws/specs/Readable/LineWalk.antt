@@ -14,33 +14,14 @@ use Rattle.spec.specs.Words.{Key, key, spells}
 use Rattle.spec.specs.Numbers.{Line, line}
 use Rattle.spec.specs.Index.{header, n-of, keys-of, kind-at, count-at, value-at, key-at, counts-from, entries-of, lines-from, lines-in}
 use Rattle.spec.specs.Index.{kinds-good, key-good, keys-ascend, rise-from, last-of, line-good, lines-good, lengths-fit, readable}
-use Rattle.laws.specs.Numbers.KeyNumbers.{key-code, codes-ascend, codes-all, small-lines}
+use Rattle.models.specs.Readability.{key-code}
+use Rattle.models.specs.Readability.{list-good, line-list-good, key-fits, line-fits, rest-good, as-is, walk-good}
+use Rattle.laws.specs.Numbers.KeyNumbers.{codes-ascend, codes-all, small-lines}
 use Rattle.laws.specs.Numbers.Slices.{Fits, lengths-fit-get}
 
 -- ONE LINE
 
--- a line's numbers are read as positions that ascend from 1, and the key ends at or before n
-unfoldable pub list-good : (read : List ℕ → List ℕ) → (n len : ℕ) → (numbers : List ℕ) → Bool
-list-good read n l ps = leb (last-of (read ps) + l) (suc n) && rise-from 1 (read ps)
-
--- the first `count` of `positions`: they are there, there is at least one, and their list is good
-unfoldable pub line-list-good : (read : List ℕ → List ℕ) → (n len count : ℕ) → (positions : List ℕ) → Bool
-line-list-good read n l c ps = (leb c (length ps) && leb 1 c) && list-good read n l (take c ps)
-
--- a good key whose code is `least` or more
-unfoldable pub key-fits : Lexicon → (least : ℕ) → Key → Bool
-key-fits lex a k = (leb (k .kind) 1 && leb a (key-code k)) && key-good lex k
-
-unfoldable pub line-fits : (read : List ℕ → List ℕ) → Lexicon → (n least : ℕ) → Key → (count : ℕ) → (positions : List ℕ) → Bool
-line-fits read lex n a k c ps = key-fits lex a k && line-list-good read n (length (spells lex k)) c ps
-
 -- THE LINES FROM i ON
-
-unfoldable pub rest-good : (read : List ℕ → List ℕ) → Lexicon → (n left i least : ℕ) → (numbers positions : List ℕ) → Bool
-rest-good read lex n zero i a xs ps = eqb (length ps) 0
-rest-good read lex n (suc k) i a xs ps =
-    line-fits read lex n a (key-at xs i) (count-at xs i) ps
-    && rest-good read lex n k (suc i) (suc (key-code (key-at xs i))) xs (drop (count-at xs i) ps)
 
 -- what the walk decides
 record Rest (lex : Lexicon) (n k i a : ℕ) (xs ps : List ℕ) : Type 0 where
@@ -110,10 +91,6 @@ module _ (read : List ℕ → List ℕ) (lex : Lexicon) (n a : ℕ) (k : Key) (c
       (and-put (le-leb (last-of (read (take c ps)) + length (spells lex k)) (suc n) (h .ends)) (h .rises)))
 
 -- A LINE READ AS IT IS
-
--- numbers that are the positions themselves
-abbrev pub as-is : List ℕ → List ℕ
-as-is ps = ps
 
 module _ (lex : Lexicon) (n a : ℕ) (k : Key) (c : ℕ) (ps : List ℕ) where
   -- the line is good
@@ -214,10 +191,6 @@ rest-put lex n (suc k) i a xs ps h =
         }
 
 -- THE WHOLE
-
--- the walk over all lines of a slice that has its directory
-unfoldable pub walk-good : (read : List ℕ → List ℕ) → Lexicon → (numbers : List ℕ) → Bool
-walk-good read lex xs = rest-good read lex (n-of xs) (keys-of xs) 0 0 xs (drop (header + 3 * keys-of xs) xs)
 
 module _ (g : ℕ) (lex : Lexicon) (xs : List ℕ) where
   abbrev fit : Bool

@@ -18,7 +18,8 @@ use Rattle.spec.specs.Words.{spells, Entry}
 use Rattle.spec.specs.Numbers.{Line}
 use Rattle.spec.specs.Index.{n-of, lines-in}
 use Rattle.spec.specs.Reception.{lies-on, shown-by, or-shown, shown, char-or, recovered-from, recovered}
-use Rattle.laws.specs.Text.Facts.{Chars, Plain, entries-at, flat, Lines-match}
+use Rattle.models.specs.Entries.{entries-at, flat}
+use Rattle.laws.specs.Text.Facts.{Chars, Plain, Lines-match}
 use Rattle.laws.specs.Text.WidthFolding.{below-form}
 use Rattle.laws.specs.Numbers.Flat.{posting, flat-get, flat-put}
 

@@ -14,11 +14,13 @@ use Rattle.spec.specs.Dictionary.{Lexicon}
 use Rattle.spec.specs.Words.{spells}
 use Rattle.spec.specs.Numbers.{Line, line}
 use Rattle.spec.specs.Index.{header, keys-of, count-at, key-at, counts-from, lines-in}
+use Rattle.models.specs.Entries.{entries-at, flat}
+use Rattle.models.specs.Window.{list-start}
 use Rattle.laws.specs.Text.Strings.{Stand}
 use Rattle.laws.specs.Text.Overlaps.{stand-at, stand-put, stand-char}
-use Rattle.laws.specs.Text.Facts.{entries-at, flat, Rise, All-stand}
+use Rattle.laws.specs.Text.Facts.{Rise, All-stand}
 use Rattle.laws.specs.Numbers.Flat.{posting, entries-at-get, flat-put}
-use Rattle.laws.specs.Directory.Opened.{list-start, line-of, lines-next, lines-none, counts-next}
+use Rattle.laws.specs.Directory.Opened.{line-of, lines-next, lines-none, counts-next}
 use Rattle.laws.specs.Numbers.LineNumbers.{line-of-is, line-of-in}
 use Rattle.laws.specs.Receive.LinePass.{Line-lies, lies-positions}
 

@@ -16,15 +16,17 @@ use Rattle.spec.specs.Words.{Key, spells, Entry, same-key, entries}
 use Rattle.spec.specs.Numbers.{index-of}
 use Rattle.spec.specs.Index.{n-of, keys-of, key-at, entries-of, lines-in, readable}
 use Rattle.spec.specs.Reception.{recovered, is-index}
-use Rattle.laws.specs.Text.Facts.{Chars, Good-lexicon, entry-eq, flat}
+use Rattle.models.specs.Entries.{flat, longest-at, line-of}
+use Rattle.models.specs.Scan.{make-index, scan}
+use Rattle.models.specs.Reception.{mapped-right, all-mapped, verify, verify-from}
+use Rattle.laws.specs.Text.Facts.{Chars, Good-lexicon, entry-eq}
 use Rattle.laws.specs.Entries.Entries.{same-key-get, same-key-put}
 use Rattle.laws.specs.Numbers.Flat.{posting, flat-get, flat-put}
 use Rattle.laws.specs.Entries.Sound.{entries-sound}
-use Rattle.laws.specs.Entries.Longest.{longest-at, longest-at-unique, make-index, make-index-get, make-index-put}
-use Rattle.spec.specs.Models.{scan}
+use Rattle.laws.specs.Entries.Longest.{longest-at-unique, make-index-get, make-index-put}
 use Rattle.laws.specs.Entries.Scan.{scan-registers, scan-passes, Longest-at}
 use Rattle.laws.specs.Build.Inverted.{scan-count}
-use Rattle.laws.specs.Numbers.LineNumbers.{line-of, line-of-key, line-of-in, line-number}
+use Rattle.laws.specs.Numbers.LineNumbers.{line-of-key, line-of-in, line-number}
 use Rattle.laws.specs.Receive.Received.{readable-chars}
 use Rattle.laws.specs.Receive.ReceptionTest.{counted-index, index-taken, is-index-all, is-index-count, is-index-own-positions}
 
@@ -34,18 +36,6 @@ use Rattle.laws.specs.Receive.ReceptionTest.{counted-index, index-taken,
 pub record Line-map (xs : List ℕ) (line-for : ℕ → ℕ) : Type 0 where
   pub real : (p i : ℕ) → 1 ≤ p → line-for p ≡ suc i → (i < keys-of xs) × In p (line-of xs i .positions)
   pub each : (p i : ℕ) → i < keys-of xs → In p (line-of xs i .positions) → 1 ≤ line-for p
-
--- the line mapped to an entry's position has the entry's key
-unfoldable pub mapped-right : (line-for : ℕ → ℕ) → (numbers : List ℕ) → Entry → Bool
-mapped-right line-for xs e = ltb 0 (line-for (e .at)) && same-key (key-at xs (line-for (e .at) - 1)) (e .key-of)
-
-unfoldable pub all-mapped : (line-for : ℕ → ℕ) → (numbers : List ℕ) → List Entry → Bool
-all-mapped line-for xs [] = true
-all-mapped line-for xs (e ∷ es) = mapped-right line-for xs e && all-mapped line-for xs es
-
--- the reception test: every entry that the scan of us registers is mapped to its key, and there are M
-unfoldable pub verify : Lexicon → (line-for : ℕ → ℕ) → (numbers text : List ℕ) → Bool
-verify lex line-for xs us = all-mapped line-for xs (make-index lex us) && eqb (length (make-index lex us)) (entries-of xs)
 
 all-mapped-get :
     (line-for : ℕ → ℕ) (xs : List ℕ) (es : List Entry) → all-mapped line-for xs es ≡ true → (e : Entry) → In e es →
@@ -151,12 +141,6 @@ module _ {lex : Lexicon} (good : Good-lexicon lex) (g : ℕ) {xs : List ℕ} (ca
       (λ r. subst (λ (ys : List ℕ). verify lex line-for xs ys ≡ true) (sym (reconstructed r)) (is-index-verify r))
 
 -- THE SCAN STEP BY STEP
-
--- what is left of the test at position p, with the last registered end and the number of entries registered
-unfoldable pub verify-from : Lexicon → (line-for : ℕ → ℕ) → (numbers text : List ℕ) → (left p last count : ℕ) → Bool
-verify-from lex line-for xs us left p last count =
-    all-mapped line-for xs (scan (longest-at lex us) left p last)
-    && eqb (count + length (scan (longest-at lex us) left p last)) (entries-of xs)
 
 module _ (lex : Lexicon) (line-for : ℕ → ℕ) (xs us : List ℕ) where
   pub verify-starts : verify-from lex line-for xs us (length us) 1 1 0 ≡ verify lex line-for xs us

@@ -12,26 +12,14 @@ use Rattle.basics.specs.Stores.{set-either}
 use Rattle.spec.specs.Dictionary.{Lexicon}
 use Rattle.spec.specs.Numbers.{Line}
 use Rattle.spec.specs.Index.{n-of, keys-of, lines-in, readable}
+use Rattle.models.specs.Entries.{no-line, line-of}
+use Rattle.models.specs.Reception.{fill-positions, fill-line-map, mapped-at}
 use Rattle.laws.specs.Text.Facts.{Good-lexicon, Good-line}
 use Rattle.laws.specs.Dictionary.Keys.{spells-some}
 use Rattle.laws.specs.Numbers.FlatOrder.{rise-least}
 use Rattle.laws.specs.Readable.Readable.{readable-get}
-use Rattle.laws.specs.Numbers.LineNumbers.{no-line, line-of, line-of-in, length-lines-in}
+use Rattle.laws.specs.Numbers.LineNumbers.{line-of-in, length-lines-in}
 use Rattle.laws.specs.Receive.LineMap.{Line-map}
-
--- a value stored at each position of a list; position p is at index p − 1
-unfoldable pub fill-positions : (value : ℕ) → (positions line-map : List ℕ) → List ℕ
-fill-positions m [] ns = ns
-fill-positions m (p ∷ ps) ns = fill-positions m ps (set ns (p - 1) m)
-
--- i + 1 at the positions of line i, from line i on
-unfoldable pub fill-line-map : (i : ℕ) → List Line → (line-map : List ℕ) → List ℕ
-fill-line-map i [] ns = ns
-fill-line-map i (l ∷ ls) ns = fill-line-map (suc i) ls (fill-positions (suc i) (l .positions) ns)
-
--- the number mapped to position p, from 1
-unfoldable pub mapped-at : (line-map : List ℕ) → (p : ℕ) → ℕ
-mapped-at ns p = getD ns (p - 1) 0
 
 pub length-fill-positions : (m : ℕ) (ps ns : List ℕ) → length (fill-positions m ps ns) ≡ length ns
 unfolding fill-positions

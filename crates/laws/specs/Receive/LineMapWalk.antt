@@ -10,6 +10,7 @@ use Rattle.basics.specs.Member.{In}
 use Rattle.spec.specs.Dictionary.{Lexicon}
 use Rattle.spec.specs.Numbers.{Line, line}
 use Rattle.spec.specs.Index.{header, n-of, keys-of, key-at, lines-in, readable}
+use Rattle.models.specs.Reception.{fill-positions, fill-line-map}
 use Rattle.laws.specs.Text.Facts.{Good-lexicon, Good-line}
 use Rattle.laws.specs.Dictionary.Keys.{spells-some}
 use Rattle.laws.specs.Numbers.Slices.{Fits}
@@ -17,7 +18,7 @@ use Rattle.laws.specs.Readable.Readable.{readable-get}
 use Rattle.laws.specs.Readable.LineWalk.{readable-fits}
 use Rattle.laws.specs.Numbers.LineNumbers.{line-of-is, line-of-in}
 use Rattle.laws.specs.Directory.Opened.{line-of}
-use Rattle.laws.specs.Receive.LineMapFill.{fill-positions, fill-line-map, length-fill-positions}
+use Rattle.laws.specs.Receive.LineMapFill.{length-fill-positions}
 use Rattle.laws.specs.Receive.PositionWalk.{Lie-within}
 use Rattle.laws.specs.Receive.ReconstructionWalk.{good-lie}
 use Rattle.laws.specs.Receive.LinePass.{Line-lies, lies-positions, Passing, passing-start, passing-step, passing-end}

@@ -7,8 +7,9 @@ use native.Mathlib.Omega.{arith}
 use lib.ListN.{length, take, drop}
 use Rattle.spec.specs.Numbers.{Line, line}
 use Rattle.spec.specs.Index.{header, keys-of, count-at, counts-from, lines-in}
+use Rattle.models.specs.Window.{list-start}
 use Rattle.laws.specs.Numbers.Slices.{Fits}
-use Rattle.laws.specs.Directory.Opened.{list-start, line-of, lines-next, lines-none, counts-next, list-room}
+use Rattle.laws.specs.Directory.Opened.{line-of, lines-next, lines-none, counts-next, list-room}
 
 -- ONE LINE
 

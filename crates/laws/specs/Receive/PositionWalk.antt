@@ -7,7 +7,8 @@ use native.Mathlib.Numerals.{add-one}
 use native.Mathlib.Omega.{arith}
 use lib.ListN.{length, getD, drop, set, length-set, drop-of-length-le}
 use lib.Seq.{sets, length-sets, drop-cons}
-use Rattle.laws.specs.Receive.LineMapFill.{fill-positions}
+use Rattle.models.specs.Reception.{fill-positions}
+use Rattle.models.specs.Reception.{reconstruct-positions}
 
 -- AT ONE POSITION
 
@@ -37,11 +38,6 @@ module _ (s : List ℕ) (at : ℕ) (old : List ℕ) where
     setting-end past = rw (drop-of-length-le s past) at (h .left)
 
 -- AT EACH POSITION OF A LIST
-
--- a string written at each position of a list; position p is at index p − 1
-unfoldable pub reconstruct-positions : (string positions text : List ℕ) → List ℕ
-reconstruct-positions s [] us = us
-reconstruct-positions s (p ∷ ps) us = reconstruct-positions s ps (sets us (p - 1) s)
 
 pub length-reconstruct-positions : (s ps us : List ℕ) → length (reconstruct-positions s ps us) ≡ length us
 unfolding reconstruct-positions

@@ -13,13 +13,14 @@ use Rattle.spec.specs.Replaced.{holds-full-width}
 use Rattle.spec.specs.Dictionary.{longest-text, Lexicon, lexicon}
 use Rattle.spec.specs.Index.{n-of, lines-in, readable}
 use Rattle.spec.specs.Reception.{recovered, is-index, received}
-use Rattle.laws.specs.Text.Facts.{Chars, Good-lexicon, flat}
+use Rattle.models.specs.Entries.{flat}
+use Rattle.models.specs.Reception.{reconstruct, mapped-at, fill-line-map, verify}
+use Rattle.laws.specs.Text.Facts.{Chars, Good-lexicon}
 use Rattle.laws.specs.Text.Chars.{chars-take}
 use Rattle.laws.specs.Match.MatchTable.{Room}
 use Rattle.laws.specs.Build.Building.{early-none, reached-lexicon, Blank, blank-room}
-use Rattle.laws.specs.Receive.Reconstruction.{reconstruct}
-use Rattle.laws.specs.Receive.LineMapFill.{mapped-at, fill-line-map, line-map-mapped}
-use Rattle.laws.specs.Receive.LineMap.{Line-map, verify}
+use Rattle.laws.specs.Receive.LineMapFill.{line-map-mapped}
+use Rattle.laws.specs.Receive.LineMap.{Line-map}
 use Rattle.laws.specs.Receive.Reception.{reception-exact, reception-recovers}
 use Rattle.laws.specs.Receive.Receiving.{delivery-refusal, delivered}
 

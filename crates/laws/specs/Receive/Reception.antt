@@ -14,13 +14,15 @@ use Rattle.spec.specs.Dictionary.{Lexicon}
 use Rattle.spec.specs.Words.{spells, Entry}
 use Rattle.spec.specs.Index.{n-of, lines-in, readable}
 use Rattle.spec.specs.Reception.{recovered, is-index}
-use Rattle.laws.specs.Text.Facts.{Chars, Good-lexicon, flat}
+use Rattle.models.specs.Entries.{flat}
+use Rattle.models.specs.Reception.{verify, reconstruct, mapped-at, fill-line-map}
+use Rattle.laws.specs.Text.Facts.{Chars, Good-lexicon}
 use Rattle.laws.specs.Dictionary.Keys.{spells-chars}
 use Rattle.laws.specs.Readable.Readable.{readable-get}
 use Rattle.laws.specs.Numbers.Lines.{good-flat-sound}
-use Rattle.laws.specs.Receive.LineMap.{Line-map, verify, verify-exact}
-use Rattle.laws.specs.Receive.Reconstruction.{reconstruct, length-reconstruct, reconstruct-recovered}
-use Rattle.laws.specs.Receive.LineMapFill.{mapped-at, fill-line-map, line-map-mapped}
+use Rattle.laws.specs.Receive.LineMap.{Line-map, verify-exact}
+use Rattle.laws.specs.Receive.Reconstruction.{length-reconstruct, reconstruct-recovered}
+use Rattle.laws.specs.Receive.LineMapFill.{line-map-mapped}
 
 -- A RECONSTRUCTION CONSISTS OF CHARACTERS, if what was there does
 

@@ -13,7 +13,8 @@ use Rattle.spec.specs.Words.{Entry, entries}
 use Rattle.spec.specs.Numbers.{entry-before, sorted, index-of}
 use Rattle.spec.specs.Index.{n-of, entries-of, lines-in, readable}
 use Rattle.spec.specs.Reception.{recovered, is-index}
-use Rattle.laws.specs.Text.Facts.{Chars, Good-lexicon, flat}
+use Rattle.models.specs.Entries.{flat}
+use Rattle.laws.specs.Text.Facts.{Chars, Good-lexicon}
 use Rattle.laws.specs.Numbers.KeyOrder.{entry-before-strict}
 use Rattle.laws.specs.Readable.Readable.{readable-get, entries-of-positions}
 use Rattle.laws.specs.Numbers.Lines.{good-flat-ascends}

@@ -14,19 +14,16 @@ use Rattle.spec.specs.Dictionary.{Lexicon}
 use Rattle.spec.specs.Words.{spells, Entry}
 use Rattle.spec.specs.Index.{n-of, lines-in}
 use Rattle.spec.specs.Reception.{recovered, is-index}
+use Rattle.models.specs.Entries.{flat}
+use Rattle.models.specs.Reception.{reconstruct}
 use Rattle.laws.specs.Text.Strings.{Stand}
-use Rattle.laws.specs.Text.Facts.{Good-lexicon, flat, Lines-match}
+use Rattle.laws.specs.Text.Facts.{Good-lexicon, Lines-match}
 use Rattle.laws.specs.Numbers.Flat.{flat-long}
 use Rattle.laws.specs.Readable.Recover.{length-recovered}
 use Rattle.laws.specs.Readable.IndexOf.{index-match}
 use Rattle.laws.specs.Receive.Received.{is-index-get, readable-chars}
 
 -- RECONSTRUCTION
-
--- each entry's characters written at its position
-unfoldable pub reconstruct : Lexicon → List Entry → (text : List ℕ) → List ℕ
-reconstruct lex [] us = us
-reconstruct lex (e ∷ es) us = reconstruct lex es (sets us (e .at - 1) (spells lex (e .key-of)))
 
 pub length-reconstruct : (lex : Lexicon) (es : List Entry) (us : List ℕ) → length (reconstruct lex es us) ≡ length us
 unfolding reconstruct

@@ -12,18 +12,19 @@ use Rattle.spec.specs.Dictionary.{Lexicon, longest-text, lexicon}
 use Rattle.spec.specs.Words.{Key, key, spells, Entry, entry}
 use Rattle.spec.specs.Numbers.{Line, line}
 use Rattle.spec.specs.Index.{header, n-of, keys-of, kind-at, value-at, count-at, key-at, lines-in, readable}
-use Rattle.laws.specs.Text.Facts.{Good-line, Rise, entries-at, flat}
+use Rattle.models.specs.Entries.{entries-at, flat}
+use Rattle.models.specs.MatchTable.{start-of}
+use Rattle.models.specs.Reception.{reconstruct, fill-positions, reconstruct-positions}
+use Rattle.laws.specs.Text.Facts.{Good-line, Rise}
 use Rattle.laws.specs.Dictionary.Keys.{spells-lone}
 use Rattle.laws.specs.Numbers.FlatOrder.{rise-least}
 use Rattle.laws.specs.Dictionary.Lexicon.{Is-admitted, admitted-get, admitted-lexicon, admitted-ascend}
-use Rattle.laws.specs.Match.MatchTable.{start-of, Started}
+use Rattle.laws.specs.Match.MatchTable.{Started}
 use Rattle.laws.specs.Readable.Readable.{readable-get}
 use Rattle.laws.specs.Readable.LineWalk.{readable-fits}
 use Rattle.laws.specs.Directory.Opened.{line-of}
 use Rattle.laws.specs.Directory.Tables.{Can-read, Word-starts, line-is-good, key-is, word-spelt}
-use Rattle.laws.specs.Receive.Reconstruction.{reconstruct}
-use Rattle.laws.specs.Receive.LineMapFill.{fill-positions}
-use Rattle.laws.specs.Receive.PositionWalk.{reconstruct-positions, length-reconstruct-positions, reconstruct-character, Lie-within}
+use Rattle.laws.specs.Receive.PositionWalk.{length-reconstruct-positions, reconstruct-character, Lie-within}
 use Rattle.laws.specs.Receive.EntriesMatch.{Stand-each}
 use Rattle.laws.specs.Receive.LinePass.{Line-lies, lies-positions, Passing, passing-start, passing-lies, passing-step, passing-end}
 

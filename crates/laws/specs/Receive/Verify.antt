@@ -15,24 +15,18 @@ use Rattle.basics.specs.Bools.{iff-eq, true-or-false, le-or-lt}
 use Rattle.spec.specs.Dictionary.{Lexicon}
 use Rattle.spec.specs.Words.{Key, key, Entry, entry, same-key}
 use Rattle.spec.specs.Index.{header, keys-of, kind-at, value-at, key-at, entries-of}
+use Rattle.models.specs.Entries.{longest-at}
+use Rattle.models.specs.Inversion.{token-entry}
+use Rattle.models.specs.Reception.{mapped-at, mapped-right, verify, verify-from}
+use Rattle.models.specs.Reception.{token-key, token-mapped}
 use Rattle.laws.specs.Text.Facts.{Chars, Good-lexicon}
 use Rattle.laws.specs.Numbers.Slices.{Fits}
 use Rattle.laws.specs.Entries.Scan.{Longest-at}
-use Rattle.laws.specs.Entries.Longest.{longest-at, longest-at-is}
-use Rattle.laws.specs.Build.Tokens.{token-entry}
+use Rattle.laws.specs.Entries.Longest.{longest-at-is}
 use Rattle.laws.specs.Build.ScanTokens.{Stepped}
-use Rattle.laws.specs.Receive.LineMapFill.{mapped-at}
-use Rattle.laws.specs.Receive.LineMap.{Line-map, mapped-right, verify, verify-from, verify-starts, verify-passes, verify-registers, verify-fails, verify-ends}
+use Rattle.laws.specs.Receive.LineMap.{Line-map, verify-starts, verify-passes, verify-registers, verify-fails, verify-ends}
 
 -- THE KEY OF A TOKEN
-
--- the key of a token, c being the character there
-unfoldable pub token-key : (token c : ℕ) → Key
-token-key m c = cond (eqb m 4097) (key 1 c) (key 0 (m - 1))
-
--- the mapped line has the token's key
-unfoldable pub token-mapped : (numbers : List ℕ) → (mapped token c : ℕ) → Bool
-token-mapped xs n m c = ltb 0 n && same-key (key-at xs (n - 1)) (token-key m c)
 
 module _ (xs : List ℕ) (n m c : ℕ) where
   pub token-unmapped : n ≡ 0 → false ≡ token-mapped xs n m c

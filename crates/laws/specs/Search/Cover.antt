@@ -15,7 +15,7 @@ use Rattle.spec.specs.Dictionary.{Lexicon}
 use Rattle.spec.specs.Words.{spells, Entry}
 use Rattle.spec.specs.Numbers.{Line}
 use Rattle.spec.specs.Search.{covered, all-covered}
-use Rattle.laws.specs.Text.Facts.{flat}
+use Rattle.models.specs.Entries.{flat}
 use Rattle.laws.specs.Search.Agree.{Agree}
 use Rattle.laws.specs.Search.Search.{covered-get, covered-put, all-covered-get, all-covered-put}
 

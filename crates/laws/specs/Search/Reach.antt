@@ -12,7 +12,7 @@ use Rattle.spec.specs.Dictionary.{Lexicon}
 use Rattle.spec.specs.Words.{spells}
 use Rattle.spec.specs.Numbers.{Line}
 use Rattle.spec.specs.Search.{agrees}
-use Rattle.spec.specs.Models.{extend, reach-positions, reach-key, reach-offset, reach-offsets}
+use Rattle.models.specs.Reach.{extend, reach-positions, reach-key, reach-offset, reach-offsets}
 
 -- WHEN THE REACH IS UNCHANGED
 

@@ -9,9 +9,9 @@ use Rattle.basics.specs.Steps.{those-from, those-from-alike}
 use Rattle.spec.specs.Dictionary.{Lexicon}
 use Rattle.spec.specs.Numbers.{Line}
 use Rattle.spec.specs.Search.{all-covered, found-from}
+use Rattle.models.specs.Reach.{reach-leading, reach-offset, reach-offsets, reach}
 use Rattle.laws.specs.Search.Cover.{At-offsets, at-offsets-none, at-offsets-then, at-offsets-reached, Reached, reached-exact}
 use Rattle.laws.specs.Search.Search.{found-at, found-from-those}
-use Rattle.spec.specs.Models.{reach-leading, reach-offset, reach-offsets, reach}
 use Rattle.laws.specs.Search.Reach.{reach-offset-stop, reach-offsets-stop}
 use Rattle.laws.specs.Search.ReachExtends.{reach-leading-extends, reach-offset-extends}
 

@@ -14,11 +14,11 @@ use Rattle.spec.specs.Dictionary.{Lexicon}
 use Rattle.spec.specs.Words.{Key, spells, Entry, entry}
 use Rattle.spec.specs.Numbers.{Line}
 use Rattle.spec.specs.Search.{agrees}
-use Rattle.laws.specs.Text.Facts.{entries-at, flat}
+use Rattle.models.specs.Entries.{entries-at, flat}
+use Rattle.models.specs.Reach.{extend, reach-positions, reach-key, reach-back, reach-leading, reach-offset}
 use Rattle.laws.specs.Numbers.Flat.{posting, entries-at-get, Fewer}
 use Rattle.laws.specs.Search.Agree.{Agree, agrees-get, agrees-put, agree-move}
 use Rattle.laws.specs.Search.Cover.{Extends, extends-none, extends-then, extends-by, extends-fewer, extends-later}
-use Rattle.spec.specs.Models.{extend, reach-positions, reach-key, reach-back, reach-leading, reach-offset}
 
 -- the entries at a key's positions at one offset
 abbrev pub At-offset : Lexicon → (p i o : ℕ) → Key → (positions : List ℕ) → Entry → Type 0

@@ -16,8 +16,9 @@ use Rattle.spec.specs.Index.{n-of, lines-in}
 use Rattle.spec.specs.Reception.{lies-on}
 use Rattle.spec.specs.Search.{agrees, covers, covered, all-covered, found-from, find}
 use Rattle.spec.specs.Theorems.{positions-from, positions}
+use Rattle.models.specs.Entries.{flat}
 use Rattle.laws.specs.Text.Strings.{Stand, stands-get, stands-put}
-use Rattle.laws.specs.Text.Facts.{flat, All-stand, Lines-match}
+use Rattle.laws.specs.Text.Facts.{All-stand, Lines-match}
 use Rattle.laws.specs.Numbers.Flat.{posting, flat-get, flat-put, flat-long}
 use Rattle.laws.specs.Readable.Recover.{lies-on-get, lies-on-put}
 use Rattle.laws.specs.Search.Agree.{Agree, agrees-get, agrees-put}

@@ -18,6 +18,7 @@ use Rattle.spec.specs.Words.{spells}
 use Rattle.spec.specs.Numbers.{Line, line}
 use Rattle.spec.specs.Index.{header, keys-of, count-at, key-at, counts-from, entries-of, lines-from, lines-in, readable}
 use Rattle.spec.specs.Tally.{of-length, tally-from, tally}
+use Rattle.models.specs.Tally.{counted, added}
 use Rattle.laws.specs.Text.Facts.{Is-key}
 use Rattle.laws.specs.Readable.Readable.{readable-get}
 use Rattle.laws.specs.Readable.LineWalk.{readable-fits}
@@ -45,11 +46,6 @@ line-key g lex xs t i below =
 
 -- THE COUNTS
 
--- the number of entries of length l under the lines from i on, by their counts
-unfoldable pub counted : Lexicon → (l left i : ℕ) → List ℕ → ℕ
-counted lex l zero i xs = 0
-counted lex l (suc k) i xs = cond (eqb (length (spells lex (key-at xs i))) l) (count-at xs i) 0 + counted lex l k (suc i) xs
-
 counted-lines :
     (lex : Lexicon) (l k i : ℕ) (xs ps : List ℕ) → counts-from k i xs ≤ length ps →
     of-length lex l (lines-from k i xs ps) ≡ counted lex l k i xs
@@ -69,12 +65,6 @@ length-tally : (n l : ℕ) (lex : Lexicon) (ks : List Line) → length (tally-fr
 unfolding tally-from
 length-tally zero l lex ks = refl
 length-tally (suc n) l lex ks = ap suc (length-tally n (suc l) lex ks)
-
--- two lists of counts added element by element
-unfoldable pub added : List ℕ → List ℕ → List ℕ
-added [] ys = []
-added (x ∷ xs) [] = x ∷ xs
-added (x ∷ xs) (y ∷ ys) = (x + y) ∷ added xs ys
 
 length-added : (xs ys : List ℕ) → length (added xs ys) ≡ length xs
 unfolding added

@@ -11,6 +11,7 @@ use Rattle.spec.specs.Dictionary.{Lexicon}
 use Rattle.spec.specs.Words.{Key, spells, Entry, entry}
 use Rattle.spec.specs.Numbers.{Line, key-before}
 use Rattle.spec.specs.Index.{key-good}
+use Rattle.models.specs.Entries.{flat}
 use Rattle.laws.specs.Text.Strings.{Stand}
 
 -- every number of a list is a character
@@ -72,15 +73,6 @@ pub record Contains (e f : Entry) : Type 0 where
 pub record Is-maximal (lex : Lexicon) (ts : List ℕ) (e : Entry) : Type 0 where
   pub is-entry : Is-entry lex ts e
   pub alone : (f : Entry) → Is-entry lex ts f → Contains f e → f ≡ e
-
--- the entries of a line and of a list of lines
-unfoldable pub entries-at : Lexicon → Key → (positions : List ℕ) → List Entry
-entries-at lex k [] = []
-entries-at lex k (p ∷ ps) = entry k p (length (spells lex k)) ∷ entries-at lex k ps
-
-unfoldable pub flat : Lexicon → List Line → List Entry
-flat lex [] = []
-flat lex (l ∷ ls) = entries-at lex (l .key-of) (l .positions) ++ flat lex ls
 
 -- a strictly ascending list of positions, each at least `least`
 abbrev pub Rise : (least : ℕ) → List ℕ → Type 0

@@ -17,19 +17,18 @@ use Rattle.spec.specs.Words.{spells, stands, Entry}
 use Rattle.spec.specs.Numbers.{Line}
 use Rattle.spec.specs.Index.{lines-in}
 use Rattle.spec.specs.Search.{found-from}
+use Rattle.models.specs.Entries.{flat}
+use Rattle.models.specs.Window.{found-in}
+use Rattle.models.specs.Reception.{reconstruct}
+use Rattle.models.specs.Reception.{reconstructed-over}
 use Rattle.laws.specs.Text.Strings.{Stand}
-use Rattle.laws.specs.Text.Facts.{flat, All-stand}
+use Rattle.laws.specs.Text.Facts.{All-stand}
 use Rattle.laws.specs.Numbers.Flat.{flat-long}
 use Rattle.laws.specs.Search.Search.{all-stand-found}
-use Rattle.laws.specs.Window.Window.{found-in}
 use Rattle.laws.specs.Search.Sizing.{Sized}
 use Rattle.laws.specs.Window.Searching.{Window-says}
 use Rattle.laws.specs.TextScan.ZSearch.{Prefix-lengths, found-prefixes}
-use Rattle.laws.specs.Receive.Reconstruction.{reconstruct, length-reconstruct, reconstruct-either}
-
--- the text that lines reconstruct over n sentinels
-abbrev pub reconstructed-over : Lexicon → List Line → (n sentinel : ℕ) → List ℕ
-reconstructed-over lex ls n g = reconstruct lex (flat lex ls) (replicate {A = ℕ} n g)
+use Rattle.laws.specs.Receive.Reconstruction.{length-reconstruct, reconstruct-either}
 
 pub length-reconstructed : (lex : Lexicon) (ls : List Line) (n g : ℕ) → length (reconstructed-over lex ls n g) ≡ n
 length-reconstructed lex ls n g = length-reconstruct lex (flat lex ls) (replicate {A = ℕ} n g) ∙ length-replicate {A = ℕ} n g

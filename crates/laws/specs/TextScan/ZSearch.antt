@@ -15,9 +15,10 @@ use Rattle.basics.specs.Bools.{iff-eq, le-or-lt}
 use Rattle.basics.specs.Steps.{those-from}
 use Rattle.basics.specs.Stores.{set-more}
 use Rattle.spec.specs.Words.{stands}
+use Rattle.models.specs.Window.{found-in}
 use Rattle.laws.specs.Text.Strings.{Stand, stands-get, stands-put}
 use Rattle.laws.specs.Text.Overlaps.{stand-at, stand-put}
-use Rattle.laws.specs.Window.Window.{found-in, found-in-those}
+use Rattle.laws.specs.Window.Window.{found-in-those}
 
 -- A PREFIX OF THE STRING
 

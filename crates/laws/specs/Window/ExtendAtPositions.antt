@@ -6,8 +6,9 @@ use Prim.Native.Nat.{ℕ, _+_, _-_, _≤_, _<_, max}
 use native.Mathlib.Omega.{arith}
 use lib.ListN.{length, getD, drop, set, length-set}
 use Rattle.basics.specs.Bools.{clash}
+use Rattle.models.specs.Window.{extend-all, positions-all}
 use Rattle.laws.specs.Window.Window.{Within, within-more, within-set, Reaches, Progress, progress-start, progress-step, progress-pass, progress-end}
-use Rattle.laws.specs.Window.WindowSearch.{extend-all, positions-all, extend-outside, extend-passed, extend-here, positions-none, positions-next, positions-skip}
+use Rattle.laws.specs.Window.WindowSearch.{extend-outside, extend-passed, extend-here, positions-none, positions-next, positions-skip}
 use Rattle.laws.specs.Window.ListRange.{Window-range}
 
 -- a key of this length shares a position with the string at the offset, and the numbers that the pass computes are small

@@ -9,9 +9,10 @@ use lib.ListN.{length, getD}
 use Rattle.spec.specs.Dictionary.{Lexicon}
 use Rattle.spec.specs.Numbers.{Line}
 use Rattle.spec.specs.Search.{agrees}
+use Rattle.models.specs.Window.{positions-all, key-all, back-all, leading-all, offset-all, offsets-all}
 use Rattle.laws.specs.Search.AgreeWalk.{key-starts-apart}
 use Rattle.laws.specs.Window.Window.{Within, Reaches, Progress, progress-start, progress-step, progress-end}
-use Rattle.laws.specs.Window.WindowSearch.{positions-all, key-all, back-all, leading-all, offset-all, offsets-all, key-apart, key-agrees, back-none, back-next, offsets-none, offsets-next, offsets-stop}
+use Rattle.laws.specs.Window.WindowSearch.{key-apart, key-agrees, back-none, back-next, offsets-none, offsets-next, offsets-stop}
 
 -- ONE KEY AT ONE OFFSET
 

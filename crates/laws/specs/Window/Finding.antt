@@ -13,14 +13,11 @@ use lib.Seq.{drop-cons, take-suc-set, drop-set-lt, drop-drop}
 use borrow.Author.Tests.{le-leb, lt-leb}
 use Rattle.basics.specs.Bools.{le-or-lt}
 use Rattle.spec.specs.Calls.{in-front}
-use Rattle.laws.specs.Window.Window.{Within, found-in}
+use Rattle.models.specs.Window.{found-in}
+use Rattle.models.specs.Window.{count-in}
+use Rattle.laws.specs.Window.Window.{Within}
 
 -- COUNTING
-
--- how many reaches are at least m
-unfoldable pub count-in : (m : ℕ) → (reaches : List ℕ) → ℕ
-count-in m [] = 0
-count-in m (r ∷ rs) = cond (leb m r) 1 0 + count-in m rs
 
 pub count-found : (m q : ℕ) (rs : List ℕ) → count-in m rs ≡ length (found-in m q rs)
 unfolding count-in found-in

@@ -18,20 +18,16 @@ use Rattle.spec.specs.Dictionary.{Lexicon}
 use Rattle.spec.specs.Words.{spells}
 use Rattle.spec.specs.Index.{keys-of, key-at}
 use Rattle.spec.specs.Search.{agrees}
-use Rattle.spec.specs.Models.{reach-back}
+use Rattle.models.specs.Reach.{reach-back}
+use Rattle.models.specs.Window.{back-all, run-from, run, positions-at, leading-at}
 use Rattle.spec.specs.Calls.{in-front}
+use Rattle.models.specs.Window.{agrees-leading, is-leading, leading-lines, run-list}
 use Rattle.laws.specs.Build.PostingsByKey.{those-short}
 use Rattle.laws.specs.Search.Reach.{reach-key-apart}
 use Rattle.laws.specs.Search.AgreeWalk.{key-starts-apart}
 use Rattle.laws.specs.Window.Window.{Within, Reaches, extended-same, Progress, progress-start, progress-step, progress-end}
-use Rattle.laws.specs.Window.WindowSearch.{back-all}
-use Rattle.laws.specs.Window.LineSteps.{run-from, run, positions-at, leading-at}
 
 -- ONE KEY
-
--- whether a key agrees with the string at some offset of 0 or below
-unfoldable pub agrees-leading : (string key : List ℕ) → Bool
-agrees-leading s k = any-from (length k) 0 (λ i. agrees s i k 0)
 
 -- the key agrees at none of the first n such offsets
 abbrev pub Apart-to : (string key : List ℕ) → (n : ℕ) → Type 0
@@ -85,22 +81,9 @@ module _ (s k : List ℕ) where
 
 -- THE LINES OF LEADING KEYS
 
--- whether the key of line i is leading
-abbrev pub is-leading : Lexicon → (numbers string : List ℕ) → (i : ℕ) → Bool
-is-leading lex xs s i = agrees-leading s (spells lex (key-at xs i))
-
--- the leading ones of the first w lines, ascending
-unfoldable pub leading-lines : Lexicon → (numbers string : List ℕ) → (w : ℕ) → List ℕ
-leading-lines lex xs s w = those-from w 0 (is-leading lex xs s)
-
 -- the index has every line of a list
 abbrev pub Has-lines : (numbers lines : List ℕ) → Type 0
 Has-lines xs is = (j : ℕ) → j < length is → getD is j 0 < keys-of xs
-
--- the steps of the listed numbers, one after another
-unfoldable pub run-list : (step : ℕ → List ℕ → List ℕ) → (numbers reaches : List ℕ) → List ℕ
-run-list f [] rs = rs
-run-list f (i ∷ is) rs = run-list f is (f i rs)
 
 -- a walk may skip steps that change nothing
 run-those :

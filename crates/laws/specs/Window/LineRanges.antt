@@ -15,6 +15,7 @@ use Rattle.spec.specs.Words.{key, spells}
 use Rattle.spec.specs.Numbers.{Line, line, key-before}
 use Rattle.spec.specs.Index.{header, keys-of, kind-at, value-at, key-at, lines-in}
 use Rattle.spec.specs.Search.{agrees}
+use Rattle.models.specs.Window.{positions-all, run, positions-at, offset-at}
 use Rattle.laws.specs.Text.Facts.{Keys-rise}
 use Rattle.laws.specs.Dictionary.Keys.{spells-word, spells-lone}
 use Rattle.laws.specs.Numbers.KeyOrder.{Key-before, key-before-get}
@@ -26,9 +27,8 @@ use Rattle.laws.specs.Directory.Opened.{line-of, lines-next}
 use Rattle.laws.specs.Directory.Tables.{Can-read, key-is, word-below, in-front-of}
 use Rattle.basics.specs.LowerBound.{Rising, Lower-bound}
 use Rattle.laws.specs.Window.Window.{Within, Reaches}
-use Rattle.laws.specs.Window.WindowSearch.{positions-all}
 use Rattle.laws.specs.Window.Extending.{extends-all}
-use Rattle.laws.specs.Window.LineSteps.{run, run-one, run-skip, run-unchanged, Unchanged, positions-at, offset-at, offset-apart, offset-done}
+use Rattle.laws.specs.Window.LineSteps.{run-one, run-skip, run-unchanged, Unchanged, offset-apart, offset-done}
 
 -- KEYS ASCEND
 

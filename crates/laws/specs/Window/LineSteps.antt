@@ -13,19 +13,13 @@ use Rattle.spec.specs.Words.{spells}
 use Rattle.spec.specs.Numbers.{line}
 use Rattle.spec.specs.Index.{keys-of, count-at, key-at, lines-in}
 use Rattle.spec.specs.Search.{agrees}
-use Rattle.laws.specs.Directory.Opened.{list-start, line-of, lines-next, lines-none}
+use Rattle.models.specs.Window.{list-start, key-all, back-all, leading-all, offset-all}
+use Rattle.models.specs.Window.{run-from, run, positions-at, offset-at, leading-at}
+use Rattle.laws.specs.Directory.Opened.{line-of, lines-next, lines-none}
 use Rattle.laws.specs.Window.Window.{Within, Reaches, Progress, progress-start, progress-step, progress-pass, progress-end}
-use Rattle.laws.specs.Window.WindowSearch.{key-all, back-all, leading-all, offset-all, key-apart, back-none, back-next, first-none, leading-next, offset-none, offset-next}
+use Rattle.laws.specs.Window.WindowSearch.{key-apart, back-none, back-next, first-none, leading-next, offset-none, offset-next}
 
 -- A WALK OF STEPS
-
-unfoldable pub run-from : (step : ℕ → List ℕ → List ℕ) → (left i : ℕ) → (reaches : List ℕ) → List ℕ
-run-from f zero i rs = rs
-run-from f (suc n) i rs = run-from f n (suc i) (f i rs)
-
--- the steps a to b − 1
-abbrev pub run : (step : ℕ → List ℕ → List ℕ) → (a b : ℕ) → (reaches : List ℕ) → List ℕ
-run f a b = run-from f (b - a) a
 
 -- the steps a to b − 1 change nothing
 abbrev pub Unchanged : (step : ℕ → List ℕ → List ℕ) → (a b : ℕ) → Type 0
@@ -121,19 +115,6 @@ module _ (f : ℕ → List ℕ → List ℕ) (a b : ℕ) (old : List ℕ) where
     left-all r = record { is = r .is ∙ h .left; bounded = r .bounded }
 
 -- THE LINES OF AN INDEX
-
--- the positions of line i
-abbrev pub positions-at : (numbers : List ℕ) → (i : ℕ) → List ℕ
-positions-at xs i = take (count-at xs i) (drop (list-start xs i) xs)
-
--- the key of line i at the offset o
-unfoldable pub offset-at : (o : ℕ) → Lexicon → (numbers string : List ℕ) → (first i : ℕ) → (reaches : List ℕ) → List ℕ
-offset-at o lex xs s q i rs = key-all 0 o s (spells lex (key-at xs i)) q (positions-at xs i) rs
-
--- the key of line i at the offsets of 0 and below
-unfoldable pub leading-at : Lexicon → (numbers string : List ℕ) → (first i : ℕ) → (reaches : List ℕ) → List ℕ
-leading-at lex xs s q i rs =
-    back-all (length (spells lex (key-at xs i))) 0 s (spells lex (key-at xs i)) q (positions-at xs i) rs
 
 module _ (lex : Lexicon) (xs s : List ℕ) (q : ℕ) where
   offset-from :

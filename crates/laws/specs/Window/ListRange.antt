@@ -7,11 +7,11 @@ use lib.ListN.{length, getD}
 use Rattle.basics.specs.Member.{in-getD}
 use Rattle.spec.specs.Numbers.{line}
 use Rattle.spec.specs.Index.{keys-of}
+use Rattle.models.specs.Window.{positions-at}
 use Rattle.laws.specs.Text.Facts.{Rise}
 use Rattle.laws.specs.Numbers.FlatOrder.{rise-least}
 use Rattle.basics.specs.LowerBound.{Rising, Lower-bound}
 use Rattle.laws.specs.Directory.Tables.{Can-read, line-is-good}
-use Rattle.laws.specs.Window.LineSteps.{positions-at}
 
 -- THE LISTS OF AN INDEX ASCEND
 

@@ -11,9 +11,10 @@ use Rattle.spec.specs.Index.{n-of, lines-in}
 use Rattle.spec.specs.Search.{found-from, find}
 use Rattle.spec.specs.Cut.{cut-down}
 use Rattle.spec.specs.Calls.{index-refusal, in-front, Search-says, Cut-says}
-use Rattle.laws.specs.Window.Window.{Within, within-none, Reaches, found-in}
-use Rattle.laws.specs.Window.WindowSearch.{leading-all, offsets-all, window-found}
-use Rattle.laws.specs.Window.Finding.{count-in, count-found, none-found}
+use Rattle.models.specs.Window.{found-in, leading-all, offsets-all, count-in}
+use Rattle.laws.specs.Window.Window.{Within, within-none, Reaches}
+use Rattle.laws.specs.Window.WindowSearch.{window-found}
+use Rattle.laws.specs.Window.Finding.{count-found, none-found}
 use Rattle.laws.specs.Search.Sizing.{Is-string, Sized, sized-short, sized-written, finds-refused, finds-empty, finds-long, finds-sized}
 
 -- the n starts from q on, searched

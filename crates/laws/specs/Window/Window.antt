@@ -11,13 +11,9 @@ use lib.ListN.{length, getD, set, replicate, length-set, length-replicate, getD-
 use lib.Seq.{ext-getD, getD-set-same, getD-set-other}
 use borrow.Author.Tests.{eqb-true, eqb-false}
 use Rattle.basics.specs.Steps.{those-from}
+use Rattle.models.specs.Window.{extended, found-in}
 
 -- ONE STEP AT EACH START
-
--- each reach changed as a function of its start and itself
-unfoldable pub extended : (step : ℕ → ℕ → ℕ) → (first : ℕ) → (reaches : List ℕ) → List ℕ
-extended f q [] = []
-extended f q (r ∷ rs) = f q r ∷ extended f (suc q) rs
 
 pub length-extended : (f : ℕ → ℕ → ℕ) (q : ℕ) (rs : List ℕ) → length (extended f q rs) ≡ length rs
 unfolding extended
@@ -124,11 +120,6 @@ pub progress-end :
 progress-end m done = record { is = sym done ∙ m .left; bounded = m .bounded }
 
 -- WHAT IS FOUND
-
--- the starts whose reach is at least m
-unfoldable pub found-in : (m first : ℕ) → (reaches : List ℕ) → List ℕ
-found-in m q [] = []
-found-in m q (r ∷ rs) = cond (leb m r) (q ∷ found-in m (suc q) rs) (found-in m (suc q) rs)
 
 -- in a window that starts with every reach 0
 pub found-in-extended :

@@ -16,33 +16,14 @@ use Rattle.spec.specs.Dictionary.{Lexicon}
 use Rattle.spec.specs.Words.{spells}
 use Rattle.spec.specs.Numbers.{Line}
 use Rattle.spec.specs.Search.{agrees, found-from}
-use Rattle.spec.specs.Models.{extend, reach-positions, reach-key, reach-back, reach-leading, reach-offset, reach-offsets, reach}
+use Rattle.models.specs.Reach.{extend, reach-positions, reach-key, reach-back, reach-leading, reach-offset, reach-offsets, reach}
+use Rattle.models.specs.Window.{extended, found-in}
+use Rattle.models.specs.Window.{extend-all, positions-all, key-all, back-all, leading-all, offset-all, offsets-all}
 use Rattle.laws.specs.Search.Reach.{reach-key-apart, reach-offsets-stop}
 use Rattle.laws.specs.Search.ReachExact.{found-reach}
-use Rattle.laws.specs.Window.Window.{extended, extended-then, extended-alike, extended-same, extended-one, Within, found-in, found-in-extended}
+use Rattle.laws.specs.Window.Window.{extended-then, extended-alike, extended-same, extended-one, Within, found-in-extended}
 
 -- THE STEPS, each applied to every start of the window
-
-unfoldable pub extend-all : (i o len first b : ℕ) → (reaches : List ℕ) → List ℕ
-extend-all i o l q b = extended (λ p r. extend i o l p b r) q
-
-unfoldable pub positions-all : (i o len first : ℕ) → (positions reaches : List ℕ) → List ℕ
-positions-all i o l q bs = extended (λ p r. reach-positions i o l p bs r) q
-
-unfoldable pub key-all : (i o : ℕ) → (string key : List ℕ) → (first : ℕ) → (positions reaches : List ℕ) → List ℕ
-key-all i o s k q bs = extended (λ p r. reach-key i o s k p bs r) q
-
-unfoldable pub back-all : (left i : ℕ) → (string key : List ℕ) → (first : ℕ) → (positions reaches : List ℕ) → List ℕ
-back-all n i s k q bs = extended (λ p r. reach-back n i s k p bs r) q
-
-unfoldable pub leading-all : Lexicon → List Line → (string : List ℕ) → (first : ℕ) → (reaches : List ℕ) → List ℕ
-leading-all lex ls s q = extended (λ p r. reach-leading lex ls s p r) q
-
-unfoldable pub offset-all : (o : ℕ) → Lexicon → List Line → (string : List ℕ) → (first : ℕ) → (reaches : List ℕ) → List ℕ
-offset-all o lex ls s q = extended (λ p r. reach-offset o lex ls s p r) q
-
-unfoldable pub offsets-all : (left o : ℕ) → Lexicon → List Line → (string : List ℕ) → (first : ℕ) → (reaches : List ℕ) → List ℕ
-offsets-all n o lex ls s q = extended (λ p r. reach-offsets n o lex ls s p r) q
 
 -- ONE POSITION b OF A KEY'S LIST: it belongs to at most one start, and is skipped if that is no start of the window, if the reach does
 -- not come to the offset, or if the reach would not grow

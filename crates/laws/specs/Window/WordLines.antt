@@ -13,12 +13,13 @@ use Rattle.spec.specs.Dictionary.{lexicon}
 use Rattle.spec.specs.Words.{spells}
 use Rattle.spec.specs.Index.{header, keys-of, value-at, key-at}
 use Rattle.spec.specs.Search.{agrees}
+use Rattle.models.specs.Window.{offset-at}
 use Rattle.laws.specs.Search.Agree.{Agree, agrees-get}
 use Rattle.laws.specs.Search.AgreeWalk.{together}
 use Rattle.laws.specs.Match.PrefixRanges.{prefix-not-before, next-rises}
 use Rattle.laws.specs.Directory.Tables.{Can-read, Word-starts, line-room, word-below, word-room, word-spelt, key-short, key-some}
 use Rattle.basics.specs.LowerBound.{Rising, Lower-bound, rising-part}
-use Rattle.laws.specs.Window.LineSteps.{Unchanged, offset-at, offset-apart}
+use Rattle.laws.specs.Window.LineSteps.{Unchanged, offset-apart}
 use Rattle.laws.specs.Window.LineRanges.{Split, word-lines-rise}
 
 -- a key that agrees at an offset within the string has the string's characters on the overlap

@@ -28,46 +28,46 @@ loop-holds c =
 key-of-requires : tie.Need-key-of-requires Inv-loop μ-loop
 key-of-requires c κs =
     let s = c .before .before .before .before .before .before .before .before in
-    (s .pre .0, s .pre .1, omega (arith, c .loop-test .taken, s .pre .3))
+    (s .pre .0, s .pre .1, omega arith)
 
 add-line : tie.Need-add-line Inv-loop μ-loop
 add-line c =
     let s = c .before .before .before .before .before .before .before .before .before in
-    omega (arith, c .before .loop-test .taken, s .pre .3, s .pre .0 .keys-small)
+    omega arith
 
 begins-before-requires : tie.Need-begins-before-requires Inv-loop μ-loop
 begins-before-requires c κs =
     let s = c .before .before .before .before .before .before .before .before .before in
     let a = s .args in
-    (spelt-short (s .pre .0) (c .before .before .loop .line) (omega (arith, c .before .loop-test .taken, s .pre .3)) (c .key-of .result .now) (c .key-of .ensures), s .pre .2)
+    (spelt-short (s .pre .0) (c .before .before .loop .line) (omega arith) (c .key-of .result .now) (c .key-of .ensures), s .pre .2)
 
 slice-write-flags : tie.Need-slice-write-flags Inv-loop μ-loop
 slice-write-flags c =
     let s = c .before .before .before .before .before .before .before .before .before .before .before in
-    omega (arith, c .before .before .before .loop-test .taken, s .pre .3, c .before .before .before .before .loop .inv .1 .way .flags .room)
+    omega arith
 
 loop-less : tie.Need-loop-less Inv-loop μ-loop
-loop-less c = omega (arith, c .before .before .before .loop-test .taken)
+loop-less c = omega arith
 
 loop-again : tie.Need-loop-again Inv-loop μ-loop
 loop-again c =
     let s = c .before .before .before .before .before .before .before .before .before .before .before in
     let a = s .args in
     let l = c .before .before .before .before .loop in (
-      omega (arith, c .before .before .before .loop-test .taken),
-      backs-next (lexicon (a .chars .now) (a .lengths .now)) (a .index .now) (a .string .now) (l .inv .1) (omega (arith, c .before .before .before .loop-test .taken, s .pre .3))
+      omega arith,
+      backs-next (lexicon (a .chars .now) (a .lengths .now)) (a .index .now) (a .string .now) (l .inv .1) (omega arith)
           (ap (λ (k : List ℕ). bears k (a .string .now)) (sym (c .before .before .key-of .ensures)) ∙ c .before .begins-before .ensures .0 (c .if1 .taken)),
     )
 
 loop-less-2 : tie.Need-loop-less-2 Inv-loop μ-loop
-loop-less-2 c = omega (arith, c .before .before .before .loop-test .taken)
+loop-less-2 c = omega arith
 
 loop-again-2 : tie.Need-loop-again-2 Inv-loop μ-loop
 loop-again-2 c =
     let s = c .before .before .before .before .before .before .before .before .before .before .before in
     let a = s .args in
     let l = c .before .before .before .before .loop in (
-      omega (arith, c .before .before .before .loop-test .taken),
+      omega arith,
       backs-pass (lexicon (a .chars .now) (a .lengths .now)) (a .index .now) (a .string .now) (l .inv .1)
           (λ p some. ap (λ (k : List ℕ). agrees (a .string .now) p k 0) (sym (c .before .before .key-of .ensures)) ∙ c .before .begins-before .ensures .1 (c .if1 .left) p some),
     )
@@ -80,7 +80,7 @@ returns c =
     let s = c .before .before .before .before .before .before .before .before in
     let a = s .args in
     let l = c .before .loop in
-    let e : l .line ≡ a .word-lines = omega (arith, l .inv .0, c .loop-test .left) in
+    let e : l .line ≡ a .word-lines = omega arith in
     subst (Backs (lexicon (a .chars .now) (a .lengths .now)) (a .index .now) (a .string .now) (a .flags .now) (l .flags)) e (l .inv .1)
 
 pub flag-before-spec : {M : Type 1} → statement M

@@ -18,7 +18,7 @@ loop-holds : tie.Need-loop-holds Inv-loop μ-loop
 loop-holds c = (c .pre .0, ones-none (c .args .from) (c .args .flags .now))
 
 slice-write-flags : tie.Need-slice-write-flags Inv-loop μ-loop
-slice-write-flags c = omega (arith, c .before .loop .inv .1 .len, c .before .before .pre .1)
+slice-write-flags c = omega arith
 
 add-line : tie.Need-add-line Inv-loop μ-loop
 add-line c = search needs
@@ -30,7 +30,7 @@ loop-again : tie.Need-loop-again Inv-loop μ-loop
 loop-again c =
     let a = c .before .before .args in
     let l = c .before .loop in
-    (omega arith, ones-next (l .inv .1) (omega (arith, l .inv .1 .len, c .before .before .pre .1)))
+    (omega arith, ones-next (l .inv .1) (omega arith))
 
 same-length : tie.Need-same-length Inv-loop μ-loop
 same-length c = c .before .loop .inv .1 .len
@@ -39,7 +39,7 @@ returns : tie.Need-returns Inv-loop μ-loop
 returns c =
     let a = c .before .before .args in
     let l = c .before .loop in
-    let e : l .line ≡ a .to = omega (arith, l .inv .0) in
+    let e : l .line ≡ a .to = omega arith in
     subst (λ (n : ℕ). Ones (a .from) n (a .flags .now) (l .flags)) e (l .inv .1)
 
 pub flag-lines-spec : {M : Type 1} → statement M

@@ -77,7 +77,7 @@ returns-3 c =
     let a = s .args in
     let found = c .before .line-lower-bound in
     flagged-none (lexicon (a .chars .now) (a .lengths .now)) (a .index .now) (a .string .now) (a .key-start) (a .word-lines) (keys-of (a .index .now)) (a .flags .now) (s .pre .4)
-    (lone-all (s .pre .0) (s .pre .1) (a .string .now) (a .key-start) (getD (a .string .now) (a .key-start) 0) refl (found .ensures) (λ some e. omega (arith, c .if1 .left)))
+    (lone-all (s .pre .0) (s .pre .1) (a .string .now) (a .key-start) (getD (a .string .now) (a .key-start) 0) refl (found .ensures) (λ some e. omega arith))
 
 pub flag-lone-spec : {M : Type 1} → statement M
 flag-lone-spec =

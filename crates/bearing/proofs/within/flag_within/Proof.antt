@@ -29,13 +29,13 @@ loop-holds c =
 flag-offset-requires : tie.Need-flag-offset-requires Inv-loop μ-loop
 flag-offset-requires c κs =
     let s = c .before .before .before .before .before .before .before .before .before in
-    (s .pre .0, s .pre .1, s .pre .2, s .pre .3, omega (arith, c .before .loop-test .taken, s .pre .3 .some), c .before .before .loop .inv .1 .way .flags)
+    (s .pre .0, s .pre .1, s .pre .2, s .pre .3, omega arith, c .before .before .loop .inv .1 .way .flags)
 
 add-key-start : tie.Need-add-key-start Inv-loop μ-loop
 add-key-start c = search needs
 
 loop-less : tie.Need-loop-less Inv-loop μ-loop
-loop-less c = omega (arith, c .before .before .before .before .loop-test .taken, c .before .before .before .before .before .before .before .before .before .before .before .before .pre .3 .some)
+loop-less c = omega arith
 
 loop-again : tie.Need-loop-again Inv-loop μ-loop
 loop-again c =
@@ -43,7 +43,7 @@ loop-again c =
     let a = s .args in
     let l = c .before .before .before .before .before .loop in
     let now = c .before .before .flag-offset in
-    (omega (arith, c .before .before .before .before .loop-test .taken, s .pre .3 .some), offsets-next (lexicon (a .chars .now) (a .lengths .now)) (a .index .now) (a .string .now) (now .last .1 .1 .1 .1 .1 .1 .1 .0) (l .inv .1) (now .ensures))
+    (omega arith, offsets-next (lexicon (a .chars .now) (a .lengths .now)) (a .index .now) (a .string .now) (now .last .1 .1 .1 .1 .1 .1 .1 .0) (l .inv .1) (now .ensures))
 
 same-length : tie.Need-same-length Inv-loop μ-loop
 same-length c = c .before .loop .inv .1 .way .len
@@ -53,7 +53,7 @@ returns c =
     let s = c .before .before .before .before .before .before .before .before in
     let a = s .args in
     let l = c .before .loop in
-    let e : l .key-start ≡ length (a .string .now) = omega (arith, l .inv .0, c .loop-test .left, s .pre .3 .some) in
+    let e : l .key-start ≡ length (a .string .now) = omega arith in
     subst (Offsets (lexicon (a .chars .now) (a .lengths .now)) (a .index .now) (a .string .now) (a .flags .now) (l .flags)) e (l .inv .1)
 
 pub flag-within-spec : {M : Type 1} → statement M

@@ -23,10 +23,10 @@ abbrev μ-loop : tie.MeasureT-loop
 
 -- the string goes on
 below : (c : tie.Else1 Inv-loop μ-loop) → c .before .before .before .before .before .before .before .before .before .args .key-start + c .before .before .loop .depth < length (c .before .before .before .before .before .before .before .before .before .args .string .now)
-below c = omega (arith, c .if1 .left)
+below c = omega arith
 
 sub-left : tie.Need-sub-left Inv-loop μ-loop
-sub-left c = omega (arith, c .before .before .before .before .before .before .pre .4)
+sub-left c = omega arith
 
 loop-holds : tie.Need-loop-holds Inv-loop μ-loop
 loop-holds c =
@@ -41,7 +41,7 @@ flag-lines-requires c κs =
     let s = c .before .before .before .before .before .before .before .before .before .before in
     let a = s .args in
     let l = c .before .before .before .loop in
-    (l .inv .1 .order, omega (arith, l .inv .1 .within, s .pre .2 .within, l .inv .0 .way .flags .room))
+    (l .inv .1 .order, omega arith)
 
 same-length : tie.Need-same-length Inv-loop μ-loop
 same-length c = c .before .before .flag-lines .kept .1 .1 .0 ∙ c .before .before .before .before .before .before .loop .inv .0 .way .len
@@ -54,48 +54,48 @@ returns c =
     let now = c .before .before .flag-lines in
     left-end (lexicon (a .chars .now) (a .lengths .now)) (a .index .now) (a .string .now)
     (left-ones (lexicon (a .chars .now) (a .lengths .now)) (a .index .now) (a .string .now) (l .inv .0) (omega arith) (l .inv .1 .within) (now .ensures)
-    (λ i x y. shared-prefix-agrees (s .pre .0) (s .pre .2) (s .pre .1) (l .inv .1) (s .pre .4) i x y (inl (omega (arith, c .before .before .before .before .if1 .taken))))) refl
+    (λ i x y. shared-prefix-agrees (s .pre .0) (s .pre .2) (s .pre .1) (l .inv .1) (s .pre .4) i x y (inl (omega arith)))) refl
 
 word-length-requires : tie.Need-word-length-requires Inv-loop μ-loop
 word-length-requires c κs =
     let s = c .before .before .before .before .before .before .before .before .before in
     let a = s .args in
     let l = c .before .before .loop in
-    (omega (arith, c .before .loop-test .taken, l .inv .1 .within, s .pre .2 .within, s .pre .0 .fits .has-directory), shared-word (s .pre .0) (s .pre .2) (s .pre .1) (l .inv .1) (l .low) (omega arith) (c .before .loop-test .taken))
+    (omega arith, shared-word (s .pre .0) (s .pre .2) (s .pre .1) (l .inv .1) (l .low) (omega arith) (c .before .loop-test .taken))
 
 slice-write-flags : tie.Need-slice-write-flags Inv-loop μ-loop
 slice-write-flags c =
     let s = c .before .before .before .before .before .before .before .before .before .before .before in
     let a = s .args in
     let l = c .before .before .before .before .loop in
-    omega (arith, c .before .before .before .loop-test .taken, l .inv .1 .within, s .pre .2 .within, l .inv .0 .way .flags .room)
+    omega arith
 
 add-low : tie.Need-add-low Inv-loop μ-loop
 add-low c =
     let s = c .before .before .before .before .before .before .before .before .before .before .before in
     let a = s .args in
     let l = c .before .before .before .before .loop in
-    omega (arith, c .before .before .before .loop-test .taken, l .inv .1 .within, s .pre .2 .within, s .pre .0 .keys-small)
+    omega arith
 
 loop-less : tie.Need-loop-less Inv-loop μ-loop
-loop-less c = omega (arith, c .before .before .before .loop-test .taken)
+loop-less c = omega arith
 
 loop-again : tie.Need-loop-again Inv-loop μ-loop
 loop-again c =
     let s = c .before .before .before .before .before .before .before .before .before .before .before in
     let a = s .args in
     let l = c .before .before .before .before .loop in (
-      left-ones (lexicon (a .chars .now) (a .lengths .now)) (a .index .now) (a .string .now) (l .inv .0) (omega (arith, c .before .before .before .loop-test .taken)) (l .inv .1 .within)
-          (ones-one (l .low) (l .flags) (omega (arith, c .before .before .before .loop-test .taken, l .inv .1 .within, s .pre .2 .within, l .inv .0 .way .flags .room)))
-          (λ i x y. let e : i ≡ l .low = omega arith in shared-prefix-agrees (s .pre .0) (s .pre .2) (s .pre .1) (l .inv .1) (s .pre .4) i x (omega (arith, c .before .before .before .loop-test .taken)) (inr (ap (λ (j : ℕ). getD (a .lengths .now) (value-at (a .index .now) j) 0) e ∙ sym (c .before .word-length .ensures) ∙ c .if2 .taken))),
+      left-ones (lexicon (a .chars .now) (a .lengths .now)) (a .index .now) (a .string .now) (l .inv .0) (omega arith) (l .inv .1 .within)
+          (ones-one (l .low) (l .flags) (omega arith))
+          (λ i x y. let e : i ≡ l .low = omega arith in shared-prefix-agrees (s .pre .0) (s .pre .2) (s .pre .1) (l .inv .1) (s .pre .4) i x (omega arith) (inr (ap (λ (j : ℕ). getD (a .lengths .now) (value-at (a .index .now) j) 0) e ∙ sym (c .before .word-length .ensures) ∙ c .if2 .taken))),
       shared-prefix-next (s .pre .0) (s .pre .2) (s .pre .1) (l .inv .1) (c .before .before .before .loop-test .taken),
     )
 
 add-character : tie.Need-add-character Inv-loop μ-loop
-add-character c = omega (arith, below (c .before .before), c .before .before .before .before .before .before .before .before .before .before .before .pre .3 .short)
+add-character c = omega (arith, below (c .before .before))
 
 mul-character : tie.Need-mul-character Inv-loop μ-loop
-mul-character c = omega (arith, below (c .before .before), c .before .before .before .before .before .before .before .before .before .before .before .pre .3 .short)
+mul-character c = omega (arith, below (c .before .before))
 
 shared-slice-read-character : tie.Need-shared-slice-read-character Inv-loop μ-loop
 shared-slice-read-character c = below (c .before .before .before)
@@ -108,14 +108,14 @@ equal-range-requires c κs =
     shared-prefix-column (s .pre .0) (s .pre .2) (s .pre .1) (l .inv .1) (c .before .before .before .before .loop-test .taken) (λ e. c .before .if2 .left (c .before .before .word-length .ensures ∙ e))
 
 add-depth : tie.Need-add-depth Inv-loop μ-loop
-add-depth c = omega (arith, below (c .before .before .before .before), c .before .before .before .before .before .before .before .before .before .before .before .before .before .pre .3 .short)
+add-depth c = omega (arith, below (c .before .before .before .before))
 
 loop-less-2 : tie.Need-loop-less-2 Inv-loop μ-loop
 loop-less-2 c =
     let s = c .before .before .before .before .before .before .before .before .before .before .before .before .before in
     let a = s .args in
     let l = c .before .before .before .before .before .before .loop in
-    omega (arith, shared-deep (s .pre .0) (s .pre .2) (s .pre .1) (l .inv .1) (c .before .before .before .before .before .loop-test .taken) (λ e. c .before .before .if2 .left (c .before .before .before .word-length .ensures ∙ e)), c .before .before .before .before .before .loop-test .taken, c .equal-range .ensures .0 .from, c .equal-range .ensures .1 .to)
+    omega (arith, shared-deep (s .pre .0) (s .pre .2) (s .pre .1) (l .inv .1) (c .before .before .before .before .before .loop-test .taken) (λ e. c .before .before .if2 .left (c .before .before .before .word-length .ensures ∙ e)))
 
 loop-again-2 : tie.Need-loop-again-2 Inv-loop μ-loop
 loop-again-2 c =
@@ -139,7 +139,7 @@ returns-2 c =
     let s = c .before .before .before .before .before .before .before .before in
     let a = s .args in
     let l = c .before .loop in
-    left-end (lexicon (a .chars .now) (a .lengths .now)) (a .index .now) (a .string .now) (l .inv .0) (omega (arith, l .inv .1 .order, c .loop-test .left))
+    left-end (lexicon (a .chars .now) (a .lengths .now)) (a .index .now) (a .string .now) (l .inv .0) (omega arith)
 
 pub flag-words-spec : {M : Type 1} → statement M
 flag-words-spec =

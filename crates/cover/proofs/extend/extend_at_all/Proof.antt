@@ -30,7 +30,7 @@ own c =
     let l = c .before .before .before .before .loop in
     let w = c .before .wrapping-sub-usize in
     wrap-below (w .result) (getD (a .positions .now) (l .i) 0 + a .string-start) (a .first + a .key-start) (length (l .reach)) (w .ensures)
-    (omega (arith, s .pre .0)) (c .if1 .taken)
+    (omega arith) (c .if1 .taken)
 
 add-greater : tie.Need-add-greater Inv-loop μ-loop
 add-greater c = search needs
@@ -75,7 +75,7 @@ extend-start-requires : tie.Need-extend-start-requires Inv-loop μ-loop
 extend-start-requires c κs =
     let s = c .before .before .before .before .before .before .before .before .before .before in
     let end = c .before .before .before .before .before .before .before .greater .ensures in
-    (c .before .if1 .taken, omega (arith, end), omega (arith, end, s .pre .0 .end-small))
+    (c .before .if1 .taken, omega (arith, end), omega (arith, end))
 
 loop-less : tie.Need-loop-less Inv-loop μ-loop
 loop-less c = search needs
@@ -116,7 +116,7 @@ loop-again-3 c =
     let w = c .before .wrapping-sub-usize in
     extending-outside (l .inv) (c .before .before .before .loop-test .taken)
     (λ from. wrap-above (w .result) (getD (a .positions .now) (l .i) 0 + a .string-start) (a .first + a .key-start) (length (l .reach)) (w .ensures) (w .ok)
-    (omega (arith, s .pre .0)) from (c .if1 .left))
+    (omega arith) from (c .if1 .left))
 
 same-length : tie.Need-same-length Inv-loop μ-loop
 same-length c = c .before .loop .inv .way .len

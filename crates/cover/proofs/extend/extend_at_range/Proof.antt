@@ -31,11 +31,7 @@ own c = range-own (c .before .before .before .before .before .before .pre .2) (c
 
 inside : (c : tie.In-loop Inv-loop μ-loop) → start (c .before) < length (c .before .loop .reach)
 inside c =
-    omega (
-      arith,
-      c .before .loop .inv .1 .way .len,
-      range-inside (c .before .before .before .before .before .before .pre .2) (c .before .loop .i) (c .before .loop .inv .0) (c .loop-test .taken),
-    )
+    omega (arith, range-inside (c .before .before .before .before .before .before .pre .2) (c .before .loop .i) (c .before .loop .inv .0) (c .loop-test .taken))
 
 add-greater : tie.Need-add-greater Inv-loop μ-loop
 add-greater c = search needs
@@ -62,13 +58,13 @@ mul-p : tie.Need-mul-p Inv-loop μ-loop
 mul-p c = search needs
 
 shared-slice-read-p : tie.Need-shared-slice-read-p Inv-loop μ-loop
-shared-slice-read-p c = omega (arith, c .before .before .before .before .before .before .before .pre .2 .to)
+shared-slice-read-p c = omega arith
 
 cast-p : tie.Need-cast-p Inv-loop μ-loop
 cast-p c = omega (arith, c .shared-slice-known2 .given (c .before .before .loop .i))
 
 add-p : tie.Need-add-p Inv-loop μ-loop
-add-p c = omega (arith, c .shared-slice-known2 .given (c .before .before .loop .i), c .before .before .before .before .before .before .before .pre .0)
+add-p c = omega (arith, c .shared-slice-known2 .given (c .before .before .loop .i))
 
 sub-p : tie.Need-sub-p Inv-loop μ-loop
 sub-p c = omega (arith, own (c .before))
@@ -80,7 +76,7 @@ extend-start-requires : tie.Need-extend-start-requires Inv-loop μ-loop
 extend-start-requires c κs =
     let s = c .before .before .before .before .before .before .before .before in
     let end = c .before .before .before .before .before .greater .ensures in
-    (inside (c .before .before), omega (arith, end), omega (arith, end, s .pre .0 .end-small))
+    (inside (c .before .before), omega (arith, end), omega (arith, end))
 
 loop-less : tie.Need-loop-less Inv-loop μ-loop
 loop-less c = search needs
@@ -92,9 +88,9 @@ loop-again c =
     let l = c .before .before .before .before .before .before .before .loop in
     let end = c .before .before .before .before .before .before .before .before .before .greater in
     let done = c .before .before .before .extend-start in (
-      omega (arith, l .inv .0),
+      omega arith,
       extending-extended (l .inv .1)
-          (omega (arith, c .before .before .before .before .before .before .loop-test .taken, s .pre .2 .to)) (own (c .before .before .before .before .before .before))
+          (omega arith) (own (c .before .before .before .before .before .before))
           (inside (c .before .before .before .before .before .before)) (end .ensures) (done .ensures) (c .if1 .taken)
           (c .before .before .before .before .before .before .before .before .greater2 .result) (c .before .before .before .before .before .before .before .before .greater2 .ensures),
     )
@@ -109,9 +105,9 @@ loop-again-2 c =
     let l = c .before .before .before .before .before .before .before .loop in
     let end = c .before .before .before .before .before .before .before .before .before .greater in
     let done = c .before .before .before .extend-start in (
-      omega (arith, l .inv .0),
+      omega arith,
       extending-passed (l .inv .1)
-          (omega (arith, c .before .before .before .before .before .before .loop-test .taken, s .pre .2 .to)) (own (c .before .before .before .before .before .before))
+          (omega arith) (own (c .before .before .before .before .before .before))
           (inside (c .before .before .before .before .before .before)) (end .ensures) (done .ensures) (c .if1 .left),
     )
 

@@ -18,17 +18,17 @@ agreed c =
     let s = c .before .before .before .before .before in
     let a = s .args in
     agrees-offset (a .string .now) (a .string-start) (a .key .now) (a .key-start)
-    ∙ ap (agrees-at (a .key .now) (a .string .now)) (offset-held (a .key-start) (a .string-start) (omega (arith, s .pre .0 .end-small)) (omega (arith, s .pre .0 .shared, s .pre .0 .end-small)))
+    ∙ ap (agrees-at (a .key .now) (a .string .now)) (offset-held (a .key-start) (a .string-start) (omega arith) (omega arith))
     ∙ sym (c .agrees-at .ensures)
 
 cast-agrees-at : tie.Need-cast-agrees-at
-cast-agrees-at c = start-fits (c .before .before .before .before .args .key-start) (omega (arith, c .before .before .before .before .pre .0 .end-small))
+cast-agrees-at c = start-fits (c .before .before .before .before .args .key-start) (omega arith)
 
 cast-agrees-at-2 : tie.Need-cast-agrees-at-2
-cast-agrees-at-2 c = start-fits (c .before .before .before .before .args .string-start) (omega (arith, c .before .before .before .before .pre .0 .shared, c .before .before .before .before .pre .0 .end-small))
+cast-agrees-at-2 c = start-fits (c .before .before .before .before .args .string-start) (omega arith)
 
 sub-agrees-at : tie.Need-sub-agrees-at
-sub-agrees-at c = offset-fits32 (c .before .before .before .before .args .key-start) (c .before .before .before .before .args .string-start) (omega (arith, c .before .before .before .before .pre .0 .end-small)) (omega (arith, c .before .before .before .before .pre .0 .shared, c .before .before .before .before .pre .0 .end-small))
+sub-agrees-at c = offset-fits32 (c .before .before .before .before .args .key-start) (c .before .before .before .before .args .string-start) (omega arith) (omega arith)
 
 agrees-at-requires : tie.Need-agrees-at-requires
 agrees-at-requires c κs = search needs

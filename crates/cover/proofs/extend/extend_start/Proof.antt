@@ -41,8 +41,8 @@ returns c =
     let a = s .args in
     let w = c .before .wrapping-sub-usize in
     let reached = getD (a .reach .now) (a .p) 0 in
-    let above = wrap-below (w .result) reached (a .key-start) (a .end - a .key-start) (w .ensures) (omega (arith, s .pre .2)) (c .if1 .taken) in
-    extends-here (a .key-start) (a .end) (a .reach .now) (a .p) (omega (arith, above)) (omega (arith, above, c .if1 .taken))
+    let above = wrap-below (w .result) reached (a .key-start) (a .end - a .key-start) (w .ensures) (omega arith) (c .if1 .taken) in
+    extends-here (a .key-start) (a .end) (a .reach .now) (a .p) (omega (arith, above)) (omega (arith, above))
 
 returns-2 : tie.Need-returns-2
 returns-2 c =
@@ -51,7 +51,7 @@ returns-2 c =
     let w = c .before .wrapping-sub-usize in
     let reached = getD (a .reach .now) (a .p) 0 in
     extends-none (a .key-start) (a .end) (a .reach .now) (a .p)
-    (λ near. omega (arith, wrap-above (w .result) reached (a .key-start) (a .end - a .key-start) (w .ensures) (w .ok) (omega (arith, s .pre .1, s .pre .2)) near (c .if1 .left), s .pre .1))
+    (λ near. omega (arith, wrap-above (w .result) reached (a .key-start) (a .end - a .key-start) (w .ensures) (w .ok) (omega arith) near (c .if1 .left)))
 
 pub extend-start-spec : {M : Type 1} → statement M
 extend-start-spec =

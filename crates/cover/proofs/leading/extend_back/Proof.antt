@@ -36,10 +36,10 @@ shared-slice-read-if1-2 c = c .before .before .before .before .before .before .b
 extend-key-requires : tie.Need-extend-key-requires Inv-loop μ-loop
 extend-key-requires c κs =
     let s = c .before .before .before .before .before .before .before .before .before .before in
-    (record { shared = omega (arith, c .before .before .before .before .loop-test .taken); end-small = omega (arith, s .pre .0); first-small = s .pre .2 }, c .before .before .before .before .before .loop .inv .way .bounded, s .pre .4)
+    (record { shared = omega arith; end-small = omega arith; first-small = s .pre .2 }, c .before .before .before .before .before .loop .inv .way .bounded, s .pre .4)
 
 loop-less : tie.Need-loop-less Inv-loop μ-loop
-loop-less c = omega (arith, c .before .before .before .before .before .before .before .loop-test .taken)
+loop-less c = omega arith
 
 loop-again : tie.Need-loop-again Inv-loop μ-loop
 loop-again c =
@@ -50,7 +50,7 @@ loop-again c =
     (c .before .before .extend-key .kept .1 .1 .1 .1 .1 .1 .0) (c .before .before .extend-key .ensures)
 
 loop-less-2 : tie.Need-loop-less-2 Inv-loop μ-loop
-loop-less-2 c = omega (arith, c .before .before .before .loop-test .taken)
+loop-less-2 c = omega arith
 
 loop-again-2 : tie.Need-loop-again-2 Inv-loop μ-loop
 loop-again-2 c =

@@ -5,9 +5,10 @@ use native.Mathlib.Omega.{arith}
 use borrow.Author.Needs.{needs}
 use lib.ListN.{length, getD}
 use Rattle.spec.specs.Dictionary.{lexicon}
+use Rattle.models.specs.Window.{leading-at}
 use Rattle.laws.specs.Directory.Tables.{spelt-short}
 use Rattle.laws.specs.Window.ListRange.{listed-rise}
-use Rattle.laws.specs.Window.LineSteps.{leading-at, leading-done}
+use Rattle.laws.specs.Window.LineSteps.{leading-done}
 use Rattle.laws.specs.Window.LeadingLines.{Listed, listed-start, listed-step, listed-end}
 use Rattle.cover.proofs.leading.extend_words_back.Statement.{statement}
 use Rattle.cover.proofs.leading.extend_words_back.Tie as tie

@@ -19,7 +19,7 @@ abbrev μ-loop : tie.MeasureT-loop
 μ-loop key string character i₀ i = length key - i
 
 small : (c : tie.In-loop Inv-loop μ-loop) → c .before .loop .i < 2 ^ 31
-small c = omega (arith, c .loop-test .taken, c .before .before .before .before .before .pre .0)
+small c = omega arith
 
 -- the answer of `agrees_at`, with the offset as two starts
 agreed :

@@ -7,8 +7,9 @@ use native.Mathlib.Omega.{arith}
 use borrow.Author.Needs.{needs}
 use lib.ListN.{length}
 use Rattle.spec.specs.Dictionary.{lexicon}
+use Rattle.models.specs.Window.{agrees-leading, is-leading}
 use Rattle.laws.specs.Directory.Tables.{spelt-short}
-use Rattle.laws.specs.Window.LeadingLines.{agrees-leading, is-leading, Leading, leading-start, leading-passed, leading-room, leading-listed, leading-count, leading-written}
+use Rattle.laws.specs.Window.LeadingLines.{Leading, leading-start, leading-passed, leading-room, leading-listed, leading-count, leading-written}
 use Rattle.cover.proofs.leading_lines.fill_leading.Statement.{statement}
 use Rattle.cover.proofs.leading_lines.fill_leading.Tie as tie
 
@@ -45,28 +46,28 @@ add-line c = search needs
 key-of-requires : tie.Need-key-of-requires Inv-loop μ-loop
 key-of-requires c κs =
     let s = c .before .before .before .before .before .before .before .before in
-    (s .pre .0, s .pre .1, omega (arith, s .pre .3, c .loop-test .taken))
+    (s .pre .0, s .pre .1, omega arith)
 
 agrees-leading-requires : tie.Need-agrees-leading-requires Inv-loop μ-loop
 agrees-leading-requires c κs =
     let s = c .before .before .before .before .before .before .before .before .before in
     let a = s .args in (
-      spelt-short (s .pre .0) (c .before .before .loop .line) (omega (arith, s .pre .3, c .before .loop-test .taken))
+      spelt-short (s .pre .0) (c .before .before .loop .line) (omega arith)
           (c .key-of .result .now) (c .key-of .ensures),
       s .pre .2,
     )
 
 cast-lines : tie.Need-cast-lines Inv-loop μ-loop
-cast-lines c = omega (arith, c .before .before .before .before .before .before .before .before .before .before .before .pre .3, c .before .before .before .before .before .before .before .before .before .before .before .pre .0 .keys-small, c .before .before .before .loop-test .taken)
+cast-lines c = omega arith
 
 mul-lines : tie.Need-mul-lines Inv-loop μ-loop
-mul-lines c = omega (arith, room c, c .before .before .before .before .loop .inv .len, c .before .before .before .before .before .before .before .before .before .before .before .good)
+mul-lines c = omega (arith, room c)
 
 slice-write-lines : tie.Need-slice-write-lines Inv-loop μ-loop
 slice-write-lines c = room c
 
 add-count : tie.Need-add-count Inv-loop μ-loop
-add-count c = omega (arith, room c, c .before .before .before .before .loop .inv .len, c .before .before .before .before .before .before .before .before .before .before .before .good)
+add-count c = omega (arith, room c)
 
 loop-less : tie.Need-loop-less Inv-loop μ-loop
 loop-less c = search needs

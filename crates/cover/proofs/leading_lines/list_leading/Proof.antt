@@ -5,8 +5,9 @@ use native.Mathlib.Omega.{arith}
 use Prim.Native.Nat.{_≤_}
 use lib.ListN.{length}
 use Rattle.spec.specs.Dictionary.{lexicon}
+use Rattle.models.specs.Window.{leading-lines}
 use Rattle.laws.specs.Window.LineRanges.{Split, kinds-rise, split-found, word-lines-few}
-use Rattle.laws.specs.Window.LeadingLines.{leading-lines, leading-short, leading-taken}
+use Rattle.laws.specs.Window.LeadingLines.{leading-short, leading-taken}
 use borrow.Author.Needs.{needs}
 use Rattle.cover.proofs.leading_lines.list_leading.Statement.{statement}
 use Rattle.cover.proofs.leading_lines.list_leading.Tie as tie
@@ -23,7 +24,7 @@ few : (c : tie.After-count-word-lines) → c .count-word-lines .result ≤ lengt
 few c =
     let s = c .before .before .before .before .before .before .before in
     let a = s .args in
-    omega (arith, s .pre .3, word-lines-few (s .pre .0) (split c))
+    omega (arith, word-lines-few (s .pre .0) (split c))
 
 count-word-lines-requires : tie.Need-count-word-lines-requires
 count-word-lines-requires c κs =
@@ -46,7 +47,7 @@ returns c =
     let ended = c .before .before .before .before in
     let word-lines = ended .count-word-lines .result in (
       split ended,
-      omega (arith, filled .ensures .0, leading-short (lexicon (a .chars .now) (a .lengths .now)) (a .index .now) (a .string .now) word-lines, few ended, filled .kept .1 .1 .1 .1 .1 .1 .0),
+      omega (arith, leading-short (lexicon (a .chars .now) (a .lengths .now)) (a .index .now) (a .string .now) word-lines, few ended),
       leading-taken (filled .result) (leading-lines (lexicon (a .chars .now) (a .lengths .now)) (a .index .now) (a .string .now) word-lines) (a .lines .now) (filled .last .1 .1 .1 .1 .1 .1 .0) (filled .ensures .0) (filled .ensures .1),
     )
 

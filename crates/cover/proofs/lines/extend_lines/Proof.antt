@@ -4,7 +4,8 @@ use Prim.Native.Nat.{_-_}
 use native.Mathlib.Omega.{arith}
 use borrow.Author.Needs.{needs}
 use Rattle.spec.specs.Dictionary.{lexicon}
-use Rattle.laws.specs.Window.LineSteps.{Left, left-start, left-step, left-end, offset-at}
+use Rattle.models.specs.Window.{offset-at}
+use Rattle.laws.specs.Window.LineSteps.{Left, left-start, left-step, left-end}
 use Rattle.cover.proofs.lines.extend_lines.Statement.{statement}
 use Rattle.cover.proofs.lines.extend_lines.Tie as tie
 
@@ -24,12 +25,12 @@ loop-holds c =
 extend-line-requires : tie.Need-extend-line-requires Inv-loop μ-loop
 extend-line-requires c κs =
     let s = c .before .before .before .before .before .before .before .before .before .before in
-    (s .pre .0, s .pre .1, omega (arith, c .before .loop-test .taken, s .pre .2), s .pre .3, c .before .before .loop .inv .bounded)
+    (s .pre .0, s .pre .1, omega arith, s .pre .3, c .before .before .loop .inv .bounded)
 
 add-line : tie.Need-add-line Inv-loop μ-loop
 add-line c =
     let s = c .before .before .before .before .before .before .before .before .before .before .before .before .before in
-    omega (arith, c .before .before .before .before .loop-test .taken, s .pre .2, s .pre .0 .can .keys-small)
+    omega arith
 
 loop-less : tie.Need-loop-less Inv-loop μ-loop
 loop-less c = search needs

@@ -51,7 +51,7 @@ extend-at-positions-requires : tie.Need-extend-at-positions-requires
 extend-at-positions-requires c κs =
     let s = c .before .before .before .before .before .before .before .before .before .before .before .before .before .before .before in
     let a = s .args in (
-      offset-fits 1 (a .key-start) (a .first) (omega arith) (omega (arith, s .pre .2, s .pre .3)) (s .pre .4),
+      offset-fits 1 (a .key-start) (a .first) (omega arith) (omega arith) (s .pre .4),
       s .pre .5,
       listed-rise (s .pre .0 .can) (c .before .before .before .before .before .line-lower-bound .result)
           (c .before .before .before .before .if1 .taken) (c .before .positions-of .result .now) (c .before .positions-of .ensures),
@@ -87,7 +87,7 @@ returns-3 c =
     let s = c .before .before .before .before .before .before .before .before .before .before .before in
     let a = s .args in
     lone-none (s .pre .0 .can) (s .pre .1) (a .string .now) (a .key-start)
-    (getD (a .string .now) (a .key-start) 0) refl (c .before .line-lower-bound .ensures) (a .first) (λ some e. omega (arith, c .if1 .left))
+    (getD (a .string .now) (a .key-start) 0) refl (c .before .line-lower-bound .ensures) (a .first) (λ some e. omega arith)
     (a .reach .now) (a .max-reach) (s .pre .5)
 
 pub extend-lone-spec : {M : Type 1} → statement M

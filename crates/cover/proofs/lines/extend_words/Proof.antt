@@ -9,7 +9,8 @@ use lib.ListN.{length, getD}
 use borrow.Author.Tests.{ltb-true}
 use Rattle.basics.specs.Bools.{and-left, and-right}
 use Rattle.spec.specs.Dictionary.{lexicon}
-use Rattle.laws.specs.Window.LineSteps.{Left, left-start, left-step, left-narrow, left-all, offset-at}
+use Rattle.models.specs.Window.{offset-at}
+use Rattle.laws.specs.Window.LineSteps.{Left, left-start, left-step, left-narrow, left-all}
 use Rattle.laws.specs.Window.WordLines.{Shared-prefix, shared-prefix-start, shared-prefix-next, shared-word, shared-deep, shared-prefix-column, shared-prefix-deeper, unchanged-front, unchanged-back}
 use Rattle.cover.proofs.lines.extend_words.Statement.{statement}
 use Rattle.cover.proofs.lines.extend_words.Tie as tie
@@ -40,7 +41,7 @@ below c =
     omega (arith, ltb-true (l .depth) (length (a .string .now) - a .key-start) (and-left (ltb (l .depth) (length (a .string .now) - a .key-start)) (ltb (l .low + 4) (l .high)) (goes c)))
 
 sub-left : tie.Need-sub-left Inv-loop μ-loop
-sub-left c = omega (arith, c .before .before .before .before .before .before .before .pre .2)
+sub-left c = omega arith
 
 loop-holds : tie.Need-loop-holds Inv-loop μ-loop
 loop-holds c =
@@ -55,14 +56,14 @@ goes-on-requires : tie.Need-goes-on-requires Inv-loop μ-loop
 goes-on-requires c κs =
     let s = c .before .before .before .before .before .before .before .before in
     let l = c .loop in
-    omega (arith, l .inv .1 .order, l .inv .1 .within, s .pre .1 .within, s .pre .0 .can .keys-small)
+    omega arith
 
 word-length-requires : tie.Need-word-length-requires Inv-loop μ-loop
 word-length-requires c κs =
     let s = c .before .before .before .before .before .before .before .before .before .before in
     let a = s .args in
     let l = c .before .before .loop in (
-      omega (arith, some c, l .inv .1 .within, s .pre .1 .within, s .pre .0 .can .fits .has-directory),
+      omega (arith, some c),
       shared-word (s .pre .0 .can) (s .pre .1) (s .pre .0 .word-starts)
           (l .inv .1) (l .low) (omega arith) (some c),
     )
@@ -71,13 +72,13 @@ extend-line-requires : tie.Need-extend-line-requires Inv-loop μ-loop
 extend-line-requires c κs =
     let s = c .before .before .before .before .before .before .before .before .before .before .before .before .before in
     let l = c .before .before .before .before .before .loop in
-    (s .pre .0, omega (arith, s .pre .2, s .pre .3), omega (arith, some (c .before .before .before), l .inv .1 .within, s .pre .1 .within), s .pre .4, l .inv .0 .bounded)
+    (s .pre .0, omega arith, omega (arith, some (c .before .before .before)), s .pre .4, l .inv .0 .bounded)
 
 add-low : tie.Need-add-low Inv-loop μ-loop
 add-low c =
     let s = c .before .before .before .before .before .before .before .before .before .before .before .before .before .before .before .before in
     let l = c .before .before .before .before .before .before .before .before .loop in
-    omega (arith, l .inv .1 .order, l .inv .1 .within, s .pre .1 .within, s .pre .0 .can .keys-small)
+    omega arith
 
 loop-less : tie.Need-loop-less Inv-loop μ-loop
 loop-less c = omega (arith, some (c .before .before .before .before .before .before))
@@ -95,10 +96,10 @@ loop-again c =
     )
 
 add-equal-range : tie.Need-add-equal-range Inv-loop μ-loop
-add-equal-range c = omega (arith, below (c .before .before), c .before .before .before .before .before .before .before .before .before .before .before .before .pre .3)
+add-equal-range c = omega (arith, below (c .before .before))
 
 mul-equal-range : tie.Need-mul-equal-range Inv-loop μ-loop
-mul-equal-range c = omega (arith, below (c .before .before), c .before .before .before .before .before .before .before .before .before .before .before .before .pre .3)
+mul-equal-range c = omega (arith, below (c .before .before))
 
 shared-slice-read-equal-range : tie.Need-shared-slice-read-equal-range Inv-loop μ-loop
 shared-slice-read-equal-range c = below (c .before .before .before)
@@ -112,21 +113,15 @@ equal-range-requires c κs =
     (l .inv .1) (some (c .before .before .before)) (λ e. c .before .if2 .left (c .before .before .word-length .ensures ∙ e))
 
 add-depth : tie.Need-add-depth Inv-loop μ-loop
-add-depth c = omega (arith, below (c .before .before .before .before), c .before .before .before .before .before .before .before .before .before .before .before .before .before .before .pre .3)
+add-depth c = omega (arith, below (c .before .before .before .before))
 
 loop-less-2 : tie.Need-loop-less-2 Inv-loop μ-loop
 loop-less-2 c =
     let s = c .before .before .before .before .before .before .before .before .before .before .before .before .before .before in
     let a = s .args in
     let l = c .before .before .before .before .before .before .loop in
-    omega (
-      arith,
-      shared-deep (s .pre .0 .can) (s .pre .1) (s .pre .0 .word-starts)
-          (l .inv .1) (some (c .before .before .before .before)) (λ e. c .before .before .if2 .left (c .before .before .before .word-length .ensures ∙ e)),
-      some (c .before .before .before .before),
-      c .equal-range .ensures .0 .from,
-      c .equal-range .ensures .1 .to,
-    )
+    omega (arith, shared-deep (s .pre .0 .can) (s .pre .1) (s .pre .0 .word-starts)
+          (l .inv .1) (some (c .before .before .before .before)) (λ e. c .before .before .if2 .left (c .before .before .before .word-length .ensures ∙ e)), some (c .before .before .before .before))
 
 loop-again-2 : tie.Need-loop-again-2 Inv-loop μ-loop
 loop-again-2 c =
@@ -151,7 +146,7 @@ extend-lines-requires : tie.Need-extend-lines-requires Inv-loop μ-loop
 extend-lines-requires c κs =
     let s = c .before .before .before .before .before .before .before .before .before .before .before in
     let l = c .before .before .before .loop in
-    (s .pre .0, omega (arith, s .pre .2, s .pre .3), omega (arith, l .inv .1 .within, s .pre .1 .within), s .pre .4, l .inv .0 .bounded)
+    (s .pre .0, omega arith, omega arith, s .pre .4, l .inv .0 .bounded)
 
 same-length : tie.Need-same-length Inv-loop μ-loop
 same-length c = c .before .before .extend-lines .kept .1 .1 .1 .1 .1 .1 .1 .1 .1 .1 .0 ∙ c .before .before .before .before .before .before .loop .inv .0 .len

@@ -43,14 +43,14 @@ returns c =
     let a = s .args in
     let size = c .before .before .before .size-flagged in
     sized-short (cut-down (lexicon (a .chars .now) (a .lengths .now)) (a .index .now) (a .string .now)) (record { refusal = 8; count = 0 }) (a .output .now)
-    (omega (arith, cut-long (size .ensures), c .if1 .taken)) refl refl
+    (omega (arith, cut-long (size .ensures))) refl refl
 
 write-cut-requires : tie.Need-write-cut-requires
 write-cut-requires c κs =
     let s = c .before .before .before .before .before .before .before .before .before .before .before .before .before .before .before .before .before .before .before .before .before in
     let a = s .args in
     let size = c .before .before .before .before .before .size-flagged in
-    (s .pre .0 .fits, c .before .before .before .before .before .before .before .before .before .flag-bearing .ensures, size .ensures, omega (arith, cut-long (size .ensures), c .before .before .if1 .left))
+    (s .pre .0 .fits, c .before .before .before .before .before .before .before .before .before .flag-bearing .ensures, size .ensures, omega (arith, cut-long (size .ensures)))
 
 same-length-2 : tie.Need-same-length-2
 same-length-2 c = search needs
@@ -65,7 +65,7 @@ returns-2 c =
     let size = c .before .before .before .before .before .before .before .before .size-flagged in
     sized-written (cut-down (lexicon (a .chars .now) (a .lengths .now)) (a .index .now) (a .string .now))
     (record { refusal = 0; count = 2 + 3 * size .result .keys + size .result .entries }) (a .output .now)
-    (c .before .before .write-cut .last .1 .1 .1 .1 .1 .1 .0) (omega (arith, cut-long (size .ensures), c .before .before .before .before .before .if1 .left)) refl
+    (c .before .before .write-cut .last .1 .1 .1 .1 .1 .1 .0) (omega (arith, cut-long (size .ensures))) refl
     (cut-long (size .ensures)) (c .before .before .write-cut .ensures)
 
 pub cut-lent-spec : {M : Type 1} → statement M

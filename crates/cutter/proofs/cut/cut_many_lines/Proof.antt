@@ -12,7 +12,7 @@ slice-aggregate-cut-lent c = search needs
 cut-lent-requires : tie.Need-cut-lent-requires
 cut-lent-requires c κs =
     let s = c .before .before .before .before .before .before .before in
-    (s .pre .0, s .pre .1, cleared-room 65536 (keys-of (s .args .index .now)) (omega (arith, s .pre .2)), cleared-whole 65536)
+    (s .pre .0, s .pre .1, cleared-room 65536 (keys-of (s .args .index .now)) (omega arith), cleared-whole 65536)
 
 same-length : tie.Need-same-length
 same-length c = search needs

@@ -42,7 +42,7 @@ cut-string-requires c κs =
     (λ (i : ℕ). omega (arith, c .before .before .before .before .before .before .before .before .shared-slice-known .given i)) (λ (i : ℕ). omega (arith, c .before .before .before .before .before .before .shared-slice-known3 .given i))
     (sym (s .pre .0) ∙ none) in (
       can,
-      record { some = omega (arith, c .before .before .if2 .left); short = c .before .if3 .left },
+      record { some = omega arith; short = c .before .if3 .left },
       can .keys-small,
       s .pre .1 ∙ accepted-yes (a .refusal) (keys-of (a .index .now)) 0 none,
     )
@@ -56,7 +56,7 @@ returns-4 c =
     let a = s .args in
     let written = c .before .before .cut-string in
     cut-says (a .chars .now) (a .lengths .now) (a .index .now) (a .string .now) (written .result) (a .output .now)
-    (sym (s .pre .0) ∙ c .before .before .before .before .before .before .if1 .left) (record { some = omega (arith, c .before .before .before .before .before .if2 .left); short = c .before .before .before .before .if3 .left })
+    (sym (s .pre .0) ∙ c .before .before .before .before .before .before .if1 .left) (record { some = omega arith; short = c .before .before .before .before .if3 .left })
     (written .last .1 .1 .1 .1 .1 .0) (written .ensures)
 
 pub cut-opened-spec : {M : Type 1} → statement M

@@ -31,16 +31,16 @@ add-line : tie.Need-add-line Inv-loop μ-loop
 add-line c = search needs
 
 shared-slice-read-if1 : tie.Need-shared-slice-read-if1 Inv-loop μ-loop
-shared-slice-read-if1 c = omega (arith, c .before .loop-test .taken, c .before .before .before .before .pre .1 .room)
+shared-slice-read-if1 c = omega arith
 
 add-keys : tie.Need-add-keys Inv-loop μ-loop
-add-keys c = omega (arith, c .before .before .before .loop .inv .keys-few, c .before .before .loop-test .taken, c .before .before .before .before .shared-slice-known .given 1)
+add-keys c = omega (arith, c .before .before .before .before .shared-slice-known .given 1)
 
 mul-entries : tie.Need-mul-entries Inv-loop μ-loop
 mul-entries c = search needs
 
 add-entries : tie.Need-add-entries Inv-loop μ-loop
-add-entries c = omega (arith, c .before .before .loop-test .taken, c .before .before .before .before .shared-slice-known .given 1)
+add-entries c = omega (arith, c .before .before .before .before .shared-slice-known .given 1)
 
 add-entries-2 : tie.Need-add-entries-2 Inv-loop μ-loop
 add-entries-2 c = search needs
@@ -49,7 +49,7 @@ mul-entries-2 : tie.Need-mul-entries-2 Inv-loop μ-loop
 mul-entries-2 c = search needs
 
 shared-slice-read-entries : tie.Need-shared-slice-read-entries Inv-loop μ-loop
-shared-slice-read-entries c = omega (arith, c .before .before .before .loop-test .taken, c .before .before .before .before .before .before .pre .0 .has-directory)
+shared-slice-read-entries c = omega arith
 
 cast-entries : tie.Need-cast-entries Inv-loop μ-loop
 cast-entries c = omega (arith, c .shared-slice-known3 .given (2 + 3 * c .before .before .before .before .loop .line + 2))
@@ -57,7 +57,7 @@ cast-entries c = omega (arith, c .shared-slice-known3 .given (2 + 3 * c .before 
 add-entries-3 : tie.Need-add-entries-3 Inv-loop μ-loop
 add-entries-3 c =
     let l = c .before .before .before .before .loop in
-    omega (arith, l .inv .entries-few, c .before .before .before .loop-test .taken, c .before .before .before .before .before .shared-slice-known .given 1, c .shared-slice-known3 .given (2 + 3 * l .line + 2))
+    omega (arith, c .before .before .before .before .before .shared-slice-known .given 1, c .shared-slice-known3 .given (2 + 3 * l .line + 2))
 
 loop-less : tie.Need-loop-less Inv-loop μ-loop
 loop-less c = search needs

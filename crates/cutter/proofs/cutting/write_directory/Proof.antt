@@ -19,7 +19,7 @@ abbrev μ-loop : tie.MeasureT-loop
 μ-loop chars lengths index string flags from output₀ count at₀ line₀ output at line = count - line
 
 shared-slice-read-count : tie.Need-shared-slice-read-count Inv-loop μ-loop
-shared-slice-read-count c = omega (arith, c .before .pre .0 .has-header)
+shared-slice-read-count c = omega arith
 
 cast-count : tie.Need-cast-count Inv-loop μ-loop
 cast-count c = omega (arith, c .shared-slice-known .given 1)
@@ -38,7 +38,7 @@ shared-slice-read-if1 c =
     let s = c .before .before .before .before in
     let a = s .args in
     let l = c .before .before .loop in
-    omega (arith, s .pre .1 .room)
+    omega arith
 
 mul-output : tie.Need-mul-output Inv-loop μ-loop
 mul-output c = search needs
@@ -48,7 +48,7 @@ add-output c =
     let s = c .before .before .before .before .before in
     let a = s .args in
     let l = c .before .before .before .loop in
-    omega (arith, s .pre .0 .has-directory, s .good)
+    omega arith
 
 mul-output-2 : tie.Need-mul-output-2 Inv-loop μ-loop
 mul-output-2 c = search needs
@@ -58,7 +58,7 @@ shared-slice-read-output c =
     let s = c .before .before .before .before .before .before in
     let a = s .args in
     let l = c .before .before .before .before .loop in
-    omega (arith, s .pre .0 .has-directory)
+    omega arith
 
 mul-output-3 : tie.Need-mul-output-3 Inv-loop μ-loop
 mul-output-3 c = search needs
@@ -78,14 +78,14 @@ add-output-2 c =
     let s = c .before .before .before .before .before .before in
     let a = s .args in
     let l = c .before .before .before .before .loop in
-    omega (arith, s .pre .0 .has-directory, s .good)
+    omega arith
 
 add-output-3 : tie.Need-add-output-3 Inv-loop μ-loop
 add-output-3 c =
     let s = c .before .before .before .before .before .before in
     let a = s .args in
     let l = c .before .before .before .before .loop in
-    omega (arith, s .pre .0 .has-directory, s .good)
+    omega arith
 
 mul-output-5 : tie.Need-mul-output-5 Inv-loop μ-loop
 mul-output-5 c = search needs
@@ -95,14 +95,14 @@ shared-slice-read-output-2 c =
     let s = c .before .before .before .before .before .before .before in
     let a = s .args in
     let l = c .before .before .before .before .before .loop in
-    omega (arith, s .pre .0 .has-directory)
+    omega arith
 
 add-output-4 : tie.Need-add-output-4 Inv-loop μ-loop
 add-output-4 c =
     let s = c .before .before .before .before .before .before .before in
     let a = s .args in
     let l = c .before .before .before .before .before .loop in
-    omega (arith, s .good, l .inv .way .len, listing-room (lexicon (a .chars .now) (a .lengths .now)) (a .index .now) (a .string .now) (l .inv) (c .before .before .before .before .loop-test .taken) (exact-flags-get (lexicon (a .chars .now) (a .lengths .now)) (a .index .now) (a .string .now) (s .pre .1) (l .line) (c .before .before .before .before .loop-test .taken) (c .before .before .if1 .taken)) (s .pre .0))
+    omega (arith, listing-room (lexicon (a .chars .now) (a .lengths .now)) (a .index .now) (a .string .now) (l .inv) (c .before .before .before .before .loop-test .taken) (exact-flags-get (lexicon (a .chars .now) (a .lengths .now)) (a .index .now) (a .string .now) (s .pre .1) (l .line) (c .before .before .before .before .loop-test .taken) (c .before .before .if1 .taken)) (s .pre .0))
 
 mul-output-6 : tie.Need-mul-output-6 Inv-loop μ-loop
 mul-output-6 c = search needs
@@ -122,14 +122,14 @@ add-output-5 c =
     let s = c .before .before .before .before .before .before .before in
     let a = s .args in
     let l = c .before .before .before .before .before .loop in
-    omega (arith, s .pre .0 .has-directory, s .good)
+    omega arith
 
 add-output-6 : tie.Need-add-output-6 Inv-loop μ-loop
 add-output-6 c =
     let s = c .before .before .before .before .before .before .before in
     let a = s .args in
     let l = c .before .before .before .before .before .loop in
-    omega (arith, s .pre .0 .has-directory, s .good)
+    omega arith
 
 mul-output-8 : tie.Need-mul-output-8 Inv-loop μ-loop
 mul-output-8 c = search needs
@@ -139,14 +139,14 @@ shared-slice-read-output-3 c =
     let s = c .before .before .before .before .before .before .before .before in
     let a = s .args in
     let l = c .before .before .before .before .before .before .loop in
-    omega (arith, s .pre .0 .has-directory)
+    omega arith
 
 add-output-7 : tie.Need-add-output-7 Inv-loop μ-loop
 add-output-7 c =
     let s = c .before .before .before .before .before .before .before .before in
     let a = s .args in
     let l = c .before .before .before .before .before .before .loop in
-    omega (arith, s .good, l .inv .way .len, listing-room (lexicon (a .chars .now) (a .lengths .now)) (a .index .now) (a .string .now) (l .inv) (c .before .before .before .before .before .loop-test .taken) (exact-flags-get (lexicon (a .chars .now) (a .lengths .now)) (a .index .now) (a .string .now) (s .pre .1) (l .line) (c .before .before .before .before .before .loop-test .taken) (c .before .before .before .if1 .taken)) (s .pre .0))
+    omega (arith, listing-room (lexicon (a .chars .now) (a .lengths .now)) (a .index .now) (a .string .now) (l .inv) (c .before .before .before .before .before .loop-test .taken) (exact-flags-get (lexicon (a .chars .now) (a .lengths .now)) (a .index .now) (a .string .now) (s .pre .1) (l .line) (c .before .before .before .before .before .loop-test .taken) (c .before .before .before .if1 .taken)) (s .pre .0))
 
 mul-output-9 : tie.Need-mul-output-9 Inv-loop μ-loop
 mul-output-9 c = search needs
@@ -163,7 +163,7 @@ add-at c =
     let s = c .before .before .before .before .before .before .before .before in
     let a = s .args in
     let l = c .before .before .before .before .before .before .loop in
-    omega (arith, s .good, l .inv .way .len, listing-room (lexicon (a .chars .now) (a .lengths .now)) (a .index .now) (a .string .now) (l .inv) (c .before .before .before .before .before .loop-test .taken) (exact-flags-get (lexicon (a .chars .now) (a .lengths .now)) (a .index .now) (a .string .now) (s .pre .1) (l .line) (c .before .before .before .before .before .loop-test .taken) (c .before .before .before .if1 .taken)) (s .pre .0))
+    omega (arith, listing-room (lexicon (a .chars .now) (a .lengths .now)) (a .index .now) (a .string .now) (l .inv) (c .before .before .before .before .before .loop-test .taken) (exact-flags-get (lexicon (a .chars .now) (a .lengths .now)) (a .index .now) (a .string .now) (s .pre .1) (l .line) (c .before .before .before .before .before .loop-test .taken) (c .before .before .before .if1 .taken)) (s .pre .0))
 
 loop-less : tie.Need-loop-less Inv-loop μ-loop
 loop-less c = search needs

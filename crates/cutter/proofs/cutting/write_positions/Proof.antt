@@ -18,7 +18,7 @@ abbrev μ-loop : tie.MeasureT-loop
 μ-loop chars lengths index string flags part₀ count start₀ at₀ line₀ part start at line = count - line
 
 shared-slice-read-count : tie.Need-shared-slice-read-count Inv-loop μ-loop
-shared-slice-read-count c = omega (arith, c .before .before .before .before .before .before .before .pre .0 .has-header)
+shared-slice-read-count c = omega arith
 
 cast-count : tie.Need-cast-count Inv-loop μ-loop
 cast-count c = omega (arith, c .shared-slice-known6 .given 1)
@@ -52,7 +52,7 @@ shared-slice-read-end c =
     let s = c .before .before .before .before .before .before .before .before .before .before in
     let a = s .args in
     let l = c .before .before .loop in
-    omega (arith, s .pre .0 .has-directory)
+    omega arith
 
 cast-end : tie.Need-cast-end Inv-loop μ-loop
 cast-end c = omega (arith, c .shared-slice-known7 .given (2 + 3 * c .before .before .loop .line + 2))
@@ -62,7 +62,7 @@ add-end-3 c =
     let s = c .before .before .before .before .before .before .before .before .before .before in
     let a = s .args in
     let l = c .before .before .loop in
-    omega (arith, s .good, placing-there (lexicon (a .chars .now) (a .lengths .now)) (a .index .now) (a .string .now) (l .inv) (c .before .loop-test .taken) (s .pre .0))
+    omega (arith, placing-there (lexicon (a .chars .now) (a .lengths .now)) (a .index .now) (a .string .now) (l .inv) (c .before .loop-test .taken) (s .pre .0))
 
 add-line : tie.Need-add-line Inv-loop μ-loop
 add-line c = omega (arith, c .before .before .before .shared-slice-known6 .given 1)
@@ -72,14 +72,14 @@ shared-slice-read-if1 c =
     let s = c .before .before .before .before .before .before .before .before .before .before .before in
     let a = s .args in
     let l = c .before .before .before .loop in
-    omega (arith, s .pre .1 .room)
+    omega arith
 
 mul-write-list : tie.Need-mul-write-list Inv-loop μ-loop
 mul-write-list c =
     let s = c .before .before .before .before .before .before .before .before .before .before .before .before in
     let a = s .args in
     let l = c .before .before .before .before .loop in
-    omega (arith, s .good, placing-there (lexicon (a .chars .now) (a .lengths .now)) (a .index .now) (a .string .now) (l .inv) (c .before .before .before .loop-test .taken) (s .pre .0))
+    omega (arith, placing-there (lexicon (a .chars .now) (a .lengths .now)) (a .index .now) (a .string .now) (l .inv) (c .before .before .before .loop-test .taken) (s .pre .0))
 
 sub-write-list : tie.Need-sub-write-list Inv-loop μ-loop
 sub-write-list c = omega arith
@@ -109,7 +109,7 @@ add-at c =
     let s = c .before .before .before .before .before .before .before .before .before .before .before .before .before .before .before .before .before in
     let a = s .args in
     let l = c .before .before .before .before .before .before .before .before .before .loop in
-    omega (arith, s .good, l .inv .way .len, placing-room (lexicon (a .chars .now) (a .lengths .now)) (a .index .now) (a .string .now) (l .inv) (c .before .before .before .before .before .before .before .before .loop-test .taken) (s .pre .0) (exact-flags-get (lexicon (a .chars .now) (a .lengths .now)) (a .index .now) (a .string .now) (s .pre .1) (l .line) (c .before .before .before .before .before .before .before .before .loop-test .taken) (c .before .before .before .before .before .if1 .taken)), placing-counted (lexicon (a .chars .now) (a .lengths .now)) (a .index .now) (a .string .now) (l .inv) (c .before .before .before .before .before .before .before .before .loop-test .taken) (s .pre .0))
+    omega (arith, placing-room (lexicon (a .chars .now) (a .lengths .now)) (a .index .now) (a .string .now) (l .inv) (c .before .before .before .before .before .before .before .before .loop-test .taken) (s .pre .0) (exact-flags-get (lexicon (a .chars .now) (a .lengths .now)) (a .index .now) (a .string .now) (s .pre .1) (l .line) (c .before .before .before .before .before .before .before .before .loop-test .taken) (c .before .before .before .before .before .if1 .taken)), placing-counted (lexicon (a .chars .now) (a .lengths .now)) (a .index .now) (a .string .now) (l .inv) (c .before .before .before .before .before .before .before .before .loop-test .taken) (s .pre .0))
 
 loop-less : tie.Need-loop-less Inv-loop μ-loop
 loop-less c = search needs

@@ -46,7 +46,7 @@ add-count : tie.Need-add-count Inv-loop μ-loop
 add-count c =
     let a = c .before .before .before .args in
     let l = c .before .before .loop in
-    omega (arith, l .inv .few, bit-small (leb (a .len) (getD (a .reach .now) (l .i) 0)))
+    omega (arith, bit-small (leb (a .len) (getD (a .reach .now) (l .i) 0)))
 
 add-i : tie.Need-add-i Inv-loop μ-loop
 add-i c = search needs

@@ -20,7 +20,7 @@ below : (c : tie.At-loop Inv-loop μ-loop) → c .loop .i < length (c .before .a
 below c = passing-below (c .before .args .len) (c .before .args .reach .now) (c .before .args .from) (c .loop .inv)
 
 mul-if1 : tie.Need-mul-if1 Inv-loop μ-loop
-mul-if1 c = omega (arith, c .before .good, below c)
+mul-if1 c = omega (arith, below c)
 
 shared-slice-read-if1 : tie.Need-shared-slice-read-if1 Inv-loop μ-loop
 shared-slice-read-if1 c = below (c .before)
@@ -29,7 +29,7 @@ cast-if1 : tie.Need-cast-if1 Inv-loop μ-loop
 cast-if1 c = omega (arith, c .shared-slice-known .given (c .before .loop .i))
 
 add-i : tie.Need-add-i Inv-loop μ-loop
-add-i c = omega (arith, c .before .before .before .good, below (c .before .before))
+add-i c = omega (arith, below (c .before .before))
 
 loop-less : tie.Need-loop-less Inv-loop μ-loop
 loop-less c = omega (arith, below (c .before .before))

@@ -25,27 +25,27 @@ next-found-requires c κs =
     let s = c .before .before .before .before in
     let a = s .args in
     let l = c .before .loop in
-    finding-more (a .len) (a .first) (a .reach .now) (a .output .now) (l .inv) (omega (arith, s .pre .0, c .loop-test .taken))
+    finding-more (a .len) (a .first) (a .reach .now) (a .output .now) (l .inv) (omega arith)
 
 add-output : tie.Need-add-output Inv-loop μ-loop
 add-output c =
     let s = c .before .before .before .before .before in
-    omega (arith, s .pre .2, c .next-found .ensures .within)
+    omega arith
 
 cast-output : tie.Need-cast-output Inv-loop μ-loop
 cast-output c =
     let s = c .before .before .before .before .before in
-    omega (arith, s .pre .2, c .next-found .ensures .within)
+    omega arith
 
 mul-output : tie.Need-mul-output Inv-loop μ-loop
 mul-output c =
     let s = c .before .before .before .before .before in
-    omega (arith, s .pre .1, s .good, c .before .loop-test .taken)
+    omega arith
 
 slice-write-output : tie.Need-slice-write-output Inv-loop μ-loop
 slice-write-output c =
     let s = c .before .before .before .before .before in
-    omega (arith, s .pre .1, c .before .before .loop .inv .len, c .before .loop-test .taken)
+    omega arith
 
 add-written : tie.Need-add-written Inv-loop μ-loop
 add-written c = search needs
@@ -53,10 +53,10 @@ add-written c = search needs
 add-i : tie.Need-add-i Inv-loop μ-loop
 add-i c =
     let s = c .before .before .before .before .before in
-    omega (arith, s .pre .2, c .next-found .ensures .within)
+    omega arith
 
 loop-less : tie.Need-loop-less Inv-loop μ-loop
-loop-less c = omega (arith, c .before .loop-test .taken)
+loop-less c = omega arith
 
 loop-again : tie.Need-loop-again Inv-loop μ-loop
 loop-again c =
@@ -66,7 +66,7 @@ loop-again c =
     let n = c .next-found in
     let next = finding-next (a .len) (a .first) (a .reach .now) (a .output .now) (l .inv) (n .ensures) in
     finding-write (a .len) (a .first) (a .reach .now) (a .output .now) next (n .ensures .within) (n .ensures .near)
-    (omega (arith, s .pre .0, s .pre .1))
+    (omega arith)
 
 same-length : tie.Need-same-length Inv-loop μ-loop
 same-length c = c .before .loop .inv .len
@@ -76,7 +76,7 @@ returns c =
     let s = c .before .before .before .before in
     let a = s .args in
     let l = c .before .loop in
-    finding-end (a .len) (a .first) (a .reach .now) (a .output .now) (l .inv) (omega (arith, s .pre .0, c .loop-test .left))
+    finding-end (a .len) (a .first) (a .reach .now) (a .output .now) (l .inv) (omega arith)
 
 pub write-found-spec : {M : Type 1} → statement M
 write-found-spec =

@@ -59,7 +59,7 @@ returns-2 c =
       λ t.
           reconstructed-finds (lexicon (a .chars .now) (a .lengths .now)) (a .index .now) (n-of (a .index .now)) (sentinel .result)
           (shown .last .1 .1 .1 .1 .1 .0) (a .string .now) (told .last .1 .1 .0) (record { is = shown .ensures .0; all = shown .ensures .1 .holds yes-all })
-          (absent-at (a .string .now) (sentinel .result) (sentinel .ensures .absent)) (omega (arith, s .pre .4, told .kept .1 .1 .0)) (told .ensures),
+          (absent-at (a .string .now) (sentinel .result) (sentinel .ensures .absent)) (omega arith) (told .ensures),
       (
         λ f. clash refl f,
         (

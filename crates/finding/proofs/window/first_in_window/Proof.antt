@@ -12,7 +12,7 @@ use Rattle.finding.proofs.window.first_in_window.Tie as tie
 extend-window-requires : tie.Need-extend-window-requires
 extend-window-requires c κs =
     let s = c .before .before .before .before .before .before .before .before .before in
-    (s .pre .0, s .pre .2, s .pre .3, s .pre .1 .some, s .pre .1 .short, omega (arith, s .pre .4), cleared-within (length (s .args .reach .now)) (s .args .reach .now) (s .pre .5))
+    (s .pre .0, s .pre .2, s .pre .3, s .pre .1 .some, s .pre .1 .short, omega arith, cleared-within (length (s .args .reach .now)) (s .args .reach .now) (s .pre .5))
 
 same-length : tie.Need-same-length
 same-length c = search needs

@@ -15,7 +15,7 @@ slice-aggregate-extend-listing c = search needs
 extend-listing-requires : tie.Need-extend-listing-requires
 extend-listing-requires c κs =
     let s = c .before .before .before .before .before .before .before .before .before .before in
-    (s .pre .0, s .pre .1, omega arith, omega (arith, s .pre .2), cleared-within (length (s .args .reach .now)) (s .args .reach .now) (s .pre .3))
+    (s .pre .0, s .pre .1, omega arith, omega arith, cleared-within (length (s .args .reach .now)) (s .args .reach .now) (s .pre .3))
 
 same-length : tie.Need-same-length
 same-length c = search needs

@@ -6,9 +6,9 @@ use lib.ListN.{length}
 use lib.Seq.{length-take-le}
 use Rattle.spec.specs.Gaps.{with-lists}
 use Rattle.spec.specs.Calls.{index-refusal}
+use Rattle.models.specs.Readability.{read-as}
+use Rattle.models.specs.Gaps.{write-as}
 use Rattle.laws.specs.Search.Sizing.{sized-short, sized-written}
-use Rattle.laws.specs.Gaps.ReadLists.{read-as}
-use Rattle.laws.specs.Gaps.GapParts.{write-as}
 use Rattle.laws.specs.Demands.GapCalls.{gaps-refused, gaps-sized, writable, form-length, form-front}
 use borrow.Author.Needs.{needs}
 use Rattle.gaps.proofs.form.put_form.Statement.{statement}
@@ -37,7 +37,7 @@ returns-2 c =
     let form = with-lists (write-as (start .args .restore)) (start .args .index .now) in
     let o = start .args .output .now in
     let none = sym (c .before .before .refusal-as .ensures) ∙ c .before .if1 .left in
-    let short : length o < length form = omega (arith, c .if2 .taken, form-length (start .args .restore) (start .args .index .now)) in
+    let short : length o < length form = omega (arith, form-length (start .args .restore) (start .args .index .now)) in
     gaps-sized cs ls read form _ o none _ (sized-short form _ o short refl refl)
 
 slice-relend-prefix-write-form : tie.Need-slice-relend-prefix-write-form
@@ -73,7 +73,7 @@ returns-3 c =
     let none = sym (room .before .before .refusal-as .ensures) ∙ room .before .if1 .left in
     let len = form-length (start .args .restore) (start .args .index .now) in
     gaps-sized cs ls read form _ o none _
-    (sized-written form _ o _ (omega (arith, room .if2 .left, len)) refl (sym len)
+    (sized-written form _ o _ (omega (arith, len)) refl (sym len)
     (form-front (start .args .restore) (start .args .index .now) o _ (c .before .before .write-form .ensures)))
 
 pub put-form-spec : {M : Type 1} → statement M

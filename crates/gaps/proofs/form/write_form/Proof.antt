@@ -5,8 +5,9 @@ use Prim.Native.Nat.{_+_, _*_}
 use native.Mathlib.Omega.{arith}
 use Rattle.spec.specs.Index.{keys-of}
 use Rattle.spec.specs.Gaps.{gaps, prefix-sums, with-lists}
+use Rattle.models.specs.Gaps.{write-as}
 use Rattle.laws.specs.Gaps.GapLists.{length-gaps, length-sums}
-use Rattle.laws.specs.Gaps.GapParts.{write-as, Writable, front-long, part-long, form-written}
+use Rattle.laws.specs.Gaps.GapParts.{Writable, front-long, part-long, form-written}
 use borrow.Author.Needs.{needs}
 use Rattle.gaps.proofs.form.write_form.Statement.{statement}
 use Rattle.gaps.proofs.form.write_form.Tie as tie
@@ -33,7 +34,7 @@ write-list-requires c κs =
     let start = c .before .before .before .before .before in
     let xs = start .args .index .now in
     let fits = start .pre .0 .fits in
-    omega (arith, front-long gaps (length-gaps 0) fits (2 + 3 * keys-of xs) refl, start .pre .1, fits .has-directory)
+    omega (arith, front-long gaps (length-gaps 0) fits (2 + 3 * keys-of xs) refl)
 
 mul-write-positions : tie.Need-mul-write-positions
 mul-write-positions c = search needs

@@ -11,7 +11,7 @@ returns : tie.Need-returns
 returns c = omega arith
 
 returns-2 : tie.Need-returns-2
-returns-2 c = omega (arith, c .if1 .left)
+returns-2 c = omega arith
 
 pub distance-spec : {M : Type 1} → statement M
 distance-spec = tie.close (tie.spec sub-result returns returns-2)

@@ -1,7 +1,7 @@
 -- `first_number` meets its contract, by cases on the test. Assumes nothing.
 use mathlib.Core.Path.{sym, ap}
 use mathlib.Core.Bool.{Bool}
-use Rattle.laws.specs.Gaps.GapParts.{first-as}
+use Rattle.models.specs.Gaps.{first-as}
 use Rattle.gaps.proofs.writing.first_number.Statement.{statement}
 use Rattle.gaps.proofs.writing.first_number.Tie as tie
 

@@ -6,8 +6,9 @@ use native.Mathlib.Omega.{arith}
 use lib.ListN.{getD, drop, length-drop}
 use lib.Seq.{getD-drop}
 use Rattle.spec.specs.Index.{header, keys-of}
+use Rattle.models.specs.Gaps.{first-as, pair-as}
 use Rattle.laws.specs.Gaps.GapWriting.{Firsts, firsts-start, firsts-step, firsts-end}
-use Rattle.laws.specs.Gaps.GapParts.{first-as, pair-as, counts-all, line-there}
+use Rattle.laws.specs.Gaps.GapParts.{counts-all, line-there}
 use borrow.Author.Needs.{needs}
 use Rattle.gaps.proofs.writing.put_firsts.Statement.{statement}
 use Rattle.gaps.proofs.writing.put_firsts.Tie as tie
@@ -38,27 +39,27 @@ add-first-number c =
     let start = c .before .before .before .before in
     let walk = c .before .loop in
     let a = start .args in
-    let below : walk .i < keys-of (a .index .now) = omega (arith, c .loop-test .taken, start .pre .1) in
+    let below : walk .i < keys-of (a .index .now) = omega arith in
     let there = line-there (start .pre .0) (walk .inv) below in
-    omega (arith, there .read, start .pre .1, start .good)
+    omega arith
 
 mul-first-number : tie.Need-mul-first-number Inv-loop μ-loop
 mul-first-number c =
     let start = c .before .before .before .before in
     let walk = c .before .loop in
     let a = start .args in
-    let below : walk .i < keys-of (a .index .now) = omega (arith, c .loop-test .taken, start .pre .1) in
+    let below : walk .i < keys-of (a .index .now) = omega arith in
     let there = line-there (start .pre .0) (walk .inv) below in
-    omega (arith, there .read, start .pre .1, start .good)
+    omega arith
 
 shared-slice-read-first-number : tie.Need-shared-slice-read-first-number Inv-loop μ-loop
 shared-slice-read-first-number c =
     let start = c .before .before .before .before .before in
     let walk = c .before .before .loop in
     let a = start .args in
-    let below : walk .i < keys-of (a .index .now) = omega (arith, c .before .loop-test .taken, start .pre .1) in
+    let below : walk .i < keys-of (a .index .now) = omega arith in
     let there = line-there (start .pre .0) (walk .inv) below in
-    omega (arith, there .read, start .pre .1)
+    omega arith
 
 first-number-requires : tie.Need-first-number-requires Inv-loop μ-loop
 first-number-requires c κs = search needs
@@ -68,16 +69,16 @@ mul-part c =
     let start = c .before .before .before .before .before .before in
     let walk = c .before .before .before .loop in
     let a = start .args in
-    let below : walk .i < keys-of (a .index .now) = omega (arith, c .before .before .loop-test .taken, start .pre .1) in
+    let below : walk .i < keys-of (a .index .now) = omega arith in
     let there = line-there (start .pre .0) (walk .inv) below in
-    omega (arith, there .write, walk .inv .len, length-drop (header + 3 * keys-of (a .index .now)) (a .index .now), start .good)
+    omega (arith, length-drop (header + 3 * keys-of (a .index .now)) (a .index .now))
 
 slice-write-part : tie.Need-slice-write-part Inv-loop μ-loop
 slice-write-part c =
     let start = c .before .before .before .before .before .before in
     let walk = c .before .before .before .loop in
     let a = start .args in
-    let below : walk .i < keys-of (a .index .now) = omega (arith, c .before .before .loop-test .taken, start .pre .1) in
+    let below : walk .i < keys-of (a .index .now) = omega arith in
     let there = line-there (start .pre .0) (walk .inv) below in
     there .write
 
@@ -104,9 +105,9 @@ add-at-3 c =
     let start = c .before .before .before .before .before .before .before in
     let walk = c .before .before .before .before .loop in
     let a = start .args in
-    let below : walk .i < keys-of (a .index .now) = omega (arith, c .before .before .before .loop-test .taken, start .pre .1) in
+    let below : walk .i < keys-of (a .index .now) = omega arith in
     let there = line-there (start .pre .0) (walk .inv) below in
-    omega (arith, there .next, start .good)
+    omega arith
 
 add-i : tie.Need-add-i Inv-loop μ-loop
 add-i c = search needs
@@ -119,14 +120,14 @@ loop-again c =
     let start = c .before .before .before .before .before .before .before in
     let walk = c .before .before .before .before .loop in
     let a = start .args in
-    let below : walk .i < keys-of (a .index .now) = omega (arith, c .before .before .before .loop-test .taken, start .pre .1) in
+    let below : walk .i < keys-of (a .index .now) = omega arith in
     let there = line-there (start .pre .0) (walk .inv) below in
     let xs = a .index .now in
     let ps = drop (header + 3 * keys-of xs) xs in
     let first : c .before .first-number .result ≡ first-as (a .restore) (getD ps (walk .at) 0) =
     c .before .first-number .ensures
     ∙ ap (first-as (a .restore))
-    (ap (λ (j : ℕ). getD xs j 0) (omega (arith, start .pre .1)) ∙ sym (getD-drop (header + 3 * keys-of xs) xs (walk .at) 0)) in
+    (ap (λ (j : ℕ). getD xs j 0) (omega arith) ∙ sym (getD-drop (header + 3 * keys-of xs) xs (walk .at) 0)) in
     rw first
     (firsts-step (first-as (a .restore)) (pair-as (a .restore)) xs ps (walk .part) (walk .i) (walk .at) (walk .inv) below
     (start .pre .0 .some (walk .i) below))
@@ -147,7 +148,7 @@ returns c =
     let a = start .args in
     let walk = c .before .loop in
     firsts-end (first-as (a .restore)) (pair-as (a .restore)) (a .index .now) (drop (header + 3 * keys-of (a .index .now)) (a .index .now))
-    (walk .part) (walk .i) (walk .at) (walk .inv) (omega (arith, c .loop-test .left, start .pre .1))
+    (walk .part) (walk .i) (walk .at) (walk .inv) (omega arith)
 
 pub put-firsts-spec : {M : Type 1} → statement M
 put-firsts-spec =

@@ -27,7 +27,7 @@ part-write-distances-end c = search needs
 write-distances-requires : tie.Need-write-distances-requires
 write-distances-requires c κs =
     let start = c .before .before .before .before in
-    omega (arith, run-long (start .pre .0 .fits) (start .args .keys) (start .pre .1), start .pre .2)
+    omega (arith, run-long (start .pre .0 .fits) (start .args .keys) (start .pre .1))
 
 put-firsts-requires : tie.Need-put-firsts-requires
 put-firsts-requires c κs =

@@ -4,7 +4,7 @@ use mathlib.Core.Path.{refl, sym, _∙_, subst}
 use mathlib.Core.List.{List}
 use Prim.Native.Nat.{ℕ, _≤_}
 use lib.ListN.{getD}
-use Rattle.laws.specs.Gaps.GapSums.{carry}
+use Rattle.models.specs.Gaps.{carry}
 use Rattle.laws.specs.Gaps.GapParts.{masks-ready, masks-long, sums-written}
 use borrow.Author.Needs.{needs}
 use Rattle.gaps.proofs.writing.write_positions.Statement.{statement}

@@ -6,9 +6,9 @@ use native.Mathlib.Omega.{arith}
 use lib.ListN.{length, getD, take}
 use Rattle.basics.specs.Chain.{chain, chain-short}
 use Rattle.spec.specs.Numbers.{line, directory}
-use Rattle.laws.specs.Build.KeyCode.{code-key}
+use Rattle.models.specs.Inversion.{code-key, line-numbers}
 use Rattle.laws.specs.Build.PostingChains.{lines-at}
-use Rattle.laws.specs.Build.CodeWalk.{Listing, line-numbers, line-numbers-three, line-numbers-are, directory-by-line, listing-start, listing-room, listing-step, listing-end}
+use Rattle.laws.specs.Build.CodeWalk.{Listing, line-numbers-three, line-numbers-are, directory-by-line, listing-start, listing-room, listing-step, listing-end}
 use Rattle.inversion.proofs.write.write_directory.Statement.{statement}
 use Rattle.inversion.proofs.write.write_directory.Tie as tie
 

@@ -6,8 +6,9 @@ use native.Mathlib.Omega.{arith}
 use lib.ListN.{length, getD}
 use Rattle.basics.specs.Chain.{chain}
 use Rattle.spec.specs.Numbers.{all-positions}
+use Rattle.models.specs.Inversion.{line-positions}
 use Rattle.laws.specs.Build.PostingChains.{lines-at}
-use Rattle.laws.specs.Build.CodeWalk.{Listing, line-positions, line-positions-are, positions-by-line, listing-start, listing-room, listing-step, listing-end}
+use Rattle.laws.specs.Build.CodeWalk.{Listing, line-positions-are, positions-by-line, listing-start, listing-room, listing-step, listing-end}
 use Rattle.inversion.proofs.write.write_positions.Statement.{statement}
 use Rattle.inversion.proofs.write.write_positions.Tie as tie
 

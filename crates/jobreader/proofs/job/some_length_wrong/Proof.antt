@@ -5,7 +5,8 @@ use Prim.Native.Nat.{_-_, _≤_}
 use native.Mathlib.Omega.{arith}
 use borrow.Author.Needs.{needs}
 use lib.ListN.{length, drop}
-use Rattle.laws.specs.JobSheet.JobReading.{some-length-wrong, length-none, length-many, length-right, lengths-end}
+use Rattle.models.specs.JobSheet.{some-length-wrong}
+use Rattle.laws.specs.JobSheet.JobReading.{length-none, length-many, length-right, lengths-end}
 use Rattle.jobreader.proofs.job.some_length_wrong.Statement.{statement}
 use Rattle.jobreader.proofs.job.some_length_wrong.Tie as tie
 

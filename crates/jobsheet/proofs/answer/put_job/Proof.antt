@@ -21,7 +21,7 @@ put-refused-line-requires : tie.Need-put-refused-line-requires
 put-refused-line-requires c κs =
     let s = c .before .before .before .before .before .before .before .before .before .before .before .before .before in
     let read = c .before .before .before .before .before .before .read-job in
-    omega (arith, s .pre .2, refused-fits (s .args .sheet .now) (read .result .refusal) (read .ensures .0) (c .before .if1 .taken))
+    omega (arith, refused-fits (s .args .sheet .now) (read .result .refusal) (read .ensures .0) (c .before .if1 .taken))
 
 same-length : tie.Need-same-length
 same-length c = search needs

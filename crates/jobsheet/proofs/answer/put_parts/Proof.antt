@@ -17,11 +17,11 @@ add-end c = search needs
 
 slice-aggregate-put-printed : tie.Need-slice-aggregate-put-printed
 slice-aggregate-put-printed c =
-    let s = c .before .before .before .before in sym (length-take-le (s .args .dictionary) (s .args .chars .now) (omega (arith, s .pre .0 .chars-fit)))
+    let s = c .before .before .before .before in sym (length-take-le (s .args .dictionary) (s .args .chars .now) (omega arith))
 
 slice-aggregate-put-printed-2 : tie.Need-slice-aggregate-put-printed-2
 slice-aggregate-put-printed-2 c =
-    let s = c .before .before .before .before .before in sym (length-take-le (s .args .words) (s .args .lengths .now) (omega (arith, s .pre .0 .lengths-fit)))
+    let s = c .before .before .before .before .before in sym (length-take-le (s .args .words) (s .args .lengths .now) (omega arith))
 
 mul-put-printed : tie.Need-mul-put-printed
 mul-put-printed c = search needs

@@ -22,8 +22,8 @@ positions-in-hand c =
     found-in-hand (lexicon (a .chars .now) (a .lengths .now)) (a .index .now) (c .search-tabled .result)
     (a .found .now) (c .search-tabled .last .1 .1 .1 .1 .1 .1 .0)
     (record {
-      some = omega (arith, s .pre .0 .1 .some, length-replaced (a .string .now));
-      short = omega (arith, s .pre .0 .1 .short, length-replaced (a .string .now));
+      some = omega (arith, length-replaced (a .string .now));
+      short = omega (arith, length-replaced (a .string .now));
     })
     (s .pre .0 .2) (c .search-tabled .ensures)
 

@@ -36,7 +36,7 @@ loop-holds c =
     )
 
 mul-next : tie.Need-mul-next Inv-loop μ-loop
-mul-next c = omega (arith, c .before .before .before .before .before .before .before .before .before .before .before .pre .0 .1 .few, c .loop-test .taken)
+mul-next c = omega arith
 
 shared-slice-read-next : tie.Need-shared-slice-read-next Inv-loop μ-loop
 shared-slice-read-next c = c .before .loop-test .taken
@@ -45,10 +45,10 @@ cast-next : tie.Need-cast-next Inv-loop μ-loop
 cast-next c = omega (arith, c .shared-slice-known8 .given (c .before .before .loop .i))
 
 add-next : tie.Need-add-next Inv-loop μ-loop
-add-next c = omega (arith, c .before .before .before .before .before .before .before .before .before .before .before .before .good, next-fits (c .before))
+add-next c = omega (arith, next-fits (c .before))
 
 mul-put-find : tie.Need-mul-put-find Inv-loop μ-loop
-mul-put-find c = omega (arith, c .before .before .before .before .before .before .before .before .before .before .before .before .good, next-fits (c .before))
+mul-put-find c = omega (arith, next-fits (c .before))
 
 sub-put-find : tie.Need-sub-put-find Inv-loop μ-loop
 sub-put-find c = omega arith
@@ -69,17 +69,17 @@ put-find-requires c κs =
         s .pre .0 .0,
         string-is
             (l .inv .1) taken,
-        omega (arith, s .pre .0 .2, l .inv .0),
+        omega arith,
       ),
       find-fits
           (l .inv .1) taken,
     )
 
 add-i : tie.Need-add-i Inv-loop μ-loop
-add-i c = omega (arith, c .before .before .before .before .before .before .before .before .before .before .before .before .before .before .before .before .before .before .before .before .pre .0 .1 .few, c .before .before .before .before .before .before .before .before .before .loop-test .taken)
+add-i c = omega arith
 
 loop-less : tie.Need-loop-less Inv-loop μ-loop
-loop-less c = omega (arith, c .before .before .before .before .before .before .before .before .before .loop-test .taken)
+loop-less c = omega arith
 
 loop-again : tie.Need-loop-again Inv-loop μ-loop
 loop-again c =

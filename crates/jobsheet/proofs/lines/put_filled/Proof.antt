@@ -5,8 +5,9 @@ use borrow.Author.Needs.{needs}
 use Rattle.basics.specs.Placed.{Writing, writing-last}
 use Rattle.spec.specs.Dictionary.{lexicon, words-from}
 use Rattle.spec.specs.JobAnswer.{found-lines}
+use Rattle.models.specs.JobSheet.{shown}
 use Rattle.laws.specs.JobSheet.AcceptedCalls.{usable-whole}
-use Rattle.laws.specs.JobSheet.JobAnswering.{shown, index-lines-fit, then-finds}
+use Rattle.laws.specs.JobSheet.JobAnswering.{index-lines-fit, then-finds}
 use Rattle.jobsheet.proofs.lines.put_filled.Statement.{statement}
 use Rattle.jobsheet.proofs.lines.put_filled.Tie as tie
 
@@ -50,7 +51,7 @@ put-finds-requires c κs =
       (
         record { can = s .pre .0 .1; word-starts = c .before .before .before .before .before .before .before .before .before .before .before .before .before .fill-word-starts .ensures; list-starts = c .before .before .before .before .before .before .before .before .before .before .fill-list-starts .ensures },
         s .pre .1 .0,
-        omega (arith, s .pre .0 .0 .short, s .pre .1 .1),
+        omega arith,
       ),
       at-finds (c .before .before .before .before .before .before) .room,
     )

@@ -41,9 +41,10 @@ use denote.Exit.{yes}
 use denote.Triple.Clauses.{ensured, lasts}
 use Rattle.basics.specs.Placed.{Wrote}
 use Rattle.spec.specs.Index.{keys-of}
+use Rattle.models.specs.JobSheet.{shown}
 use Rattle.laws.specs.Readable.Opening.{Bounded, opened-keys}
 use Rattle.laws.specs.JobSheet.AcceptedCalls.{Usable}
-use Rattle.laws.specs.JobSheet.JobAnswering.{Strings-good, shown}
+use Rattle.laws.specs.JobSheet.JobAnswering.{Strings-good}
 use Rattle.opening.proofs.Opens.{val, Shr, Lent, Open, twice, to-open, asks-open, opens}
 use Rattle.opening.proofs.opened.open_index.Symbol as opener-def
 use Rattle.opening.proofs.opened.open_index.Symbol.{name as #open-index}

@@ -3,8 +3,8 @@
 use Prim.Native.Nat.{_+_, _-_, _<_}
 use native.Mathlib.Omega.{arith}
 use lib.ListN.{length, getD}
+use Rattle.models.specs.MatchTable.{pair-bucket, bucket-of}
 use Rattle.laws.specs.Match.HashChains.{Stop}
-use Rattle.laws.specs.Match.MatchTable.{pair-bucket, bucket-of}
 use Rattle.laws.specs.Match.WordChains.{Passed, Pair-walk, pair-start, pair-none, pair-stop, pair-known, pair-hit, pair-miss, pair-narrowed}
 use Rattle.matching.proofs.longest.walk_pair.Statement.{statement}
 use Rattle.matching.proofs.longest.walk_pair.Tie as tie

@@ -1,7 +1,8 @@
 -- `bucket_of_char` meets its contract, which is its code; a remainder is below its divisor. Assumes nothing.
 use mathlib.Core.Path.{refl}
 use borrow.Author.Needs.{needs}
-use Rattle.laws.specs.Match.MatchTable.{char-bucket, char-small}
+use Rattle.models.specs.MatchTable.{char-bucket}
+use Rattle.laws.specs.Match.MatchTable.{char-small}
 use Rattle.matching.proofs.table.bucket_of_char.Statement.{statement}
 use Rattle.matching.proofs.table.bucket_of_char.Tie as tie
 

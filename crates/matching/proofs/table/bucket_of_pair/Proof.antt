@@ -1,7 +1,8 @@
 -- `bucket_of_pair` meets its contract, which is its code; a remainder is below its divisor. Assumes nothing.
 use mathlib.Core.Path.{refl}
 use borrow.Author.Needs.{needs}
-use Rattle.laws.specs.Match.MatchTable.{pair-bucket, pair-small}
+use Rattle.models.specs.MatchTable.{pair-bucket}
+use Rattle.laws.specs.Match.MatchTable.{pair-small}
 use Rattle.matching.proofs.table.bucket_of_pair.Statement.{statement}
 use Rattle.matching.proofs.table.bucket_of_pair.Tie as tie
 

@@ -25,46 +25,46 @@ loop-holds c =
     tally-start (lexicon (start .args .chars .now) (start .args .lengths .now)) (start .args .index .now) (start .args .counts) (good-length (eInt w64) 32 (start .args .counts) _ (start .good .1 .1 .1 .1 .0)) (start .pre .4)
 
 mul-kind : tie.Need-mul-kind Inv-loop μ-loop
-mul-kind c = omega (arith, c .loop-test .taken, c .before .before .before .before .before .pre .3)
+mul-kind c = omega arith
 
 add-kind : tie.Need-add-kind Inv-loop μ-loop
-add-kind c = omega (arith, c .loop-test .taken, c .before .before .before .before .before .pre .3)
+add-kind c = omega arith
 
 mul-kind-2 : tie.Need-mul-kind-2 Inv-loop μ-loop
-mul-kind-2 c = omega (arith, c .loop-test .taken, c .before .before .before .before .before .pre .3)
+mul-kind-2 c = omega arith
 
 shared-slice-read-kind : tie.Need-shared-slice-read-kind Inv-loop μ-loop
-shared-slice-read-kind c = omega (arith, c .before .loop-test .taken, c .before .before .before .before .before .before .pre .3)
+shared-slice-read-kind c = omega arith
 
 mul-value : tie.Need-mul-value Inv-loop μ-loop
-mul-value c = omega (arith, c .before .loop-test .taken, c .before .before .before .before .before .before .pre .3)
+mul-value c = omega arith
 
 add-value : tie.Need-add-value Inv-loop μ-loop
-add-value c = omega (arith, c .before .loop-test .taken, c .before .before .before .before .before .before .pre .3)
+add-value c = omega arith
 
 add-value-2 : tie.Need-add-value-2 Inv-loop μ-loop
-add-value-2 c = omega (arith, c .before .loop-test .taken, c .before .before .before .before .before .before .pre .3)
+add-value-2 c = omega arith
 
 mul-value-2 : tie.Need-mul-value-2 Inv-loop μ-loop
-mul-value-2 c = omega (arith, c .before .loop-test .taken, c .before .before .before .before .before .before .pre .3)
+mul-value-2 c = omega arith
 
 shared-slice-read-value : tie.Need-shared-slice-read-value Inv-loop μ-loop
-shared-slice-read-value c = omega (arith, c .before .before .loop-test .taken, c .before .before .before .before .before .before .before .pre .3)
+shared-slice-read-value c = omega arith
 
 mul-count : tie.Need-mul-count Inv-loop μ-loop
-mul-count c = omega (arith, c .before .before .loop-test .taken, c .before .before .before .before .before .before .before .pre .3)
+mul-count c = omega arith
 
 add-count : tie.Need-add-count Inv-loop μ-loop
-add-count c = omega (arith, c .before .before .loop-test .taken, c .before .before .before .before .before .before .before .pre .3)
+add-count c = omega arith
 
 add-count-2 : tie.Need-add-count-2 Inv-loop μ-loop
-add-count-2 c = omega (arith, c .before .before .loop-test .taken, c .before .before .before .before .before .before .before .pre .3)
+add-count-2 c = omega arith
 
 mul-count-2 : tie.Need-mul-count-2 Inv-loop μ-loop
-mul-count-2 c = omega (arith, c .before .before .loop-test .taken, c .before .before .before .before .before .before .before .pre .3)
+mul-count-2 c = omega arith
 
 shared-slice-read-count : tie.Need-shared-slice-read-count Inv-loop μ-loop
-shared-slice-read-count c = omega (arith, c .before .before .before .loop-test .taken, c .before .before .before .before .before .before .before .before .pre .3)
+shared-slice-read-count c = omega arith
 
 cast-count : tie.Need-cast-count Inv-loop μ-loop
 cast-count c = omega (arith, c .shared-slice-known6 .given (2 + 3 * c .before .before .before .before .loop .i + 2))
@@ -73,67 +73,67 @@ key-length-requires : tie.Need-key-length-requires Inv-loop μ-loop
 key-length-requires c κs =
     let start = c .before .before .before .before .before .before .before .before in
     let walk = c .before .before .before .before .loop in
-    (start .pre .0, (line-key longest-text (lexicon (start .args .chars .now) (start .args .lengths .now)) (start .args .index .now) (start .pre .1) (walk .i) (omega (arith, c .before .before .before .loop-test .taken, start .pre .2))))
+    (start .pre .0, (line-key longest-text (lexicon (start .args .chars .now) (start .args .lengths .now)) (start .args .index .now) (start .pre .1) (walk .i) (omega arith)))
 
 sub-position : tie.Need-sub-position Inv-loop μ-loop
 sub-position c =
     let start = c .before .before .before .before .before .before .before .before .before in
     let walk = c .before .before .before .before .before .loop in
-    let is = key-sizes (start .pre .0) (line-key longest-text (lexicon (start .args .chars .now) (start .args .lengths .now)) (start .args .index .now) (start .pre .1) (walk .i) (omega (arith, c .before .before .before .before .loop-test .taken, start .pre .2))) in
-    omega (arith, c .key-length .ensures, is .some)
+    let is = key-sizes (start .pre .0) (line-key longest-text (lexicon (start .args .chars .now) (start .args .lengths .now)) (start .args .index .now) (start .pre .1) (walk .i) (omega arith)) in
+    omega arith
 
 mul-counts : tie.Need-mul-counts Inv-loop μ-loop
 mul-counts c =
     let start = c .before .before .before .before .before .before .before .before .before in
     let walk = c .before .before .before .before .before .loop in
-    let is = key-sizes (start .pre .0) (line-key longest-text (lexicon (start .args .chars .now) (start .args .lengths .now)) (start .args .index .now) (start .pre .1) (walk .i) (omega (arith, c .before .before .before .before .loop-test .taken, start .pre .2))) in
-    omega (arith, c .key-length .ensures, is .short, is .some)
+    let is = key-sizes (start .pre .0) (line-key longest-text (lexicon (start .args .chars .now) (start .args .lengths .now)) (start .args .index .now) (start .pre .1) (walk .i) (omega arith)) in
+    omega arith
 
 array-read-counts : tie.Need-array-read-counts Inv-loop μ-loop
 array-read-counts c =
     let start = c .before .before .before .before .before .before .before .before .before in
     let walk = c .before .before .before .before .before .loop in
-    let is = key-sizes (start .pre .0) (line-key longest-text (lexicon (start .args .chars .now) (start .args .lengths .now)) (start .args .index .now) (start .pre .1) (walk .i) (omega (arith, c .before .before .before .before .loop-test .taken, start .pre .2))) in
-    omega (arith, c .key-length .ensures, is .short, is .some)
+    let is = key-sizes (start .pre .0) (line-key longest-text (lexicon (start .args .chars .now) (start .args .lengths .now)) (start .args .index .now) (start .pre .1) (walk .i) (omega arith)) in
+    omega arith
 
 add-counts : tie.Need-add-counts Inv-loop μ-loop
 add-counts c =
     let start = c .before .before .before .before .before .before .before .before .before in
     let walk = c .before .before .before .before .before .loop in
-    let is = key-sizes (start .pre .0) (line-key longest-text (lexicon (start .args .chars .now) (start .args .lengths .now)) (start .args .index .now) (start .pre .1) (walk .i) (omega (arith, c .before .before .before .before .loop-test .taken, start .pre .2))) in
-    omega (arith, c .key-length .ensures, is .short, is .some, walk .inv .bounded (c .key-length .result - 1), c .before .before .before .before .loop-test .taken, c .before .shared-slice-known6 .given (2 + 3 * walk .i + 2), c .before .shared-slice-known6 .given 1, start .pre .2)
+    let is = key-sizes (start .pre .0) (line-key longest-text (lexicon (start .args .chars .now) (start .args .lengths .now)) (start .args .index .now) (start .pre .1) (walk .i) (omega arith)) in
+    omega (arith, walk .inv .bounded (c .key-length .result - 1), c .before .shared-slice-known6 .given (2 + 3 * walk .i + 2), c .before .shared-slice-known6 .given 1)
 
 mul-counts-2 : tie.Need-mul-counts-2 Inv-loop μ-loop
 mul-counts-2 c =
     let start = c .before .before .before .before .before .before .before .before .before in
     let walk = c .before .before .before .before .before .loop in
-    let is = key-sizes (start .pre .0) (line-key longest-text (lexicon (start .args .chars .now) (start .args .lengths .now)) (start .args .index .now) (start .pre .1) (walk .i) (omega (arith, c .before .before .before .before .loop-test .taken, start .pre .2))) in
-    omega (arith, c .key-length .ensures, is .short, is .some)
+    let is = key-sizes (start .pre .0) (line-key longest-text (lexicon (start .args .chars .now) (start .args .lengths .now)) (start .args .index .now) (start .pre .1) (walk .i) (omega arith)) in
+    omega arith
 
 array-write-counts : tie.Need-array-write-counts Inv-loop μ-loop
 array-write-counts c =
     let start = c .before .before .before .before .before .before .before .before .before in
     let walk = c .before .before .before .before .before .loop in
-    let is = key-sizes (start .pre .0) (line-key longest-text (lexicon (start .args .chars .now) (start .args .lengths .now)) (start .args .index .now) (start .pre .1) (walk .i) (omega (arith, c .before .before .before .before .loop-test .taken, start .pre .2))) in
-    omega (arith, c .key-length .ensures, is .short, is .some)
+    let is = key-sizes (start .pre .0) (line-key longest-text (lexicon (start .args .chars .now) (start .args .lengths .now)) (start .args .index .now) (start .pre .1) (walk .i) (omega arith)) in
+    omega arith
 
 add-i : tie.Need-add-i Inv-loop μ-loop
-add-i c = omega (arith, c .before .before .before .before .loop-test .taken, c .before .before .before .before .before .before .before .before .before .pre .3)
+add-i c = omega arith
 
 loop-less : tie.Need-loop-less Inv-loop μ-loop
-loop-less c = omega (arith, c .before .before .before .before .loop-test .taken)
+loop-less c = omega arith
 
 loop-again : tie.Need-loop-again Inv-loop μ-loop
 loop-again c =
     let start = c .before .before .before .before .before .before .before .before .before in
     let walk = c .before .before .before .before .before .loop in
-    let is = key-sizes (start .pre .0) (line-key longest-text (lexicon (start .args .chars .now) (start .args .lengths .now)) (start .args .index .now) (start .pre .1) (walk .i) (omega (arith, c .before .before .before .before .loop-test .taken, start .pre .2))) in
-    tally-step (walk .inv) (c .key-length .result - 1) (omega (arith, c .before .before .before .before .loop-test .taken, start .pre .2)) (omega (arith, c .before .shared-slice-known6 .given (2 + 3 * walk .i + 2))) (omega (arith, c .key-length .ensures, is .short, is .some)) (omega (arith, c .key-length .ensures, is .some))
+    let is = key-sizes (start .pre .0) (line-key longest-text (lexicon (start .args .chars .now) (start .args .lengths .now)) (start .args .index .now) (start .pre .1) (walk .i) (omega arith)) in
+    tally-step (walk .inv) (c .key-length .result - 1) (omega arith) (omega (arith, c .before .shared-slice-known6 .given (2 + 3 * walk .i + 2))) (omega arith) (omega arith)
 
 returns : tie.Need-returns Inv-loop μ-loop
 returns c =
     let start = c .before .before .before .before .before in
-    tally-end (c .before .loop .inv) longest-text (start .pre .1) (good-length (eInt w64) 32 (start .args .counts) _ (start .good .1 .1 .1 .1 .0)) (omega (arith, c .loop-test .left, start .pre .2))
+    tally-end (c .before .loop .inv) longest-text (start .pre .1) (good-length (eInt w64) 32 (start .args .counts) _ (start .good .1 .1 .1 .1 .0)) (omega arith)
 
 pub raised-spec : {M : Type 1} → statement M
 raised-spec =

@@ -25,14 +25,14 @@ raised-requires c κs =
     let a = start .args in
     let read = index-read (a .chars .now) (a .lengths .now) (a .index .now) (λ (i : ℕ). omega (arith, c .before .before .before .shared-slice-known .given i)) (opened-accepted (start .pre) (c .if1 .left)) in
     let lines = opened-keys (start .pre) (c .if1 .left) in
-    (read .is-admitted, read .is-readable, lines, omega (arith, lines, read .fits .has-directory), small-zeros)
+    (read .is-admitted, read .is-readable, lines, omega (arith, lines), small-zeros)
 
 sub-t12 : tie.Need-sub-t12
 sub-t12 c =
     let start = c .before .before .before .before .before in
     let a = start .args in
     let read = index-read (a .chars .now) (a .lengths .now) (a .index .now) (λ (i : ℕ). omega (arith, c .before .before .before .before .shared-slice-known .given i)) (opened-accepted (start .pre) (c .before .if1 .left)) in
-    omega (arith, opened-first (start .pre) (c .before .if1 .left), read .fits .has-directory)
+    omega (arith, opened-first (start .pre) (c .before .if1 .left))
 
 returns-2 : tie.Need-returns-2
 returns-2 c =

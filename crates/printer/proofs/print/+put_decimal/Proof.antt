@@ -57,7 +57,7 @@ put-decimal-put-byte-requires : (t : ℕ) → put-decimal-lts.Need-put-byte-requ
   put-decimal.Post,
 ) (put-decimal-at t) put-decimal.Post
 put-decimal-put-byte-requires t c κs =
-    omega (arith, ap length (decimal-small (c .before .before .before .args .n) (c .before .if1 .taken)), c .before .before .before .pre .1)
+    omega (arith, ap length (decimal-small (c .before .before .before .args .n) (c .before .if1 .taken)))
 
 put-decimal-same-length : (t : ℕ) → put-decimal-lts.Need-same-length (
   put-byte-reads.Asked,
@@ -83,7 +83,7 @@ put-decimal-put-decimal-requires : (t : ℕ) → put-decimal-lts.Need-put-decima
 ) (put-decimal-at t) put-decimal.Post
 put-decimal-put-decimal-requires t c κs =
     let start = c .before .before .before in (
-      omega (arith, start .pre .0),
+      omega arith,
       writing-room (decimal (start .args .n / 10)) ((48 + start .args .n % 10) ∷ [])
           (tenth (start .args .n) (start .args .at) (start .args .out .now) (c .before .if1 .left) (start .pre .1)),
     )

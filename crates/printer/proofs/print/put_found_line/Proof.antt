@@ -4,7 +4,8 @@ use mathlib.Core.List.{_++_}
 use borrow.Author.Needs.{needs}
 use Rattle.basics.specs.Placed.{Writing, writing-start, writing-as, writing-room, writing-step, writing-last}
 use Rattle.spec.specs.JobAnswer.{decimal, found-head, found-line}
-use Rattle.laws.specs.JobSheet.Printing.{listed, found-line-parts}
+use Rattle.models.specs.JobSheet.{listed}
+use Rattle.laws.specs.JobSheet.Printing.{found-line-parts}
 use Rattle.printer.proofs.print.put_found_line.Statement.{statement}
 use Rattle.printer.proofs.print.put_found_line.Tie as tie
 

@@ -5,7 +5,8 @@ use Rattle.basics.specs.Placed.{Writing, writing-start, writing-as, writing-roo
 use Rattle.spec.specs.Words.{key}
 use Rattle.spec.specs.Numbers.{line}
 use Rattle.spec.specs.JobAnswer.{key-name, key-line}
-use Rattle.laws.specs.JobSheet.Printing.{listed, key-line-parts}
+use Rattle.models.specs.JobSheet.{listed}
+use Rattle.laws.specs.JobSheet.Printing.{key-line-parts}
 use Rattle.printer.proofs.print.put_key_line.Statement.{statement}
 use Rattle.printer.proofs.print.put_key_line.Tie as tie
 

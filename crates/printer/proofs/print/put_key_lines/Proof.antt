@@ -15,7 +15,7 @@ abbrev μ-loop : tie.MeasureT-loop
 μ-loop out₀ at numbers keys position₀ end₀ i₀ out position end i = keys-of numbers - i
 
 shared-slice-read-keys : tie.Need-shared-slice-read-keys Inv-loop μ-loop
-shared-slice-read-keys c = omega (arith, c .before .before .before .pre .0 .headed)
+shared-slice-read-keys c = omega arith
 
 cast-keys : tie.Need-cast-keys Inv-loop μ-loop
 cast-keys c = omega (arith, c .shared-slice-known2 .given 1)
@@ -34,46 +34,46 @@ loop-holds c = (
 )
 
 mul-kind : tie.Need-mul-kind Inv-loop μ-loop
-mul-kind c = omega (arith, c .before .loop .inv .1 .exact)
+mul-kind c = omega arith
 
 add-kind : tie.Need-add-kind Inv-loop μ-loop
-add-kind c = omega (arith, c .before .loop .inv .1 .exact)
+add-kind c = omega arith
 
 mul-kind-2 : tie.Need-mul-kind-2 Inv-loop μ-loop
-mul-kind-2 c = omega (arith, c .before .loop .inv .1 .exact)
+mul-kind-2 c = omega arith
 
 shared-slice-read-kind : tie.Need-shared-slice-read-kind Inv-loop μ-loop
-shared-slice-read-kind c = omega (arith, c .before .before .loop .inv .1 .exact)
+shared-slice-read-kind c = omega arith
 
 mul-value : tie.Need-mul-value Inv-loop μ-loop
-mul-value c = omega (arith, c .before .before .loop .inv .1 .exact)
+mul-value c = omega arith
 
 add-value : tie.Need-add-value Inv-loop μ-loop
-add-value c = omega (arith, c .before .before .loop .inv .1 .exact)
+add-value c = omega arith
 
 add-value-2 : tie.Need-add-value-2 Inv-loop μ-loop
-add-value-2 c = omega (arith, c .before .before .loop .inv .1 .exact)
+add-value-2 c = omega arith
 
 mul-value-2 : tie.Need-mul-value-2 Inv-loop μ-loop
-mul-value-2 c = omega (arith, c .before .before .loop .inv .1 .exact)
+mul-value-2 c = omega arith
 
 shared-slice-read-value : tie.Need-shared-slice-read-value Inv-loop μ-loop
-shared-slice-read-value c = omega (arith, c .before .before .before .loop .inv .1 .exact)
+shared-slice-read-value c = omega arith
 
 mul-next : tie.Need-mul-next Inv-loop μ-loop
-mul-next c = omega (arith, c .before .before .before .loop .inv .1 .exact)
+mul-next c = omega arith
 
 add-next : tie.Need-add-next Inv-loop μ-loop
-add-next c = omega (arith, c .before .before .before .loop .inv .1 .exact)
+add-next c = omega arith
 
 add-next-2 : tie.Need-add-next-2 Inv-loop μ-loop
-add-next-2 c = omega (arith, c .before .before .before .loop .inv .1 .exact)
+add-next-2 c = omega arith
 
 mul-next-2 : tie.Need-mul-next-2 Inv-loop μ-loop
-mul-next-2 c = omega (arith, c .before .before .before .loop .inv .1 .exact)
+mul-next-2 c = omega arith
 
 shared-slice-read-next : tie.Need-shared-slice-read-next Inv-loop μ-loop
-shared-slice-read-next c = omega (arith, c .before .before .before .before .loop .inv .1 .exact)
+shared-slice-read-next c = omega arith
 
 cast-next : tie.Need-cast-next Inv-loop μ-loop
 cast-next c = omega (arith, c .shared-slice-known5 .given (2 + 3 * c .before .before .before .before .loop .i + 2))
@@ -98,10 +98,10 @@ put-key-line-requires c κs =
     line-fits (c .before .before .before .before .before .before .loop .inv .2) (c .before .before .before .before .before .loop-test .taken)
 
 add-i : tie.Need-add-i Inv-loop μ-loop
-add-i c = omega (arith, c .before .before .before .before .before .before .before .before .before .loop .inv .1 .exact, c .before .before .before .before .before .before .before .before .loop-test .taken)
+add-i c = omega arith
 
 loop-less : tie.Need-loop-less Inv-loop μ-loop
-loop-less c = omega (arith, c .before .before .before .before .before .before .before .before .loop-test .taken)
+loop-less c = omega arith
 
 loop-again : tie.Need-loop-again Inv-loop μ-loop
 loop-again c = (

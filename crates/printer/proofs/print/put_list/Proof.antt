@@ -3,7 +3,8 @@ use mathlib.Core.List.{_++_}
 use borrow.Author.Needs.{needs}
 use Rattle.basics.specs.Placed.{Writing, writing-start, writing-as, writing-room, writing-step, writing-last}
 use Rattle.spec.specs.JobAnswer.{opening-list, ending-list, spaced}
-use Rattle.laws.specs.JobSheet.Printing.{listed, listed-parts}
+use Rattle.models.specs.JobSheet.{listed}
+use Rattle.laws.specs.JobSheet.Printing.{listed-parts}
 use Rattle.printer.proofs.print.put_list.Statement.{statement}
 use Rattle.printer.proofs.print.put_list.Tie as tie
 

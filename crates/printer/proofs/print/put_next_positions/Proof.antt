@@ -7,7 +7,8 @@ use borrow.Author.Needs.{needs}
 use lib.ListN.{length, getD, drop}
 use Rattle.basics.specs.Placed.{Writing, writing-start, writing-as, writing-room, writing-step, writing-end}
 use Rattle.spec.specs.JobAnswer.{decimal, gap}
-use Rattle.laws.specs.JobSheet.Printing.{each-spaced, each-next, each-end}
+use Rattle.models.specs.JobSheet.{each-spaced}
+use Rattle.laws.specs.JobSheet.Printing.{each-next, each-end}
 use Rattle.printer.proofs.print.put_next_positions.Statement.{statement}
 use Rattle.printer.proofs.print.put_next_positions.Tie as tie
 

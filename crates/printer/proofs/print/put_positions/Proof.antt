@@ -6,7 +6,8 @@ use borrow.Author.Needs.{needs}
 use lib.ListN.{length, getD, take, drop}
 use Rattle.basics.specs.Placed.{Writing, writing-start, writing-as, writing-room, writing-step, writing-end, writing-last}
 use Rattle.spec.specs.JobAnswer.{decimal, spaced}
-use Rattle.laws.specs.JobSheet.Printing.{each-spaced, spaced-none, spaced-some}
+use Rattle.models.specs.JobSheet.{each-spaced}
+use Rattle.laws.specs.JobSheet.Printing.{spaced-none, spaced-some}
 use Rattle.printer.proofs.print.put_positions.Statement.{statement}
 use Rattle.printer.proofs.print.put_positions.Tie as tie
 

@@ -3,8 +3,9 @@ use mathlib.Core.Path.{_∙_}
 use Prim.Native.Nat.{_+_, _-_}
 use native.Mathlib.Omega.{arith}
 use lib.ListN.{take, drop}
+use Rattle.models.specs.Readability.{read-as}
 use Rattle.laws.specs.Readable.LineSteps.{positions-missing, positions-none, positions-there}
-use Rattle.laws.specs.Gaps.ReadLists.{read-as, good-gaps, good-positions, positions-only}
+use Rattle.laws.specs.Gaps.ReadLists.{good-gaps, good-positions, positions-only}
 use borrow.Author.Needs.{needs}
 use Rattle.readability.proofs.readability.line_list_good.Statement.{statement}
 use Rattle.readability.proofs.readability.line_list_good.Tie as tie

@@ -5,8 +5,8 @@ use Prim.Native.Nat.{_+_, _*_, _-_, _≤_}
 use native.Mathlib.Omega.{arith}
 use borrow.Author.Tests.{not-true, not-false}
 use Rattle.spec.specs.Dictionary.{lexicon}
+use Rattle.models.specs.Readability.{read-as}
 use Rattle.laws.specs.Readable.LineSteps.{Lines-read, lines-start, lines-end, lines-raise}
-use Rattle.laws.specs.Gaps.ReadLists.{read-as}
 use Rattle.laws.specs.Readable.LineKinds.{word-stop, word-step}
 use borrow.Author.Needs.{needs}
 use Rattle.readability.proofs.readability.lines_good.Statement.{statement}

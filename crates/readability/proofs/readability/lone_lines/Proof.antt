@@ -3,12 +3,12 @@
 use mathlib.Core.Path.{sym, _∙_}
 use borrow.Author.Tests.{not-true, not-false}
 use lib.ListN.{getD}
+use Rattle.models.specs.Readability.{read-as}
 use Rattle.laws.specs.Readable.LineKinds.{other-stop, low-stop, listed-stop, lone-stop, lone-step}
 use Prim.Native.Nat.{_+_, _*_, _-_}
 use native.Mathlib.Omega.{arith}
 use Rattle.spec.specs.Dictionary.{lexicon}
 use Rattle.laws.specs.Readable.LineSteps.{Lines-read, lines-end}
-use Rattle.laws.specs.Gaps.ReadLists.{read-as}
 use Rattle.laws.specs.Readable.LoneWords.{Passed, passed-start, passed-raise}
 use borrow.Author.Needs.{needs}
 use Rattle.readability.proofs.readability.lone_lines.Statement.{statement}

@@ -5,7 +5,8 @@ use Prim.Native.Nat.{ℕ, _+_, _*_}
 use native.Mathlib.Omega.{arith}
 use Rattle.spec.specs.Dictionary.{longest-text, lexicon}
 use Rattle.spec.specs.Index.{header}
-use Rattle.laws.specs.Gaps.ReadLists.{read-as, read-keeps, header-missing, directory-missing, walk-tells}
+use Rattle.models.specs.Readability.{read-as}
+use Rattle.laws.specs.Gaps.ReadLists.{read-keeps, header-missing, directory-missing, walk-tells}
 use borrow.Author.Needs.{needs}
 use Rattle.readability.proofs.readability.readable.Statement.{statement}
 use Rattle.readability.proofs.readability.readable.Tie as tie

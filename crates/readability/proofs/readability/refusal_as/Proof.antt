@@ -5,8 +5,8 @@ use native.Mathlib.Omega.{arith}
 use borrow.Author.Tests.{not-true, not-false}
 use Rattle.spec.specs.Dictionary.{dictionary-refusal}
 use Rattle.spec.specs.Gaps.{with-lists}
+use Rattle.models.specs.Readability.{read-as}
 use Rattle.laws.specs.Readable.KeyTests.{dictionary-read}
-use Rattle.laws.specs.Gaps.ReadLists.{read-as}
 use Rattle.laws.specs.Readable.IndexRefusal.{refuses-dictionary, refuses-unreadable, accepts-index}
 use borrow.Author.Needs.{needs}
 use Rattle.readability.proofs.readability.refusal_as.Statement.{statement}

@@ -2,7 +2,7 @@
 use mathlib.Core.Path.{_∙_}
 use native.Mathlib.Omega.{arith}
 use lib.ListN.{drop}
-use Rattle.laws.specs.Gaps.ReadLists.{read-as}
+use Rattle.models.specs.Readability.{read-as}
 use Rattle.laws.specs.Readable.KeyTests.{word-low, word-high, word-fits}
 use borrow.Author.Needs.{needs}
 use Rattle.readability.proofs.readability.word_line_good.Statement.{statement}

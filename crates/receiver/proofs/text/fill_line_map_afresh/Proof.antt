@@ -1,7 +1,7 @@
 -- `fill_line_map_afresh` meets its contract: the slice is cleared before the line map is filled. Assumes nothing.
 use mathlib.Core.Path.{ap, _∙_}
 use Rattle.spec.specs.Index.{lines-in}
-use Rattle.laws.specs.Receive.LineMapFill.{fill-line-map}
+use Rattle.models.specs.Reception.{fill-line-map}
 use borrow.Author.Needs.{needs}
 use Rattle.receiver.proofs.text.fill_line_map_afresh.Statement.{statement}
 use Rattle.receiver.proofs.text.fill_line_map_afresh.Tie as tie

@@ -3,7 +3,7 @@ use mathlib.Core.Path.{_≡_, ap, _∙_}
 use Prim.Native.Nat.{_*_, _-_}
 use lib.ListN.{length, take, drop}
 use Rattle.spec.specs.Index.{lines-in}
-use Rattle.laws.specs.Receive.LineMapFill.{fill-line-map}
+use Rattle.models.specs.Reception.{fill-line-map}
 use Rattle.laws.specs.Receive.WorkParts.{behind-long, behind-front, behind-put, zeros-are}
 use borrow.Author.Needs.{needs}
 use Rattle.receiver.proofs.text.fill_line_map_behind.Statement.{statement}

@@ -4,8 +4,8 @@ use Prim.Native.Nat.{_+_, _*_, _-_}
 use native.Mathlib.Omega.{arith}
 use borrow.Author.Needs.{needs}
 use lib.ListN.{getD}
+use Rattle.models.specs.Reception.{fill-line-map}
 use Rattle.laws.specs.Receive.LinePass.{lies-room, passing-lies}
-use Rattle.laws.specs.Receive.LineMapFill.{fill-line-map}
 use Rattle.laws.specs.Receive.LineMapWalk.{Filling-lines, mapping-start, mapping-room, mapping-step, mapping-end}
 use Rattle.reconstruction.proofs.line_map.fill_line_map.Statement.{statement}
 use Rattle.reconstruction.proofs.line_map.fill_line_map.Tie as tie

@@ -14,13 +14,13 @@ abbrev μ-loop : tie.MeasureT-loop
 μ-loop chars lengths index word-starts string word-lines limit stride sum₀ at₀ sum at = length string - at
 
 add-stride : tie.Need-add-stride Inv-loop μ-loop
-add-stride c = omega (arith, c .before .before .before .before .before .pre .3 .short)
+add-stride c = omega arith
 
 estimate-words-requires : tie.Need-estimate-words-requires Inv-loop μ-loop
 estimate-words-requires c κs = let s = c .before .before .before .before .before in (s .pre .0, s .pre .1, s .pre .2, s .pre .3, s .pre .3 .some)
 
 loop-holds : tie.Need-loop-holds Inv-loop μ-loop
-loop-holds c = let s = c .before .before .before .before .before .before in (omega arith, omega (arith, s .pre .3 .short), omega arith, omega (arith, c .estimate-words .ensures))
+loop-holds c = let s = c .before .before .before .before .before .before in (omega arith, omega arith, omega arith, omega arith)
 
 returns : tie.Need-returns Inv-loop μ-loop
 returns c = tt
@@ -42,13 +42,13 @@ add-sum c =
     let l = c .before .before .before .loop in
     let stride = 1 + length (s .args .string .now) / 32 in
     let times : stride * c .count-keys .result ≤ 9 * 562949953486847 = mul-le-mul {n₂ = 9} {m₂ = 562949953486847} (l .inv .1) (c .count-keys .ensures) in
-    omega (arith, times, l .inv .3)
+    omega (arith, times)
 
 add-at : tie.Need-add-at Inv-loop μ-loop
-add-at c = let l = c .before .before .before .loop in omega (arith, l .inv .1, l .inv .2)
+add-at c = let l = c .before .before .before .loop in omega arith
 
 loop-less : tie.Need-loop-less Inv-loop μ-loop
-loop-less c = let l = c .before .before .before .loop in omega (arith, l .inv .0, c .before .before .loop-test .taken)
+loop-less c = let l = c .before .before .before .loop in omega arith
 
 loop-again : tie.Need-loop-again Inv-loop μ-loop
 loop-again c =
@@ -59,8 +59,8 @@ loop-again c =
     let limit : l .sum ≤ s .args .limit = c .before .if1 .left in (
       l .inv .0,
       l .inv .1,
-      omega (arith, l .inv .1, c .before .before .loop-test .taken, s .pre .3 .short),
-      omega (arith, times, limit, s .pre .4),
+      omega arith,
+      omega (arith, times, limit),
     )
 
 returns-2 : tie.Need-returns-2 Inv-loop μ-loop

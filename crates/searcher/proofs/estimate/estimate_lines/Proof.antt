@@ -18,22 +18,22 @@ estimate-line-requires : tie.Need-estimate-line-requires Inv-loop μ-loop
 estimate-line-requires c κs =
     let s = c .before .before .before .before in
     let below = c .loop-test .taken in
-    (omega (arith, s .pre .1), s .pre .3 (c .before .loop .line) below, omega (arith, s .pre .2))
+    (omega arith, s .pre .3 (c .before .loop .line) below, omega arith)
 
 add-sum : tie.Need-add-sum Inv-loop μ-loop
-add-sum c = omega (arith, c .estimate-line .ensures, c .before .before .loop .inv .1, c .before .before .loop .inv .0, c .before .before .before .before .before .pre .2)
+add-sum c = omega arith
 
 add-line : tie.Need-add-line Inv-loop μ-loop
-add-line c = omega (arith, c .before .before .loop .inv .0, c .before .before .before .before .before .pre .2)
+add-line c = omega arith
 
 loop-less : tie.Need-loop-less Inv-loop μ-loop
-loop-less c = omega (arith, c .before .loop-test .taken)
+loop-less c = omega arith
 
 loop-again : tie.Need-loop-again Inv-loop μ-loop
-loop-again c = (omega (arith, c .before .loop-test .taken), omega (arith, c .estimate-line .ensures, c .before .before .loop .inv .1))
+loop-again c = (omega arith, omega arith)
 
 returns : tie.Need-returns Inv-loop μ-loop
-returns c = omega (arith, c .before .loop .inv .1, c .before .loop .inv .0, c .before .before .before .before .pre .2)
+returns c = omega arith
 
 pub estimate-lines-spec : {M : Type 1} → statement M
 estimate-lines-spec =

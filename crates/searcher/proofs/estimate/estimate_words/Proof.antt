@@ -16,7 +16,7 @@ abbrev μ-loop : tie.MeasureT-loop
 μ-loop chars lengths index word-starts string key-start word-lines whole left sum₀ low₀ high₀ depth₀ sum low high depth = (high - low) + (32 - depth)
 
 sub-left : tie.Need-sub-left Inv-loop μ-loop
-sub-left c = omega (arith, c .before .before .before .before .before .pre .4)
+sub-left c = omega arith
 
 loop-holds : tie.Need-loop-holds Inv-loop μ-loop
 loop-holds c =
@@ -29,22 +29,22 @@ estimate-lines-requires c κs =
     let a = s .args in
     let l = c .before .before .loop in (
       l .inv .1 .order,
-      omega (arith, l .inv .1 .within, s .pre .2 .within, s .pre .0 .fits .has-directory),
-      omega (arith, l .inv .1 .within, s .pre .2 .within, s .pre .0 .keys-small),
-      λ i below. words-at (s .pre .0) (s .pre .2) i (omega (arith, l .inv .1 .within)),
+      omega arith,
+      omega arith,
+      λ i below. words-at (s .pre .0) (s .pre .2) i (omega arith),
     )
 
 add-result : tie.Need-add-result Inv-loop μ-loop
 add-result c =
     let s = c .before .before .before .before .before .before .before .before .before in
     let a = s .args in
-    let l = c .before .before .before .loop in omega (arith, c .estimate-lines .ensures, l .inv .0, l .inv .1 .order, l .inv .1 .within, s .pre .2 .within, s .pre .0 .keys-small)
+    let l = c .before .before .before .loop in omega arith
 
 returns : tie.Need-returns Inv-loop μ-loop
 returns c =
     let s = c .before .before .before .before .before .before .before .before .before in
     let a = s .args in
-    let l = c .before .before .before .loop in omega (arith, c .estimate-lines .ensures, l .inv .0, l .inv .1 .order, l .inv .1 .within, s .pre .2 .within, s .pre .0 .keys-small)
+    let l = c .before .before .before .loop in omega arith
 
 word-length-requires : tie.Need-word-length-requires Inv-loop μ-loop
 word-length-requires c κs =
@@ -52,7 +52,7 @@ word-length-requires c κs =
     let a = s .args in
     let l = c .before .before .loop in
     let below = c .before .loop-test .taken in
-    (omega (arith, below, l .inv .1 .within, s .pre .2 .within, s .pre .0 .fits .has-directory), shared-word (s .pre .0) (s .pre .2) (s .pre .1) (l .inv .1) (l .low) (omega arith) below)
+    (omega (arith, below), shared-word (s .pre .0) (s .pre .2) (s .pre .1) (l .inv .1) (l .low) (omega arith) below)
 
 estimate-line-requires : tie.Need-estimate-line-requires Inv-loop μ-loop
 estimate-line-requires c κs =
@@ -60,41 +60,41 @@ estimate-line-requires c κs =
     let a = s .args in
     let l = c .before .before .before .before .loop in
     let below = c .before .before .before .loop-test .taken in (
-      omega (arith, below, l .inv .1 .within, s .pre .2 .within, s .pre .0 .fits .has-directory),
+      omega (arith, below),
       shared-word (s .pre .0) (s .pre .2) (s .pre .1) (l .inv .1) (l .low) (omega arith) below,
-      omega (arith, below, l .inv .1 .within, s .pre .2 .within, s .pre .0 .keys-small),
+      omega (arith, below),
     )
 
 add-sum : tie.Need-add-sum Inv-loop μ-loop
 add-sum c =
     let s = c .before .before .before .before .before .before .before .before .before .before .before in
     let a = s .args in
-    let l = c .before .before .before .before .before .loop in omega (arith, c .estimate-line .ensures, l .inv .0, l .inv .1 .order, l .inv .1 .within, s .pre .2 .within, s .pre .0 .keys-small)
+    let l = c .before .before .before .before .before .loop in omega arith
 
 add-low : tie.Need-add-low Inv-loop μ-loop
 add-low c =
     let s = c .before .before .before .before .before .before .before .before .before .before .before in
     let a = s .args in
-    let l = c .before .before .before .before .before .loop in omega (arith, l .inv .1 .order, l .inv .1 .within, s .pre .2 .within, s .pre .0 .keys-small)
+    let l = c .before .before .before .before .before .loop in omega arith
 
 loop-less : tie.Need-loop-less Inv-loop μ-loop
-loop-less c = omega (arith, c .before .before .before .before .loop-test .taken)
+loop-less c = omega arith
 
 loop-again : tie.Need-loop-again Inv-loop μ-loop
 loop-again c =
     let s = c .before .before .before .before .before .before .before .before .before .before .before in
     let a = s .args in
     let l = c .before .before .before .before .before .loop in
-    (omega (arith, c .estimate-line .ensures, l .inv .0), shared-prefix-next (s .pre .0) (s .pre .2) (s .pre .1) (l .inv .1) (c .before .before .before .before .loop-test .taken))
+    (omega arith, shared-prefix-next (s .pre .0) (s .pre .2) (s .pre .1) (l .inv .1) (c .before .before .before .before .loop-test .taken))
 
 add-character : tie.Need-add-character Inv-loop μ-loop
-add-character c = omega (arith, c .before .before .if1 .left, c .before .before .before .before .before .before .before .before .before .before .pre .3 .short)
+add-character c = omega arith
 
 mul-character : tie.Need-mul-character Inv-loop μ-loop
-mul-character c = omega (arith, c .before .before .if1 .left, c .before .before .before .before .before .before .before .before .before .before .pre .3 .short)
+mul-character c = omega arith
 
 shared-slice-read-character : tie.Need-shared-slice-read-character Inv-loop μ-loop
-shared-slice-read-character c = omega (arith, c .before .before .before .if1 .left)
+shared-slice-read-character c = omega arith
 
 equal-range-requires : tie.Need-equal-range-requires Inv-loop μ-loop
 equal-range-requires c κs =
@@ -104,30 +104,30 @@ equal-range-requires c κs =
     shared-prefix-column (s .pre .0) (s .pre .2) (s .pre .1) (l .inv .1) (c .before .before .before .before .loop-test .taken) (λ e. c .before .if2 .left (c .before .before .word-length .ensures ∙ e))
 
 add-depth : tie.Need-add-depth Inv-loop μ-loop
-add-depth c = omega (arith, c .before .before .before .before .if1 .left, c .before .before .before .before .before .before .before .before .before .before .before .before .pre .3 .short)
+add-depth c = omega arith
 
 loop-less-2 : tie.Need-loop-less-2 Inv-loop μ-loop
 loop-less-2 c =
     let s = c .before .before .before .before .before .before .before .before .before .before .before .before in
     let a = s .args in
     let l = c .before .before .before .before .before .before .loop in
-    omega (arith, shared-deep (s .pre .0) (s .pre .2) (s .pre .1) (l .inv .1) (c .before .before .before .before .before .loop-test .taken) (λ e. c .before .before .if2 .left (c .before .before .before .word-length .ensures ∙ e)), c .before .before .before .before .before .loop-test .taken, c .equal-range .ensures .0 .from, c .equal-range .ensures .1 .to)
+    omega (arith, shared-deep (s .pre .0) (s .pre .2) (s .pre .1) (l .inv .1) (c .before .before .before .before .before .loop-test .taken) (λ e. c .before .before .if2 .left (c .before .before .before .word-length .ensures ∙ e)))
 
 loop-again-2 : tie.Need-loop-again-2 Inv-loop μ-loop
 loop-again-2 c =
     let s = c .before .before .before .before .before .before .before .before .before .before .before .before in
     let a = s .args in
     let l = c .before .before .before .before .before .before .loop in (
-      omega (arith, l .inv .0, c .equal-range .ensures .0 .from),
+      omega arith,
       shared-prefix-deeper (s .pre .0) (s .pre .2) (s .pre .1) (l .inv .1) (c .before .before .before .before .before .loop-test .taken) (λ e. c .before .before .if2 .left (c .before .before .before .word-length .ensures ∙ e))
-          refl (omega (arith, c .before .before .before .before .if1 .left)) (c .equal-range .ensures .0) (c .equal-range .ensures .1),
+          refl (omega arith) (c .equal-range .ensures .0) (c .equal-range .ensures .1),
     )
 
 returns-2 : tie.Need-returns-2 Inv-loop μ-loop
 returns-2 c =
     let s = c .before .before .before .before .before .before .before in
     let a = s .args in
-    let l = c .before .loop in omega (arith, l .inv .0, l .inv .1 .order, l .inv .1 .within, s .pre .2 .within, s .pre .0 .keys-small)
+    let l = c .before .loop in omega arith
 
 pub estimate-words-spec : {M : Type 1} → statement M
 estimate-words-spec =

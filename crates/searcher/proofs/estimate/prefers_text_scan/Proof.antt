@@ -41,7 +41,7 @@ cost-exceeds-requires c κs =
       s .pre .1,
       split-found (s .pre .0) (c .count-word-lines .ensures),
       s .pre .2,
-      omega (arith, s .pre .0 .n-small),
+      omega arith,
     )
 
 returns-2 : tie.Need-returns-2

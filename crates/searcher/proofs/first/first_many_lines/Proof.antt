@@ -11,7 +11,7 @@ slice-aggregate-first-filled c = search needs
 first-filled-requires : tie.Need-first-filled-requires
 first-filled-requires c κs =
     let s = c .before .before .before .before .before in
-    (s .pre .0, s .pre .1, s .pre .2, cleared-room 65536 (s .args .keys) (omega (arith, s .pre .1, s .pre .0 .keys-small)))
+    (s .pre .0, s .pre .1, s .pre .2, cleared-room 65536 (s .args .keys) (omega arith))
 
 returns : tie.Need-returns
 returns c = search needs

@@ -45,25 +45,20 @@ first-lines-requires c κs =
     (sym (s .pre .0) ∙ none) in (
       can,
       s .pre .1 ∙ accepted-yes (a .refusal) (keys-of (a .index .now)) 0 none,
-      record { some = omega (arith, c .before .if2 .left); short = c .if3 .left },
+      record { some = omega arith; short = c .if3 .left },
     )
 
 cast-position : tie.Need-cast-position
 cast-position c =
     let a = c .before .before .before .before .before .before .before .before .args in
-    omega (
-      arith,
-      c .first-lines .ensures,
-      first-position-small (lexicon (a .chars .now) (a .lengths .now)) (a .index .now) (replaced (a .string .now)),
-      c .before .before .before .before .before .shared-slice-known3 .given 0,
-    )
+    omega (arith, first-position-small (lexicon (a .chars .now) (a .lengths .now)) (a .index .now) (replaced (a .string .now)), c .before .before .before .before .before .shared-slice-known3 .given 0)
 
 returns-4 : tie.Need-returns-4
 returns-4 c =
     let s = c .before .before .before .before .before .before .before .before in
     let a = s .args in
     first-says (a .chars .now) (a .lengths .now) (a .index .now) (a .string .now) (record { refusal = 0; position = c .first-lines .result })
-    (sym (s .pre .0) ∙ c .before .before .before .if1 .left) (record { some = omega (arith, c .before .before .if2 .left); short = c .before .if3 .left }) refl
+    (sym (s .pre .0) ∙ c .before .before .before .if1 .left) (record { some = omega arith; short = c .before .if3 .left }) refl
     (c .first-lines .ensures)
 
 pub first-opened-spec : {M : Type 1} → statement M

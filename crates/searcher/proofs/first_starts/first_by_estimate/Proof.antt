@@ -11,7 +11,7 @@ slice-aggregate-first-by-text-in c = search needs
 first-by-text-in-requires : tie.Need-first-by-text-in-requires
 first-by-text-in-requires c κs =
     let s = c .before .before .before .before .before .before .before in
-    (s .pre .0, s .pre .1, cleared-room 65536 (s .args .starts) (omega (arith, s .pre .2)), s .pre .3)
+    (s .pre .0, s .pre .1, cleared-room 65536 (s .args .starts) (omega arith), s .pre .3)
 
 returns : tie.Need-returns
 returns c = search needs

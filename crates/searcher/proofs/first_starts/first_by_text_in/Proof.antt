@@ -19,7 +19,7 @@ slice-aggregate-first-by-text c =
 first-by-text-requires : tie.Need-first-by-text-requires
 first-by-text-requires c κs =
     let s = c .before .before .before .before .before .before .before .before in
-    (s .pre .0, s .pre .1, omega (arith, s .pre .3, length-take-le (s .args .starts) (s .args .room .now) (s .pre .2)))
+    (s .pre .0, s .pre .1, omega (arith, length-take-le (s .args .starts) (s .args .room .now) (s .pre .2)))
 
 same-length : tie.Need-same-length
 same-length c = search needs

@@ -25,7 +25,7 @@ first-in-window-requires c κs =
       s .pre .1,
       s .pre .2,
       s .pre .3,
-      omega (arith, s .pre .4, length-take-le (a .starts) (a .reach .now) (s .pre .5)),
+      omega (arith, length-take-le (a .starts) (a .reach .now) (s .pre .5)),
       cleared-part (length (a .reach .now)) (a .starts) (a .reach .now) (s .pre .6) (s .pre .5),
     )
 

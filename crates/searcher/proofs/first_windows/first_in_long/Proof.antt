@@ -11,7 +11,7 @@ slice-aggregate-first-in-lent c = search needs
 first-in-lent-requires : tie.Need-first-in-lent-requires
 first-in-lent-requires c κs =
     let s = c .before .before .before .before .before .before .before .before in
-    (s .pre .0, s .pre .1, s .pre .2, s .pre .3, s .pre .4, cleared-room 65536 (s .args .starts) (omega (arith, s .pre .4)), cleared-whole 65536)
+    (s .pre .0, s .pre .1, s .pre .2, s .pre .3, s .pre .4, cleared-room 65536 (s .args .starts) (omega arith), cleared-whole 65536)
 
 returns : tie.Need-returns
 returns c = search needs

@@ -11,7 +11,7 @@ slice-aggregate-search-filled c = search needs
 search-filled-requires : tie.Need-search-filled-requires
 search-filled-requires c κs =
     let s = c .before .before .before .before .before .before .before in
-    (s .pre .0, s .pre .1, s .pre .2, cleared-room 65536 (s .args .keys) (omega (arith, s .pre .1, s .pre .0 .keys-small)))
+    (s .pre .0, s .pre .1, s .pre .2, cleared-room 65536 (s .args .keys) (omega arith))
 
 same-length : tie.Need-same-length
 same-length c = search needs

@@ -43,7 +43,7 @@ search-lines-requires c κs =
     (sym (s .pre .0) ∙ none) in (
       can,
       s .pre .1 ∙ accepted-yes (a .refusal) (keys-of (a .index .now)) 0 none,
-      record { some = omega (arith, c .before .before .if2 .left); short = c .before .if3 .left },
+      record { some = omega arith; short = c .before .if3 .left },
     )
 
 same-length : tie.Need-same-length
@@ -55,7 +55,7 @@ returns-4 c =
     let a = s .args in
     let searched = c .before .before .search-lines in
     search-says (a .chars .now) (a .lengths .now) (a .index .now) (a .string .now) (searched .result) (a .output .now)
-    (sym (s .pre .0) ∙ c .before .before .before .before .before .before .if1 .left) (record { some = omega (arith, c .before .before .before .before .before .if2 .left); short = c .before .before .before .before .if3 .left })
+    (sym (s .pre .0) ∙ c .before .before .before .before .before .before .if1 .left) (record { some = omega arith; short = c .before .before .before .before .if3 .left })
     (searched .last .1 .1 .1 .1 .1 .0) (searched .ensures)
 
 pub search-opened-spec : {M : Type 1} → statement M

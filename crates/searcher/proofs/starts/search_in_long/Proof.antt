@@ -11,7 +11,7 @@ slice-aggregate-search-lent c = search needs
 search-lent-requires : tie.Need-search-lent-requires
 search-lent-requires c κs =
     let s = c .before .before .before .before .before .before .before .before .before in
-    (s .pre .0, s .pre .1, s .pre .2, cleared-room 65536 (s .args .starts) (omega (arith, s .pre .2)), cleared-whole 65536)
+    (s .pre .0, s .pre .1, s .pre .2, cleared-room 65536 (s .args .starts) (omega arith), cleared-whole 65536)
 
 same-length : tie.Need-same-length
 same-length c = search needs

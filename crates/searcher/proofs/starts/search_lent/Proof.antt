@@ -22,7 +22,7 @@ search-cleared-requires c κs =
     let a = s .args in (
       s .pre .0,
       s .pre .1,
-      omega (arith, s .pre .2, length-take-le (a .starts) (a .reach .now) (s .pre .3)),
+      omega (arith, length-take-le (a .starts) (a .reach .now) (s .pre .3)),
       cleared-part (length (a .reach .now)) (a .starts) (a .reach .now) (s .pre .4) (s .pre .3),
     )
 

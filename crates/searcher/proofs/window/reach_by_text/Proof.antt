@@ -12,7 +12,7 @@ slice-aggregate-reach-in-front c = search needs
 reach-in-front-requires : tie.Need-reach-in-front-requires
 reach-in-front-requires c κs =
     let s = c .before .before .before .before .before .before .before .before in
-    (s .pre .0, s .pre .1, s .pre .2, cleared-room 65536 (n-of (s .args .index .now)) (omega (arith, s .pre .0 .n-small)), s .pre .3)
+    (s .pre .0, s .pre .1, s .pre .2, cleared-room 65536 (n-of (s .args .index .now)) (omega arith), s .pre .3)
 
 same-length : tie.Need-same-length
 same-length c = search needs

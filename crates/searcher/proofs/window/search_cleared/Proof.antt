@@ -36,7 +36,7 @@ search-window-requires c κs =
     let told = c .before .before .before .before .before .reach-if-cheaper in (
       s .pre .0,
       s .pre .1,
-      omega (arith, s .pre .2, told .kept .1 .1 .1 .1 .1 .0),
+      omega arith,
       still-clear (a .reach .now) (told .last .1 .1 .1 .1 .1 .0) (told .ensures .1 (c .before .before .if1 .left)) (s .pre .3),
     )
 

@@ -1,43 +1,16 @@
--- The algorithms of the builder and of the search as functions, and the theorems about them. Each statement is a type; its proof is in
--- the crate `laws`. Assumes nothing.
-use mathlib.Core.Path.{_≡_}
-use mathlib.Core.Bool.{true, cond}
+-- The search for one start, as a function: the reach, extended key by key; and what is claimed of it. Assumes nothing.
+use mathlib.Core.Bool.{cond}
 use mathlib.Core.List.{List, [], _∷_}
-use Prim.Native.Nat.{ℕ, zero, suc, _+_, _-_, _≤_, max}
-use lib.Dec.{ltb, leb, eqb}
+use mathlib.Core.Path.{_≡_}
+use Prim.Native.Nat.{max, suc, zero, ℕ, _+_, _-_}
+use lib.Dec.{eqb, leb}
 use lib.ListN.{length}
-use Rattle.basics.specs.Member.{In}
-use Rattle.spec.specs.Dictionary.{Lexicon, is-text, lexicon, admitted}
-use Rattle.spec.specs.Words.{spells, Entry, complete, entries}
-use Rattle.spec.specs.Numbers.{sorted, Line, lines-of, numbers, index-of}
+use Rattle.spec.specs.Dictionary.{Lexicon}
+use Rattle.spec.specs.Numbers.{Line}
 use Rattle.spec.specs.Search.{agrees, all-covered}
+use Rattle.spec.specs.Words.{spells}
 
--- THE BUILDER: the one-pass scan of source 000's figure 1, given the longest entry at each position
-
--- from p on: the entry at p is registered if it ends after the last end, which its end then becomes
-unfoldable pub scan : (longest : ℕ → Entry) (left p last : ℕ) → List Entry
-scan longest zero p last = []
-scan longest (suc n) p last =
-    cond (ltb last (p + longest p .len)) (longest p ∷ scan longest n (suc p) (p + longest p .len)) (scan longest n (suc p) last)
-
--- the longest entry at p of the complete index
-pub record Longest-entry (lex : Lexicon) (ts : List ℕ) (p : ℕ) (e : Entry) : Type 0 where
-  pub member : In e (complete lex ts)
-  pub here : e .at ≡ p
-  pub longest : (f : Entry) → In f (complete lex ts) → f .at ≡ p → f .len ≤ e .len
-
--- The scan registers exactly the entries of the complete maximal word index, and the index is these entries inverted: posting lists by
--- key.
-unfoldable pub Scan-builds : (g : ℕ) → Type 0
-Scan-builds g =
-    (cs ls ts : List ℕ) → admitted cs ls ≡ true → is-text g ts ≡ true → (longest : ℕ → Entry) →
-    ((p : ℕ) → 1 ≤ p → p ≤ length ts → Longest-entry (lexicon cs ls) ts p (longest p)) →
-    ((e : Entry) → In e (scan longest (length ts) 1 1) → In e (entries (lexicon cs ls) ts))
-    × ((e : Entry) → In e (entries (lexicon cs ls) ts) → In e (scan longest (length ts) 1 1))
-    × (numbers (length ts) (lines-of (sorted (scan longest (length ts) 1 1))) ≡ index-of (lexicon cs ls) ts)
-
--- THE SEARCH: the reach of a string laid at p is the length of its covered prefix. An offset is two starts, of the string (i) and of the
--- key (o), one of them 0.
+-- An offset is two starts, of the string (i) and of the key (o), one of them 0.
 
 -- an entry at b of a key of this length: if it is at this offset and the reach comes to the key's start, it extends the reach to the
 -- key's end

@@ -1,0 +1,13 @@
+-- Models: the list functions that loops are proved to compute, and what is claimed of the two algorithms.
+pub mod Entries
+pub mod Scan
+pub mod Reach
+pub mod MatchTable
+pub mod Inversion
+pub mod Readability
+pub mod Reception
+pub mod Window
+pub mod Tally
+pub mod Gaps
+pub mod JobSheet
+pub mod Examples
