@@ -89,7 +89,8 @@ pub record Threaded (links : List ℕ) (head : ℕ) : Type 0 where
   pub chained : Chained links head (chain links head)
   pub within : (p : ℕ) → In p (chain links head) → p ≤ length links
 
-pub threaded : (links : List ℕ) (h : ℕ) (ps : List ℕ) → Chained links h ps → length ps ≤ length links → ((p : ℕ) → In p ps → p ≤ length links) → Threaded links h
+pub threaded : (links : List ℕ) (h : ℕ) (ps : List ℕ) → Chained links h ps → length ps ≤ length links →
+    ((p : ℕ) → In p ps → p ≤ length links) → Threaded links h
 threaded links h ps c b w =
     let is : chain links h ≡ ps = chain-is (length links) links h ps c b in
     record { chained = rw is c; within = rw is w }

@@ -15,8 +15,7 @@ use Rattle.spec.specs.Replaced.{replaced}
 use Rattle.spec.specs.Dictionary.{Lexicon, lexicon, dictionary-refusal, admitted}
 use Rattle.spec.specs.Numbers.{numbers, index-of}
 use Rattle.spec.specs.Calls.{text-too-long, work-short, output-short, or-else, build-refusal, in-front, Puts}
-use Rattle.models.specs.Inversion.{inverted}
-use Rattle.models.specs.Inversion.{token-numbers}
+use Rattle.models.specs.Inversion.{inverted, token-numbers}
 use Rattle.laws.specs.Text.Facts.{Chars, Good-lexicon}
 use Rattle.laws.specs.Text.WidthFolding.{length-replaced, replaced-chars}
 use Rattle.laws.specs.Text.Chars.{all-chars-put}

@@ -10,8 +10,7 @@ use Rattle.basics.specs.Bools.{le-or-lt}
 use Rattle.basics.specs.Chain.{chain, chain-none, chained-some}
 use Rattle.basics.specs.Writing.{over, Writing, starts, appends, written}
 use Rattle.spec.specs.Numbers.{Line, line, directory, all-positions}
-use Rattle.models.specs.Inversion.{code-key, lines-from}
-use Rattle.models.specs.Inversion.{line-numbers, line-positions}
+use Rattle.models.specs.Inversion.{code-key, lines-from, line-numbers, line-positions}
 use Rattle.laws.specs.Build.PostingLists.{lines-some, lines-skip}
 use Rattle.laws.specs.Build.Pages.{Paged}
 use Rattle.laws.specs.Build.PostingChains.{Threads, lines-at}
@@ -132,7 +131,8 @@ module _ {give : List Line → List ℕ} {each : Line → List ℕ} (by : Line-b
         at + length (each (line (code-key code) (chain links (getD heads code 0)))) ≤ length now
     listing-room threads b =
         let w = listing-line threads b in
-        omega (arith, length-append (each (line (code-key code) (chain links (getD heads code 0)))) (give (lines-at heads links (code + 1))))
+        omega (arith, length-append (each (line (code-key code) (chain links (getD heads code 0))))
+            (give (lines-at heads links (code + 1))))
 
     pub listing-step :
         Threads heads links → code < length heads → {next : ℕ} → Next heads (code + 1) next → (xs later : List ℕ) →

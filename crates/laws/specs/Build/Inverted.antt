@@ -17,7 +17,8 @@ use Rattle.laws.specs.Numbers.KeyOrder.{entry-before-strict}
 use Rattle.laws.specs.Entries.EntryPositions.{Positions-rise, positions-rise-in}
 use Rattle.laws.specs.Entries.Longest.{make-index-exact, make-index-get, make-index-put}
 use Rattle.laws.specs.Numbers.Lines.{lines-unique}
-use Rattle.laws.specs.Numbers.Sorted.{differ-apart, in-sorted-get, in-sorted-put, length-sorted, sorted-ascends, sorted-entries-ascend}
+use Rattle.laws.specs.Numbers.Sorted.{differ-apart, in-sorted-get, in-sorted-put, length-sorted, sorted-ascends}
+use Rattle.laws.specs.Numbers.Sorted.{sorted-entries-ascend}
 use Rattle.laws.specs.Readable.IndexOf.{lines-in-index, index-lines-good, in-index-get, in-index-put}
 
 -- of two entries at different positions, one comes before the other

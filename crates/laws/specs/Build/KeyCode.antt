@@ -1,13 +1,12 @@
 -- One number for a key: the word number, or 4,096 + the character. Codes in order are keys in order. Assumes nothing.
 use mathlib.Core.Path.{_≡_, refl}
-use mathlib.Core.Bool.{true, cond}
+use mathlib.Core.Bool.{true}
 use mathlib.Core.Logic.{inl, inr, ⊎-elim}
 use Prim.Native.Nat.{ℕ, suc, _+_, _-_, _≤_, _<_}
 use native.Mathlib.Omega.{arith}
-use lib.Dec.{ltb, eqb}
 use borrow.Author.Tests.{lt-ltb, le-ltb, eq-eqb, ne-eqb}
 use Rattle.basics.specs.Bools.{le-or-lt}
-use Rattle.spec.specs.Words.{Key, key}
+use Rattle.spec.specs.Words.{key}
 use Rattle.spec.specs.Numbers.{key-before}
 use Rattle.models.specs.Inversion.{coded, code-key}
 use Rattle.laws.specs.Numbers.KeyOrder.{key-before-put}

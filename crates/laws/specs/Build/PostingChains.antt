@@ -13,7 +13,8 @@ use Rattle.basics.specs.Chain.{Chained, chained-elsewhere, chained-more, chain,
 use Rattle.spec.specs.Numbers.{Line}
 use Rattle.models.specs.Inversion.{coded, lines-from, holds, postings, inverted-after}
 use Rattle.laws.specs.Build.PostingLists.{lines-alike}
-use Rattle.laws.specs.Build.PostingsByKey.{those-short, postings-end, postings-here, postings-not-here, postings-range, Counted, counted-start, counted-passed, counted-new, counted-more}
+use Rattle.laws.specs.Build.PostingsByKey.{those-short, postings-end, postings-here, postings-not-here, postings-range, Counted}
+use Rattle.laws.specs.Build.PostingsByKey.{counted-start, counted-passed, counted-new, counted-more}
 use Rattle.laws.specs.Build.Pages.{No-heads, Paged, paged-start, paged-chained}
 
 -- THE STATE BETWEEN TWO POSITIONS

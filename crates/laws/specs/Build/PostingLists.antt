@@ -9,8 +9,7 @@ use lib.ListN.{length, length-append}
 use Rattle.basics.specs.Bools.{le-or-lt}
 use Rattle.basics.specs.Member.{In}
 use Rattle.spec.specs.Numbers.{key-before, Line, line, all-positions}
-use Rattle.models.specs.Inversion.{code-key}
-use Rattle.models.specs.Inversion.{with-positions, lines-from}
+use Rattle.models.specs.Inversion.{code-key, with-positions, lines-from}
 use Rattle.laws.specs.Text.Facts.{Keys-rise}
 use Rattle.laws.specs.Build.KeyCode.{code-key-before}
 

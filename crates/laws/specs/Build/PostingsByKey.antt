@@ -4,14 +4,12 @@ use mathlib.Core.Bool.{Bool, true, false, cond}
 use mathlib.Core.List.{List, [], _∷_}
 use Prim.Native.Nat.{ℕ, zero, suc, _+_, _-_, _≤_, _<_}
 use native.Mathlib.Omega.{arith}
-use lib.Dec.{eqb}
 use lib.ListN.{length, getD}
 use borrow.Author.Tests.{eq-eqb, ne-eqb}
 use Rattle.basics.specs.Member.{In}
 use Rattle.basics.specs.Steps.{those-from, those-from-get}
 use Rattle.spec.specs.Numbers.{Line, all-positions}
-use Rattle.models.specs.Inversion.{coded, lines-from}
-use Rattle.models.specs.Inversion.{holds, postings, inverted-after}
+use Rattle.models.specs.Inversion.{coded, holds, postings, inverted-after}
 use Rattle.laws.specs.Build.PostingLists.{lines-empty, lines-alike, Grown, lines-grow}
 
 -- THE POSITIONS OF A CODE

@@ -3,7 +3,7 @@
 use mathlib.Core.Path.{_≡_, refl, sym, ap, _∙_}
 use mathlib.Core.Logic.{_⊎_, inl, inr, ⊎-elim}
 use mathlib.Core.List.{List, [], _∷_, _++_, append-assoc, append-nil}
-use Prim.Native.Nat.{ℕ, suc, _+_, _*_, _-_, _≤_, _<_}
+use Prim.Native.Nat.{ℕ, suc, _+_, _-_, _≤_, _<_}
 use native.Mathlib.Nat.{sub-zero}
 use native.Mathlib.Numerals.{add-one}
 use native.Mathlib.Omega.{arith}
@@ -157,7 +157,8 @@ token-entry-more lex p (x ∷ ms) [] m h = absurd (omega arith)
 token-entry-more lex p (x ∷ ms) (t ∷ ts) m h =
     let there : suc p + length ms ≡ p + suc (length ms) = omega arith in
     rw (token-entry-more lex (suc p) ms ts m (omega arith), there)
-    (sym (append-assoc (token-entry lex p x t) (entries-of-tokens lex (suc p) ms ts) (token-entry lex (p + suc (length ms)) m (getD ts (length ms) 0))))
+    (sym (append-assoc (token-entry lex p x t) (entries-of-tokens lex (suc p) ms ts)
+        (token-entry lex (p + suc (length ms)) m (getD ts (length ms) 0))))
 
 -- The first i tokens are in the work slice, whose rest is unchanged; their entries and those that the scan will register from there on
 -- make up the index.
@@ -187,13 +188,15 @@ module _ (lex : Lexicon) (ts old : List ℕ) (room : length ts ≤ length old) w
     scanning-tokens-room below = omega arith
 
     pub scanning-tokens-step :
-        {token : ℕ} (end : ℕ) → i < length ts → Stepped lex ts (i + 1) (e + 1) token (end + 1) → Scanning lex ts old (set work i token) (i + 1) end
+        {token : ℕ} (end : ℕ) → i < length ts → Stepped lex ts (i + 1) (e + 1) token (end + 1) →
+            Scanning lex ts old (set work i token) (i + 1) end
     scanning-tokens-step {token} end below s =
         record {
           within = omega arith;
           end = omega arith;
           size = length-set work i token ∙ h .size;
-          rest = drop-set-lt (i + 1) work i token (omega arith) ∙ sym (drop-drop 1 i work) ∙ ap (λ (l : List ℕ). drop 1 l) (h .rest) ∙ drop-drop 1 i old;
+          rest = drop-set-lt (i + 1) work i token (omega arith) ∙ sym (drop-drop 1 i work) ∙ ap (λ (l : List ℕ). drop 1 l) (h .rest) ∙
+              drop-drop 1 i old;
           known = λ q m b z. known q m b z (le-or-lt i q);
           exact = exact;
         }
@@ -229,7 +232,8 @@ module _ (lex : Lexicon) (ts old : List ℕ) (room : length ts ≤ length old) w
         left = omega arith
 
         exact :
-            entries-of-tokens lex 1 (take (i + 1) (set work i token)) ts ++ scan (longest-at lex ts) (length ts - (i + 1)) (i + 1 + 1) (end + 1)
+            entries-of-tokens lex 1 (take (i + 1) (set work i token)) ts ++
+                scan (longest-at lex ts) (length ts - (i + 1)) (i + 1 + 1) (end + 1)
             ≡ make-index lex ts
         exact =
             rw (more, add-one (i + 1))

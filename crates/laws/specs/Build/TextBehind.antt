@@ -8,7 +8,8 @@ use lib.ListN.{length, take, drop, set, length-drop}
 use lib.Seq.{drop-drop, length-take-le}
 use Rattle.spec.specs.Dictionary.{Lexicon}
 use Rattle.laws.specs.Build.Tokens.{Tokens}
-use Rattle.laws.specs.Build.ScanTokens.{Stepped, Scanning, scanning-tokens-start, scanning-tokens-step, scanning-tokens-end, scanning-tokens-rest}
+use Rattle.laws.specs.Build.ScanTokens.{Stepped, Scanning, scanning-tokens-start, scanning-tokens-step, scanning-tokens-end}
+use Rattle.laws.specs.Build.ScanTokens.{scanning-tokens-rest}
 
 module _ (lex : Lexicon) (old : List ℕ) (n : ℕ) (room : 2 * n ≤ length old) where
   len : length (take n (drop n old)) ≡ n

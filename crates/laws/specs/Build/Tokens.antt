@@ -1,14 +1,11 @@
 -- The tokens that the builder's scan writes, one number for each position: 0 if nothing is registered there, i + 1 for word i, 4,097 for
 -- the lone character. Assumes nothing.
 use mathlib.Core.Path.{_≡_}
-use mathlib.Core.Bool.{cond}
 use mathlib.Core.Logic.{_⊎_}
-use mathlib.Core.List.{List, [], _∷_, _++_}
-use Prim.Native.Nat.{ℕ, zero, suc, _<_}
-use lib.Dec.{eqb}
+use mathlib.Core.List.{List}
+use Prim.Native.Nat.{ℕ, suc, _<_}
 use lib.ListN.{length, getD}
 use Rattle.spec.specs.Dictionary.{Lexicon}
-use Rattle.spec.specs.Words.{key, Entry, entry}
 use Rattle.models.specs.Scan.{make-index}
 use Rattle.models.specs.Inversion.{entries-of-tokens}
 

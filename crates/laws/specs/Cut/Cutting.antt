@@ -1,15 +1,15 @@
 -- The walks that write the cut-down index: header, directory, positions. Assumes nothing.
 use mathlib.Core.Path.{_≡_, refl, sym, ap, _∙_, subst}
 use mathlib.Core.Bool.{true, false}
-use mathlib.Core.List.{List, [], _∷_, _++_}
-use Prim.Native.Nat.{ℕ, zero, _+_, _*_, _-_, _≤_, _<_}
+use mathlib.Core.List.{List, _∷_, _++_}
+use Prim.Native.Nat.{ℕ, _+_, _*_, _-_, _≤_, _<_}
 use native.Mathlib.Numerals.{add-one}
 use native.Mathlib.Omega.{arith}
 use lib.ListN.{length, getD, take, drop, set, length-append, drop-of-length-le}
 use lib.Seq.{drop-cons}
 use Rattle.spec.specs.Dictionary.{Lexicon}
 use Rattle.spec.specs.Words.{key}
-use Rattle.spec.specs.Numbers.{Line, line, directory, all-positions, numbers}
+use Rattle.spec.specs.Numbers.{line, directory, all-positions, numbers}
 use Rattle.spec.specs.Index.{header, n-of, keys-of, kind-at, value-at, count-at, counts-from, lines-in}
 use Rattle.spec.specs.Cut.{bearing, cut-down}
 use Rattle.spec.specs.Calls.{in-front}

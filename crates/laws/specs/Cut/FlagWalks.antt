@@ -18,7 +18,8 @@ use Rattle.laws.specs.Directory.Tables.{Can-read, key-some}
 use Rattle.laws.specs.Window.LineRanges.{Split, lone-single}
 use Rattle.laws.specs.Search.Sizing.{Is-string}
 use Rattle.laws.specs.Cut.ExactFlags.{bears-at, Exact-flags}
-use Rattle.laws.specs.Cut.Flagging.{Ones, ones-one, Flags, Flagging, Flagged, flagging-start, flagging-on, flagging-ones, flagged-kept}
+use Rattle.laws.specs.Cut.Flagging.{Ones, ones-one, Flags, Flagging, Flagged, flagging-start, flagging-on, flagging-ones}
+use Rattle.laws.specs.Cut.Flagging.{flagged-kept}
 
 -- ONE KEY AT THE OFFSETS BELOW 0
 
@@ -58,7 +59,8 @@ module _ (lex : Lexicon) (xs s : List ℕ) where
   offsets-start {fs} h = record { way = flagging-start lex xs s h; done = λ q b. absurd (omega arith) }
 
   pub offsets-next :
-      {old fs : List ℕ} (now : List ℕ) {o : ℕ} → Offsets old fs o → Flagging lex xs s fs now × Flagged lex xs s 0 o 0 (keys-of xs) now → Offsets old now (o + 1)
+      {old fs : List ℕ} (now : List ℕ) {o : ℕ} → Offsets old fs o → Flagging lex xs s fs now × Flagged lex xs s 0 o 0 (keys-of xs) now →
+          Offsets old now (o + 1)
   offsets-next {old} {fs} now {o} h next =
       record {
         way = flagging-on lex xs s (h .way) (next .0);
@@ -126,8 +128,7 @@ module _
         (λ (p : i < w).
         omega (
           arith,
-          backs .done (a - b) (omega arith) i (omega arith) p
-              (agrees-put s (a - b) (key i) 0 (agree-move (a - b) 0 (omega arith) h)),
+          backs .done (a - b) (omega arith) i (omega arith) p (agrees-put s (a - b) (key i) 0 (agree-move (a - b) 0 (omega arith) h)),
           offsets .way .kept i below,
         ))
         (le-or-lt w i)

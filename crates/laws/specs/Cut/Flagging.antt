@@ -186,8 +186,7 @@ module _ (lex : Lexicon) (xs s : List ℕ) where
         ((i : ℕ) → a ≤ i → i < b → (i ≡ r → ⊥) → agrees s 0 (spells lex (key-at xs i)) o ≡ false) →
         Flagging fs (set fs r 1) × Flagged 0 o a b (set fs r 1)
     flagged-one r below agree others = (
-      flagging-ones h one
-          (λ i x y. let e : i ≡ r = omega arith in ap (bears-at lex xs s) e ∙ agrees-bears-at 0 o r agree),
+      flagging-ones h one (λ i x y. let e : i ≡ r = omega arith in ap (bears-at lex xs s) e ∙ agrees-bears-at 0 o r agree),
       λ i x y t. at i x y t (eqb i r) refl,
     )
       where

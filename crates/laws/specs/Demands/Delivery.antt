@@ -21,7 +21,9 @@ use Rattle.spec.specs.Cut.{cut-down}
 use Rattle.spec.specs.Theorems.{Query}
 use Rattle.spec.specs.FurtherTheorems.{Text-of, Exactly-positions, First-stands, Serves, Demand-three}
 use Rattle.spec.specs.Calls.{Cut-says}
-use Rattle.spec.specs.RefusalTable.{Written, Untouched, Unreadable, String-wrong, Work-short, Output-short, Recovery-short, No-text, Row, row, Meets, Accepts, Refuses, Decides, dictionary-rows, index-rows, reception-rows, recovery-rows, string-rows, find-rows}
+use Rattle.spec.specs.RefusalTable.{Written, Untouched, Unreadable, String-wrong, Work-short, Output-short, Recovery-short, No-text, Row}
+use Rattle.spec.specs.RefusalTable.{row, Meets, Accepts, Refuses, Decides, dictionary-rows, index-rows, reception-rows, recovery-rows}
+use Rattle.spec.specs.RefusalTable.{string-rows, find-rows}
 use Rattle.spec.specs.Demands.{Received-for, Recovered-for, Found-for, First-for, Cut-for, Delivered}
 use Rattle.laws.specs.Receive.Received.{received-reads}
 use Rattle.laws.specs.Demands.Theorems.{demand-three}
@@ -101,7 +103,8 @@ module _ (cs ls : List ℕ) (adm : admitted cs ls ≡ true) where
 
   -- with enough output they meet no line of search or cut
   none-find :
-      (xs : List ℕ) {s : List ℕ} (result o : List ℕ) → readable longest-text (lexicon cs ls) xs ≡ true → Query s → length result ≤ length o →
+      (xs : List ℕ) {s : List ℕ} (result o : List ℕ) → readable longest-text (lexicon cs ls) xs ≡ true → Query s →
+          length result ≤ length o →
       None-met (find-rows cs ls xs s result o)
   none-find xs {s} result o can q room =
       none-both (string-rows cs ls xs s) (row 8 (Output-short result o) ∷ []) (none-string xs can q)
@@ -176,7 +179,8 @@ module _ (cs ls : List ℕ) (adm : admitted cs ls ≡ true) where
 
     -- numbers equal to the cut-down index give its answers
     cut-found :
-        {s : List ℕ} (ys : List ℕ) → Query s → ys ≡ cut-down (lexicon cs ls) xs (replaced s) → Found-for cs ls ys ts s × First-for cs ls ys ts s
+        {s : List ℕ} (ys : List ℕ) → Query s → ys ≡ cut-down (lexicon cs ls) xs (replaced s) → Found-for cs ls ys ts s ×
+            First-for cs ls ys ts s
     cut-found {s} ys q e =
         let cut = cut-down (lexicon cs ls) xs (replaced s) in
         subst (λ (zs : List ℕ). Found-for cs ls zs ts s × First-for cs ls zs ts s) (sym e) (

@@ -22,18 +22,19 @@ use Rattle.spec.specs.First.{first-position}
 use Rattle.spec.specs.Cut.{cut-down}
 use Rattle.spec.specs.Tally.{tally}
 use Rattle.spec.specs.Gaps.{gap-form, restored}
-use Rattle.spec.specs.Calls.{output-short, zeros, Answers, in-front, Puts, build-refusal, index-refusal, reception-refusal, recovery-refusal, string-refusal, find-refusal, Admit-says, Build-says, Receive-says, Recover-says, Search-says, Cut-says, First-says, Tally-says}
-use Rattle.spec.specs.RefusalTable.{Written, Untouched, Cleared, Output-short, Row, row, Meets, Decides, dictionary-rows, build-rows, index-rows, reception-rows, recovery-rows, string-rows, find-rows}
-use Rattle.spec.specs.Calls.{gaps-refusal, To-gaps-says, From-gaps-says}
-use Rattle.spec.specs.RefusalTable.{gaps-rows}
+use Rattle.spec.specs.Calls.{output-short, zeros, Answers, in-front, Puts, build-refusal, index-refusal, reception-refusal}
+use Rattle.spec.specs.Calls.{recovery-refusal, string-refusal, find-refusal, Admit-says, Build-says, Receive-says, Recover-says}
+use Rattle.spec.specs.Calls.{Search-says, Cut-says, First-says, Tally-says, gaps-refusal, To-gaps-says, From-gaps-says}
+use Rattle.spec.specs.RefusalTable.{Written, Untouched, Cleared, Output-short, Row, row, Meets, Decides, dictionary-rows, build-rows}
+use Rattle.spec.specs.RefusalTable.{index-rows, reception-rows, recovery-rows, string-rows, find-rows, gaps-rows}
 use Rattle.spec.specs.ProgramDemand.{Answered}
 use Rattle.spec.specs.Demands.{First-demand}
 use Rattle.spec.specs.JobAnswer.{job-answer, Job-says}
 use Rattle.laws.specs.Dictionary.Answering.{accepted-yes, accepted-no}
 use Rattle.laws.specs.Readable.Recover.{length-recovered}
 use Rattle.laws.specs.Demands.RefusalRows.{First, Numbered, decides, output-first, dictionary-first, dictionary-numbered, build-first}
-use Rattle.laws.specs.Demands.RefusalRows.{index-first, index-numbered, reception-first, recovery-first, string-first, string-numbered}
-use Rattle.laws.specs.Demands.RefusalRows.{find-first, gaps-first}
+use Rattle.laws.specs.Demands.RefusalRows.{index-first, index-numbered, reception-first, recovery-first, string-first}
+use Rattle.laws.specs.Demands.RefusalRows.{string-numbered, find-first, gaps-first}
 use Rattle.laws.specs.Demands.ProgramRows.{prints, prints-only}
 
 -- WHAT COMES BACK

@@ -19,7 +19,8 @@ use Rattle.spec.specs.First.{first-of, first-position, index-to}
 use Rattle.spec.specs.Cut.{cut-down}
 use Rattle.spec.specs.FurtherTheorems.{Cut-any}
 use Rattle.spec.specs.Calls.{output-short, string-refusal, find-refusal, Answers, Puts, Search-says, Cut-says, First-says}
-use Rattle.spec.specs.RefusalTable.{Written, Untouched, Unreadable, String-wrong, Output-short, row, Meets, Accepts, Refuses, dictionary-rows, index-rows, string-rows, find-rows}
+use Rattle.spec.specs.RefusalTable.{Written, Untouched, Unreadable, String-wrong, Output-short, row, Meets, Accepts, Refuses}
+use Rattle.spec.specs.RefusalTable.{dictionary-rows, index-rows, string-rows, find-rows}
 use Rattle.spec.specs.FirstTheorems.{Same-to, First-calls}
 use Rattle.laws.specs.Dictionary.Answering.{or-else-some, or-else-none}
 use Rattle.laws.specs.Text.WidthFolding.{length-replaced}

@@ -10,7 +10,8 @@ use lib.ListN.{length}
 use borrow.Author.Tests.{le-leb, leb-true, not-false}
 use Rattle.basics.specs.Bools.{Reflects, clash, true-or-false, at-most, not-get, and-put, and-left, and-right}
 use Rattle.spec.specs.Dictionary.{lexicon}
-use Rattle.spec.specs.JobSheet.{word-head, lines, words-on, text-on, finds-on, in-form, in-counts, run-together, lengths-of, sheet-too-long, sheet-wrong, contents-refusal, sheet-refusal}
+use Rattle.spec.specs.JobSheet.{word-head, lines, words-on, text-on, finds-on, in-form, in-counts, run-together, lengths-of, sheet-too-long}
+use Rattle.spec.specs.JobSheet.{sheet-wrong, contents-refusal, sheet-refusal}
 use Rattle.spec.specs.JobAnswer.{answer-lines, refused-line, lexicon-on, printed, job-answer}
 use Rattle.spec.specs.SheetForms.{Sheet-of, Within-counts}
 use Rattle.spec.specs.RefusalTable.{Too-large, Accepts, Refuses}
@@ -96,7 +97,8 @@ module _ (s : List ℕ) where
 
   long-prints : sheet-too-long s ≡ true → Refused-long s (job-answer s)
   long-prints t =
-      record { met = reflects-long .holds t; printed = answer-refused 10 (sheet-long s (reflects-long .holds t)) (λ (e : 10 ≡ 0). omega arith) }
+      record { met = reflects-long .holds t; printed = answer-refused 10 (sheet-long s (reflects-long .holds t))
+          (λ (e : 10 ≡ 0). omega arith) }
 
   broken-prints : sheet-too-long s ≡ false → sheet-wrong s ≡ true → Refused-broken s (job-answer s)
   broken-prints f t =
@@ -162,7 +164,8 @@ module _ (s : List ℕ) where
     parts-only : answer ≡ job-answer s
     parts-only =
         ⊎-elim
-        (λ (a : Accepts (parts-rows (h .words) (h .finds)) (h .number) (answer ≡ answer-lines (lexicon (run-together (h .words)) (lengths-of (h .words))) (h .text) (h .finds))).
+        (λ (a : Accepts (parts-rows (h .words) (h .finds)) (h .number)
+            (answer ≡ answer-lines (lexicon (run-together (h .words)) (lengths-of (h .words))) (h .text) (h .finds))).
         a .result ∙ sym (answer-accepted (h .number) number-is (a .number) ∙ lines-are))
         (λ (r : Refuses (parts-rows (h .words) (h .finds)) (h .number) (answer ≡ refused-line (h .number))).
         r .result ∙ sym (answer-refused (h .number) number-is (r .number)))

@@ -15,20 +15,21 @@ use Rattle.spec.specs.Dictionary.{admitted}
 use Rattle.spec.specs.Numbers.{index-of}
 use Rattle.spec.specs.Index.{n-of}
 use Rattle.spec.specs.Reception.{recovered, received}
-use Rattle.spec.specs.Calls.{text-too-long, unreadable, string-wrong, work-short, output-short, no-text, or-else, build-refusal, index-refusal, reception-refusal, recovery-refusal, string-refusal, find-refusal}
-use Rattle.spec.specs.Calls.{gaps-refusal}
+use Rattle.spec.specs.Calls.{text-too-long, unreadable, string-wrong, work-short, output-short, no-text, or-else, build-refusal}
+use Rattle.spec.specs.Calls.{index-refusal, reception-refusal, recovery-refusal, string-refusal, find-refusal, gaps-refusal}
 use Rattle.spec.specs.JobSheet.{run-together, lengths-of, some-string-wrong, contents-refusal}
 use Rattle.spec.specs.FurtherTheorems.{Demand-three}
 use Rattle.spec.specs.RefusalTable.{Too-large, Lengths-wrong, Disordered, Unreplaced, Text-too-long, Unreadable, String-wrong, Work-short}
-use Rattle.spec.specs.RefusalTable.{Output-short, Recovery-short, No-text, Has-text, Row, row, Meets, First-met, Accepts, Refuses}
-use Rattle.spec.specs.RefusalTable.{Decides, dictionary-rows, build-rows, index-rows, reception-rows, recovery-rows, string-rows}
-use Rattle.spec.specs.RefusalTable.{find-rows, gaps-rows}
+use Rattle.spec.specs.RefusalTable.{Output-short, Recovery-short, No-text, Has-text, Row, row, Meets, First-met, Accepts, Refuses, Decides}
+use Rattle.spec.specs.RefusalTable.{dictionary-rows, build-rows, index-rows, reception-rows, recovery-rows, string-rows, find-rows}
+use Rattle.spec.specs.RefusalTable.{gaps-rows}
 use Rattle.spec.specs.ProgramDemand.{parts-rows}
 use Rattle.laws.specs.Dictionary.Answering.{or-else-some, or-else-none}
 use Rattle.laws.specs.Readable.IndexRefusal.{index-accepted}
 use Rattle.laws.specs.Demands.Theorems.{demand-three}
-use Rattle.laws.specs.Demands.Reflects.{reflects-lt, reflects-too-large, reflects-lengths-wrong, reflects-disordered, reflects-unreplaced}
-use Rattle.laws.specs.Demands.Reflects.{reflects-text, reflects-unreadable, reflects-string, reflects-finds, reflects-work, reflects-output}
+use Rattle.laws.specs.Demands.Reflects.{reflects-lt, reflects-too-large, reflects-lengths-wrong, reflects-disordered}
+use Rattle.laws.specs.Demands.Reflects.{reflects-unreplaced, reflects-text, reflects-unreadable, reflects-string, reflects-finds}
+use Rattle.laws.specs.Demands.Reflects.{reflects-work, reflects-output}
 
 -- ROWS IN ORDER
 
@@ -247,7 +248,8 @@ module _ (cs ls xs : List ℕ) (chars : all-chars cs ≡ true) where
   unfolding recovery-refusal reception-refusal
   recovery-first o w =
       subst (First (recovery-rows cs ls xs o w))
-      (sym (regroup (index-refusal cs ls xs) (work-short (n-of xs) (length w)) (no-text (lexicon cs ls) xs) (output-short (n-of xs) (length o))))
+      (sym (regroup (index-refusal cs ls xs) (work-short (n-of xs) (length w)) (no-text (lexicon cs ls) xs)
+          (output-short (n-of xs) (length o))))
       (first-then (index-rows cs ls xs) _ (index-numbered cs ls xs) _ _ (index-first cs ls xs)
       (λ a.
       first-cond 7 (Work-short (n-of xs) w) (work-short (n-of xs) (length w)) _ _ (reflects-work (n-of xs) w)

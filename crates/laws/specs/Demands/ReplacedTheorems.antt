@@ -10,8 +10,8 @@ use lib.ListN.{length}
 use borrow.Author.Tests.{eqb-true}
 use Rattle.basics.specs.Bools.{false-put, iff-eq, and-right}
 use Rattle.spec.specs.Replaced.{is-full-width, replaced, holds-full-width}
-use Rattle.spec.specs.Dictionary.{Lexicon, words-from, lexicon, total, too-large, lengths-good, lengths-wrong, disordered}
-use Rattle.spec.specs.Dictionary.{some-full-width, unreplaced, dictionary-refusal, admitted}
+use Rattle.spec.specs.Dictionary.{Lexicon, words-from, lexicon, total, too-large, lengths-good, lengths-wrong, disordered, some-full-width}
+use Rattle.spec.specs.Dictionary.{unreplaced, dictionary-refusal, admitted}
 use Rattle.spec.specs.Words.{Key, key, spells}
 use Rattle.spec.specs.Numbers.{index-of}
 use Rattle.spec.specs.Index.{readable}

@@ -16,7 +16,8 @@ use Rattle.spec.specs.Search.{string-start, key-start, agrees-at, offset, find}
 use Rattle.spec.specs.First.{first-position}
 use Rattle.spec.specs.Cut.{cut-down}
 use Rattle.spec.specs.Theorems.{positions, Query, Received-exactly, One-text, Search-exact, Cut-same, Recovers, Tally-sums}
-use Rattle.spec.specs.FurtherTheorems.{Among, Accounts, Received-by-count, Only-readable, Text-of, Exactly-positions, First-stands, Serves, Demand-three, Cut-any, Fewer-find-less, Bears-by-offset}
+use Rattle.spec.specs.FurtherTheorems.{Among, Accounts, Received-by-count, Only-readable, Text-of, Exactly-positions, First-stands, Serves}
+use Rattle.spec.specs.FurtherTheorems.{Demand-three, Cut-any, Fewer-find-less, Bears-by-offset}
 use Rattle.laws.specs.Text.Strings.{stands-get, stands-put}
 use Rattle.laws.specs.Text.Facts.{Good-lexicon}
 use Rattle.laws.specs.Text.WidthFolding.{plain-get, length-replaced}
@@ -35,8 +36,8 @@ use Rattle.laws.specs.Cut.Readable.{n-of-cut, lines-in-cut, cut-readable
 use Rattle.laws.specs.First.Positions.{first-heads-find, first-stands}
 use Rattle.laws.specs.Receive.ReceptionTest.{counted-index, index-taken, is-index-all, is-index-count}
 use Rattle.laws.specs.Receive.Received.{Is-index, is-index-get, Received, received-get, received-put, received-reads, readable-chars}
-use Rattle.laws.specs.Receive.Received.{readable-small, index-recovered, index-can-read, is-index-received, is-index-recovered, index-find}
-use Rattle.laws.specs.Receive.Received.{index-injective}
+use Rattle.laws.specs.Receive.Received.{readable-small, index-recovered, index-can-read, is-index-received, is-index-recovered}
+use Rattle.laws.specs.Receive.Received.{index-find, index-injective}
 
 -- THE SECOND DEMAND
 

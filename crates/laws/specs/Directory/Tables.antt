@@ -14,7 +14,8 @@ use Rattle.basics.specs.Member.{In}
 use Rattle.spec.specs.Dictionary.{longest-text, lexicon, total, ascend}
 use Rattle.spec.specs.Words.{key, spells}
 use Rattle.spec.specs.Numbers.{Line, line}
-use Rattle.spec.specs.Index.{header, n-of, keys-of, kind-at, value-at, count-at, key-at, counts-from, lines-in, kinds-good, keys-ascend, lines-good, lengths-fit, readable}
+use Rattle.spec.specs.Index.{header, n-of, keys-of, kind-at, value-at, count-at, key-at, counts-from, lines-in, kinds-good, keys-ascend}
+use Rattle.spec.specs.Index.{lines-good, lengths-fit, readable}
 use Rattle.spec.specs.Calls.{index-refusal}
 use Rattle.models.specs.Window.{list-start}
 use Rattle.laws.specs.Text.Facts.{Good-lexicon, Is-key, Good-line, Good-lines}

@@ -8,13 +8,15 @@ use native.Mathlib.Nat.{zero-add, add-zero}
 use native.Mathlib.Omega.{arith}
 use lib.ListN.{length, getD}
 use Rattle.basics.specs.Bools.{clash, false-put, le-or-lt}
-use Rattle.basics.specs.Member.{In, in-append-left, in-append-right, in-append-get, in-cond-get, in-cond-here, in-cond-there, in-skip-get, in-skip-here, in-skip-there}
+use Rattle.basics.specs.Member.{In, in-append-left, in-append-right, in-append-get, in-cond-get, in-cond-here, in-cond-there, in-skip-get}
+use Rattle.basics.specs.Member.{in-skip-here, in-skip-there}
 use Rattle.spec.specs.Dictionary.{Lexicon}
 use Rattle.spec.specs.Words.{Key, key, is-word, spells, stands, Entry, entry, key-entries, word-entries, lone-entries, complete}
 use Rattle.laws.specs.Text.Strings.{Stand, stands-get, stands-put}
 use Rattle.laws.specs.Text.Overlaps.{stand-char, stand-at}
 use Rattle.laws.specs.Text.Facts.{key-eq, entry-eq, Chars, Good-lexicon, Is-entry}
-use Rattle.laws.specs.Dictionary.Keys.{Is-word-key, Is-lone-key, key-kinds, word-is-key, lone-is-key, spells-word, spells-lone, is-word-get, is-word-put, spells-some}
+use Rattle.laws.specs.Dictionary.Keys.{Is-word-key, Is-lone-key, key-kinds, word-is-key, lone-is-key, spells-word, spells-lone}
+use Rattle.laws.specs.Dictionary.Keys.{is-word-get, is-word-put, spells-some}
 
 -- ENTRIES OF ONE KEY
 

@@ -12,7 +12,6 @@ use Rattle.basics.specs.Bools.{clash, and-put, and-left, and-right, le-or-lt}
 use Rattle.basics.specs.Member.{In}
 use Rattle.spec.specs.Dictionary.{Lexicon}
 use Rattle.spec.specs.Words.{key, Entry, entry, complete, entries}
-use Rattle.models.specs.Scan.{scan}
 use Rattle.models.specs.Entries.{longest-of, longest-at}
 use Rattle.models.specs.Scan.{make-index}
 use Rattle.laws.specs.Text.Facts.{Chars, Good-lexicon, Is-maximal}

@@ -2,7 +2,7 @@
 -- nothing.
 use mathlib.Core.Path.{_≡_, refl, sym, ap, _∙_}
 use mathlib.Core.Bool.{Bool, true, false, cond}
-use mathlib.Core.Logic.{_⊎_, inl, inr, ⊎-elim}
+use mathlib.Core.Logic.{inl, inr, ⊎-elim}
 use mathlib.Core.List.{List, [], _∷_}
 use Prim.Native.Nat.{ℕ, suc, _≤_}
 use native.Mathlib.Omega.{arith}
@@ -68,7 +68,8 @@ module _ (q : ℕ) where
       ⊎-elim
       (λ (h : (eqb (length (positions-to q (l .positions))) 0 ≡ false) × (m ≡ line-to l)).
       let unmet = eqb-false (length (positions-to q (l .positions))) 0 (h .0) in
-      let some : 1 ≤ length (positions-to q (l .positions)) = at-most (length (positions-to q (l .positions))) 1 (λ few. unmet (omega arith)) in
+      let some : 1 ≤ length (positions-to q (l .positions)) = at-most (length (positions-to q (l .positions))) 1
+          (λ few. unmet (omega arith)) in
       (rw (h .1) some, (l, inl refl, h .1)))
       (λ (h : In m (lines-to q ls)).
       let later = lines-to-get ls m h in (later .0, (later .1 .0, inr (later .1 .1), later .1 .2)))

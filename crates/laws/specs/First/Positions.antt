@@ -112,7 +112,6 @@ module _ (lex : Lexicon) (xs ys s : List ℕ) (p : ℕ) (some : 1 ≤ p) (same :
           omega (
             arith,
             is,
-            first-heads-find lex xs s .least a
-                (found-there lex ys xs s (p + length s - 1) (omega arith) (same .back) a (omega arith) m),
+            first-heads-find lex xs s .least a (found-there lex ys xs s (p + length s - 1) (omega arith) (same .back) a (omega arith) m),
           ))
           (le-or-lt p a)

@@ -3,7 +3,7 @@
 use mathlib.Core.Path.{_≡_, refl, sym, ap, _∙_}
 use mathlib.Core.Bool.{Bool, true, false}
 use mathlib.Core.List.{List, [], _∷_, _++_, append-nil}
-use Prim.Native.Nat.{ℕ, suc, _+_, _*_, _-_, _≤_, _<_}
+use Prim.Native.Nat.{ℕ, suc, _+_, _*_, _≤_, _<_}
 use native.Mathlib.Omega.{arith}
 use lib.ListN.{length, getD, take, drop, replicate, length-append, length-drop, drop-of-length-le}
 use lib.Seq.{drop-drop, take-at, drop-at, length-take-le}
@@ -13,12 +13,10 @@ use Rattle.spec.specs.Dictionary.{total}
 use Rattle.spec.specs.Numbers.{Line}
 use Rattle.spec.specs.Index.{header, keys-of, count-at, counts-from, entries-of, lines-in}
 use Rattle.spec.specs.Gaps.{gaps-after, gaps, prefix-sums, lists-from, with-lists}
-use Rattle.models.specs.Gaps.{by-pairs, first-apart, carry, masks, masked-sums}
-use Rattle.models.specs.Gaps.{pair-as, first-as}
+use Rattle.models.specs.Gaps.{by-pairs, first-apart, carry, masks, masked-sums, pair-as, first-as}
 use Rattle.laws.specs.Numbers.Slices.{Fits}
 use Rattle.laws.specs.Gaps.WithLists.{Keeps-length, length-lists, length-with}
-use Rattle.laws.specs.Gaps.GapWriting.{length-pairs, gaps-pairs, gaps-apart, lists-alike}
-use Rattle.laws.specs.Gaps.GapWriting.{Firsts, first-room, list-room}
+use Rattle.laws.specs.Gaps.GapWriting.{length-pairs, gaps-pairs, gaps-apart, lists-alike, Firsts, first-room, list-room}
 use Rattle.laws.specs.Gaps.GapSums.{masked-lists, carry-pairs}
 
 -- WHAT IS WRITTEN, by the direction: gaps of positions, or positions of gaps
@@ -93,7 +91,8 @@ module _ {xs : List ℕ} (fits : Fits xs) (keys : ℕ) (is : keys ≡ keys-of xs
     pub masks-long : length ms ≡ length (lent-tail (2 + 3 * keys) xs)
     masks-long =
         ap length masked
-        ∙ length-lists (first-apart (first-as true) (pair-as true)) (length-apart (first-as true) (pair-as true)) (keys-of xs) 0 xs positions
+        ∙ length-lists (first-apart (first-as true) (pair-as true)) (length-apart (first-as true) (pair-as true))
+            (keys-of xs) 0 xs positions
         ∙ ap length (sym positions-lent)
 
 -- THE WHOLE: the directory copied, and the lists written after it
@@ -122,7 +121,8 @@ module _ (f : List ℕ → List ℕ) (keeps : Keeps-length f) {xs : List ℕ} (f
               ∙ length-append (take first xs) (drop (length (take first xs)) old)
               ∙ omega (arith, length-drop (length (take first xs)) old, front-long, even, is);
           room =
-              omega (arith, length-lists f keeps (keys-of xs) 0 xs (drop (header + 3 * keys-of xs) xs), length-drop (header + 3 * keys-of xs) xs, even, is);
+              omega (arith, length-lists f keeps (keys-of xs) 0 xs (drop (header + 3 * keys-of xs) xs),
+                  length-drop (header + 3 * keys-of xs) xs, even, is);
         }
 
     pub part-long : length (lent-tail first now) ≡ length (drop (header + 3 * keys-of xs) xs)

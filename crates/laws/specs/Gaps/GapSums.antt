@@ -13,9 +13,8 @@ use Rattle.basics.specs.Member.{In}
 use Rattle.spec.specs.Dictionary.{total}
 use Rattle.spec.specs.Numbers.{Line, line}
 use Rattle.spec.specs.Index.{count-at, key-at, counts-from, lines-from}
-use Rattle.spec.specs.Gaps.{sums-after, gaps, prefix-sums, lists-from}
-use Rattle.models.specs.Gaps.{by-pairs, first-apart}
-use Rattle.models.specs.Gaps.{carry, masked-sums, masks}
+use Rattle.spec.specs.Gaps.{sums-after, prefix-sums, lists-from}
+use Rattle.models.specs.Gaps.{by-pairs, first-apart, carry, masked-sums, masks}
 
 -- SUMS THAT RESTART
 

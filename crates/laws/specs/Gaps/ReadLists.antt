@@ -1,7 +1,7 @@
 -- Readability of numbers whose lists are read through a function: the walk over the numbers themselves decides the readability of the
 -- numbers with the function applied. Assumes nothing.
 use mathlib.Core.Path.{_≡_, refl, sym, ap, _∙_}
-use mathlib.Core.Bool.{Bool, true, false, _&&_, and-true, cond}
+use mathlib.Core.Bool.{Bool, true, false, _&&_, and-true}
 use mathlib.Core.List.{List, [], _∷_}
 use Prim.Native.Nat.{ℕ, zero, suc, _+_, _*_, _-_, _≤_, _<_}
 use native.Mathlib.Numerals.{add-one}
@@ -13,11 +13,10 @@ use Rattle.spec.specs.Dictionary.{Lexicon}
 use Rattle.spec.specs.Words.{Key}
 use Rattle.spec.specs.Index.{header, n-of, keys-of, value-at, count-at, key-at, rise-from, last-of, readable}
 use Rattle.spec.specs.Gaps.{sums-after, prefix-sums, lists-from, with-lists, restored}
-use Rattle.models.specs.Readability.{key-code, as-is, list-good, line-list-good, line-fits, rest-good, walk-good}
-use Rattle.models.specs.Readability.{read-as}
+use Rattle.models.specs.Readability.{key-code, as-is, list-good, line-list-good, line-fits, rest-good, walk-good, read-as}
 use Rattle.laws.specs.Gaps.GapLists.{length-sums}
-use Rattle.laws.specs.Gaps.WithLists.{Keeps-length, Same-lines, length-lists, front-list, later-lists}
-use Rattle.laws.specs.Gaps.WithLists.{length-with, same-with, positions-with, n-with, keys-with}
+use Rattle.laws.specs.Gaps.WithLists.{Keeps-length, Same-lines, length-lists, front-list, later-lists, length-with, same-with}
+use Rattle.laws.specs.Gaps.WithLists.{positions-with, n-with, keys-with}
 use Rattle.laws.specs.Readable.LineWalk.{unreadable-header, unreadable-directory, readable-walk}
 use Rattle.laws.specs.Readable.LineSteps.{positions-there}
 

@@ -1,6 +1,6 @@
 -- A space and the four digits of a character, read from a line. Assumes nothing.
 use mathlib.Core.Path.{_≡_, refl, sym, _∙_}
-use mathlib.Core.Bool.{true, false, cond, _&&_}
+use mathlib.Core.Bool.{true, false, _&&_}
 use mathlib.Core.Logic.{⊎-elim}
 use mathlib.Core.List.{List}
 use Prim.Native.Nat.{ℕ, _+_, _*_, _≤_, _<_}
@@ -10,8 +10,7 @@ use lib.ListN.{getD}
 use borrow.Author.Tests.{eqb-true, eq-eqb, lt-ltb}
 use Rattle.basics.specs.Bools.{clash, true-or-false, false-put, and-put, and-left, and-right}
 use Rattle.spec.specs.JobSheet.{space, no-digit, digit, is-digit, character, is-spaced}
-use Rattle.models.specs.JobSheet.{spaced-at, character-at}
-use Rattle.models.specs.JobSheet.{spaced-character}
+use Rattle.models.specs.JobSheet.{spaced-at, character-at, spaced-character}
 use Rattle.laws.specs.JobSheet.Hexadecimal.{character-small}
 
 -- FIVE BYTES

@@ -23,7 +23,8 @@ pub record Finds-printed (lex : Lexicon) (xs fs ls : List ℕ) (start : ℕ) (ol
   pub within : i ≤ length ls
   pub tested : some-length-wrong (drop i ls) ≡ false
   pub fits : from + total (drop i ls) ≤ length fs
-  pub writing : Writing (found-lines lex xs (words-from ls fs)) start old (found-lines lex xs (words-from (drop i ls) (drop from fs))) end now
+  pub writing : Writing (found-lines lex xs (words-from ls fs)) start old
+      (found-lines lex xs (words-from (drop i ls) (drop from fs))) end now
 
 -- the string of find i, as the part of the strings that is lent
 abbrev pub string-at : (fs ls : List ℕ) → (from i : ℕ) → List ℕ
@@ -40,7 +41,8 @@ finds-start lex xs fs ls start old tested fits room =
       writing = writing-start (found-lines lex xs (words-from ls fs)) start old room;
     }
 
-module _ {lex : Lexicon} {xs fs ls : List ℕ} {start : ℕ} {old : List ℕ} {from end i : ℕ} {now : List ℕ} (h : Finds-printed lex xs fs ls start old from end i now) where
+module _ {lex : Lexicon} {xs fs ls : List ℕ} {start : ℕ} {old : List ℕ} {from end i : ℕ} {now : List ℕ}
+    (h : Finds-printed lex xs fs ls start old from end i now) where
   pub finds-end : length ls ≤ i → Wrote (found-lines lex xs (words-from ls fs)) start old end now
   unfolding found-lines words-from
   finds-end past =
@@ -100,7 +102,8 @@ module _ {lex : Lexicon} {xs fs ls : List ℕ} {start : ℕ} {old : List ℕ} {f
           within = omega arith;
           tested =
               sym
-              (length-right ls i below (λ (e : getD ls i 0 ≡ 0). omega (arith, string-is .some, len)) (omega (arith, string-is .short, len)))
+              (length-right ls i below (λ (e : getD ls i 0 ≡ 0). omega (arith, string-is .some, len))
+                  (omega (arith, string-is .short, len)))
               ∙ h .tested;
           fits = omega (arith, h .fits, next-total);
           writing =

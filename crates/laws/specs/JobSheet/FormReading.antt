@@ -1,6 +1,6 @@
 -- Reading one form: its head, its characters, its end. Assumes nothing.
 use mathlib.Core.Path.{_≡_, refl, sym, ap, _∙_}
-use mathlib.Core.Bool.{Bool, true, false, _&&_}
+use mathlib.Core.Bool.{true, false, _&&_}
 use mathlib.Core.List.{List, [], _∷_}
 use Prim.Native.Nat.{ℕ, suc, _+_, _*_, _≤_, _<_}
 use native.Mathlib.Omega.{arith}
@@ -11,14 +11,15 @@ use borrow.Author.Tests.{eq-eqb, ne-eqb}
 use Rattle.basics.specs.Bools.{clash, false-put, and-left, and-right}
 use Rattle.basics.specs.Placed.{Wrote, Writing, writing-start, writing-as, writing-one, writing-end}
 use Rattle.spec.specs.Words.{same}
-use Rattle.spec.specs.JobSheet.{closing, head-length, character, is-spaced, ends-well, characters, is-form, string-in}
+use Rattle.spec.specs.JobSheet.{closing, head-length, is-spaced, ends-well, characters, is-form, string-in}
 use Rattle.basics.specs.PlacedCopies.{drop-next}
 use Rattle.models.specs.JobSheet.{spaced-at, character-at}
 
 -- THE HEAD
 
 pub same-next :
-    (a b : List ℕ) (i : ℕ) → i < length a → i < length b → getD a i 0 ≡ getD b i 0 → same (drop i a) (drop i b) ≡ same (drop (i + 1) a) (drop (i + 1) b)
+    (a b : List ℕ) (i : ℕ) → i < length a → i < length b → getD a i 0 ≡ getD b i 0 →
+        same (drop i a) (drop i b) ≡ same (drop (i + 1) a) (drop (i + 1) b)
 unfolding same
 same-next a b i ha hb e = rw (drop-next a i ha, drop-next b i hb, eq-eqb (getD a i 0) (getD b i 0) e)
 

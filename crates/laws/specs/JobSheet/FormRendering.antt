@@ -12,8 +12,8 @@ use borrow.Author.Tests.{ne-eqb, eqb-true, eqb-false}
 use Rattle.basics.specs.Bools.{clash, not-get, and-put, and-left, and-right}
 use Rattle.basics.specs.Member.{In, in-append-get, all-cons}
 use Rattle.spec.specs.Words.{same}
-use Rattle.spec.specs.JobSheet.{line-feed, space, closing, head-length, character, is-spaced, ends-well, characters}
-use Rattle.spec.specs.JobSheet.{is-form, string-in, onto-first, lines, forms, after}
+use Rattle.spec.specs.JobSheet.{line-feed, space, closing, head-length, character, is-spaced, ends-well, characters, is-form, string-in}
+use Rattle.spec.specs.JobSheet.{onto-first, lines, forms, after}
 use Rattle.spec.specs.JobAnswer.{digit-byte, hexadecimal}
 use Rattle.spec.specs.SheetForms.{spelled, form, Characters}
 use Rattle.laws.specs.Text.Strings.{same-get, same-self}
@@ -86,7 +86,8 @@ form-then h cs rest = simp append-assoc
 pub form-back : (h l : List ℕ) → is-form h l ≡ true → line-of h (string-in l) ≡ l
 unfolding is-form string-in
 form-back h l t =
-    let heads : take head-length l ≡ h = same-get (take head-length l) h (and-left (same (take head-length l) h) (ends-well (drop head-length l)) t) in
+    let heads : take head-length l ≡ h = same-get (take head-length l) h
+        (and-left (same (take head-length l) h) (ends-well (drop head-length l)) t) in
     ap (λ (r : List ℕ). h ++ r) (tail-back (drop head-length l) (form-ends h l t))
     ∙ ap (λ (g : List ℕ). g ++ drop head-length l) (sym heads)
     ∙ take-append-drop head-length l

@@ -1,6 +1,6 @@
 -- The walk over an index's directory that prints a line for each key. Assumes nothing.
 use mathlib.Core.Path.{_≡_, sym, ap, _∙_}
-use mathlib.Core.List.{List, [], _++_}
+use mathlib.Core.List.{List, _++_}
 use Prim.Native.Nat.{ℕ, suc, _+_, _*_, _-_, _≤_, _<_}
 use native.Mathlib.Nat.{sub-zero}
 use native.Mathlib.Numerals.{add-one}
@@ -39,7 +39,8 @@ keys-start {xs} start old whole fits =
       writing = rw (sub-zero (keys-of xs)) (writing-start (key-lines (lines-in xs)) start old fits);
     }
 
-module _ {xs : List ℕ} {start : ℕ} {old : List ℕ} {position end i : ℕ} {now : List ℕ} (h : Keys-printed xs start old position end i now) where
+module _ {xs : List ℕ} {start : ℕ} {old : List ℕ} {position end i : ℕ} {now : List ℕ}
+    (h : Keys-printed xs start old position end i now) where
   pub keys-end : keys-of xs ≤ i → Wrote (key-lines (lines-in xs)) start old end now
   unfolding left-from key-lines lines-from
   keys-end past =
@@ -53,12 +54,14 @@ module _ {xs : List ℕ} {start : ℕ} {old : List ℕ} {position end i : ℕ} {
     counted : position + (count-at xs i + counts-from (keys-of xs - (i + 1)) (i + 1) xs) ≡ length xs
     unfolding counts-from
     counted =
-        rw (add-one i) (ap (λ (k : ℕ). position + counts-from k i xs) (sym (one-more ∙ ap (λ (j : ℕ). suc (keys-of xs - j)) (add-one i))) ∙ h .room)
+        rw (add-one i) (ap (λ (k : ℕ). position + counts-from k i xs) (sym (one-more ∙ ap (λ (j : ℕ). suc (keys-of xs - j)) (add-one i))) ∙
+            h .room)
 
     pub positions-fit : position + count-at xs i ≤ length xs
     positions-fit = omega (arith, counted)
 
-    next-line : left-from xs position i ≡ key-line (line (key-at xs i) (positions-at xs position i)) ++ left-from xs (position + count-at xs i) (i + 1)
+    next-line : left-from xs position i ≡ key-line (line (key-at xs i) (positions-at xs position i)) ++
+        left-from xs (position + count-at xs i) (i + 1)
     unfolding left-from key-lines lines-from
     next-line =
         let len : position + count-at xs i - position ≡ count-at xs i = omega arith in
@@ -83,7 +86,8 @@ module _ {xs : List ℕ} {start : ℕ} {old : List ℕ} {position end i : ℕ} {
         }
 
 pub index-lines-parts :
-    (xs : List ℕ) → Whole xs → index-lines xs ≡ index-line (n-of xs) (keys-of xs) (length xs - 2 - 3 * keys-of xs) ++ key-lines (lines-in xs)
+    (xs : List ℕ) → Whole xs → index-lines xs ≡ index-line (n-of xs) (keys-of xs) (length xs - 2 - 3 * keys-of xs) ++
+        key-lines (lines-in xs)
 unfolding index-lines
 index-lines-parts xs whole =
     let m : entries-of xs ≡ length xs - 2 - 3 * keys-of xs = omega arith in

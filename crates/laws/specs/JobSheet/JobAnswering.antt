@@ -12,10 +12,10 @@ use Rattle.spec.specs.Dictionary.{lexicon, words-from, total, too-large, length
 use Rattle.spec.specs.Numbers.{index-of}
 use Rattle.spec.specs.declared.Answer.{Answer}
 use Rattle.spec.specs.Calls.{or-else, in-front}
-use Rattle.spec.specs.JobSheet.{words-on, finds-on, run-together, lengths-of, sheet-too-long, sheet-wrong, some-string-wrong, contents-refusal, sheet-refusal}
+use Rattle.spec.specs.JobSheet.{words-on, finds-on, run-together, lengths-of, sheet-too-long, sheet-wrong, some-string-wrong}
+use Rattle.spec.specs.JobSheet.{contents-refusal, sheet-refusal}
 use Rattle.spec.specs.JobAnswer.{refused-line, index-lines, found-lines, printed, job-answer, Job-says}
-use Rattle.models.specs.JobSheet.{some-length-wrong}
-use Rattle.models.specs.JobSheet.{shown, printed-of}
+use Rattle.models.specs.JobSheet.{some-length-wrong, shown, printed-of}
 use Rattle.laws.specs.Dictionary.Answering.{accepted-no}
 use Rattle.laws.specs.Dictionary.WordCode.{Small}
 use Rattle.laws.specs.Dictionary.Lexicon.{length-words}
@@ -71,9 +71,11 @@ pub shown-short :
     {cs ls xs : List ℕ} (ss : List (List ℕ)) → Usable cs ls xs → Small xs → length ss ≤ 50 →
     length (index-lines xs ++ found-lines (lexicon cs ls) xs ss) ≤ 700000
 shown-short {cs} {ls} {xs} ss u small few =
-    omega (arith, length-append (index-lines xs) (found-lines (lexicon cs ls) xs ss), index-lines-short xs (usable-whole cs ls xs u) small (omega arith), found-lines-short (lexicon cs ls) xs (u .short) ss)
+    omega (arith, length-append (index-lines xs) (found-lines (lexicon cs ls) xs ss),
+        index-lines-short xs (usable-whole cs ls xs u) small (omega arith), found-lines-short (lexicon cs ls) xs (u .short) ss)
 
-module _ {cs ls xs fs ns : List ℕ} (out : List ℕ) (u : Usable cs ls xs) (small : Small xs) (good : Strings-good fs ns) (room : 700000 ≤ length out) where
+module _ {cs ls xs fs ns : List ℕ} (out : List ℕ) (u : Usable cs ls xs) (small : Small xs) (good : Strings-good fs ns)
+    (room : 700000 ≤ length out) where
   finds-lines : List ℕ
   finds-lines = found-lines (lexicon cs ls) xs (words-from ns fs)
 

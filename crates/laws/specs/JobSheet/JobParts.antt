@@ -11,7 +11,8 @@ use lib.Seq.{take-at, drop-at, take-all}
 use borrow.Author.Tests.{leb-true, eqb-true, eqb-false}
 use Rattle.spec.specs.Dictionary.{words-from, total, dictionary-refusal}
 use Rattle.spec.specs.Calls.{or-else}
-use Rattle.spec.specs.JobSheet.{words-on, text-on, finds-on, in-form, in-counts, run-together, lengths-of, sheet-too-long, sheet-wrong, some-string-wrong, contents-refusal, sheet-refusal}
+use Rattle.spec.specs.JobSheet.{words-on, text-on, finds-on, in-form, in-counts, run-together, lengths-of, sheet-too-long, sheet-wrong}
+use Rattle.spec.specs.JobSheet.{some-string-wrong, contents-refusal, sheet-refusal}
 use Rattle.spec.specs.JobAnswer.{refused-line, lexicon-on, printed, job-answer}
 use Rattle.models.specs.JobSheet.{shown, printed-of}
 use Rattle.laws.specs.Dictionary.Answering.{accepted-yes}
@@ -65,7 +66,8 @@ pub strings-in-front : (ws : List (List ℕ)) (rest : List ℕ) → words-from (
 unfolding words-from lengths-of run-together
 strings-in-front [] rest = refl
 strings-in-front (w ∷ ws) rest =
-    rw (append-assoc w (run-together ws) rest, take-at w (run-together ws ++ rest) (length w) refl, drop-at w (run-together ws ++ rest) (length w) refl, strings-in-front ws rest)
+    rw (append-assoc w (run-together ws) rest, take-at w (run-together ws ++ rest) (length w) refl,
+        drop-at w (run-together ws ++ rest) (length w) refl, strings-in-front ws rest)
 
 -- THE PARTS, as they are lent
 
@@ -91,7 +93,8 @@ printed-there words dictionary text finds chars lengths =
     printed-of (take dictionary chars) (take words lengths) (text-part dictionary text chars) (strings-part dictionary text chars)
     (counts-part words finds lengths)
 
-module _ {s : List ℕ} {words dictionary text finds : ℕ} {chars lengths : List ℕ} (none : sheet-refusal s ≡ 0) (p : Job-parts s words dictionary text finds chars lengths) where
+module _ {s : List ℕ} {words dictionary text finds : ℕ} {chars lengths : List ℕ} (none : sheet-refusal s ≡ 0)
+    (p : Job-parts s words dictionary text finds chars lengths) where
   text-there : text-part dictionary text chars ≡ text-on s
   text-there =
       let z : dictionary + text - dictionary ≡ text = omega arith in

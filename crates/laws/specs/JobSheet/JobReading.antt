@@ -13,7 +13,8 @@ use Rattle.basics.specs.Bools.{and-left, and-right, or-left, or-right}
 use Rattle.basics.specs.Placed.{placed}
 use Rattle.spec.specs.Dictionary.{dictionary-refusal}
 use Rattle.spec.specs.Calls.{string-wrong, or-else}
-use Rattle.spec.specs.JobSheet.{words-on, texts-on, text-on, finds-on, nothing-left, left-on, in-form, in-counts, run-together, lengths-of, sheet-too-long, sheet-wrong, some-string-wrong, contents-refusal, sheet-refusal}
+use Rattle.spec.specs.JobSheet.{words-on, texts-on, text-on, finds-on, nothing-left, left-on, in-form, in-counts, run-together, lengths-of}
+use Rattle.spec.specs.JobSheet.{sheet-too-long, sheet-wrong, some-string-wrong, contents-refusal, sheet-refusal}
 use Rattle.basics.specs.PlacedCopies.{drop-next}
 use Rattle.models.specs.JobSheet.{some-length-wrong, parts-refusal}
 use Rattle.laws.specs.JobSheet.WholeSheet.{Sheet-read, one-text, length-lengths}
@@ -72,7 +73,8 @@ module _ (a b c r xs : List ℕ) (whole : xs ≡ ((a ++ b) ++ c) ++ r) where
 
   pub third-part : take (length c) (drop (length a + length b) xs) ≡ c
   third-part =
-      ap (take (length c)) (sym (drop-drop (length b) (length a) xs) ∙ ap (drop (length b)) after-first ∙ drop-at b (c ++ r) (length b) refl)
+      ap (take (length c)) (sym (drop-drop (length b) (length a) xs) ∙ ap (drop (length b)) after-first ∙
+          drop-at b (c ++ r) (length b) refl)
       ∙ take-at c r (length c) refl
 
   pub parts-fit : length a + length b + length c ≤ length xs
@@ -102,13 +104,15 @@ pub record Job-parts (s : List ℕ) (words dictionary text finds : ℕ) (chars l
   pub chars-fit : dictionary + text + length (run-together (finds-on s)) ≤ length chars
   pub lengths-fit : words + 1 + finds ≤ length lengths
 
-module _ {s chars₀ lengths₀ : List ℕ} {good : Bool} {words dictionary text finds : ℕ} {chars lengths : List ℕ} (r : Sheet-read s chars₀ lengths₀ good words dictionary text finds chars lengths) (t : good ≡ true) where
+module _ {s chars₀ lengths₀ : List ℕ} {good : Bool} {words dictionary text finds : ℕ} {chars lengths : List ℕ}
+    (r : Sheet-read s chars₀ lengths₀ good words dictionary text finds chars lengths) (t : good ≡ true) where
   both : (in-form s && in-counts s) ≡ true
   both = sym (r .tested) ∙ t
 
   one : length (texts-on s) ≡ 1
   unfolding in-form
-  one = eqb-true (length (texts-on s)) 1 (and-left (eqb (length (texts-on s)) 1) (nothing-left (left-on s)) (and-left (in-form s) (in-counts s) both))
+  one = eqb-true (length (texts-on s)) 1 (and-left (eqb (length (texts-on s)) 1) (nothing-left (left-on s))
+      (and-left (in-form s) (in-counts s) both))
 
   counts : ((leb (length (words-on s)) 200 && leb (length (text-on s)) 2000) && leb (length (finds-on s)) 50) ≡ true
   unfolding in-counts
@@ -118,10 +122,12 @@ module _ {s chars₀ lengths₀ : List ℕ} {good : Bool} {words dictionary text
   unfolding text-on
   text-long = r .text-counted ∙ ap length (one-text (texts-on s) one)
 
-  chars-whole : chars ≡ ((run-together (words-on s) ++ run-together (texts-on s)) ++ run-together (finds-on s)) ++ drop (length ((run-together (words-on s) ++ run-together (texts-on s)) ++ run-together (finds-on s))) chars₀
+  chars-whole : chars ≡ ((run-together (words-on s) ++ run-together (texts-on s)) ++ run-together (finds-on s)) ++
+      drop (length ((run-together (words-on s) ++ run-together (texts-on s)) ++ run-together (finds-on s))) chars₀
   chars-whole = r .chars-are ∙ at-front ((run-together (words-on s) ++ run-together (texts-on s)) ++ run-together (finds-on s)) chars₀
 
-  lengths-whole : lengths ≡ ((lengths-of (words-on s) ++ lengths-of (texts-on s)) ++ lengths-of (finds-on s)) ++ drop (length ((lengths-of (words-on s) ++ lengths-of (texts-on s)) ++ lengths-of (finds-on s))) lengths₀
+  lengths-whole : lengths ≡ ((lengths-of (words-on s) ++ lengths-of (texts-on s)) ++ lengths-of (finds-on s)) ++
+      drop (length ((lengths-of (words-on s) ++ lengths-of (texts-on s)) ++ lengths-of (finds-on s))) lengths₀
   lengths-whole = r .lengths-are ∙ at-front ((lengths-of (words-on s) ++ lengths-of (texts-on s)) ++ lengths-of (finds-on s)) lengths₀
 
   pub job-parts : Job-parts s words dictionary text finds chars lengths
@@ -131,11 +137,18 @@ module _ {s chars₀ lengths₀ : List ℕ} {good : Bool} {words dictionary text
         words-counted = r .words-counted;
         text-counted = text-long;
         finds-counted = r .finds-counted;
-        words-few = omega (arith, leb-true (length (words-on s)) 200 (and-left (leb (length (words-on s)) 200) (leb (length (text-on s)) 2000) (and-left (leb (length (words-on s)) 200 && leb (length (text-on s)) 2000) (leb (length (finds-on s)) 50) counts)));
-        text-short = omega (arith, text-long, leb-true (length (text-on s)) 2000 (and-right (leb (length (words-on s)) 200) (leb (length (text-on s)) 2000) (and-left (leb (length (words-on s)) 200 && leb (length (text-on s)) 2000) (leb (length (finds-on s)) 50) counts)));
-        finds-few = omega (arith, leb-true (length (finds-on s)) 50 (and-right (leb (length (words-on s)) 200 && leb (length (text-on s)) 2000) (leb (length (finds-on s)) 50) counts));
-        words-are = rw (r .dictionary-counted) (first-part (run-together (words-on s)) (run-together (texts-on s)) (run-together (finds-on s)) _ chars chars-whole);
-        words-lengths = rw (r .words-counted, ← length-lengths (words-on s)) (first-part (lengths-of (words-on s)) (lengths-of (texts-on s)) (lengths-of (finds-on s)) _ lengths lengths-whole);
+        words-few = omega (arith, leb-true (length (words-on s)) 200
+            (and-left (leb (length (words-on s)) 200) (leb (length (text-on s)) 2000)
+            (and-left (leb (length (words-on s)) 200 && leb (length (text-on s)) 2000) (leb (length (finds-on s)) 50) counts)));
+        text-short = omega (arith, text-long, leb-true (length (text-on s)) 2000
+            (and-right (leb (length (words-on s)) 200) (leb (length (text-on s)) 2000)
+            (and-left (leb (length (words-on s)) 200 && leb (length (text-on s)) 2000) (leb (length (finds-on s)) 50) counts)));
+        finds-few = omega (arith, leb-true (length (finds-on s)) 50
+            (and-right (leb (length (words-on s)) 200 && leb (length (text-on s)) 2000) (leb (length (finds-on s)) 50) counts));
+        words-are = rw (r .dictionary-counted) (first-part (run-together (words-on s)) (run-together (texts-on s))
+            (run-together (finds-on s)) _ chars chars-whole);
+        words-lengths = rw (r .words-counted, ← length-lengths (words-on s))
+            (first-part (lengths-of (words-on s)) (lengths-of (texts-on s)) (lengths-of (finds-on s)) _ lengths lengths-whole);
         text-is =
             rw (r .text-counted, r .dictionary-counted)
             (second-part (run-together (words-on s)) (run-together (texts-on s)) (run-together (finds-on s)) _ chars chars-whole)
@@ -145,9 +158,11 @@ module _ {s chars₀ lengths₀ : List ℕ} {good : Bool} {words dictionary text
             (third-part (run-together (words-on s)) (run-together (texts-on s)) (run-together (finds-on s)) _ chars chars-whole);
         finds-lengths = finds-lengths;
         chars-fit =
-            omega (arith, parts-fit (run-together (words-on s)) (run-together (texts-on s)) (run-together (finds-on s)) _ chars chars-whole);
+            omega (arith, parts-fit (run-together (words-on s)) (run-together (texts-on s))
+                (run-together (finds-on s)) _ chars chars-whole);
         lengths-fit =
-            omega (arith, one, length-lengths (words-on s), length-lengths (texts-on s), length-lengths (finds-on s), parts-fit (lengths-of (words-on s)) (lengths-of (texts-on s)) (lengths-of (finds-on s)) _ lengths lengths-whole);
+            omega (arith, one, length-lengths (words-on s), length-lengths (texts-on s), length-lengths (finds-on s),
+                parts-fit (lengths-of (words-on s)) (lengths-of (texts-on s)) (lengths-of (finds-on s)) _ lengths lengths-whole);
       }
     where
       finds-lengths : take finds (drop (words + 1) lengths) ≡ lengths-of (finds-on s)
@@ -155,7 +170,8 @@ module _ {s chars₀ lengths₀ : List ℕ} {good : Bool} {words dictionary text
           let skipped : words + 1 ≡ length (lengths-of (words-on s)) + length (lengths-of (texts-on s)) =
           omega (arith, one, length-lengths (words-on s), length-lengths (texts-on s)) in
           let many : finds ≡ length (lengths-of (finds-on s)) = r .finds-counted ∙ sym (length-lengths (finds-on s)) in
-          rw (skipped, many) (third-part (lengths-of (words-on s)) (lengths-of (texts-on s)) (lengths-of (finds-on s)) _ lengths lengths-whole)
+          rw (skipped, many) (third-part (lengths-of (words-on s)) (lengths-of (texts-on s))
+              (lengths-of (finds-on s)) _ lengths lengths-whole)
 
 -- THE ORDER: 10, then 11, then the rest
 
@@ -169,11 +185,13 @@ module _ (s : List ℕ) (short : length s ≤ 32768) where
   sheet-broken f = rw (le-ltb 32768 (length s) short, f)
 
   pub sheet-whole :
-      (in-form s && in-counts s) ≡ true → sheet-refusal s ≡ parts-refusal (run-together (words-on s)) (lengths-of (words-on s)) (lengths-of (finds-on s))
+      (in-form s && in-counts s) ≡ true → sheet-refusal s ≡ parts-refusal (run-together (words-on s)) (lengths-of (words-on s))
+          (lengths-of (finds-on s))
   unfolding sheet-refusal sheet-too-long sheet-wrong contents-refusal parts-refusal
   sheet-whole t =
       rw (le-ltb 32768 (length s) short, t)
-      (ap (λ (b : Bool). or-else (dictionary-refusal (run-together (words-on s)) (lengths-of (words-on s))) (cond b 6 0)) (strings-by-length (finds-on s)))
+      (ap (λ (b : Bool). or-else (dictionary-refusal (run-together (words-on s)) (lengths-of (words-on s))) (cond b 6 0))
+          (strings-by-length (finds-on s)))
 
 -- the parts in the slices are the parts of the sheet
 pub parts-tested :

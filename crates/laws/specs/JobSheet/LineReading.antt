@@ -208,7 +208,8 @@ size-lines (b ∷ bs) = pick (eqb b line-feed) (size-lines bs)
     pick true e = omega (arith, e)
     pick false e = onto (lines bs) e
 
-pub forms-size : (h : List ℕ) (ls : List (List ℕ)) → 5 * length (run-together (forms h ls)) + 7 * length (forms h ls) + size (after h ls) ≡ size ls
+pub forms-size : (h : List ℕ) (ls : List (List ℕ)) → 5 * length (run-together (forms h ls)) + 7 * length (forms h ls) + size
+    (after h ls) ≡ size ls
 unfolding size forms after run-together
 forms-size h [] = refl
 forms-size h (l ∷ []) = omega arith

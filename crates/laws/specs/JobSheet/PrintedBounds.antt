@@ -14,10 +14,13 @@ use Rattle.spec.specs.Words.{Key, key}
 use Rattle.spec.specs.Numbers.{Line, line}
 use Rattle.spec.specs.Index.{header, n-of, keys-of, count-at, key-at, entries-of, lines-from, lines-in}
 use Rattle.spec.specs.Search.{all-covered, found-from, find}
-use Rattle.spec.specs.JobAnswer.{decimal, hexadecimal, index-head, key-word-head, key-lone-head, found-head, refused-head, gap, opening-list, ending, ending-list, spaced, index-line, found-line, refused-line, key-name, key-line, key-lines, index-lines, found-lines}
+use Rattle.spec.specs.JobAnswer.{decimal, hexadecimal, index-head, key-word-head, key-lone-head, found-head, refused-head, gap}
+use Rattle.spec.specs.JobAnswer.{opening-list, ending, ending-list, spaced, index-line, found-line, refused-line, key-name, key-line}
+use Rattle.spec.specs.JobAnswer.{key-lines, index-lines, found-lines}
 use Rattle.models.specs.JobSheet.{each-spaced, listed}
 use Rattle.laws.specs.Dictionary.WordCode.{Small, small-drop, small-take}
-use Rattle.laws.specs.JobSheet.Printing.{decimal-small, decimal-large, length-hexadecimal, spaced-first, index-line-parts, found-line-parts, refused-line-parts, key-line-parts}
+use Rattle.laws.specs.JobSheet.Printing.{decimal-small, decimal-large, length-hexadecimal, spaced-first, index-line-parts}
+use Rattle.laws.specs.JobSheet.Printing.{found-line-parts, refused-line-parts, key-line-parts}
 use Rattle.laws.specs.JobSheet.IndexPrinting.{Whole}
 
 -- NUMBERS
@@ -99,7 +102,9 @@ pub index-lines-short :
 unfolding index-lines lines-in
 index-lines-short xs whole small few =
     omega (arith, length-append (index-line (n-of xs) (keys-of xs) (entries-of xs))
-          (key-lines (lines-from (keys-of xs) 0 xs (drop (header + 3 * keys-of xs) xs))), head, key-lines-short (keys-of xs) 0 xs (drop (header + 3 * keys-of xs) xs) small (small-drop (header + 3 * keys-of xs) xs small), length-drop (header + 3 * keys-of xs) xs)
+          (key-lines (lines-from (keys-of xs) 0 xs (drop (header + 3 * keys-of xs) xs))), head,
+              key-lines-short (keys-of xs) 0 xs (drop (header + 3 * keys-of xs) xs) small (small-drop (header + 3 * keys-of xs) xs small),
+              length-drop (header + 3 * keys-of xs) xs)
   where
     head : length (index-line (n-of xs) (keys-of xs) (entries-of xs)) ≤ 26
     head =

@@ -11,7 +11,9 @@ use Rattle.basics.specs.Bools.{le-or-lt}
 use Rattle.basics.specs.PlacedCopies.{drop-next}
 use Rattle.spec.specs.Words.{Key, key}
 use Rattle.spec.specs.Numbers.{line}
-use Rattle.spec.specs.JobAnswer.{decimal-within, decimal, digit-byte, hexadecimal, index-head, key-word-head, key-lone-head, found-head, refused-head, gap, opening-list, ending, ending-list, spaced, index-line, found-line, refused-line, key-name, key-line}
+use Rattle.spec.specs.JobAnswer.{decimal-within, decimal, digit-byte, hexadecimal, index-head, key-word-head, key-lone-head, found-head}
+use Rattle.spec.specs.JobAnswer.{refused-head, gap, opening-list, ending, ending-list, spaced, index-line, found-line, refused-line}
+use Rattle.spec.specs.JobAnswer.{key-name, key-line}
 use Rattle.models.specs.JobSheet.{each-spaced, listed}
 
 -- DECIMAL NUMBERS
@@ -73,7 +75,8 @@ pub spaced-some : (ps : List ℕ) → 0 < length ps → spaced ps ≡ decimal (g
 spaced-some [] h = absurd (omega arith)
 spaced-some (p ∷ ps) h = rw (take-all (suc (length ps) - 1) ps (omega arith)) (spaced-first p ps)
 
-pub each-next : (ps : List ℕ) (i : ℕ) → i < length ps → each-spaced (drop i ps) ≡ (gap ++ decimal (getD ps i 0)) ++ each-spaced (drop (i + 1) ps)
+pub each-next : (ps : List ℕ) (i : ℕ) → i < length ps → each-spaced (drop i ps) ≡ (gap ++ decimal (getD ps i 0)) ++
+    each-spaced (drop (i + 1) ps)
 unfolding each-spaced
 each-next ps i h = rw (drop-next ps i h)
 

@@ -1,7 +1,7 @@
 -- Reading the forms of a sheet one after the other into two slices: all characters run together, and the lengths. Assumes nothing.
 use mathlib.Core.Path.{_≡_, refl, sym, ap, _∙_}
 use mathlib.Core.Bool.{true}
-use mathlib.Core.List.{List, [], _∷_, _++_}
+use mathlib.Core.List.{List, _∷_, _++_}
 use Prim.Native.Nat.{ℕ, _+_, _*_, _-_, _≤_, _<_}
 use native.Mathlib.Omega.{arith}
 use lib.ListN.{length, drop, set}
@@ -23,14 +23,16 @@ pub record Room (h s : List ℕ) (at used count : ℕ) (chars lengths : List ℕ
   pub lengths-fit : count + length (lengths-of (strings-at h s at)) ≤ length lengths
 
 -- the forms from `start` up to `at` are read, and the next one ends at `end`
-pub record Forms-read (h s : List ℕ) (start used₀ count₀ : ℕ) (chars₀ lengths₀ : List ℕ) (at used count end : ℕ) (chars lengths : List ℕ) : Type 0 where
+pub record Forms-read (h s : List ℕ) (start used₀ count₀ : ℕ) (chars₀ lengths₀ : List ℕ) (at used count end : ℕ)
+    (chars lengths : List ℕ) : Type 0 where
   pub here : Form-end h s at end
   pub rest : after h (lines (drop at s)) ≡ after h (lines (drop start s))
   pub chars-left : Writing (run-together (strings-at h s start)) used₀ chars₀ (run-together (strings-at h s at)) used chars
   pub lengths-left : Writing (lengths-of (strings-at h s start)) count₀ lengths₀ (lengths-of (strings-at h s at)) count lengths
 
 -- all of them are read, and `at` is where reading continues
-pub record Forms-got (h s : List ℕ) (start used₀ count₀ : ℕ) (chars₀ lengths₀ : List ℕ) (at used count : ℕ) (chars lengths : List ℕ) : Type 0 where
+pub record Forms-got (h s : List ℕ) (start used₀ count₀ : ℕ) (chars₀ lengths₀ : List ℕ) (at used count : ℕ)
+    (chars lengths : List ℕ) : Type 0 where
   pub within : at ≤ length s
   pub rest : lines (drop at s) ≡ after h (lines (drop start s))
   pub chars-got : Wrote (run-together (strings-at h s start)) used₀ chars₀ used chars
@@ -47,7 +49,8 @@ forms-start {h} {s} {at} {used} {count} {chars} {lengths} room here =
       lengths-left = writing-start (lengths-of (strings-at h s at)) count lengths (room .lengths-fit);
     }
 
-module _ {h s : List ℕ} {start used₀ count₀ : ℕ} {chars₀ lengths₀ : List ℕ} {at used count end : ℕ} {chars lengths : List ℕ} (r : Forms-read h s start used₀ count₀ chars₀ lengths₀ at used count end chars lengths) where
+module _ {h s : List ℕ} {start used₀ count₀ : ℕ} {chars₀ lengths₀ : List ℕ} {at used count end : ℕ} {chars lengths : List ℕ}
+    (r : Forms-read h s start used₀ count₀ chars₀ lengths₀ at used count end chars lengths) where
   pub forms-end : length s ≤ end → Forms-got h s start used₀ count₀ chars₀ lengths₀ at used count chars lengths
   unfolding run-together lengths-of
   forms-end past =
@@ -71,11 +74,13 @@ module _ {h s : List ℕ} {start used₀ count₀ : ℕ} {chars₀ lengths₀ : 
     pub string-short : length s ≤ 32768 → length (string-in (part s at end)) ≤ 65535
     string-short short = omega (arith, line-long, line-size)
 
-    next-chars : Writing (run-together (strings-at h s start)) used₀ chars₀ (string-in (part s at end) ++ run-together (strings-at h s (end + 1))) used chars
+    next-chars : Writing (run-together (strings-at h s start)) used₀ chars₀
+        (string-in (part s at end) ++ run-together (strings-at h s (end + 1))) used chars
     unfolding run-together
     next-chars = writing-as (ap run-together (r .here .first below)) (r .chars-left)
 
-    next-length : Writing (lengths-of (strings-at h s start)) count₀ lengths₀ (length (string-in (part s at end)) ∷ lengths-of (strings-at h s (end + 1))) count lengths
+    next-length : Writing (lengths-of (strings-at h s start)) count₀ lengths₀
+        (length (string-in (part s at end)) ∷ lengths-of (strings-at h s (end + 1))) count lengths
     unfolding lengths-of
     next-length = writing-as (ap lengths-of (r .here .first below)) (r .lengths-left)
 

@@ -12,7 +12,8 @@ use borrow.Author.Tests.{eqb-true}
 use Rattle.basics.specs.Bools.{clash, and-left, and-right}
 use Rattle.spec.specs.Dictionary.{lexicon, words-from}
 use Rattle.spec.specs.Words.{same}
-use Rattle.spec.specs.JobSheet.{line-feed, word-head, text-head, find-head, is-form, string-in, onto-first, lines, forms, after, nothing-left, words-on, texts-on, finds-on, left-on, text-on, in-form, run-together, lengths-of}
+use Rattle.spec.specs.JobSheet.{line-feed, word-head, text-head, find-head, is-form, string-in, onto-first, lines, forms, after}
+use Rattle.spec.specs.JobSheet.{nothing-left, words-on, texts-on, finds-on, left-on, text-on, in-form, run-together, lengths-of}
 use Rattle.spec.specs.SheetForms.{form, form-lines, rendered, All-characters, Sheet-of, Form-tested}
 use Rattle.laws.specs.JobSheet.LineReading.{lines-some}
 use Rattle.laws.specs.JobSheet.JobParts.{strings-in-front}

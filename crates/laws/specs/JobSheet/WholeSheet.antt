@@ -10,7 +10,8 @@ use lib.ListN.{length, getD, drop, length-append, length-drop}
 use borrow.Author.Tests.{eq-eqb, ne-eqb, eqb-true, eqb-false}
 use Rattle.basics.specs.Bools.{true-or-false}
 use Rattle.basics.specs.Placed.{placed, length-placed, placed-none, placed-append, Wrote}
-use Rattle.spec.specs.JobSheet.{word-head, text-head, find-head, line-feed, onto-first, lines, forms, after, nothing-left, words-on, texts-on, finds-on, left-on, text-on, in-form, in-counts, run-together, lengths-of}
+use Rattle.spec.specs.JobSheet.{word-head, text-head, find-head, line-feed, onto-first, lines, forms, after, nothing-left, words-on}
+use Rattle.spec.specs.JobSheet.{texts-on, finds-on, left-on, text-on, in-form, in-counts, run-together, lengths-of}
 use Rattle.models.specs.JobSheet.{size}
 use Rattle.laws.specs.JobSheet.LineReading.{size-lines, forms-size, lines-some}
 use Rattle.laws.specs.JobSheet.SheetReading.{Room, Forms-got}
@@ -29,7 +30,8 @@ pub record Enough (s chars lengths : List ℕ) : Type 0 where
   pub for-lengths : length s ≤ 7 * length lengths
 
 -- forms are read up to `at`: their characters and lengths, and the lines that are left
-pub record Stage (s chars₀ lengths₀ : List ℕ) (cs ls : List ℕ) (rest : List (List ℕ)) (at used count : ℕ) (chars lengths : List ℕ) : Type 0 where
+pub record Stage (s chars₀ lengths₀ : List ℕ) (cs ls : List ℕ) (rest : List (List ℕ)) (at used count : ℕ)
+    (chars lengths : List ℕ) : Type 0 where
   pub enough : Enough s chars₀ lengths₀
   pub within : at ≤ length s
   pub left : lines (drop at s) ≡ rest
@@ -49,7 +51,8 @@ stage-start s chars lengths enough =
     }
 
 wrote-then :
-    {old mid now : List ℕ} {at used end : ℕ} {xs ys : List ℕ} → at + length xs ≤ length old → Wrote xs at old used mid → Wrote ys used mid end now →
+    {old mid now : List ℕ} {at used end : ℕ} {xs ys : List ℕ} → at + length xs ≤ length old → Wrote xs at old used mid →
+        Wrote ys used mid end now →
     Wrote (xs ++ ys) at old end now
 wrote-then {old} {mid} {now} {at} {used} {end} {xs} {ys} room first second =
     record {
@@ -57,7 +60,8 @@ wrote-then {old} {mid} {now} {at} {used} {end} {xs} {ys} room first second =
       content = second .content ∙ rw (first .ends, first .content) (placed-append xs ys at old room);
     }
 
-module _ {s chars₀ lengths₀ cs ls : List ℕ} {rest : List (List ℕ)} {at used count : ℕ} {chars lengths : List ℕ} (st : Stage s chars₀ lengths₀ cs ls rest at used count chars lengths) where
+module _ {s chars₀ lengths₀ cs ls : List ℕ} {rest : List (List ℕ)} {at used count : ℕ} {chars lengths : List ℕ}
+    (st : Stage s chars₀ lengths₀ cs ls rest at used count chars lengths) where
   chars-room : 0 + length cs ≤ length chars₀
   chars-room = omega arith
 
@@ -70,7 +74,8 @@ module _ {s chars₀ lengths₀ cs ls : List ℕ} {rest : List (List ℕ)} {at u
   pub lengths-long : length lengths ≡ length lengths₀
   lengths-long = ap length (st .lengths-got .content) ∙ length-placed ls 0 lengths₀ lengths-room
 
-  more-size : (h : List ℕ) → 5 * length (run-together (forms h rest)) + 7 * length (lengths-of (forms h rest)) + size (after h rest) ≡ size rest
+  more-size : (h : List ℕ) → 5 * length (run-together (forms h rest)) + 7 * length (lengths-of (forms h rest)) + size
+      (after h rest) ≡ size rest
   more-size h = rw (length-lengths (forms h rest)) (forms-size h rest)
 
   pub stage-room : (h : List ℕ) → Room h s at used count chars lengths
@@ -87,8 +92,10 @@ module _ {s chars₀ lengths₀ cs ls : List ℕ} {rest : List (List ℕ)} {at u
       }
 
   pub stage-step :
-      {h : List ℕ} {at' used' count' : ℕ} {chars' lengths' : List ℕ} → Forms-got h s at used count chars lengths at' used' count' chars' lengths' →
-      Stage s chars₀ lengths₀ (cs ++ run-together (forms h rest)) (ls ++ lengths-of (forms h rest)) (after h rest) at' used' count' chars' lengths'
+      {h : List ℕ} {at' used' count' : ℕ} {chars' lengths' : List ℕ} →
+          Forms-got h s at used count chars lengths at' used' count' chars' lengths' →
+      Stage s chars₀ lengths₀ (cs ++ run-together (forms h rest)) (ls ++ lengths-of (forms h rest))
+          (after h rest) at' used' count' chars' lengths'
   stage-step {h} got =
       record {
         enough = st .enough;
@@ -110,7 +117,8 @@ module _ {s chars₀ lengths₀ cs ls : List ℕ} {rest : List (List ℕ)} {at u
 nothing-test : (bs : List ℕ) → nothing-left (lines bs) ≡ eqb (length bs) 0
 unfolding nothing-left lines onto-first
 nothing-test [] = refl
-nothing-test (b ∷ bs) = let some = lines-some bs in rw (some .2) (pick (eqb b line-feed) (some .0) (some .1) ∙ sym (ne-eqb (suc (length bs)) 0 (λ (e : suc (length bs) ≡ 0). omega arith)))
+nothing-test (b ∷ bs) = let some = lines-some bs in rw (some .2)
+    (pick (eqb b line-feed) (some .0) (some .1) ∙ sym (ne-eqb (suc (length bs)) 0 (λ (e : suc (length bs) ≡ 0). omega arith)))
   where
     pick : (t : Bool) (m : List ℕ) (ls : List (List ℕ)) → nothing-left (cond t ([] ∷ m ∷ ls) ((b ∷ m) ∷ ls)) ≡ false
     pick true m ls = refl
@@ -151,7 +159,8 @@ sheet-tested s at words texts text finds within left ew et ex ef =
     (λ (t : eqb (length (texts-on s)) 1 ≡ true).
     let len : text ≡ length (getD (texts-on s) 0 []) = ex ∙ ap length (one-text (texts-on s) (eqb-true (length (texts-on s)) 1 t)) in
     rw len
-    (regroup (eqb (length (texts-on s)) 1) (eqb at (length s)) (leb (length (words-on s)) 200) (leb (length (getD (texts-on s) 0 [])) 2000) (leb (length (finds-on s)) 50)))
+    (regroup (eqb (length (texts-on s)) 1) (eqb at (length s)) (leb (length (words-on s)) 200) (leb (length (getD (texts-on s) 0 [])) 2000)
+        (leb (length (finds-on s)) 50)))
     (λ (f : eqb (length (texts-on s)) 1 ≡ false). rw f)
     (true-or-false (eqb (length (texts-on s)) 1)))
 
@@ -234,12 +243,15 @@ module _ (s chars₀ lengths₀ : List ℕ) (at used count : ℕ) (chars lengths
 
   pub texts-count : Texts-read s chars₀ lengths₀ at used count chars lengths → count ≡ length (words-on s) + length (texts-on s)
   texts-count st =
-      omega (arith, length-append (lengths-of (words-on s)) (lengths-of (texts-on s)), length-lengths (words-on s), length-lengths (texts-on s))
+      omega (arith, length-append (lengths-of (words-on s)) (lengths-of (texts-on s)), length-lengths (words-on s),
+          length-lengths (texts-on s))
 
   pub finds-count :
       Finds-read s chars₀ lengths₀ at used count chars lengths → count ≡ length (words-on s) + length (texts-on s) + length (finds-on s)
   finds-count st =
-      omega (arith, length-append (lengths-of (words-on s) ++ lengths-of (texts-on s)) (lengths-of (finds-on s)), length-append (lengths-of (words-on s)) (lengths-of (texts-on s)), length-lengths (words-on s), length-lengths (texts-on s), length-lengths (finds-on s))
+      omega (arith, length-append (lengths-of (words-on s) ++ lengths-of (texts-on s)) (lengths-of (finds-on s)),
+          length-append (lengths-of (words-on s)) (lengths-of (texts-on s)), length-lengths (words-on s), length-lengths (texts-on s),
+          length-lengths (finds-on s))
 
   pub finds-chars-long : Finds-read s chars₀ lengths₀ at used count chars lengths → length chars ≡ length chars₀
   finds-chars-long st =
@@ -257,7 +269,8 @@ module _ (s chars₀ lengths₀ : List ℕ) (at used count : ℕ) (chars lengths
 
 pub sheet-read :
     (s chars₀ lengths₀ : List ℕ) (at used count : ℕ) (chars lengths : List ℕ) (good : Bool) (words dictionary text finds : ℕ) →
-    Finds-read s chars₀ lengths₀ at used count chars lengths → words ≡ length (words-on s) → dictionary ≡ length (run-together (words-on s)) →
+    Finds-read s chars₀ lengths₀ at used count chars lengths → words ≡ length (words-on s) →
+        dictionary ≡ length (run-together (words-on s)) →
     text ≡ length (run-together (texts-on s)) → finds ≡ length (finds-on s) → good ≡ (in-form s && in-counts s) →
     Sheet-read s chars₀ lengths₀ good words dictionary text finds chars lengths
 sheet-read s chars₀ lengths₀ at used count chars lengths good words dictionary text finds st ew ed et ef tested =

@@ -12,7 +12,8 @@ use Rattle.basics.specs.LowerBound as halving
 use Rattle.models.specs.MatchTable.{word, start-of}
 use Rattle.laws.specs.Dictionary.Lexicon.{admitted-ascend}
 use Rattle.laws.specs.Match.MatchTable.{Started, many-words, word-long, word-short, word-room, word-char}
-use Rattle.laws.specs.Match.PrefixRanges.{Last-standing, Narrowed, Lower-bound-at, narrow-hit, narrow-longer, narrow-rises, narrow-stop, narrow-step}
+use Rattle.laws.specs.Match.PrefixRanges.{Last-standing, Narrowed, Lower-bound-at, narrow-hit, narrow-longer, narrow-rises}
+use Rattle.laws.specs.Match.PrefixRanges.{narrow-stop, narrow-step}
 
 abbrev pub column : (cs ss : List ℕ) (d i : ℕ) → ℕ
 column cs ss d i = getD cs (getD ss i 0 + d) 0
@@ -139,7 +140,8 @@ module _
     run-stop past = narrow-stop (lexicon cs ls .words) ts p k h some sorted other past
 
     pub run-step :
-        (c from to : ℕ) → c ≡ getD ts (p + d - 1) 0 → p + d ≤ length ts → Lower-bound cs ss lo hi d c from → Lower-bound cs ss from hi d (c + 1) to →
+        (c from to : ℕ) → c ≡ getD ts (p + d - 1) 0 → p + d ≤ length ts → Lower-bound cs ss lo hi d c from →
+            Lower-bound cs ss from hi d (c + 1) to →
         Narrowed (lexicon cs ls .words) ts p k from to (d + 1) best
     run-step c from to e room l r =
         narrow-step (lexicon cs ls .words) ts p k h some sorted other e room

@@ -144,7 +144,8 @@ module _ (links : List ℕ) (f : ℕ → ℕ) (b n : ℕ) (Q : ℕ → Type 0) w
         linked = rw at (c .1);
         mine = rw at (mine x (inl refl));
         falls = rw at (lower xs (c .2) (fall .1));
-        left = λ j l e. ⊎-elim (λ (m : In j (x ∷ xs)). inl (omega (arith, fall-below (suc x) (x ∷ xs) j (omega arith, fall .1) m))) (λ (q : Q j). inr q) (rest j l e);
+        left = λ j l e. ⊎-elim (λ (m : In j (x ∷ xs)). inl (omega (arith, fall-below (suc x) (x ∷ xs) j (omega arith, fall .1) m)))
+            (λ (q : Q j). inr q) (rest j l e);
         onward = onward;
       }
     where

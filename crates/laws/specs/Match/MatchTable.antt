@@ -14,8 +14,7 @@ use lib.Seq.{getD-take, getD-drop, getD-set-same, getD-set-other, length-take-le
 use borrow.Author.Tests.{eqb-true, eqb-false}
 use Rattle.basics.specs.Bools.{true-or-false, le-or-lt}
 use Rattle.spec.specs.Dictionary.{words-from, total, lexicon, admitted}
-use Rattle.models.specs.MatchTable.{chained}
-use Rattle.models.specs.MatchTable.{word, start-of, pair-bucket, char-bucket, bucket, bucket-of}
+use Rattle.models.specs.MatchTable.{chained, word, start-of, pair-bucket, char-bucket, bucket, bucket-of}
 use Rattle.laws.specs.Dictionary.Lexicon.{Is-admitted, admitted-get, length-words}
 use Rattle.laws.specs.Match.HashChains.{Chain, chained-here, chained-elsewhere}
 
@@ -137,7 +136,8 @@ pub record Bucket-read (cs : List ℕ) (at len r : ℕ) : Type 0 where
   pub more : 2 ≤ len → r ≡ pair-bucket (getD cs at 0) (getD cs (at + 1) 0)
 
 pub bucket-read :
-    {cs : List ℕ} (ls : List ℕ) → admitted cs ls ≡ true → (i : ℕ) {at r : ℕ} → i < length ls → at ≡ start-of ls i → Bucket-read cs at (getD ls i 0) r →
+    {cs : List ℕ} (ls : List ℕ) → admitted cs ls ≡ true → (i : ℕ) {at r : ℕ} → i < length ls → at ≡ start-of ls i →
+        Bucket-read cs at (getD ls i 0) r →
     r ≡ bucket-of cs ls i
 bucket-read {cs} ls a i {at} below e h =
     ⊎-elim

@@ -13,7 +13,8 @@ use Rattle.models.specs.MatchTable.{word, start-of, pair-bucket, char-bucket, b
 use Rattle.laws.specs.Text.Strings.{Stand}
 use Rattle.laws.specs.Text.Overlaps.{stand-at, stand-put}
 use Rattle.laws.specs.Match.HashChains.{Walk, Stop, walk-start, walk-stop, walk-end}
-use Rattle.laws.specs.Match.MatchTable.{char-large, char-small, pair-small, bucket-pair, bucket-char, bucket-single, Started, Tables, many-words, word-long, word-some, word-char}
+use Rattle.laws.specs.Match.MatchTable.{char-large, char-small, pair-small, bucket-pair, bucket-char, bucket-single, Started, Tables}
+use Rattle.laws.specs.Match.MatchTable.{many-words, word-long, word-some, word-char}
 use Rattle.laws.specs.Match.PrefixRanges.{Last-standing}
 
 -- ONE WORD
@@ -216,9 +217,11 @@ module _ {cs ls heads links ss : List ℕ} (t : Tables cs ls heads links ss) (ts
 
     single-read : getD cs (getD ss (next - 1) 0) 0 ≡ getD (word cs ls (next - 1)) 0 0
     single-read =
-        let at : getD ss (next - 1) 0 ≡ start-of ls (next - 1) + 0 = omega (arith, t .words .started (next - 1) (omega (arith, single-known))) in
+        let at : getD ss (next - 1) 0 ≡ start-of ls (next - 1) + 0 =
+            omega (arith, t .words .started (next - 1) (omega (arith, single-known))) in
         ap (λ (x : ℕ). getD cs x 0) at
-        ∙ sym (word-char cs ls (t .words .dictionary) (next - 1) single-known 0 (word-some cs ls (t .words .dictionary) (next - 1) single-known))
+        ∙ sym (word-char cs ls (t .words .dictionary) (next - 1) single-known 0
+            (word-some cs ls (t .words .dictionary) (next - 1) single-known))
 
     pub single-hit :
         q < length ts → getD cs (getD ss (next - 1) 0) 0 ≡ getD ts q 0 → Single-found (lexicon cs ls .words) ts (q + 1) next

@@ -1,12 +1,11 @@
 -- The lines of a slice by number. Assumes nothing.
 use mathlib.Core.Path.{_≡_, ap}
-use mathlib.Core.List.{List, []}
+use mathlib.Core.List.{List}
 use Prim.Native.Nat.{ℕ, zero, suc, _+_, _*_, _<_}
 use native.Mathlib.Omega.{arith}
 use lib.ListN.{length, getD, take, drop}
 use lib.Seq.{drop-drop}
 use Rattle.basics.specs.Member.{In, in-getD, in-place}
-use Rattle.spec.specs.Words.{key}
 use Rattle.spec.specs.Numbers.{Line, line}
 use Rattle.spec.specs.Index.{header, keys-of, key-at, count-at, counts-from, lines-from, lines-in}
 use Rattle.models.specs.Entries.{no-line, line-of}
@@ -34,7 +33,8 @@ module _ (xs : List ℕ) (i : ℕ) (below : i < keys-of xs) where
   unfolding line-of lines-in
   line-of-is =
       let z : 0 + i ≡ i = omega arith in
-      rw (line-from (keys-of xs) 0 xs (drop (header + 3 * keys-of xs) xs) i below, z, drop-drop (counts-from i 0 xs) (header + 3 * keys-of xs) xs)
+      rw (line-from (keys-of xs) 0 xs (drop (header + 3 * keys-of xs) xs) i below, z,
+          drop-drop (counts-from i 0 xs) (header + 3 * keys-of xs) xs)
 
   pub line-of-key : line-of xs i .key-of ≡ key-at xs i
   unfolding line

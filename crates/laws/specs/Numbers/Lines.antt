@@ -14,7 +14,8 @@ use Rattle.spec.specs.Words.{Key, spells, Entry, entry}
 use Rattle.spec.specs.Numbers.{key-before, entry-before, Line, line, with-entry, lines-of}
 use Rattle.models.specs.Entries.{entries-at, flat}
 use Rattle.laws.specs.Text.Facts.{entry-eq, Sound-entry, Sound, Rise, Good-line, Keys-rise, Good-lines}
-use Rattle.laws.specs.Numbers.KeyOrder.{key-before-strict, key-before-total, key-before-not-itself, Entry-before, entry-before-get, entry-before-strict}
+use Rattle.laws.specs.Numbers.KeyOrder.{key-before-strict, key-before-total, key-before-not-itself, Entry-before, entry-before-get}
+use Rattle.laws.specs.Numbers.KeyOrder.{entry-before-strict}
 use Rattle.laws.specs.Numbers.Flat.{posting, flat-get, flat-put}
 use Rattle.laws.specs.Numbers.FlatOrder.{rise-least, rise-more, flat-ascends}
 

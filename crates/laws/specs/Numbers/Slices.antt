@@ -13,7 +13,8 @@ use Rattle.basics.specs.Bools.{and-put, and-left, and-right}
 use Rattle.basics.specs.Member.{In}
 use Rattle.spec.specs.Words.{key}
 use Rattle.spec.specs.Numbers.{Line, line, directory, all-positions, numbers}
-use Rattle.spec.specs.Index.{header, n-of, keys-of, kind-at, value-at, count-at, counts-from, entries-of, lines-from, lines-in, kinds-good, lengths-fit}
+use Rattle.spec.specs.Index.{header, n-of, keys-of, kind-at, value-at, count-at, counts-from, entries-of, lines-from, lines-in, kinds-good}
+use Rattle.spec.specs.Index.{lengths-fit}
 
 -- FROM LINES TO NUMBERS AND BACK
 

@@ -9,7 +9,8 @@ use lib.ListN.{length}
 use Rattle.basics.specs.Member.{In, in-append-get, in-cond-get}
 use Rattle.basics.specs.Order.{Ascend, Apart, insert, sort, apart-append, in-sort-get, in-sort-put, length-sort, sort-ascends}
 use Rattle.spec.specs.Dictionary.{Lexicon}
-use Rattle.spec.specs.Words.{Key, key, stands, is-word, Entry, entry, key-entries, word-entries, lone-entries, complete, in-another, maximal, entries}
+use Rattle.spec.specs.Words.{Key, key, stands, is-word, Entry, entry, key-entries, word-entries, lone-entries, complete, in-another}
+use Rattle.spec.specs.Words.{maximal, entries}
 use Rattle.spec.specs.Numbers.{entry-before, into, sorted}
 use Rattle.laws.specs.Entries.Entries.{maximal-get}
 use Rattle.laws.specs.Numbers.KeyOrder.{entry-before-total, entry-before-strict}

@@ -9,13 +9,15 @@ use borrow.Author.Tests.{lt-ltb, ltb-true}
 use Rattle.basics.specs.Member.{In}
 use Rattle.spec.specs.Dictionary.{Lexicon, is-char, lexicon}
 use Rattle.spec.specs.Words.{Key, is-word, spells, Entry, entry, entries}
-use Rattle.spec.specs.Published.{Is-word, Extends-word, Item, item, Is-item, Extends, maximal-items, item-of, Same-index, Partial-order, Claim-1, Claim-2}
+use Rattle.spec.specs.Published.{Is-word, Extends-word, Item, item, Is-item, Extends, maximal-items, item-of, Same-index, Partial-order}
+use Rattle.spec.specs.Published.{Claim-1, Claim-2}
 use Rattle.laws.specs.Text.Strings.{stands-get, stands-put}
 use Rattle.laws.specs.Text.Overlaps.{stand-within, stand-unique}
 use Rattle.laws.specs.Text.Facts.{entry-eq, Chars, Good-lexicon, Is-key, Is-entry, Contains, Is-maximal}
 use Rattle.laws.specs.Text.Chars.{is-text-get}
 use Rattle.laws.specs.Dictionary.Lexicon.{admitted-lexicon}
-use Rattle.laws.specs.Dictionary.Keys.{Is-word-key, Is-lone-key, key-kinds, spells-lone, spells-in, is-word-get, is-word-put, keys-distinct, spells-some, word-spelt, char-key}
+use Rattle.laws.specs.Dictionary.Keys.{Is-word-key, Is-lone-key, key-kinds, spells-lone, spells-in, is-word-get, is-word-put}
+use Rattle.laws.specs.Dictionary.Keys.{keys-distinct, spells-some, word-spelt, char-key}
 use Rattle.laws.specs.Entries.Entries.{entries-get, entries-put}
 use Rattle.laws.specs.Entries.Maximal.{in-maximal, maximal-or-longer}
 
@@ -69,8 +71,7 @@ nested-extends {ts} {i} {j} hi hj starts ends =
     record {
       extends-word = (
         suc (j .position - i .position),
-        stands-put (j .word) (i .word) (suc (j .position - i .position))
-            (stand-within (stands-get (j .word) ts (j .position) (hj .stand))
+        stands-put (j .word) (i .word) (suc (j .position - i .position)) (stand-within (stands-get (j .word) ts (j .position) (hj .stand))
             (stands-get (i .word) ts (i .position) (hi .stand)) starts ends),
       );
       starts = starts;

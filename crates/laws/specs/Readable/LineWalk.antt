@@ -4,7 +4,7 @@ use mathlib.Core.Bool.{Bool, true, false, _&&_}
 use mathlib.Core.List.{List}
 use Prim.Native.Nat.{ℕ, zero, suc, _+_, _*_, _≤_, _<_}
 use native.Mathlib.Omega.{arith}
-use lib.Dec.{leb, eqb}
+use lib.Dec.{leb}
 use lib.ListN.{length, take, drop, length-drop}
 use lib.Seq.{length-take-le}
 use borrow.Author.Tests.{le-leb, leb-true, eq-eqb, eqb-true}
@@ -14,8 +14,7 @@ use Rattle.spec.specs.Words.{Key, key, spells}
 use Rattle.spec.specs.Numbers.{Line, line}
 use Rattle.spec.specs.Index.{header, n-of, keys-of, kind-at, count-at, value-at, key-at, counts-from, entries-of, lines-from, lines-in}
 use Rattle.spec.specs.Index.{kinds-good, key-good, keys-ascend, rise-from, last-of, line-good, lines-good, lengths-fit, readable}
-use Rattle.models.specs.Readability.{key-code}
-use Rattle.models.specs.Readability.{list-good, line-list-good, key-fits, line-fits, rest-good, as-is, walk-good}
+use Rattle.models.specs.Readability.{key-code, list-good, line-list-good, key-fits, line-fits, rest-good, as-is, walk-good}
 use Rattle.laws.specs.Numbers.KeyNumbers.{codes-ascend, codes-all, small-lines}
 use Rattle.laws.specs.Numbers.Slices.{Fits, lengths-fit-get}
 
@@ -111,7 +110,8 @@ module _ (lex : Lexicon) (n a : ℕ) (k : Key) (c : ℕ) (ps : List ℕ) where
         code-least = least;
         is-good = and-left is one (and-left (is && one) (rise && end) t);
         present = present;
-        some = let h : 1 ≤ length (take c ps) = leb-true 1 (length (take c ps)) (and-right is one (and-left (is && one) (rise && end) t)) in omega arith;
+        some = let h : 1 ≤ length (take c ps) = leb-true 1 (length (take c ps))
+            (and-right is one (and-left (is && one) (rise && end) t)) in omega arith;
         ends = leb-true (last-of (take c ps) + length (spells lex k)) (suc n) (and-right rise end (and-right (is && one) (rise && end) t));
         rises = and-left rise end (and-right (is && one) (rise && end) t);
       }

@@ -17,7 +17,8 @@ use Rattle.spec.specs.Dictionary.{words-from, lexicon, total, lengths-good, wor
 use Rattle.spec.specs.Words.{same, listed, is-word}
 use Rattle.laws.specs.Text.Strings.{same-get, same-put}
 use Rattle.laws.specs.Dictionary.Keys.{listed-get}
-use Rattle.laws.specs.Dictionary.WordOrder.{word-before-self, word-before-first, word-before-rest, word-before-trans, ascend-tail, ascend-first}
+use Rattle.laws.specs.Dictionary.WordOrder.{word-before-self, word-before-first, word-before-rest, word-before-trans, ascend-tail}
+use Rattle.laws.specs.Dictionary.WordOrder.{ascend-first}
 use Rattle.laws.specs.Dictionary.Lexicon.{Is-admitted, lengths-good-get, lengths-good-put, lengths-good-tail}
 
 -- word w starts at `at`, and a character from v on is a word exactly if it is one of the words from w on
@@ -176,7 +177,8 @@ module _ {cs ls : List ℕ} {w at v : ℕ} (h : Reached cs ls w at v) (below : w
           let is : here ≡ v ∷ [] = here-is ∙ rw (none, e) in
           sym (or-left (listed (v ∷ []) others) (same-put (v ∷ []) here (sym is))) ∙ left-is
       by-test false t =
-          later (rw here-is (word-before-rest v (getD cs at 0) [] beyond (sym e) (after-nothing beyond (omega (arith, more, beyond-length)))))
+          later (rw here-is (word-before-rest v (getD cs at 0) [] beyond (sym e)
+              (after-nothing beyond (omega (arith, more, beyond-length)))))
         where
           more : getD ls w 0 ≡ 1 → ⊥
           more = eqb-false (getD ls w 0) 1 t

@@ -13,10 +13,13 @@ use Rattle.basics.specs.Member.{In}
 use Rattle.spec.specs.Dictionary.{Lexicon}
 use Rattle.spec.specs.Words.{spells}
 use Rattle.spec.specs.Numbers.{key-before, Line, all-positions, numbers}
-use Rattle.spec.specs.Index.{header, n-of, keys-of, entries-of, lines-in, kinds-good, key-good, keys-ascend, rise-from, last-of, line-good, lines-good, lengths-fit, readable}
+use Rattle.spec.specs.Index.{header, n-of, keys-of, entries-of, lines-in, kinds-good, key-good, keys-ascend, rise-from, last-of, line-good}
+use Rattle.spec.specs.Index.{lines-good, lengths-fit, readable}
 use Rattle.laws.specs.Text.Facts.{Rise, Good-line, Keys-rise, Good-lines}
 use Rattle.laws.specs.Numbers.KeyOrder.{key-before-strict}
-use Rattle.laws.specs.Numbers.Slices.{n-of-numbers, keys-of-numbers, directory-starts, lines-in-numbers, entries-of-numbers, kinds-good-directory, lengths-fit-numbers, kinds-good-lines-from, lengths-fit-get, numbers-lines-in}
+use Rattle.laws.specs.Numbers.Slices.{n-of-numbers, keys-of-numbers, directory-starts, lines-in-numbers, entries-of-numbers}
+use Rattle.laws.specs.Numbers.Slices.{kinds-good-directory, lengths-fit-numbers, kinds-good-lines-from, lengths-fit-get}
+use Rattle.laws.specs.Numbers.Slices.{numbers-lines-in}
 
 -- FROM FACTS TO TESTS
 

@@ -1,7 +1,7 @@
 -- The reception test by a line map: each entry that the scan of a reconstructed text registers has to have the key of the line mapped to
 -- its position, and there have to be M of them. For every readable slice the test passes exactly if `is-index`. Assumes nothing.
 use mathlib.Core.Path.{_≡_, refl, sym, ap, _∙_, subst}
-use mathlib.Core.Bool.{Bool, true, false, _&&_}
+use mathlib.Core.Bool.{true, false}
 use mathlib.Core.Logic.{inl, inr}
 use mathlib.Core.List.{List, [], _∷_}
 use Prim.Native.Nat.{ℕ, zero, suc, _+_, _-_, _≤_, _<_}
@@ -43,7 +43,8 @@ all-mapped-get :
 unfolding all-mapped
 all-mapped-get line-for xs [] t e m = absurd m
 all-mapped-get line-for xs (f ∷ es) t e (inl p) = rw p (and-left (mapped-right line-for xs f) (all-mapped line-for xs es) t)
-all-mapped-get line-for xs (f ∷ es) t e (inr m) = all-mapped-get line-for xs es (and-right (mapped-right line-for xs f) (all-mapped line-for xs es) t) e m
+all-mapped-get line-for xs (f ∷ es) t e (inr m) = all-mapped-get line-for xs es
+    (and-right (mapped-right line-for xs f) (all-mapped line-for xs es) t) e m
 
 all-mapped-put :
     (line-for : ℕ → ℕ) (xs : List ℕ) (es : List Entry) → ((e : Entry) → In e es → mapped-right line-for xs e ≡ true) →
@@ -68,7 +69,8 @@ module _ (lex : Lexicon) {xs : List ℕ} {line-for : ℕ → ℕ} (mapped : Line
       ∙ same-key-get (key-at xs (line-for (e .at) - 1)) (e .key-of)
       (and-right (ltb 0 (line-for (e .at))) (same-key (key-at xs (line-for (e .at) - 1)) (e .key-of)) t) in
       let is-e : posting lex (line-of xs (line-for (e .at) - 1) .key-of) (e .at) ≡ e =
-      entry-eq (posting lex (line-of xs (line-for (e .at) - 1) .key-of) (e .at)) e keys refl (ap (λ (k : Key). length (spells lex k)) keys ∙ sym len) in
+      entry-eq (posting lex (line-of xs (line-for (e .at) - 1) .key-of) (e .at)) e keys refl
+          (ap (λ (k : Key). length (spells lex k)) keys ∙ sym len) in
       rw is-e at
       (flat-put lex (lines-in xs) (line-of xs (line-for (e .at) - 1)) (e .at) (line-of-in xs (line-for (e .at) - 1) (here .0)) (here .1))
 
@@ -86,7 +88,8 @@ module _ (lex : Lexicon) {xs : List ℕ} {line-for : ℕ → ℕ} (mapped : Line
       let keys : line-of xs (line-for (e .at) - 1) .key-of ≡ e .key-of =
       ap (λ (f : Entry). f .key-of)
       (own (posting lex (line-of xs (line-for (e .at) - 1) .key-of) (e .at))
-      (flat-put lex (lines-in xs) (line-of xs (line-for (e .at) - 1)) (e .at) (line-of-in xs (line-for (e .at) - 1) (here .0)) (here .1)) refl) in
+      (flat-put lex (lines-in xs) (line-of xs (line-for (e .at) - 1)) (e .at) (line-of-in xs (line-for (e .at) - 1) (here .0))
+          (here .1)) refl) in
       and-put (lt-ltb 0 (line-for (e .at)) is)
       (same-key-put (key-at xs (line-for (e .at) - 1)) (e .key-of) (sym (line-of-key xs (line-for (e .at) - 1) (here .0)) ∙ keys))
 

@@ -60,7 +60,8 @@ module _ (xs old : List ℕ) where
   mapping-start = passing-start fill-line-map xs old
 
   module _ (now : List ℕ) (at i : ℕ) (h : Filling-lines xs old now at i) where
-    pub mapping-room : Can-map xs (length old) → {end : ℕ} → Line-lies xs i at end → Lie-within 1 (length now) (take (end - at) (drop at xs))
+    pub mapping-room : Can-map xs (length old) → {end : ℕ} → Line-lies xs i at end →
+        Lie-within 1 (length now) (take (end - at) (drop at xs))
     mapping-room can {end} lies = rw (h .len, lies-positions lies) (can .each i (lies .below))
 
     pub mapping-step :

@@ -7,8 +7,7 @@ use native.Mathlib.Numerals.{add-one}
 use native.Mathlib.Omega.{arith}
 use lib.ListN.{length, getD, drop, set, length-set, drop-of-length-le}
 use lib.Seq.{sets, length-sets, drop-cons}
-use Rattle.models.specs.Reception.{fill-positions}
-use Rattle.models.specs.Reception.{reconstruct-positions}
+use Rattle.models.specs.Reception.{fill-positions, reconstruct-positions}
 
 -- AT ONE POSITION
 

@@ -15,7 +15,8 @@ use Rattle.spec.specs.declared.Answer.{Answer}
 use Rattle.spec.specs.Dictionary.{longest-text, lexicon, dictionary-refusal}
 use Rattle.spec.specs.Index.{n-of, readable}
 use Rattle.spec.specs.Reception.{recovered, received}
-use Rattle.spec.specs.Calls.{work-short, no-text, or-else, index-refusal, reception-refusal, recovery-refusal, in-front, zeros, Puts, Receive-says, Recover-says}
+use Rattle.spec.specs.Calls.{work-short, no-text, or-else, index-refusal, reception-refusal, recovery-refusal, in-front, zeros, Puts}
+use Rattle.spec.specs.Calls.{Receive-says, Recover-says}
 use Rattle.laws.specs.Numbers.Slices.{Fits}
 use Rattle.laws.specs.Readable.LineWalk.{readable-fits}
 use Rattle.laws.specs.Dictionary.Answering.{answers-accepted, answers-refused, Refuses}
@@ -81,7 +82,8 @@ module _ (cs ls xs : List ℕ) (w : ℕ) where
     no-index-refusal : index-refusal cs ls xs ≡ 0
     no-index-refusal =
         ⊎-elim (λ (e : eqb (index-refusal cs ls xs) 0 ≡ true). eqb-true (index-refusal cs ls xs) 0 e)
-        (λ (e : eqb (index-refusal cs ls xs) 0 ≡ false). short-refused (index-refusal cs ls xs) xs w (eqb-false (index-refusal cs ls xs) 0 e) ∙ none)
+        (λ (e : eqb (index-refusal cs ls xs) 0 ≡ false). short-refused (index-refusal cs ls xs) xs w
+            (eqb-false (index-refusal cs ls xs) 0 e) ∙ none)
         (true-or-false (eqb (index-refusal cs ls xs) 0))
 
     pub delivered : Delivered cs ls xs w
@@ -93,7 +95,8 @@ module _ (cs ls xs : List ℕ) (w : ℕ) where
           fits = readable-fits longest-text (lexicon cs ls) xs (a .is-readable);
           room =
               ⊎-elim (λ (h : 8 * n-of xs ≤ w). h)
-              (λ (h : w < 8 * n-of xs). absurd (omega (arith, short-work (index-refusal cs ls xs) xs w no-index-refusal h))) (le-or-lt (8 * n-of xs) w);
+              (λ (h : w < 8 * n-of xs). absurd (omega (arith, short-work (index-refusal cs ls xs) xs w no-index-refusal h)))
+                  (le-or-lt (8 * n-of xs) w);
         }
 
     -- without one the refusal is 9 or none
@@ -205,7 +208,8 @@ module _ (cs ls xs : List ℕ) (r : Answer) (o w u v : List ℕ) (same : length 
   recover-refused {number} e some h =
       let early : reception-refusal cs ls xs (length w) ≡ number = reception-early cs ls xs (length w) number e some in
       refusing
-      (recovery-early cs ls xs (length w) (length o) (λ (z : reception-refusal cs ls xs (length w) ≡ 0). some (sym early ∙ z)) ∙ early) some h
+      (recovery-early cs ls xs (length w) (length o) (λ (z : reception-refusal cs ls xs (length w) ≡ 0). some (sym early ∙ z)) ∙
+          early) some h
 
   module _ (none : delivery-refusal cs ls xs (length w) ≡ 0) where
     pub recover-unreceived : received longest-text (lexicon cs ls) xs ≡ false → Refuses 9 r u v → Recover-says cs ls xs r o o w v

@@ -10,7 +10,7 @@ use Rattle.basics.specs.Member.{In}
 use Rattle.basics.specs.Order.{ascend-counted}
 use Rattle.spec.specs.Dictionary.{Lexicon}
 use Rattle.spec.specs.Words.{Entry, entries}
-use Rattle.spec.specs.Numbers.{entry-before, sorted, index-of}
+use Rattle.spec.specs.Numbers.{sorted, index-of}
 use Rattle.spec.specs.Index.{n-of, entries-of, lines-in, readable}
 use Rattle.spec.specs.Reception.{recovered, is-index}
 use Rattle.models.specs.Entries.{flat}

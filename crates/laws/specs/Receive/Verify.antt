@@ -1,7 +1,7 @@
 -- The reception test, token by token: the scan's token at a position has a key, and the line mapped to the position has to have that key.
 -- Assumes nothing.
 use mathlib.Core.Path.{_≡_, refl, sym, _∙_}
-use mathlib.Core.Bool.{Bool, true, false, _&&_, cond}
+use mathlib.Core.Bool.{true, false, cond}
 use mathlib.Core.Logic.{_⊎_, inl, inr, ⊎-elim}
 use mathlib.Core.List.{List, [], _∷_}
 use Prim.Native.Nat.{ℕ, zero, suc, _+_, _*_, _-_, _≤_, _<_}
@@ -13,12 +13,11 @@ use lib.ListN.{length, getD}
 use borrow.Author.Tests.{lt-ltb, le-ltb, eq-eqb, ne-eqb, eqb-true, eqb-false}
 use Rattle.basics.specs.Bools.{iff-eq, true-or-false, le-or-lt}
 use Rattle.spec.specs.Dictionary.{Lexicon}
-use Rattle.spec.specs.Words.{Key, key, Entry, entry, same-key}
-use Rattle.spec.specs.Index.{header, keys-of, kind-at, value-at, key-at, entries-of}
+use Rattle.spec.specs.Words.{key, Entry, entry, same-key}
+use Rattle.spec.specs.Index.{header, keys-of, kind-at, value-at, entries-of}
 use Rattle.models.specs.Entries.{longest-at}
 use Rattle.models.specs.Inversion.{token-entry}
-use Rattle.models.specs.Reception.{mapped-at, mapped-right, verify, verify-from}
-use Rattle.models.specs.Reception.{token-key, token-mapped}
+use Rattle.models.specs.Reception.{mapped-at, mapped-right, verify, verify-from, token-key, token-mapped}
 use Rattle.laws.specs.Text.Facts.{Chars, Good-lexicon}
 use Rattle.laws.specs.Numbers.Slices.{Fits}
 use Rattle.laws.specs.Entries.Scan.{Longest-at}
@@ -141,7 +140,8 @@ module _ (lex : Lexicon) (xs us ns : List ℕ) where
     right-line some =
         let back : q + 1 - 1 ≡ q = omega arith in
         rw back at
-        (token-entry-mapped lex (mapped-at ns) xs (q + 1) token (getD us (q + 1 - 1) 0) (longest-at lex us (q + 1)) (s .registered (registered some) .0))
+        (token-entry-mapped lex (mapped-at ns) xs (q + 1) token (getD us (q + 1 - 1) 0) (longest-at lex us (q + 1))
+            (s .registered (registered some) .0))
 
     pub testing-passes : token ≡ 0 → Testing lex xs us ns (q + 1) next count
     testing-passes none =
@@ -152,7 +152,8 @@ module _ (lex : Lexicon) (xs us ns : List ℕ) where
           exact =
               rw (s .passed (passed none) .1, add-one (q + 1))
               (sym
-              (verify-passes lex (mapped-at ns) xs us good chars (length us - (q + 1)) (e + 1) count (omega arith) (omega arith) is-longest (passed none))
+              (verify-passes lex (mapped-at ns) xs us good chars (length us - (q + 1)) (e + 1) count (omega arith) (omega arith) is-longest
+                  (passed none))
               ∙ more);
         }
 
@@ -166,7 +167,8 @@ module _ (lex : Lexicon) (xs us ns : List ℕ) where
           exact =
               rw (s .registered (registered some) .1, add-one (q + 1), add-one count)
               (sym
-              (verify-registers lex (mapped-at ns) xs us good chars (length us - (q + 1)) (e + 1) count (omega arith) (omega arith) is-longest (registered some) (right-line some ∙ right))
+              (verify-registers lex (mapped-at ns) xs us good chars (length us - (q + 1)) (e + 1) count (omega arith)
+                  (omega arith) is-longest (registered some) (right-line some ∙ right))
               ∙ more);
         }
 
@@ -174,7 +176,8 @@ module _ (lex : Lexicon) (xs us ns : List ℕ) where
         (token ≡ 0 → ⊥) → token-mapped xs (getD ns q 0) token (getD us q 0) ≡ false → false ≡ verify lex (mapped-at ns) xs us
     testing-fails some wrong =
         sym
-        (verify-fails lex (mapped-at ns) xs us good chars (length us - (q + 1)) (e + 1) count (omega arith) (omega arith) is-longest (registered some) (right-line some ∙ wrong))
+        (verify-fails lex (mapped-at ns) xs us good chars (length us - (q + 1)) (e + 1) count (omega arith) (omega arith) is-longest
+            (registered some) (right-line some ∙ wrong))
         ∙ more
 
   pub testing-ends :

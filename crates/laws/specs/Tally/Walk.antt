@@ -123,7 +123,8 @@ tally-start lex xs given len small =
     }
 
 module _ {lex : Lexicon} {xs given counts : List ℕ} {i : ℕ} (h : Tallied lex xs given counts i) where
-  module _ (position : ℕ) (below : i < keys-of xs) (small : count-at xs i ≤ 65535) (room : position < 32) (len : length (spells lex (key-at xs i)) ≡ position + 1) where
+  module _ (position : ℕ) (below : i < keys-of xs) (small : count-at xs i ≤ 65535) (room : position < 32)
+      (len : length (spells lex (key-at xs i)) ≡ position + 1) where
     raised : List ℕ
     raised = set counts position (getD counts position 0 + count-at xs i)
 
@@ -166,11 +167,13 @@ module _ {lex : Lexicon} {xs given counts : List ℕ} {i : ℕ} (h : Tallied lex
             getD raised j 0 + counted lex (1 + j) (keys-of xs - (i + 1)) (i + 1) xs
             ≡ getD given j 0 + counted lex (1 + j) (keys-of xs) 0 xs
         summed j b (inl e) =
-            let same : eqb (length (spells lex (key-at xs i))) (1 + position) ≡ true = eq-eqb (length (spells lex (key-at xs i))) (1 + position) (omega (arith, len)) in
+            let same : eqb (length (spells lex (key-at xs i))) (1 + position) ≡ true =
+                eq-eqb (length (spells lex (key-at xs i))) (1 + position) (omega (arith, len)) in
             let left = rw same at (left-cut (1 + position)) in
             rw e (omega (arith, raised-here, left, h .summed position room))
         summed j b (inr other) =
-            let differ : eqb (length (spells lex (key-at xs i))) (1 + j) ≡ false = ne-eqb (length (spells lex (key-at xs i))) (1 + j) (λ e. other (omega (arith, len))) in
+            let differ : eqb (length (spells lex (key-at xs i))) (1 + j) ≡ false =
+                ne-eqb (length (spells lex (key-at xs i))) (1 + j) (λ e. other (omega (arith, len))) in
             let left = rw differ at (left-cut (1 + j)) in
             omega (arith, raised-other j other, left, h .summed j b)
 

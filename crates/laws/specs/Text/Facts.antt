@@ -2,13 +2,13 @@
 -- records; each file of laws that has a `-get` and a `-put` ties one of them to its test. Assumes nothing.
 use mathlib.Core.Path.{_≡_}
 use mathlib.Core.Bool.{true, false}
-use mathlib.Core.List.{List, [], _∷_, _++_}
+use mathlib.Core.List.{List, [], _∷_}
 use Prim.Native.Nat.{ℕ, suc, _+_, _≤_, _<_}
 use lib.ListN.{length, getD}
 use Rattle.basics.specs.Member.{In}
 use Rattle.spec.specs.Replaced.{is-full-width}
 use Rattle.spec.specs.Dictionary.{Lexicon}
-use Rattle.spec.specs.Words.{Key, spells, Entry, entry}
+use Rattle.spec.specs.Words.{Key, spells, Entry}
 use Rattle.spec.specs.Numbers.{Line, key-before}
 use Rattle.spec.specs.Index.{key-good}
 use Rattle.models.specs.Entries.{flat}

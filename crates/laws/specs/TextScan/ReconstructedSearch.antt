@@ -19,8 +19,7 @@ use Rattle.spec.specs.Index.{lines-in}
 use Rattle.spec.specs.Search.{found-from}
 use Rattle.models.specs.Entries.{flat}
 use Rattle.models.specs.Window.{found-in}
-use Rattle.models.specs.Reception.{reconstruct}
-use Rattle.models.specs.Reception.{reconstructed-over}
+use Rattle.models.specs.Reception.{reconstruct, reconstructed-over}
 use Rattle.laws.specs.Text.Strings.{Stand}
 use Rattle.laws.specs.Text.Facts.{All-stand}
 use Rattle.laws.specs.Numbers.Flat.{flat-long}
@@ -97,7 +96,8 @@ pub reconstructed-once :
     (ts ≡ reconstructed-over lex ls n g) × Reflects r (All-stand lex ls (reconstructed-over lex ls n g))
 reconstructed-once lex ls n s ts h t r least is shown answer g also =
     let same : ts ≡ reconstructed-over lex ls n g = is ∙ ap (reconstructed-over lex ls n) (least-one least also) in
-    (same, subst (λ (us : List ℕ). Reflects r (All-stand lex ls us)) same (subst (λ (b : Bool). Reflects b (All-stand lex ls ts)) answer shown))
+    (same, subst (λ (us : List ℕ). Reflects r (All-stand lex ls us)) same
+        (subst (λ (b : Bool). Reflects b (All-stand lex ls ts)) answer shown))
 
 -- THE CONTRACT OF A SEARCH
 

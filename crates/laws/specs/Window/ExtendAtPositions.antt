@@ -7,7 +7,8 @@ use native.Mathlib.Omega.{arith}
 use lib.ListN.{length, getD, drop, set, length-set}
 use Rattle.basics.specs.Bools.{clash}
 use Rattle.models.specs.Window.{extend-all, positions-all}
-use Rattle.laws.specs.Window.Window.{Within, within-more, within-set, Reaches, Progress, progress-start, progress-step, progress-pass, progress-end}
+use Rattle.laws.specs.Window.Window.{Within, within-more, within-set, Reaches, Progress, progress-start, progress-step, progress-pass}
+use Rattle.laws.specs.Window.Window.{progress-end}
 use Rattle.laws.specs.Window.WindowSearch.{extend-outside, extend-passed, extend-here, positions-none, positions-next, positions-skip}
 use Rattle.laws.specs.Window.ListRange.{Window-range}
 
@@ -48,7 +49,8 @@ pub extending-start :
 extending-start bs l i o q old max-reach w =
     record { within = omega arith; way = progress-start (positions-all i o l q bs) old max-reach w; top-small = omega arith }
 
-module _ {bs : List ℕ} {l i o q : ℕ} {old : List ℕ} {max-reach : ℕ} {rs : List ℕ} {highest j : ℕ} (h : Extending bs l i o q old max-reach rs highest j) where
+module _ {bs : List ℕ} {l i o q : ℕ} {old : List ℕ} {max-reach : ℕ} {rs : List ℕ} {highest j : ℕ}
+    (h : Extending bs l i o q old max-reach rs highest j) where
   pub extending-end : length bs ≤ j → Reaches (positions-all i o l q bs old) rs highest
   extending-end past =
       progress-end (h .way) (positions-none i o l q bs j past rs)
@@ -81,7 +83,8 @@ module _ {bs : List ℕ} {l i o q : ℕ} {old : List ℕ} {max-reach : ℕ} {rs 
         }
 
     -- the position at j belongs to no start of the window
-    pub extending-outside : (q + o ≤ getD bs j 0 + i → length rs + (q + o) ≤ getD bs j 0 + i) → Extending bs l i o q old max-reach rs highest (j + 1)
+    pub extending-outside : (q + o ≤ getD bs j 0 + i → length rs + (q + o) ≤ getD bs j 0 + i) →
+        Extending bs l i o q old max-reach rs highest (j + 1)
     extending-outside outside =
         step refl (record { is = sym (extend-outside i o l q (getD bs j 0) rs outside); bounded = h .way .bounded }) (h .top-small)
 
@@ -126,7 +129,8 @@ module _ {bs : List ℕ} (l : ℕ) {i o q : ℕ} (old : List ℕ) (max-reach : �
       (λ x m h from. absurd (omega (arith, r .below x h)))
 
   pub range-end :
-      {rs : List ℕ} {highest j : ℕ} → Extending bs l i o q old max-reach rs highest j → b ≤ j → Reaches (positions-all i o l q bs old) rs highest
+      {rs : List ℕ} {highest j : ℕ} → Extending bs l i o q old max-reach rs highest j → b ≤ j →
+          Reaches (positions-all i o l q bs old) rs highest
   range-end {rs} {highest} {j} h past =
       extending-end
       (extending-skip h (length bs) (h .within) (omega arith)

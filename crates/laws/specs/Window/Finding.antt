@@ -13,8 +13,7 @@ use lib.Seq.{drop-cons, take-suc-set, drop-set-lt, drop-drop}
 use borrow.Author.Tests.{le-leb, lt-leb}
 use Rattle.basics.specs.Bools.{le-or-lt}
 use Rattle.spec.specs.Calls.{in-front}
-use Rattle.models.specs.Window.{found-in}
-use Rattle.models.specs.Window.{count-in}
+use Rattle.models.specs.Window.{found-in, count-in}
 use Rattle.laws.specs.Window.Window.{Within}
 
 -- COUNTING

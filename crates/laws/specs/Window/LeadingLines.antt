@@ -19,9 +19,8 @@ use Rattle.spec.specs.Words.{spells}
 use Rattle.spec.specs.Index.{keys-of, key-at}
 use Rattle.spec.specs.Search.{agrees}
 use Rattle.models.specs.Reach.{reach-back}
-use Rattle.models.specs.Window.{back-all, run-from, run, positions-at, leading-at}
+use Rattle.models.specs.Window.{back-all, run-from, run, positions-at, leading-at, agrees-leading, is-leading, leading-lines, run-list}
 use Rattle.spec.specs.Calls.{in-front}
-use Rattle.models.specs.Window.{agrees-leading, is-leading, leading-lines, run-list}
 use Rattle.laws.specs.Build.PostingsByKey.{those-short}
 use Rattle.laws.specs.Search.Reach.{reach-key-apart}
 use Rattle.laws.specs.Search.AgreeWalk.{key-starts-apart}
@@ -106,12 +105,14 @@ module _ (lex : Lexicon) (xs s : List ℕ) where
   leading-apart q i f rs = leading-all-apart s (spells lex (key-at xs i)) q (positions-at xs i) rs f
 
   -- so walking the listed lines does what walking all does
-  pub leading-run : (q w : ℕ) (rs : List ℕ) → run-list (leading-at lex xs s q) (leading-lines lex xs s w) rs ≡ run (leading-at lex xs s q) 0 w rs
+  pub leading-run : (q w : ℕ) (rs : List ℕ) → run-list (leading-at lex xs s q) (leading-lines lex xs s w) rs ≡ run
+      (leading-at lex xs s q) 0 w rs
   unfolding leading-lines
   leading-run q w rs = rw (sub-zero w) (run-those (leading-at lex xs s q) (is-leading lex xs s) (leading-apart q) w 0 rs)
 
   pub leading-reaches :
-      (q w : ℕ) (is old : List ℕ) {now : List ℕ} {max-reach : ℕ} → is ≡ leading-lines lex xs s w → Reaches (run-list (leading-at lex xs s q) is old) now max-reach →
+      (q w : ℕ) (is old : List ℕ) {now : List ℕ} {max-reach : ℕ} → is ≡ leading-lines lex xs s w →
+          Reaches (run-list (leading-at lex xs s q) is old) now max-reach →
       Reaches (run (leading-at lex xs s q) 0 w old) now max-reach
   leading-reaches q w is old e r =
       record {

@@ -7,14 +7,13 @@ use Prim.Native.Nat.{ℕ, zero, suc, _+_, _-_, _≤_, _<_}
 use native.Mathlib.Nat.{sub-zero}
 use native.Mathlib.Numerals.{add-one}
 use native.Mathlib.Omega.{arith}
-use lib.ListN.{length, take, drop}
+use lib.ListN.{length, drop}
 use Rattle.spec.specs.Dictionary.{Lexicon}
 use Rattle.spec.specs.Words.{spells}
 use Rattle.spec.specs.Numbers.{line}
-use Rattle.spec.specs.Index.{keys-of, count-at, key-at, lines-in}
+use Rattle.spec.specs.Index.{keys-of, key-at, lines-in}
 use Rattle.spec.specs.Search.{agrees}
-use Rattle.models.specs.Window.{list-start, key-all, back-all, leading-all, offset-all}
-use Rattle.models.specs.Window.{run-from, run, positions-at, offset-at, leading-at}
+use Rattle.models.specs.Window.{key-all, back-all, leading-all, offset-all, run-from, run, positions-at, offset-at, leading-at}
 use Rattle.laws.specs.Directory.Opened.{line-of, lines-next, lines-none}
 use Rattle.laws.specs.Window.Window.{Within, Reaches, Progress, progress-start, progress-step, progress-pass, progress-end}
 use Rattle.laws.specs.Window.WindowSearch.{key-apart, back-none, back-next, first-none, leading-next, offset-none, offset-next}
@@ -98,7 +97,8 @@ module _ (f : ℕ → List ℕ → List ℕ) (a b : ℕ) (old : List ℕ) where
   module _ (rs : List ℕ) (highest lo hi : ℕ) (h : Left f a b old rs highest lo hi) where
     -- the first of them is done
     pub left-step :
-        lo < hi → {now : List ℕ} {max-reach : ℕ} → length now ≡ length rs → Reaches (f lo rs) now max-reach → Left f a b old now max-reach (lo + 1) hi
+        lo < hi → {now : List ℕ} {max-reach : ℕ} → length now ≡ length rs → Reaches (f lo rs) now max-reach →
+            Left f a b old now max-reach (lo + 1) hi
     left-step some {now} {max-reach} kept r =
         progress-step (run f (lo + 1) hi) h (run-next f lo hi some rs) kept r
 
@@ -167,8 +167,10 @@ module _ (lex : Lexicon) (xs s : List ℕ) (q : ℕ) where
 
   -- two walks one after the other, over the lines before w and those from it on
   pub offset-both :
-      (o w : ℕ) → w ≤ keys-of xs → (old : List ℕ) {mid now : List ℕ} {highest max-reach : ℕ} → Reaches (run (offset-at o lex xs s q) 0 w old) mid highest →
-      Reaches (run (offset-at o lex xs s q) w (keys-of xs) mid) now max-reach → Reaches (offset-all o lex (lines-in xs) s q old) now max-reach
+      (o w : ℕ) → w ≤ keys-of xs → (old : List ℕ) {mid now : List ℕ} {highest max-reach : ℕ} →
+          Reaches (run (offset-at o lex xs s q) 0 w old) mid highest →
+      Reaches (run (offset-at o lex xs s q) w (keys-of xs) mid) now max-reach →
+          Reaches (offset-all o lex (lines-in xs) s q old) now max-reach
   offset-both o w within old p r =
       record {
         is =
@@ -183,7 +185,8 @@ module _ (lex : Lexicon) (xs s : List ℕ) (q : ℕ) where
   pub leading-both :
       (w : ℕ) → w ≤ keys-of xs → ((i : ℕ) → w ≤ i → i < keys-of xs → length (spells lex (key-at xs i)) ≡ 1) →
       (old : List ℕ) {mid now : List ℕ} {highest max-reach : ℕ} → Reaches (run (leading-at lex xs s q) 0 w old) mid highest →
-      Reaches (run (offset-at 0 lex xs s q) w (keys-of xs) mid) now max-reach → Reaches (leading-all lex (lines-in xs) s q old) now max-reach
+      Reaches (run (offset-at 0 lex xs s q) w (keys-of xs) mid) now max-reach →
+          Reaches (leading-all lex (lines-in xs) s q old) now max-reach
   leading-both w within single old {mid} p r =
       record {
         is =
@@ -198,7 +201,8 @@ module _ (lex : Lexicon) (xs s : List ℕ) (q : ℕ) where
       }
 
   -- a step by the key and the positions of line i is the step of line i
-  module _ (i : ℕ) (k bs : List ℕ) (key : k ≡ spells lex (key-at xs i)) (positions : bs ≡ positions-at xs i) (rs now : List ℕ) (max-reach : ℕ) where
+  module _ (i : ℕ) (k bs : List ℕ) (key : k ≡ spells lex (key-at xs i)) (positions : bs ≡ positions-at xs i) (rs now : List ℕ)
+      (max-reach : ℕ) where
     pub offset-done : (o : ℕ) → Reaches (key-all 0 o s k q bs rs) now max-reach → Reaches (offset-at o lex xs s q i rs) now max-reach
     unfolding offset-at
     offset-done o r = rw (key, positions) at r

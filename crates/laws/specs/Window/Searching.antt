@@ -15,7 +15,8 @@ use Rattle.models.specs.Window.{found-in, leading-all, offsets-all, count-in}
 use Rattle.laws.specs.Window.Window.{Within, within-none, Reaches}
 use Rattle.laws.specs.Window.WindowSearch.{window-found}
 use Rattle.laws.specs.Window.Finding.{count-found, none-found}
-use Rattle.laws.specs.Search.Sizing.{Is-string, Sized, sized-short, sized-written, finds-refused, finds-empty, finds-long, finds-sized}
+use Rattle.laws.specs.Search.Sizing.{Is-string, Sized, sized-short, sized-written, finds-refused, finds-empty, finds-long}
+use Rattle.laws.specs.Search.Sizing.{finds-sized}
 
 -- the n starts from q on, searched
 unfoldable pub Window-says : Lexicon → (index string : List ℕ) → (n q : ℕ) → Answer → (out out-now : List ℕ) → Type 0

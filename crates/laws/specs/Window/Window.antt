@@ -1,7 +1,7 @@
 -- A window of starts: a list of reaches, one for each start from `first` on; a step applied to all of them, and a walk of such steps.
 -- Assumes nothing.
 use mathlib.Core.Path.{_≡_, refl, sym, ap, _∙_}
-use mathlib.Core.Bool.{Bool, true, false, cond}
+use mathlib.Core.Bool.{Bool, true, false}
 use mathlib.Core.List.{List, [], _∷_}
 use Prim.Native.Nat.{ℕ, zero, suc, _+_, _≤_, _<_}
 use native.Mathlib.Nat.{add-zero}
@@ -103,20 +103,23 @@ progress-start rest rs max-reach w = record { left = refl; len = refl; bounded =
 
 -- one step, by what it does to the window
 pub progress-step :
-    {rest : List ℕ → List ℕ} (next : List ℕ → List ℕ) {goal old rs now : List ℕ} {max-reach highest : ℕ} {stepped : List ℕ} → Progress rest goal old rs max-reach →
+    {rest : List ℕ → List ℕ} (next : List ℕ → List ℕ) {goal old rs now : List ℕ} {max-reach highest : ℕ} {stepped : List ℕ} →
+        Progress rest goal old rs max-reach →
     rest rs ≡ next stepped → length now ≡ length rs → Reaches stepped now highest → Progress next goal old now highest
 progress-step next m cut kept r =
     record { left = ap next (r .is) ∙ sym cut ∙ m .left; len = kept ∙ m .len; bounded = r .bounded }
 
 -- a step that changes nothing
 pub progress-pass :
-    {rest : List ℕ → List ℕ} (next : List ℕ → List ℕ) {goal old rs : List ℕ} {max-reach : ℕ} → Progress rest goal old rs max-reach → rest rs ≡ next rs →
+    {rest : List ℕ → List ℕ} (next : List ℕ → List ℕ) {goal old rs : List ℕ} {max-reach : ℕ} → Progress rest goal old rs max-reach →
+        rest rs ≡ next rs →
     Progress next goal old rs max-reach
 progress-pass next m cut = record { left = sym cut ∙ m .left; len = m .len; bounded = m .bounded }
 
 -- nothing is left
 pub progress-end :
-    {rest : List ℕ → List ℕ} {goal old rs : List ℕ} {max-reach : ℕ} → Progress rest goal old rs max-reach → rest rs ≡ rs → Reaches goal rs max-reach
+    {rest : List ℕ → List ℕ} {goal old rs : List ℕ} {max-reach : ℕ} → Progress rest goal old rs max-reach → rest rs ≡ rs →
+        Reaches goal rs max-reach
 progress-end m done = record { is = sym done ∙ m .left; bounded = m .bounded }
 
 -- WHAT IS FOUND

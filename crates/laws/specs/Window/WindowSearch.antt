@@ -17,8 +17,7 @@ use Rattle.spec.specs.Words.{spells}
 use Rattle.spec.specs.Numbers.{Line}
 use Rattle.spec.specs.Search.{agrees, found-from}
 use Rattle.models.specs.Reach.{extend, reach-positions, reach-key, reach-back, reach-leading, reach-offset, reach-offsets, reach}
-use Rattle.models.specs.Window.{extended, found-in}
-use Rattle.models.specs.Window.{extend-all, positions-all, key-all, back-all, leading-all, offset-all, offsets-all}
+use Rattle.models.specs.Window.{found-in, extend-all, positions-all, key-all, back-all, leading-all, offset-all, offsets-all}
 use Rattle.laws.specs.Search.Reach.{reach-key-apart, reach-offsets-stop}
 use Rattle.laws.specs.Search.ReachExact.{found-reach}
 use Rattle.laws.specs.Window.Window.{extended-then, extended-alike, extended-same, extended-one, Within, found-in-extended}
