@@ -44,8 +44,14 @@ placed-append ys zs at xs h =
     ∙ drop-append-add (take at xs ++ ys) (drop (at + length ys) xs) (length zs)
     ∙ drop-drop (length zs) (at + length ys) xs
     ∙ ap (λ (n : ℕ). drop n xs) (add-assoc at (length ys) (length zs)) in
-    rw (whole, kept, rest, length-append ys zs, append-assoc (take at xs) ys (zs ++ drop (at + (length ys + length zs)) xs),
-        append-assoc ys zs (drop (at + (length ys + length zs)) xs))
+    rw (
+      whole,
+      kept,
+      rest,
+      length-append ys zs,
+      append-assoc (take at xs) ys (zs ++ drop (at + (length ys + length zs)) xs),
+      append-assoc ys zs (drop (at + (length ys + length zs)) xs),
+    )
 
 -- what a writer answers: the index after what it wrote, and the slice's content
 pub record Wrote (new : List ℕ) (at : ℕ) (old : List ℕ) (end : ℕ) (now : List ℕ) : Type 0 where

@@ -45,8 +45,10 @@ pub appends :
     Writing all old (over (take at now ++ xs) now) todo (at + length xs)
 appends {old} {now} xs todo {at} w =
     record {
-      so-far = rw (take-at (take at now ++ xs) (drop (length (take at now ++ xs)) now) (at + length xs) len,
-          append-assoc (take at now) xs todo) (w .so-far);
+      so-far = rw (
+        take-at (take at now ++ xs) (drop (length (take at now ++ xs)) now) (at + length xs) len,
+        append-assoc (take at now) xs todo,
+      ) (w .so-far);
       rest =
           drop-at (take at now ++ xs) (drop (length (take at now ++ xs)) now) (at + length xs) len
           ∙ ap (λ (n : ℕ). drop n now) len
@@ -86,7 +88,7 @@ lent-on :
 lent-on {all} {old} {now} {todo} part {at} w e =
     rw (e, ← append-assoc (take at now) todo (drop (length todo) (drop at now)), w .so-far, drop-drop (length todo) at now)
     (ap (λ (l : List ℕ). all ++ l) (sym (drop-drop (length todo) at now) ∙ ap (λ (l : List ℕ). drop (length todo) l) (w .rest) ∙
-        drop-drop (length todo) at old)
+    drop-drop (length todo) at old)
     ∙ ap (λ (n : ℕ). all ++ drop n old) len)
   where
     len : at + length todo ≡ length all

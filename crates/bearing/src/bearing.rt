@@ -23,10 +23,30 @@ pub fn flag_bearing<'a>(
     string: &[u16],
     flags: &mut [u8],
 )
-    requires { ⌜ Can-read (now chars) (now lengths) (now index) × Word-starts (now lengths) (length (now lengths)) (now «word_starts») × Is-string (now string) × (keys-of (now index) ≤ length (now flags)) × (now flags ≡ replicate (length (now flags)) 0) ⌝ }
-    ensures { λ r. ⌜ Exact-flags (lexicon (now (chars .entry)) (now (lengths .entry))) (now (index .entry)) (now (string .entry)) (keys-of (now (index .entry))) (now (flags .exit)) ⌝ }
+    requires { ⌜
+        Can-read (now chars) (now lengths) (now index) × Word-starts (now lengths) (length (now lengths)) (now «word_starts») ×
+        Is-string (now string) × (keys-of (now index) ≤ length (now flags)) × (now flags ≡ replicate (length (now flags)) 0) ⌝ }
+    ensures { λ r. ⌜
+        Exact-flags (lexicon (now (chars .entry)) (now (lengths .entry))) (now (index .entry)) (now (string .entry))
+        (keys-of (now (index .entry))) (now (flags .exit)) ⌝ }
 {
     let word_lines = count_word_lines(index);
-    flag_before(chars, lengths, index, word_starts, string, word_lines, flags);
-    flag_within(chars, lengths, index, word_starts, string, word_lines, flags);
+    flag_before(
+        chars,
+        lengths,
+        index,
+        word_starts,
+        string,
+        word_lines,
+        flags,
+    );
+    flag_within(
+        chars,
+        lengths,
+        index,
+        word_starts,
+        string,
+        word_lines,
+        flags,
+    );
 }

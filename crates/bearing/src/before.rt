@@ -19,7 +19,9 @@ use postings::agreement::agrees_at;
 // Whether a key agrees with the string at an offset below 0.
 fn begins_before(key: &[u16], string: &[u16]) -> bool
     requires { ⌜ (length (now key) ≤ 32) × (1 ≤ length (now string)) ⌝ }
-    ensures { λ r. ⌜ (r ≡ true → bears (now (key .entry)) (now (string .entry)) ≡ true) × (r ≡ false → (p : ℕ) → 1 ≤ p → agrees (now (string .entry)) p (now (key .entry)) 0 ≡ false) ⌝ }
+    ensures { λ r. ⌜
+        (r ≡ true → bears (now (key .entry)) (now (string .entry)) ≡ true) ×
+        (r ≡ false → (p : ℕ) → 1 ≤ p → agrees (now (string .entry)) p (now (key .entry)) 0 ≡ false) ⌝ }
 {
     let front = string[0];
     let mut i = 1;
@@ -45,8 +47,13 @@ pub(crate) fn flag_before<'a>(
     word_lines: usize,
     flags: &mut [u8],
 )
-    requires { ⌜ Can-read (now chars) (now lengths) (now index) × Word-starts (now lengths) (length (now lengths)) (now «word_starts») × (1 ≤ length (now string)) × («word_lines» ≤ keys-of (now index)) × Flags (lexicon (now chars) (now lengths)) (now index) (now string) (now flags) ⌝ }
-    ensures { λ r. ⌜ Backs (lexicon (now (chars .entry)) (now (lengths .entry))) (now (index .entry)) (now (string .entry)) (now (flags .entry)) (now (flags .exit)) «word_lines» ⌝ }
+    requires { ⌜
+        Can-read (now chars) (now lengths) (now index) × Word-starts (now lengths) (length (now lengths)) (now «word_starts») ×
+        (1 ≤ length (now string)) × («word_lines» ≤ keys-of (now index)) ×
+        Flags (lexicon (now chars) (now lengths)) (now index) (now string) (now flags) ⌝ }
+    ensures { λ r. ⌜
+        Backs (lexicon (now (chars .entry)) (now (lengths .entry))) (now (index .entry)) (now (string .entry)) (now (flags .entry))
+        (now (flags .exit)) «word_lines» ⌝ }
 {
     let mut line = 0;
     while line < word_lines {

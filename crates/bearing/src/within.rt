@@ -13,8 +13,8 @@ ghost use Rattle.laws.specs.Search.Sizing.{Is-string};
 ghost use Rattle.laws.specs.Cut.Flagging.{Ones, Flags, Flagging, Flagged};
 ghost use Rattle.laws.specs.Cut.FlagWalks.{Offsets};
 use directory::lines::word_length;
-use directory::ranges::line_lower_bound;
 use directory::ranges::equal_range;
+use directory::ranges::line_lower_bound;
 
 // Flags the lines `from` to `to` - 1.
 fn flag_lines(from: usize, to: usize, flags: &mut [u8])
@@ -39,8 +39,15 @@ fn flag_words(
     word_lines: usize,
     flags: &mut [u8],
 )
-    requires { ⌜ Can-read (now chars) (now lengths) (now index) × Word-starts (now lengths) (length (now lengths)) (now «word_starts») × Split (now index) «word_lines» × Is-string (now string) × («key_start» < length (now string)) × Flags (lexicon (now chars) (now lengths)) (now index) (now string) (now flags) ⌝ }
-    ensures { λ r. ⌜ Flagging (lexicon (now (chars .entry)) (now (lengths .entry))) (now (index .entry)) (now (string .entry)) (now (flags .entry)) (now (flags .exit)) × Flagged (lexicon (now (chars .entry)) (now (lengths .entry))) (now (index .entry)) (now (string .entry)) 0 «key_start» 0 «word_lines» (now (flags .exit)) ⌝ }
+    requires { ⌜
+        Can-read (now chars) (now lengths) (now index) × Word-starts (now lengths) (length (now lengths)) (now «word_starts») ×
+        Split (now index) «word_lines» × Is-string (now string) × («key_start» < length (now string)) ×
+        Flags (lexicon (now chars) (now lengths)) (now index) (now string) (now flags) ⌝ }
+    ensures { λ r. ⌜
+        Flagging (lexicon (now (chars .entry)) (now (lengths .entry))) (now (index .entry)) (now (string .entry)) (now (flags .entry))
+        (now (flags .exit)) ×
+        Flagged (lexicon (now (chars .entry)) (now (lengths .entry))) (now (index .entry))
+        (now (string .entry)) 0 «key_start» 0 «word_lines» (now (flags .exit)) ⌝ }
 {
     let left = string.len() - key_start;
     let mut low = 0;
@@ -75,8 +82,14 @@ fn flag_lone(
     word_lines: usize,
     flags: &mut [u8],
 )
-    requires { ⌜ Can-read (now chars) (now lengths) (now index) × Split (now index) «word_lines» × Is-string (now string) × («key_start» < length (now string)) × Flags (lexicon (now chars) (now lengths)) (now index) (now string) (now flags) ⌝ }
-    ensures { λ r. ⌜ Flagging (lexicon (now (chars .entry)) (now (lengths .entry))) (now (index .entry)) (now (string .entry)) (now (flags .entry)) (now (flags .exit)) × Flagged (lexicon (now (chars .entry)) (now (lengths .entry))) (now (index .entry)) (now (string .entry)) 0 «key_start» «word_lines» (keys-of (now (index .entry))) (now (flags .exit)) ⌝ }
+    requires { ⌜
+        Can-read (now chars) (now lengths) (now index) × Split (now index) «word_lines» × Is-string (now string) ×
+        («key_start» < length (now string)) × Flags (lexicon (now chars) (now lengths)) (now index) (now string) (now flags) ⌝ }
+    ensures { λ r. ⌜
+        Flagging (lexicon (now (chars .entry)) (now (lengths .entry))) (now (index .entry)) (now (string .entry)) (now (flags .entry))
+        (now (flags .exit)) ×
+        Flagged (lexicon (now (chars .entry)) (now (lengths .entry))) (now (index .entry)) (now (string .entry)) 0 «key_start» «word_lines»
+        (keys-of (now (index .entry))) (now (flags .exit)) ⌝ }
 {
     let keys = index[1] as usize;
     let character = string[key_start];
@@ -99,10 +112,26 @@ fn flag_offset(
     word_lines: usize,
     flags: &mut [u8],
 )
-    requires { ⌜ Can-read (now chars) (now lengths) (now index) × Word-starts (now lengths) (length (now lengths)) (now «word_starts») × Split (now index) «word_lines» × Is-string (now string) × («key_start» < length (now string)) × Flags (lexicon (now chars) (now lengths)) (now index) (now string) (now flags) ⌝ }
-    ensures { λ r. ⌜ Flagging (lexicon (now (chars .entry)) (now (lengths .entry))) (now (index .entry)) (now (string .entry)) (now (flags .entry)) (now (flags .exit)) × Flagged (lexicon (now (chars .entry)) (now (lengths .entry))) (now (index .entry)) (now (string .entry)) 0 «key_start» 0 (keys-of (now (index .entry))) (now (flags .exit)) ⌝ }
+    requires { ⌜
+        Can-read (now chars) (now lengths) (now index) × Word-starts (now lengths) (length (now lengths)) (now «word_starts») ×
+        Split (now index) «word_lines» × Is-string (now string) × («key_start» < length (now string)) ×
+        Flags (lexicon (now chars) (now lengths)) (now index) (now string) (now flags) ⌝ }
+    ensures { λ r. ⌜
+        Flagging (lexicon (now (chars .entry)) (now (lengths .entry))) (now (index .entry)) (now (string .entry)) (now (flags .entry))
+        (now (flags .exit)) ×
+        Flagged (lexicon (now (chars .entry)) (now (lengths .entry))) (now (index .entry)) (now (string .entry)) 0 «key_start» 0
+        (keys-of (now (index .entry))) (now (flags .exit)) ⌝ }
 {
-    flag_words(chars, lengths, index, word_starts, string, key_start, word_lines, flags);
+    flag_words(
+        chars,
+        lengths,
+        index,
+        word_starts,
+        string,
+        key_start,
+        word_lines,
+        flags,
+    );
     flag_lone(chars, lengths, index, string, key_start, word_lines, flags);
 }
 
@@ -116,13 +145,27 @@ pub(crate) fn flag_within(
     word_lines: usize,
     flags: &mut [u8],
 )
-    requires { ⌜ Can-read (now chars) (now lengths) (now index) × Word-starts (now lengths) (length (now lengths)) (now «word_starts») × Split (now index) «word_lines» × Is-string (now string) × Flags (lexicon (now chars) (now lengths)) (now index) (now string) (now flags) ⌝ }
-    ensures { λ r. ⌜ Offsets (lexicon (now (chars .entry)) (now (lengths .entry))) (now (index .entry)) (now (string .entry)) (now (flags .entry)) (now (flags .exit)) (length (now (string .entry))) ⌝ }
+    requires { ⌜
+        Can-read (now chars) (now lengths) (now index) × Word-starts (now lengths) (length (now lengths)) (now «word_starts») ×
+        Split (now index) «word_lines» × Is-string (now string) ×
+        Flags (lexicon (now chars) (now lengths)) (now index) (now string) (now flags) ⌝ }
+    ensures { λ r. ⌜
+        Offsets (lexicon (now (chars .entry)) (now (lengths .entry))) (now (index .entry)) (now (string .entry)) (now (flags .entry))
+        (now (flags .exit)) (length (now (string .entry))) ⌝ }
 {
     let last = string.len() - 1;
     let mut key_start = 0;
     while key_start <= last {
-        flag_offset(chars, lengths, index, word_starts, string, key_start, word_lines, flags);
+        flag_offset(
+            chars,
+            lengths,
+            index,
+            word_starts,
+            string,
+            key_start,
+            word_lines,
+            flags,
+        );
         key_start += 1;
     }
 }

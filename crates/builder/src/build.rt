@@ -148,7 +148,9 @@ pub fn build(
     output: &mut [u16],
     work: &mut [u16],
 ) -> Answer
-    ensures { λ r. ⌜ Build-says (now (chars .entry)) (now (lengths .entry)) (now (text .entry)) r (now (output .entry)) (now (output .exit)) (now (work .entry)) (now (work .exit)) ⌝ }
+    ensures { λ r. ⌜
+        Build-says (now (chars .entry)) (now (lengths .entry)) (now (text .entry)) r (now (output .entry)) (now (output .exit))
+        (now (work .entry)) (now (work .exit)) ⌝ }
 {
     let refusal = early_refusal(chars, lengths, text, work.len());
     if refusal != 0 {

@@ -32,7 +32,8 @@ pub(crate) fn scan_replaced(
     text: &[u16],
     work: &mut [u16],
 )
-    requires { ⌜ Tables (now chars) (now lengths) (now heads) (now links) (now «word_starts») × (2 * length (now text) ≤ length (now work)) ⌝ }
+    requires { ⌜
+        Tables (now chars) (now lengths) (now heads) (now links) (now «word_starts») × (2 * length (now text) ≤ length (now work)) ⌝ }
     ensures { λ _. ⌜
         Tokens (lexicon (now (chars .entry)) (now (lengths .entry))) (replaced (now (text .entry)))
         (take (length (now (text .entry))) (now (work .exit))) ⌝ }

@@ -121,7 +121,15 @@ pub(crate) fn extend_at_positions(
     ensures { λ r. ⌜ Reaches (positions-all «string_start» «key_start» len first (now (positions .entry)) (now (reach .entry))) (now (reach .exit)) r ⌝ }
 {
     if positions.len() <= 16 {
-        return extend_at_all(positions, len, string_start, key_start, first, reach, max_reach);
+        return extend_at_all(
+            positions,
+            len,
+            string_start,
+            key_start,
+            first,
+            reach,
+            max_reach,
+        );
     }
     let base = first + key_start;
     let from = lower_bound(positions, saturating_sub(base, string_start));

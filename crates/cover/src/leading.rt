@@ -13,8 +13,8 @@ ghost use Rattle.laws.specs.Directory.Tables.{Opened};
 ghost use Rattle.laws.specs.Window.ListRange.{Ascending};
 ghost use Rattle.laws.specs.Window.LineRanges.{Split};
 ghost use Rattle.laws.specs.Window.LeadingLines.{Has-lines};
-use crate::lines::extend_lone;
 use crate::extend::extend_key;
+use crate::lines::extend_lone;
 use directory::lines::key_of;
 use directory::lines::positions_of;
 

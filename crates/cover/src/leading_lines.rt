@@ -80,7 +80,15 @@ pub fn list_leading<'a>(
     ensures { λ r. ⌜ Split (now (index .entry)) (r .words) × (r .count ≤ length (now (lines .exit))) × (take (r .count) (now (lines .exit)) ≡ leading-lines (lexicon (now (chars .entry)) (now (lengths .entry))) (now (index .entry)) (now (string .entry)) (r .words)) ⌝ }
 {
     let word_lines = count_word_lines(index);
-    let count = fill_leading(chars, lengths, index, word_starts, string, word_lines, lines);
+    let count = fill_leading(
+        chars,
+        lengths,
+        index,
+        word_starts,
+        string,
+        word_lines,
+        lines,
+    );
     Leading {
         words: word_lines,
         count,

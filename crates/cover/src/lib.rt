@@ -2,10 +2,10 @@
 // reach: the length of the covered prefix.
 //
 // The leading keys come first, those at an offset of 0 or below, then the offsets above 0 in ascending order.
-mod lower_bound;
+mod extend;
 mod leading;
 pub mod leading_lines;
 mod lines;
-mod extend;
+mod lower_bound;
 mod offsets;
 pub mod window;

@@ -19,8 +19,8 @@ use crate::extend::extend_key;
 use directory::lines::key_of;
 use directory::lines::positions_of;
 use directory::lines::word_length;
-use directory::ranges::line_lower_bound;
 use directory::ranges::equal_range;
+use directory::ranges::line_lower_bound;
 
 // Extends the window by one line at the offset `key_start`. Answers the greatest reach afterwards.
 fn extend_line<'a>(
@@ -41,7 +41,16 @@ fn extend_line<'a>(
 {
     let key = key_of(chars, lengths, index, word_starts, line);
     let positions = positions_of(index, list_starts, line);
-    extend_key(key, string, positions, 0, key_start, first, reach, max_reach)
+    extend_key(
+        key,
+        string,
+        positions,
+        0,
+        key_start,
+        first,
+        reach,
+        max_reach,
+    )
 }
 
 // Extends the window by the lines `from` to `to` - 1 at the offset `key_start`. Answers the greatest reach afterwards.

@@ -28,8 +28,12 @@ fn cut_lent<'a>(
     flags: &mut [u8],
     output: &mut [u16],
 ) -> Answer
-    requires { ⌜ Can-read (now chars) (now lengths) (now index) × Is-string (now string) × (keys-of (now index) ≤ length (now flags)) × (now flags ≡ replicate (length (now flags)) 0) ⌝ }
-    ensures { λ r. ⌜ Sized (cut-down (lexicon (now (chars .entry)) (now (lengths .entry))) (now (index .entry)) (now (string .entry))) r (now (output .entry)) (now (output .exit)) ⌝ }
+    requires { ⌜
+        Can-read (now chars) (now lengths) (now index) × Is-string (now string) × (keys-of (now index) ≤ length (now flags)) ×
+        (now flags ≡ replicate (length (now flags)) 0) ⌝ }
+    ensures { λ r. ⌜
+        Sized (cut-down (lexicon (now (chars .entry)) (now (lengths .entry))) (now (index .entry)) (now (string .entry))) r
+        (now (output .entry)) (now (output .exit)) ⌝ }
 {
     let mut word_starts = [0u16; 4096];
     fill_word_starts(lengths, &mut word_starts);
@@ -55,7 +59,9 @@ fn cut_few_lines<'a>(
     output: &mut [u16],
 ) -> Answer
     requires { ⌜ Can-read (now chars) (now lengths) (now index) × Is-string (now string) × (keys-of (now index) ≤ 1024) ⌝ }
-    ensures { λ r. ⌜ Sized (cut-down (lexicon (now (chars .entry)) (now (lengths .entry))) (now (index .entry)) (now (string .entry))) r (now (output .entry)) (now (output .exit)) ⌝ }
+    ensures { λ r. ⌜
+        Sized (cut-down (lexicon (now (chars .entry)) (now (lengths .entry))) (now (index .entry)) (now (string .entry))) r
+        (now (output .entry)) (now (output .exit)) ⌝ }
 {
     let mut flags = [0u8; 1024];
     cut_lent(chars, lengths, index, string, &mut flags, output)
@@ -70,7 +76,9 @@ fn cut_some_lines<'a>(
     output: &mut [u16],
 ) -> Answer
     requires { ⌜ Can-read (now chars) (now lengths) (now index) × Is-string (now string) × (keys-of (now index) ≤ 8192) ⌝ }
-    ensures { λ r. ⌜ Sized (cut-down (lexicon (now (chars .entry)) (now (lengths .entry))) (now (index .entry)) (now (string .entry))) r (now (output .entry)) (now (output .exit)) ⌝ }
+    ensures { λ r. ⌜
+        Sized (cut-down (lexicon (now (chars .entry)) (now (lengths .entry))) (now (index .entry)) (now (string .entry))) r
+        (now (output .entry)) (now (output .exit)) ⌝ }
 {
     let mut flags = [0u8; 8192];
     cut_lent(chars, lengths, index, string, &mut flags, output)
@@ -85,7 +93,9 @@ fn cut_many_lines<'a>(
     output: &mut [u16],
 ) -> Answer
     requires { ⌜ Can-read (now chars) (now lengths) (now index) × Is-string (now string) × (keys-of (now index) ≤ 65535) ⌝ }
-    ensures { λ r. ⌜ Sized (cut-down (lexicon (now (chars .entry)) (now (lengths .entry))) (now (index .entry)) (now (string .entry))) r (now (output .entry)) (now (output .exit)) ⌝ }
+    ensures { λ r. ⌜
+        Sized (cut-down (lexicon (now (chars .entry)) (now (lengths .entry))) (now (index .entry)) (now (string .entry))) r
+        (now (output .entry)) (now (output .exit)) ⌝ }
 {
     let mut flags = [0u8; 65536];
     cut_lent(chars, lengths, index, string, &mut flags, output)
@@ -100,8 +110,12 @@ fn cut_lines<'a>(
     string: &[u16],
     output: &mut [u16],
 ) -> Answer
-    requires { ⌜ Can-read (now chars) (now lengths) (now index) × Is-string (now string) × (keys-of (now index) ≤ 65535) × (keys ≡ keys-of (now index)) ⌝ }
-    ensures { λ r. ⌜ Sized (cut-down (lexicon (now (chars .entry)) (now (lengths .entry))) (now (index .entry)) (now (string .entry))) r (now (output .entry)) (now (output .exit)) ⌝ }
+    requires { ⌜
+        Can-read (now chars) (now lengths) (now index) × Is-string (now string) × (keys-of (now index) ≤ 65535) ×
+        (keys ≡ keys-of (now index)) ⌝ }
+    ensures { λ r. ⌜
+        Sized (cut-down (lexicon (now (chars .entry)) (now (lengths .entry))) (now (index .entry)) (now (string .entry))) r
+        (now (output .entry)) (now (output .exit)) ⌝ }
 {
     if keys <= 1024 {
         return cut_few_lines(chars, lengths, index, string, output);
@@ -144,7 +158,9 @@ fn cut_opened<'a>(
     output: &mut [u16],
 ) -> Answer
     requires { ⌜ (refusal ≡ index-refusal (now chars) (now lengths) (now index)) × (keys ≡ accepted refusal (keys-of (now index)) 0) ⌝ }
-    ensures { λ r. ⌜ Cut-says (now (chars .entry)) (now (lengths .entry)) (now (index .entry)) (now (string .entry)) r (now (output .entry)) (now (output .exit)) ⌝ }
+    ensures { λ r. ⌜
+        Cut-says (now (chars .entry)) (now (lengths .entry)) (now (index .entry)) (now (string .entry)) r (now (output .entry))
+        (now (output .exit)) ⌝ }
 {
     if refusal != 0 {
         return Answer { refusal, count: 0 };
@@ -173,7 +189,9 @@ pub fn cut_index<'a>(
     string: &'a [u16],
     output: &mut [u16],
 ) -> Answer
-    ensures { λ r. ⌜ Cut-says (now (chars .entry)) (now (lengths .entry)) (now (index .entry)) (now (string .entry)) r (now (output .entry)) (now (output .exit)) ⌝ }
+    ensures { λ r. ⌜
+        Cut-says (now (chars .entry)) (now (lengths .entry)) (now (index .entry)) (now (string .entry)) r (now (output .entry))
+        (now (output .exit)) ⌝ }
 {
     let opened = open_index(chars, lengths, index);
     cut_opened(

@@ -31,8 +31,10 @@ pub(crate) fn size_flagged(
     string: &[u16],
     flags: &[u8],
 ) -> Size
-    requires { ⌜ Fits (now index) × Exact-flags (lexicon (now chars) (now lengths)) (now index) (now string) (keys-of (now index)) (now flags) ⌝ }
-    ensures { λ r. ⌜ Is-size (lexicon (now (chars .entry)) (now (lengths .entry))) (now (index .entry)) (now (string .entry)) (r .keys) (r .entries) ⌝ }
+    requires { ⌜
+        Fits (now index) × Exact-flags (lexicon (now chars) (now lengths)) (now index) (now string) (keys-of (now index)) (now flags) ⌝ }
+    ensures { λ r. ⌜
+        Is-size (lexicon (now (chars .entry)) (now (lengths .entry))) (now (index .entry)) (now (string .entry)) (r .keys) (r .entries) ⌝ }
 {
     let count = index[1] as usize;
     let mut keys = 0;
@@ -59,8 +61,14 @@ fn write_directory(
     from: usize,
     output: &mut [u16],
 )
-    requires { ⌜ Fits (now index) × Exact-flags (lexicon (now chars) (now lengths)) (now index) (now string) (keys-of (now index)) (now flags) × (from + length (directory (bearing (lexicon (now chars) (now lengths)) (now string) (lines-in (now index)))) ≤ length (now output)) ⌝ }
-    ensures { λ r. ⌜ now (output .exit) ≡ over (take from (now (output .entry)) ++ directory (bearing (lexicon (now (chars .entry)) (now (lengths .entry))) (now (string .entry)) (lines-in (now (index .entry))))) (now (output .entry)) ⌝ }
+    requires { ⌜
+        Fits (now index) × Exact-flags (lexicon (now chars) (now lengths)) (now index) (now string) (keys-of (now index)) (now flags) ×
+        (from + length (directory (bearing (lexicon (now chars) (now lengths)) (now string) (lines-in (now index)))) ≤ length
+        (now output)) ⌝ }
+    ensures { λ r. ⌜
+        now (output .exit) ≡ over (take from (now (output .entry)) ++
+        directory (bearing (lexicon (now (chars .entry)) (now (lengths .entry))) (now (string .entry))
+        (lines-in (now (index .entry))))) (now (output .entry)) ⌝ }
 {
     let count = index[1] as usize;
     let mut at = from;
@@ -86,8 +94,12 @@ fn write_positions(
     flags: &[u8],
     part: &mut [u16],
 )
-    requires { ⌜ Fits (now index) × Exact-flags (lexicon (now chars) (now lengths)) (now index) (now string) (keys-of (now index)) (now flags) × (length (all-positions (bearing (lexicon (now chars) (now lengths)) (now string) (lines-in (now index)))) ≤ length (now part)) ⌝ }
-    ensures { λ r. ⌜ now (part .exit) ≡ over (all-positions (bearing (lexicon (now (chars .entry)) (now (lengths .entry))) (now (string .entry)) (lines-in (now (index .entry))))) (now (part .entry)) ⌝ }
+    requires { ⌜
+        Fits (now index) × Exact-flags (lexicon (now chars) (now lengths)) (now index) (now string) (keys-of (now index)) (now flags) ×
+        (length (all-positions (bearing (lexicon (now chars) (now lengths)) (now string) (lines-in (now index)))) ≤ length (now part)) ⌝ }
+    ensures { λ r. ⌜
+        now (part .exit) ≡ over (all-positions (bearing (lexicon (now (chars .entry)) (now (lengths .entry))) (now (string .entry))
+        (lines-in (now (index .entry))))) (now (part .entry)) ⌝ }
 {
     let count = index[1] as usize;
     let mut start = 2 + 3 * count;
@@ -116,8 +128,13 @@ pub(crate) fn write_cut(
     size: Size,
     output: &mut [u16],
 )
-    requires { ⌜ Fits (now index) × Exact-flags (lexicon (now chars) (now lengths)) (now index) (now string) (keys-of (now index)) (now flags) × Is-size (lexicon (now chars) (now lengths)) (now index) (now string) (size .keys) (size .entries) × (length (cut-down (lexicon (now chars) (now lengths)) (now index) (now string)) ≤ length (now output)) ⌝ }
-    ensures { λ r. ⌜ now (output .exit) ≡ in-front (cut-down (lexicon (now (chars .entry)) (now (lengths .entry))) (now (index .entry)) (now (string .entry))) (now (output .entry)) ⌝ }
+    requires { ⌜
+        Fits (now index) × Exact-flags (lexicon (now chars) (now lengths)) (now index) (now string) (keys-of (now index)) (now flags) ×
+        Is-size (lexicon (now chars) (now lengths)) (now index) (now string) (size .keys) (size .entries) ×
+        (length (cut-down (lexicon (now chars) (now lengths)) (now index) (now string)) ≤ length (now output)) ⌝ }
+    ensures { λ r. ⌜
+        now (output .exit) ≡ in-front (cut-down (lexicon (now (chars .entry)) (now (lengths .entry))) (now (index .entry))
+        (now (string .entry))) (now (output .entry)) ⌝ }
 {
     let keys = size.keys;
     output[0] = index[0];

@@ -50,14 +50,9 @@ fn next_found(reach: &[u16], len: usize, from: usize) -> usize
 }
 
 // Writes the starts whose reach is `len` or more, of which there are `count`, to the start of the output.
-pub(crate) fn write_found(
-    reach: &[u16],
-    len: usize,
-    first: usize,
-    count: usize,
-    output: &mut [u16],
-)
-    requires { ⌜ (count ≡ length (found-in len first (now reach))) × (count ≤ length (now output)) × (first + length (now reach) ≤ 65536) ⌝ }
+pub(crate) fn write_found(reach: &[u16], len: usize, first: usize, count: usize, output: &mut [u16])
+    requires { ⌜
+        (count ≡ length (found-in len first (now reach))) × (count ≤ length (now output)) × (first + length (now reach) ≤ 65536) ⌝ }
     ensures { λ r. ⌜ now (output .exit) ≡ in-front (found-in len first (now (reach .entry))) (now (output .entry)) ⌝ }
 {
     let mut written = 0;

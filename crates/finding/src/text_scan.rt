@@ -17,9 +17,9 @@ ghost use Rattle.laws.specs.Directory.Tables.{Can-read, Word-starts};
 ghost use Rattle.laws.specs.TextScan.ZSearch.{Prefix-lengths};
 ghost use Rattle.laws.specs.TextScan.ReconstructedSearch.{Finds};
 use reconstruction::checked::reconstruct_checked;
+use zsearch::prefix_lengths::fill_prefix_lengths;
 use zsearch::sentinel::sentinel_of;
 use zsearch::zarray::fill_zarray;
-use zsearch::prefix_lengths::fill_prefix_lengths;
 
 // Fills the window with the length of the longest prefix of the string that matches at each start of a text.
 fn reach_prefixes(text: &[u16], string: &[u16], reach: &mut [u16])
@@ -41,10 +41,20 @@ pub fn reach_reconstructed(
     text: &mut [u16],
     reach: &mut [u16],
 ) -> bool
-    requires { ⌜ Can-read (now chars) (now lengths) (now index) × Word-starts (now lengths) (length (now lengths)) (now «word_starts») × (length (now string) ≤ 256) × (length (now text) ≡ n-of (now index)) × (length (now reach) + length (now string) ≤ suc (n-of (now index))) ⌝ }
-    ensures told { λ r. ⌜ (r ≡ true → Finds (lexicon (now (chars .entry)) (now (lengths .entry))) (now (index .entry)) (now (string .entry)) (now (reach .exit))) ⌝ }
+    requires { ⌜
+        Can-read (now chars) (now lengths) (now index) × Word-starts (now lengths) (length (now lengths)) (now «word_starts») ×
+        (length (now string) ≤ 256) × (length (now text) ≡ n-of (now index)) ×
+        (length (now reach) + length (now string) ≤ suc (n-of (now index))) ⌝ }
+    ensures told { λ r. ⌜
+        (r ≡ true → Finds (lexicon (now (chars .entry)) (now (lengths .entry))) (now (index .entry)) (now (string .entry))
+        (now (reach .exit))) ⌝ }
     ensures kept { λ r. ⌜ (r ≡ false → now (reach .exit) ≡ now (reach .entry)) ⌝ }
-    ensures reconstructed { λ r. ⌜ ((g : ℕ) → Least-absent (now (string .entry)) g → (now (text .exit) ≡ reconstructed-over (lexicon (now (chars .entry)) (now (lengths .entry))) (lines-in (now (index .entry))) (n-of (now (index .entry))) g) × Reflects r (All-stand (lexicon (now (chars .entry)) (now (lengths .entry))) (lines-in (now (index .entry))) (reconstructed-over (lexicon (now (chars .entry)) (now (lengths .entry))) (lines-in (now (index .entry))) (n-of (now (index .entry))) g))) ⌝ }
+    ensures reconstructed { λ r. ⌜
+        ((g : ℕ) → Least-absent (now (string .entry)) g → (now (text .exit) ≡ reconstructed-over
+        (lexicon (now (chars .entry)) (now (lengths .entry))) (lines-in (now (index .entry))) (n-of (now (index .entry))) g) ×
+        Reflects r (All-stand (lexicon (now (chars .entry)) (now (lengths .entry))) (lines-in (now (index .entry)))
+        (reconstructed-over (lexicon (now (chars .entry)) (now (lengths .entry))) (lines-in (now (index .entry)))
+        (n-of (now (index .entry))) g))) ⌝ }
     ensures reached { λ r. ⌜ (r ≡ true → Prefix-lengths (now (string .entry)) (now (text .exit)) (now (reach .exit))) ⌝ }
 {
     let sentinel = sentinel_of(string);

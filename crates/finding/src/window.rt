@@ -47,8 +47,14 @@ fn extend_listing<'a>(
     first: usize,
     reach: &mut [u16],
 ) -> usize
-    requires { ⌜ Opened (now chars) (now lengths) (now index) (now «word_starts») (now «list_starts») × Is-string (now string) × (4096 ≤ length (now lines)) × (first ≤ 65536) × Within 0 (now reach) ⌝ }
-    ensures { λ r. ⌜ Reaches (offsets-all (length (now (string .entry)) - 1) 1 (lexicon (now (chars .entry)) (now (lengths .entry))) (lines-in (now (index .entry))) (now (string .entry)) first (leading-all (lexicon (now (chars .entry)) (now (lengths .entry))) (lines-in (now (index .entry))) (now (string .entry)) first (now (reach .entry)))) (now (reach .exit)) r ⌝ }
+    requires { ⌜
+        Opened (now chars) (now lengths) (now index) (now «word_starts») (now «list_starts») × Is-string (now string) ×
+        (4096 ≤ length (now lines)) × (first ≤ 65536) × Within 0 (now reach) ⌝ }
+    ensures { λ r. ⌜
+        Reaches (offsets-all (length (now (string .entry)) - 1) 1 (lexicon (now (chars .entry)) (now (lengths .entry)))
+        (lines-in (now (index .entry))) (now (string .entry)) first
+        (leading-all (lexicon (now (chars .entry)) (now (lengths .entry))) (lines-in (now (index .entry))) (now (string .entry)) first
+        (now (reach .entry)))) (now (reach .exit)) r ⌝ }
 {
     let leading = list_leading(chars, lengths, index, word_starts, string, lines);
     let count = leading.count;
@@ -78,8 +84,12 @@ pub fn search_window<'a>(
     reach: &mut [u16],
     output: &mut [u16],
 ) -> Answer
-    requires { ⌜ Opened (now chars) (now lengths) (now index) (now «word_starts») (now «list_starts») × Is-string (now string) × (first + length (now reach) ≤ 65536) × (now reach ≡ replicate (length (now reach)) 0) ⌝ }
-    ensures { λ r. ⌜ Window-says (lexicon (now (chars .entry)) (now (lengths .entry))) (now (index .entry)) (now (string .entry)) (length (now (reach .entry))) first r (now (output .entry)) (now (output .exit)) ⌝ }
+    requires { ⌜
+        Opened (now chars) (now lengths) (now index) (now «word_starts») (now «list_starts») × Is-string (now string) ×
+        (first + length (now reach) ≤ 65536) × (now reach ≡ replicate (length (now reach)) 0) ⌝ }
+    ensures { λ r. ⌜
+        Window-says (lexicon (now (chars .entry)) (now (lengths .entry))) (now (index .entry)) (now (string .entry))
+        (length (now (reach .entry))) first r (now (output .entry)) (now (output .exit)) ⌝ }
 {
     let mut lines = [0u16; 4096];
     let max_reach = extend_listing(
@@ -116,8 +126,14 @@ pub fn first_in_window<'a>(
     first: usize,
     reach: &mut [u16],
 ) -> usize
-    requires { ⌜ Opened (now chars) (now lengths) (now index) (now «word_starts») (now «list_starts») × Is-string (now string) × Split (now index) «word_lines» × (now lines ≡ leading-lines (lexicon (now chars) (now lengths)) (now index) (now string) «word_lines») × (first + length (now reach) ≤ 65536) × (now reach ≡ replicate (length (now reach)) 0) ⌝ }
-    ensures { λ r. ⌜ First-in (lexicon (now (chars .entry)) (now (lengths .entry))) (now (index .entry)) (now (string .entry)) (length (now (reach .entry))) first r ⌝ }
+    requires { ⌜
+        Opened (now chars) (now lengths) (now index) (now «word_starts») (now «list_starts») × Is-string (now string) ×
+        Split (now index) «word_lines» ×
+        (now lines ≡ leading-lines (lexicon (now chars) (now lengths)) (now index) (now string) «word_lines») ×
+        (first + length (now reach) ≤ 65536) × (now reach ≡ replicate (length (now reach)) 0) ⌝ }
+    ensures { λ r. ⌜
+        First-in (lexicon (now (chars .entry)) (now (lengths .entry))) (now (index .entry)) (now (string .entry))
+        (length (now (reach .entry))) first r ⌝ }
 {
     let max_reach = extend_window(
         chars,

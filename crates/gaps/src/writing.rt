@@ -17,7 +17,11 @@ use copying::slices::fill;
 fn distance(before: u16, position: u16) -> u16
     ensures { λ r. ⌜ r ≡ position - before ⌝ }
 {
-    if before < position { position - before } else { 0 }
+    if before < position {
+        position - before
+    } else {
+        0
+    }
 }
 
 // Writes the distance of each number of `run` from the one before it.

@@ -35,7 +35,12 @@ fn code_of(token: u16, character: u16) -> usize
 }
 
 // Turns the tokens of the replaced text into links, fills the heads, which are clear on entry, and the pages, and counts keys and entries.
-pub fn chain_positions(text: &[u16], tokens: &mut [u16], heads: &mut [u16], pages: &mut [u8]) -> Counts
+pub fn chain_positions(
+    text: &[u16],
+    tokens: &mut [u16],
+    heads: &mut [u16],
+    pages: &mut [u8],
+) -> Counts
     requires { ⌜ Linkable (replaced (now text)) (now tokens) ⌝ }
     requires { ⌜ Fresh (now heads) (now pages) ⌝ }
     ensures { λ r. ⌜

@@ -28,7 +28,9 @@ fn put_three(output: &mut [u16], at: usize, first: u16, second: u16, third: u16)
 // Writes the directory line of a code: kind, value, count.
 fn put_line(output: &mut [u16], at: usize, code: usize, count: usize)
     requires { ⌜ (at + 3 ≤ length (now output)) × (code < 69632) × (count ≤ 65535) ⌝ }
-    ensures { λ _. ⌜ now (output .exit) ≡ over (take at (now (output .entry)) ++ (code-key code .kind ∷ code-key code .value ∷ count ∷ [])) (now (output .entry)) ⌝ }
+    ensures { λ _. ⌜
+        now (output .exit) ≡ over (take at (now (output .entry)) ++ (code-key code .kind ∷ code-key code .value ∷ count ∷ []))
+        (now (output .entry)) ⌝ }
 {
     if code < 4096 {
         put_three(output, at, 0, code as u16, count as u16);
@@ -41,7 +43,9 @@ fn put_line(output: &mut [u16], at: usize, code: usize, count: usize)
 fn write_directory(heads: &[u16], pages: &[u8], links: &[u16], output: &mut [u16], at: usize)
     requires { ⌜ Listable (now heads) (now pages) (now links) ⌝ }
     requires { ⌜ at + length (directory (lines-at (now heads) (now links) 0)) ≤ length (now output) ⌝ }
-    ensures { λ _. ⌜ now (output .exit) ≡ over (take at (now (output .entry)) ++ directory (lines-at (now (heads .entry)) (now (links .entry)) 0)) (now (output .entry)) ⌝ }
+    ensures { λ _. ⌜
+        now (output .exit) ≡ over (take at (now (output .entry)) ++ directory (lines-at (now (heads .entry)) (now (links .entry)) 0))
+        (now (output .entry)) ⌝ }
 {
     let mut here = at;
     let mut code = next_code(heads, pages, 0);
@@ -58,7 +62,8 @@ fn write_chain(links: &[u16], head: u16, part: &mut [u16], at: usize) -> usize
     requires { ⌜ Threaded (now links) head ⌝ }
     requires { ⌜ at + length (chain (now links) head) ≤ length (now part) ⌝ }
     ensures end { λ r. ⌜ r ≡ at + length (chain (now (links .entry)) head) ⌝ }
-    ensures members { λ r. ⌜ now (part .exit) ≡ over (take at (now (part .entry)) ++ chain (now (links .entry)) head) (now (part .entry)) ⌝ }
+    ensures members { λ r. ⌜
+        now (part .exit) ≡ over (take at (now (part .entry)) ++ chain (now (links .entry)) head) (now (part .entry)) ⌝ }
 {
     let mut here = at;
     let mut member = head;
@@ -89,7 +94,9 @@ pub fn write_index(heads: &[u16], pages: &[u8], links: &[u16], keys: usize, outp
     requires { ⌜ Listable (now heads) (now pages) (now links) ⌝ }
     requires { ⌜ (keys ≡ length (lines-at (now heads) (now links) 0)) × (keys ≤ 65535) ⌝ }
     requires { ⌜ length (numbers (length (now links)) (lines-at (now heads) (now links) 0)) ≤ length (now output) ⌝ }
-    ensures { λ _. ⌜ now (output .exit) ≡ over (numbers (length (now (links .entry))) (lines-at (now (heads .entry)) (now (links .entry)) 0)) (now (output .entry)) ⌝ }
+    ensures { λ _. ⌜
+        now (output .exit) ≡ over (numbers (length (now (links .entry))) (lines-at (now (heads .entry)) (now (links .entry)) 0))
+        (now (output .entry)) ⌝ }
 {
     output[0] = links.len() as u16;
     output[1] = keys as u16;

@@ -108,7 +108,8 @@ pub(crate) fn is_form(line: &[u8], head: &[u8]) -> bool
 
 // Writes the characters of a form, from the index `at` on. Answers where they end.
 pub(crate) fn put_string(line: &[u8], out: &mut [u16], at: usize) -> usize
-    requires { ⌜ (5 ≤ length (now line)) × (ends-well (drop 5 (now line)) ≡ true) × (at + length (string-in (now line)) ≤ length (now out)) ⌝ }
+    requires { ⌜
+        (5 ≤ length (now line)) × (ends-well (drop 5 (now line)) ≡ true) × (at + length (string-in (now line)) ≤ length (now out)) ⌝ }
     ensures { λ r. ⌜ Wrote (string-in (now (line .entry))) at (now (out .entry)) r (now (out .exit)) ⌝ }
 {
     let mut end = at;

@@ -50,7 +50,9 @@ fn contents_refusal(
     finds: usize,
 ) -> u32
     requires { ⌜ (dictionary ≤ length (now chars)) × (words + 1 + finds ≤ length (now lengths)) ⌝ }
-    ensures { λ r. ⌜ r ≡ parts-refusal (take dictionary (now (chars .entry))) (take words (now (lengths .entry))) (take finds (drop (words + 1) (now (lengths .entry)))) ⌝ }
+    ensures { λ r. ⌜
+        r ≡ parts-refusal (take dictionary (now (chars .entry))) (take words (now (lengths .entry)))
+        (take finds (drop (words + 1) (now (lengths .entry)))) ⌝ }
 {
     let first = words + 1;
     let end = first + finds;
@@ -75,7 +77,9 @@ pub struct Job {
 pub fn read_job(sheet: &[u8], chars: &mut [u16], lengths: &mut [u16]) -> Job
     requires { ⌜ (6554 ≤ length (now chars)) × (4682 ≤ length (now lengths)) ⌝ }
     ensures refusal { λ r. ⌜ r .refusal ≡ sheet-refusal (now (sheet .entry)) ⌝ }
-    ensures parts { λ r. ⌜ (sheet-refusal (now (sheet .entry)) ≡ 0 → Job-parts (now (sheet .entry)) (r .words) (r .dictionary) (r .text) (r .finds) (now (chars .exit)) (now (lengths .exit))) ⌝ }
+    ensures parts { λ r. ⌜
+        (sheet-refusal (now (sheet .entry)) ≡ 0 → Job-parts (now (sheet .entry)) (r .words) (r .dictionary) (r .text) (r .finds)
+        (now (chars .exit)) (now (lengths .exit))) ⌝ }
 {
     if 32768 < sheet.len() {
         return refused(10);

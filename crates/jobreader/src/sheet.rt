@@ -59,7 +59,9 @@ fn read_forms(
     count: usize,
 ) -> Place
     requires { ⌜ Room (now head) (now sheet) at used count (now chars) (now lengths) × (length (now head) ≡ 5) ⌝ }
-    ensures { λ r. ⌜ Forms-got (now (head .entry)) (now (sheet .entry)) at used count (now (chars .entry)) (now (lengths .entry)) (r .at) (r .used) (r .count) (now (chars .exit)) (now (lengths .exit)) ⌝ }
+    ensures { λ r. ⌜
+        Forms-got (now (head .entry)) (now (sheet .entry)) at used count (now (chars .entry)) (now (lengths .entry)) (r .at) (r .used)
+        (r .count) (now (chars .exit)) (now (lengths .exit)) ⌝ }
 {
     let mut from = at;
     let mut filled = used;
@@ -93,7 +95,9 @@ pub struct Parts {
 // Reads the words, the text and the finds of a sheet.
 pub(crate) fn read_sheet(sheet: &[u8], chars: &mut [u16], lengths: &mut [u16]) -> Parts
     requires { ⌜ Enough (now sheet) (now chars) (now lengths) ⌝ }
-    ensures { λ r. ⌜ Sheet-read (now (sheet .entry)) (now (chars .entry)) (now (lengths .entry)) (r .good) (r .words) (r .dictionary) (r .text) (r .finds) (now (chars .exit)) (now (lengths .exit)) ⌝ }
+    ensures { λ r. ⌜
+        Sheet-read (now (sheet .entry)) (now (chars .entry)) (now (lengths .entry)) (r .good) (r .words) (r .dictionary) (r .text)
+        (r .finds) (now (chars .exit)) (now (lengths .exit)) ⌝ }
 {
     let words = read_forms(sheet, 0, b"(word", chars, 0, lengths, 0);
     let texts = read_forms(

@@ -25,7 +25,9 @@ fn put_parts<'a>(
     out: &mut [u8],
 ) -> usize
     requires { ⌜ Parts-there words dictionary text finds (now chars) (now lengths) × (700000 ≤ length (now out)) ⌝ }
-    ensures { λ r. ⌜ Wrote (printed-there words dictionary text finds (now (chars .entry)) (now (lengths .entry))) 0 (now (out .entry)) r (now (out .exit)) ⌝ }
+    ensures { λ r. ⌜
+        Wrote (printed-there words dictionary text finds (now (chars .entry)) (now (lengths .entry))) 0 (now (out .entry)) r
+        (now (out .exit)) ⌝ }
 {
     let after = dictionary + text;
     let first = words + 1;

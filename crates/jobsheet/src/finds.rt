@@ -26,14 +26,24 @@ fn put_find<'a>(
     out: &mut [u8],
     at: usize,
 ) -> usize
-    requires { ⌜ Opened (now chars) (now lengths) (now index) (now «word_starts») (now «list_starts») × Is-string (now string) × (n-of (now index) ≤ length (now found)) ⌝ }
+    requires { ⌜
+        Opened (now chars) (now lengths) (now index) (now «word_starts») (now «list_starts») × Is-string (now string) ×
+        (n-of (now index) ≤ length (now found)) ⌝ }
     requires { ⌜
         at + length (found-line (find (lexicon (now chars) (now lengths)) (now index) (replaced (now string)))) ≤ length (now out) ⌝ }
     ensures { λ r. ⌜
         Wrote (found-line (find (lexicon (now (chars .entry)) (now (lengths .entry))) (now (index .entry))
         (replaced (now (string .entry))))) at (now (out .entry)) r (now (out .exit)) ⌝ }
 {
-    let answer = search_tabled(chars, lengths, index, word_starts, list_starts, string, found);
+    let answer = search_tabled(
+        chars,
+        lengths,
+        index,
+        word_starts,
+        list_starts,
+        string,
+        found,
+    );
     let count = answer.count;
     put_found_line(out, at, &found[..count])
 }
@@ -51,9 +61,15 @@ pub(crate) fn put_finds<'a>(
     out: &mut [u8],
     at: usize,
 ) -> usize
-    requires { ⌜ Opened (now chars) (now lengths) (now index) (now «word_starts») (now «list_starts») × Strings-good (now strings) (now counts) × (n-of (now index) ≤ length (now found)) ⌝ }
-    requires { ⌜ at + length (found-lines (lexicon (now chars) (now lengths)) (now index) (words-from (now counts) (now strings))) ≤ length (now out) ⌝ }
-    ensures { λ r. ⌜ Wrote (found-lines (lexicon (now (chars .entry)) (now (lengths .entry))) (now (index .entry)) (words-from (now (counts .entry)) (now (strings .entry)))) at (now (out .entry)) r (now (out .exit)) ⌝ }
+    requires { ⌜
+        Opened (now chars) (now lengths) (now index) (now «word_starts») (now «list_starts») × Strings-good (now strings) (now counts) ×
+        (n-of (now index) ≤ length (now found)) ⌝ }
+    requires { ⌜
+        at + length (found-lines (lexicon (now chars) (now lengths)) (now index) (words-from (now counts) (now strings))) ≤ length
+        (now out) ⌝ }
+    ensures { λ r. ⌜
+        Wrote (found-lines (lexicon (now (chars .entry)) (now (lengths .entry))) (now (index .entry))
+        (words-from (now (counts .entry)) (now (strings .entry)))) at (now (out .entry)) r (now (out .exit)) ⌝ }
 {
     let mut end = at;
     let mut from = 0;

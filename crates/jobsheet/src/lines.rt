@@ -28,9 +28,13 @@ fn put_filled<'a>(
     found: &mut [u16],
     out: &mut [u8],
 ) -> usize
-    requires { ⌜ Usable (now chars) (now lengths) (now index) × Can-read (now chars) (now lengths) (now index) × (keys ≡ keys-of (now index)) × (keys ≤ length (now «list_starts»)) ⌝ }
+    requires { ⌜
+        Usable (now chars) (now lengths) (now index) × Can-read (now chars) (now lengths) (now index) × (keys ≡ keys-of (now index)) ×
+        (keys ≤ length (now «list_starts»)) ⌝ }
     requires { ⌜ Strings-good (now strings) (now counts) × (2000 ≤ length (now found)) × (700000 ≤ length (now out)) ⌝ }
-    ensures { λ r. ⌜ Wrote (shown (now (chars .entry)) (now (lengths .entry)) (now (index .entry)) (now (strings .entry)) (now (counts .entry))) 0 (now (out .entry)) r (now (out .exit)) ⌝ }
+    ensures { λ r. ⌜
+        Wrote (shown (now (chars .entry)) (now (lengths .entry)) (now (index .entry)) (now (strings .entry)) (now (counts .entry))) 0
+        (now (out .entry)) r (now (out .exit)) ⌝ }
 {
     let mut word_starts = [0u16; 4096];
     fill_word_starts(lengths, &mut word_starts);
@@ -61,8 +65,12 @@ fn put_opened<'a>(
     found: &mut [u16],
     out: &mut [u8],
 ) -> usize
-    requires { ⌜ Usable (now chars) (now lengths) (now index) × (keys ≡ keys-of (now index)) × Strings-good (now strings) (now counts) × (2000 ≤ length (now found)) × (700000 ≤ length (now out)) ⌝ }
-    ensures { λ r. ⌜ Wrote (shown (now (chars .entry)) (now (lengths .entry)) (now (index .entry)) (now (strings .entry)) (now (counts .entry))) 0 (now (out .entry)) r (now (out .exit)) ⌝ }
+    requires { ⌜
+        Usable (now chars) (now lengths) (now index) × (keys ≡ keys-of (now index)) × Strings-good (now strings) (now counts) ×
+        (2000 ≤ length (now found)) × (700000 ≤ length (now out)) ⌝ }
+    ensures { λ r. ⌜
+        Wrote (shown (now (chars .entry)) (now (lengths .entry)) (now (index .entry)) (now (strings .entry)) (now (counts .entry))) 0
+        (now (out .entry)) r (now (out .exit)) ⌝ }
 {
     let mut list_starts = [0u32; 2667];
     put_filled(
@@ -88,8 +96,12 @@ fn put_lines<'a>(
     found: &mut [u16],
     out: &mut [u8],
 ) -> usize
-    requires { ⌜ Usable (now chars) (now lengths) (now index) × Strings-good (now strings) (now counts) × (2000 ≤ length (now found)) × (700000 ≤ length (now out)) ⌝ }
-    ensures { λ r. ⌜ Wrote (shown (now (chars .entry)) (now (lengths .entry)) (now (index .entry)) (now (strings .entry)) (now (counts .entry))) 0 (now (out .entry)) r (now (out .exit)) ⌝ }
+    requires { ⌜
+        Usable (now chars) (now lengths) (now index) × Strings-good (now strings) (now counts) × (2000 ≤ length (now found)) ×
+        (700000 ≤ length (now out)) ⌝ }
+    ensures { λ r. ⌜
+        Wrote (shown (now (chars .entry)) (now (lengths .entry)) (now (index .entry)) (now (strings .entry)) (now (counts .entry))) 0
+        (now (out .entry)) r (now (out .exit)) ⌝ }
 {
     let opened = open_index(chars, lengths, index);
     put_opened(
@@ -118,7 +130,9 @@ fn put_built<'a>(
 ) -> usize
     requires { ⌜ Parts-good (now chars) (now lengths) (now text) (now strings) (now counts) ⌝ }
     requires { ⌜ (8002 ≤ length (now index)) × (16000 ≤ length (now work)) × (2000 ≤ length (now found)) × (700000 ≤ length (now out)) ⌝ }
-    ensures { λ r. ⌜ Wrote (printed-of (now (chars .entry)) (now (lengths .entry)) (now (text .entry)) (now (strings .entry)) (now (counts .entry))) 0 (now (out .entry)) r (now (out .exit)) ⌝ }
+    ensures { λ r. ⌜
+        Wrote (printed-of (now (chars .entry)) (now (lengths .entry)) (now (text .entry)) (now (strings .entry)) (now (counts .entry))) 0
+        (now (out .entry)) r (now (out .exit)) ⌝ }
 {
     let built = build(chars, lengths, text, index, work);
     let count = built.count;
@@ -135,7 +149,9 @@ pub(crate) fn put_printed<'a>(
     out: &mut [u8],
 ) -> usize
     requires { ⌜ Parts-good (now chars) (now lengths) (now text) (now strings) (now counts) × (700000 ≤ length (now out)) ⌝ }
-    ensures { λ r. ⌜ Wrote (printed-of (now (chars .entry)) (now (lengths .entry)) (now (text .entry)) (now (strings .entry)) (now (counts .entry))) 0 (now (out .entry)) r (now (out .exit)) ⌝ }
+    ensures { λ r. ⌜
+        Wrote (printed-of (now (chars .entry)) (now (lengths .entry)) (now (text .entry)) (now (strings .entry)) (now (counts .entry))) 0
+        (now (out .entry)) r (now (out .exit)) ⌝ }
 {
     let mut index = [0u16; 8002];
     let mut work = [0u16; 16000];

@@ -33,7 +33,9 @@ pub extern "C" fn mopekihua_build(
     output: &mut [u16],
     work: &mut [u16],
 ) -> Answer
-    ensures { λ r. ⌜ Build-says (now (chars .entry)) (now (lengths .entry)) (now (text .entry)) r (now (output .entry)) (now (output .exit)) (now (work .entry)) (now (work .exit)) ⌝ }
+    ensures { λ r. ⌜
+        Build-says (now (chars .entry)) (now (lengths .entry)) (now (text .entry)) r (now (output .entry)) (now (output .exit))
+        (now (work .entry)) (now (work .exit)) ⌝ }
     ensures { λ r. ⌜ (all-chars (now (chars .entry)) ≡ true) × (all-chars (now (text .entry)) ≡ true) ⌝ }
 {
     builder::build::build(chars, lengths, text, output, work)
@@ -48,7 +50,8 @@ pub extern "C" fn mopekihua_receive<'a>(
     index: &'a [u16],
     work: &mut [u16],
 ) -> Answer
-    ensures { λ r. ⌜ Receive-says (now (chars .entry)) (now (lengths .entry)) (now (index .entry)) r (now (work .entry)) (now (work .exit)) ⌝ }
+    ensures { λ r. ⌜
+        Receive-says (now (chars .entry)) (now (lengths .entry)) (now (index .entry)) r (now (work .entry)) (now (work .exit)) ⌝ }
     ensures { λ r. ⌜ all-chars (now (chars .entry)) ≡ true ⌝ }
 {
     receiver::receive::receive(chars, lengths, index, work)
@@ -64,7 +67,9 @@ pub extern "C" fn mopekihua_recover<'a>(
     output: &mut [u16],
     work: &mut [u16],
 ) -> Answer
-    ensures { λ r. ⌜ Recover-says (now (chars .entry)) (now (lengths .entry)) (now (index .entry)) r (now (output .entry)) (now (output .exit)) (now (work .entry)) (now (work .exit)) ⌝ }
+    ensures { λ r. ⌜
+        Recover-says (now (chars .entry)) (now (lengths .entry)) (now (index .entry)) r (now (output .entry)) (now (output .exit))
+        (now (work .entry)) (now (work .exit)) ⌝ }
     ensures { λ r. ⌜ all-chars (now (chars .entry)) ≡ true ⌝ }
 {
     receiver::recover::recover(chars, lengths, index, output, work)
@@ -80,7 +85,9 @@ pub extern "C" fn mopekihua_search<'a>(
     string: &'a [u16],
     output: &mut [u16],
 ) -> Answer
-    ensures { λ r. ⌜ Search-says (now (chars .entry)) (now (lengths .entry)) (now (index .entry)) (now (string .entry)) r (now (output .entry)) (now (output .exit)) ⌝ }
+    ensures { λ r. ⌜
+        Search-says (now (chars .entry)) (now (lengths .entry)) (now (index .entry)) (now (string .entry)) r (now (output .entry))
+        (now (output .exit)) ⌝ }
 {
     searcher::search::search_index(chars, lengths, index, string, output)
 }
@@ -109,7 +116,9 @@ pub extern "C" fn mopekihua_cut<'a>(
     string: &'a [u16],
     output: &mut [u16],
 ) -> Answer
-    ensures { λ r. ⌜ Cut-says (now (chars .entry)) (now (lengths .entry)) (now (index .entry)) (now (string .entry)) r (now (output .entry)) (now (output .exit)) ⌝ }
+    ensures { λ r. ⌜
+        Cut-says (now (chars .entry)) (now (lengths .entry)) (now (index .entry)) (now (string .entry)) r (now (output .entry))
+        (now (output .exit)) ⌝ }
 {
     cutter::cut::cut_index(chars, lengths, index, string, output)
 }

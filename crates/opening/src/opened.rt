@@ -43,7 +43,8 @@ fn bounds_of<'a>(chars: &'a [u16], lengths: &'a [u16], index: &'a [u16]) -> Boun
 
 // The record of an index with its bounds.
 fn with_bounds<'a>(index: &'a [u16], bounds: Bounds) -> Opened<'a>
-    ensures { λ r. ⌜ (r .numbers ≡ index .entry) × (r .refusal ≡ bounds .refusal) × (r .keys ≡ bounds .keys) × (r .first ≡ bounds .first) ⌝ }
+    ensures { λ r. ⌜
+        (r .numbers ≡ index .entry) × (r .refusal ≡ bounds .refusal) × (r .keys ≡ bounds .keys) × (r .first ≡ bounds .first) ⌝ }
 {
     Opened {
         numbers: index,
@@ -55,7 +56,9 @@ fn with_bounds<'a>(index: &'a [u16], bounds: Bounds) -> Opened<'a>
 
 // Opens an index: tests it, and answers the record that refers to its numbers. Refusals 1, 2, 3, 12, 5.
 pub fn open_index<'a>(chars: &'a [u16], lengths: &'a [u16], index: &'a [u16]) -> Opened<'a>
-    ensures { λ r. ⌜ (r .numbers ≡ index .entry) × Bounded (now (chars .entry)) (now (lengths .entry)) (now (index .entry)) (r .refusal) (r .keys) (r .first) ⌝ }
+    ensures { λ r. ⌜
+        (r .numbers ≡ index .entry) ×
+        Bounded (now (chars .entry)) (now (lengths .entry)) (now (index .entry)) (r .refusal) (r .keys) (r .first) ⌝ }
 {
     with_bounds(index, bounds_of(chars, lengths, index))
 }

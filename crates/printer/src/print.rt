@@ -8,7 +8,8 @@ ghost use Rattle.basics.specs.Placed.{Wrote};
 ghost use Rattle.spec.specs.Words.{key};
 ghost use Rattle.spec.specs.Numbers.{line};
 ghost use Rattle.spec.specs.Index.{lines-in};
-ghost use Rattle.spec.specs.JobAnswer.{decimal, digit-byte, hexadecimal, gap, spaced, index-line, found-line, refused-line, key-name, key-line, key-lines, index-lines};
+ghost use Rattle.spec.specs.JobAnswer.{decimal, digit-byte, hexadecimal, gap, spaced, index-line, found-line, refused-line, key-name};
+ghost use Rattle.spec.specs.JobAnswer.{key-line, key-lines, index-lines};
 ghost use Rattle.models.specs.JobSheet.{each-spaced, listed};
 ghost use Rattle.laws.specs.JobSheet.IndexPrinting.{Whole};
 

@@ -69,7 +69,14 @@ fn gaps_good(gaps: &[u16], n: usize, len: usize) -> bool
 
 // Whether `count` numbers from `at` on are there, at least one, and are good positions, or gaps, of a key of `len` characters. Most lists
 // have one number, which is both.
-fn line_list_good(index: &[u16], at: usize, count: usize, n: usize, len: usize, as_gaps: bool) -> bool
+fn line_list_good(
+    index: &[u16],
+    at: usize,
+    count: usize,
+    n: usize,
+    len: usize,
+    as_gaps: bool,
+) -> bool
     requires { ⌜ (at ≤ length (now index)) × (n ≤ 65535) × (len ≤ 65535) × (count ≤ 65535) ⌝ }
     ensures { λ r. ⌜ r ≡ line-list-good (read-as as_gaps) n len count (drop at (now (index .entry))) ⌝ }
 {

@@ -19,12 +19,12 @@ ghost use Rattle.laws.specs.Receive.LineMap.{Line-map};
 ghost use Rattle.laws.specs.Receive.LineMapWalk.{Can-map};
 ghost use Rattle.laws.specs.Receive.Receiving.{delivery-refusal};
 ghost use Rattle.laws.specs.Receive.ReceivedText.{Read-back, Tried};
-use verification::verify::verify;
 use folding::forms::holds_full_width;
 use matching::table::fill_match_table;
-use reconstruction::line_map::fill_line_map;
 use reconstruction::entries::reconstruct_entries;
+use reconstruction::line_map::fill_line_map;
 use scanning::work::clear;
+use verification::verify::verify;
 
 // Reconstructs the text from the entries, over the first `n` numbers of the work slice.
 fn reconstruct_front(

@@ -16,9 +16,9 @@ ghost use Rattle.laws.specs.Window.WordLines.{Words-at};
 ghost use Rattle.laws.specs.Directory.Tables.{Can-read, Word-starts};
 ghost use Rattle.laws.specs.Search.Sizing.{Is-string};
 use directory::lines::word_length;
-use directory::ranges::line_lower_bound;
-use directory::ranges::equal_range;
 use directory::ranges::count_word_lines;
+use directory::ranges::equal_range;
+use directory::ranges::line_lower_bound;
 
 // How many visits the word of a line costs: one for each position, times the word's length if `whole`.
 fn estimate_line(lengths: &[u16], index: &[u16], line: usize, whole: bool) -> usize
@@ -58,7 +58,9 @@ fn estimate_words(
     word_lines: usize,
     whole: bool,
 ) -> usize
-    requires { ⌜ Can-read (now chars) (now lengths) (now index) × Word-starts (now lengths) (length (now lengths)) (now «word_starts») × Split (now index) «word_lines» × Is-string (now string) × («key_start» < length (now string)) ⌝ }
+    requires { ⌜
+        Can-read (now chars) (now lengths) (now index) × Word-starts (now lengths) (length (now lengths)) (now «word_starts») ×
+        Split (now index) «word_lines» × Is-string (now string) × («key_start» < length (now string)) ⌝ }
     ensures { λ r. ⌜ r ≤ 562949953421312 ⌝ }
 {
     let left = string.len() - key_start;
@@ -110,11 +112,23 @@ fn count_keys(
     key_start: usize,
     word_lines: usize,
 ) -> usize
-    requires { ⌜ Can-read (now chars) (now lengths) (now index) × Word-starts (now lengths) (length (now lengths)) (now «word_starts») × Split (now index) «word_lines» × Is-string (now string) × («key_start» < length (now string)) ⌝ }
+    requires { ⌜
+        Can-read (now chars) (now lengths) (now index) × Word-starts (now lengths) (length (now lengths)) (now «word_starts») ×
+        Split (now index) «word_lines» × Is-string (now string) × («key_start» < length (now string)) ⌝ }
     ensures { λ r. ⌜ r ≤ 562949953486847 ⌝ }
 {
     let lone = count_lone(index, word_lines, string[key_start]);
-    estimate_words(chars, lengths, index, word_starts, string, key_start, word_lines, false) + lone
+    estimate_words(
+        chars,
+        lengths,
+        index,
+        word_starts,
+        string,
+        key_start,
+        word_lines,
+        false,
+    )
+        + lone
 }
 
 // Whether a search is estimated to visit more than `limit` positions, by sampled offsets.
@@ -127,10 +141,21 @@ fn cost_exceeds(
     word_lines: usize,
     limit: usize,
 ) -> bool
-    requires { ⌜ Can-read (now chars) (now lengths) (now index) × Word-starts (now lengths) (length (now lengths)) (now «word_starts») × Split (now index) «word_lines» × Is-string (now string) × (limit ≤ 393210) ⌝ }
+    requires { ⌜
+        Can-read (now chars) (now lengths) (now index) × Word-starts (now lengths) (length (now lengths)) (now «word_starts») ×
+        Split (now index) «word_lines» × Is-string (now string) × (limit ≤ 393210) ⌝ }
 {
     let stride = 1 + string.len() / 32;
-    let mut sum = estimate_words(chars, lengths, index, word_starts, string, 0, word_lines, true);
+    let mut sum = estimate_words(
+        chars,
+        lengths,
+        index,
+        word_starts,
+        string,
+        0,
+        word_lines,
+        true,
+    );
     let mut at = 0;
     while at < string.len() {
         if limit < sum {
@@ -152,7 +177,9 @@ pub(crate) fn prefers_text_scan(
     string: &[u16],
     starts: usize,
 ) -> bool
-    requires { ⌜ Can-read (now chars) (now lengths) (now index) × Word-starts (now lengths) (length (now lengths)) (now «word_starts») × Is-string (now string) × (starts ≤ 65535) ⌝ }
+    requires { ⌜
+        Can-read (now chars) (now lengths) (now index) × Word-starts (now lengths) (length (now lengths)) (now «word_starts») ×
+        Is-string (now string) × (starts ≤ 65535) ⌝ }
     ensures { λ r. ⌜ (r ≡ true → starts + length (now (string .entry)) ≤ suc (n-of (now (index .entry)))) ⌝ }
 {
     let n = index[0] as usize;
@@ -160,5 +187,13 @@ pub(crate) fn prefers_text_scan(
         return false;
     }
     let word_lines = count_word_lines(index);
-    cost_exceeds(chars, lengths, index, word_starts, string, word_lines, 6 * n)
+    cost_exceeds(
+        chars,
+        lengths,
+        index,
+        word_starts,
+        string,
+        word_lines,
+        6 * n,
+    )
 }

@@ -32,7 +32,15 @@ fn first_plain<'a>(
     ensures { λ r. ⌜ r ≡ first-position (lexicon (now (chars .entry)) (now (lengths .entry))) (now (index .entry)) (now (string .entry)) ⌝ }
 {
     let starts = starts_of(index[0] as usize, string.len());
-    first_of_starts(chars, lengths, index, word_starts, list_starts, string, starts)
+    first_of_starts(
+        chars,
+        lengths,
+        index,
+        word_starts,
+        list_starts,
+        string,
+        starts,
+    )
 }
 
 // The first found position of a string as it is lent, which is replaced first, in a readable index with its tables of starts lent.
@@ -62,7 +70,9 @@ fn first_filled<'a>(
     string: &[u16],
     list_starts: &mut [u32],
 ) -> usize
-    requires { ⌜ Can-read (now chars) (now lengths) (now index) × (keys ≡ keys-of (now index)) × Is-string (now string) × (keys ≤ length (now «list_starts»)) ⌝ }
+    requires { ⌜
+        Can-read (now chars) (now lengths) (now index) × (keys ≡ keys-of (now index)) × Is-string (now string) ×
+        (keys ≤ length (now «list_starts»)) ⌝ }
     ensures { λ r. ⌜
         r ≡ first-position (lexicon (now (chars .entry)) (now (lengths .entry))) (now (index .entry)) (replaced (now (string .entry))) ⌝ }
 {

@@ -24,13 +24,25 @@ fn first_by_text<'a>(
     string: &[u16],
     reach: &mut [u16],
 ) -> usize
-    requires { ⌜ Opened (now chars) (now lengths) (now index) (now «word_starts») (now «list_starts») × Is-string (now string) × (length (now reach) + length (now string) ≤ suc (n-of (now index))) ⌝ }
-    ensures { λ r. ⌜ First-in (lexicon (now (chars .entry)) (now (lengths .entry))) (now (index .entry)) (now (string .entry)) (length (now (reach .entry))) 1 r ⌝ }
+    requires { ⌜
+        Opened (now chars) (now lengths) (now index) (now «word_starts») (now «list_starts») × Is-string (now string) ×
+        (length (now reach) + length (now string) ≤ suc (n-of (now index))) ⌝ }
+    ensures { λ r. ⌜
+        First-in (lexicon (now (chars .entry)) (now (lengths .entry))) (now (index .entry)) (now (string .entry))
+        (length (now (reach .entry))) 1 r ⌝ }
 {
     if reach_by_text(chars, lengths, index, word_starts, string, reach) {
         return first_found(reach, string.len(), 1);
     }
-    first_by_entries(chars, lengths, index, word_starts, list_starts, string, reach.len())
+    first_by_entries(
+        chars,
+        lengths,
+        index,
+        word_starts,
+        list_starts,
+        string,
+        reach.len(),
+    )
 }
 
 // The first found of `starts` starts by the reconstructed text, with the window at the start of a slice that is lent.
@@ -44,8 +56,11 @@ fn first_by_text_in<'a>(
     starts: usize,
     room: &mut [u16],
 ) -> usize
-    requires { ⌜ Opened (now chars) (now lengths) (now index) (now «word_starts») (now «list_starts») × Is-string (now string) × (starts ≤ length (now room)) × (starts + length (now string) ≤ suc (n-of (now index))) ⌝ }
-    ensures { λ r. ⌜ First-in (lexicon (now (chars .entry)) (now (lengths .entry))) (now (index .entry)) (now (string .entry)) starts 1 r ⌝ }
+    requires { ⌜
+        Opened (now chars) (now lengths) (now index) (now «word_starts») (now «list_starts») × Is-string (now string) ×
+        (starts ≤ length (now room)) × (starts + length (now string) ≤ suc (n-of (now index))) ⌝ }
+    ensures { λ r. ⌜
+        First-in (lexicon (now (chars .entry)) (now (lengths .entry))) (now (index .entry)) (now (string .entry)) starts 1 r ⌝ }
 {
     first_by_text(
         chars,
@@ -68,8 +83,11 @@ fn first_by_estimate<'a>(
     string: &[u16],
     starts: usize,
 ) -> usize
-    requires { ⌜ Opened (now chars) (now lengths) (now index) (now «word_starts») (now «list_starts») × Is-string (now string) × (starts ≤ 65535) × (starts + length (now string) ≤ suc (n-of (now index))) ⌝ }
-    ensures { λ r. ⌜ First-in (lexicon (now (chars .entry)) (now (lengths .entry))) (now (index .entry)) (now (string .entry)) starts 1 r ⌝ }
+    requires { ⌜
+        Opened (now chars) (now lengths) (now index) (now «word_starts») (now «list_starts») × Is-string (now string) × (starts ≤ 65535) ×
+        (starts + length (now string) ≤ suc (n-of (now index))) ⌝ }
+    ensures { λ r. ⌜
+        First-in (lexicon (now (chars .entry)) (now (lengths .entry))) (now (index .entry)) (now (string .entry)) starts 1 r ⌝ }
 {
     let mut room = [0u16; 65536];
     first_by_text_in(
@@ -94,11 +112,29 @@ pub(crate) fn first_of_starts<'a>(
     string: &[u16],
     starts: usize,
 ) -> usize
-    requires { ⌜ Opened (now chars) (now lengths) (now index) (now «word_starts») (now «list_starts») × Is-string (now string) × (starts ≤ 65535) ⌝ }
-    ensures { λ r. ⌜ First-in (lexicon (now (chars .entry)) (now (lengths .entry))) (now (index .entry)) (now (string .entry)) starts 1 r ⌝ }
+    requires { ⌜
+        Opened (now chars) (now lengths) (now index) (now «word_starts») (now «list_starts») × Is-string (now string) × (starts ≤ 65535) ⌝ }
+    ensures { λ r. ⌜
+        First-in (lexicon (now (chars .entry)) (now (lengths .entry))) (now (index .entry)) (now (string .entry)) starts 1 r ⌝ }
 {
     if prefers_text_scan(chars, lengths, index, word_starts, string, starts) {
-        return first_by_estimate(chars, lengths, index, word_starts, list_starts, string, starts);
+        return first_by_estimate(
+            chars,
+            lengths,
+            index,
+            word_starts,
+            list_starts,
+            string,
+            starts,
+        );
     }
-    first_by_entries(chars, lengths, index, word_starts, list_starts, string, starts)
+    first_by_entries(
+        chars,
+        lengths,
+        index,
+        word_starts,
+        list_starts,
+        string,
+        starts,
+    )
 }

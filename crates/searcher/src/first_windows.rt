@@ -11,8 +11,8 @@ ghost use Rattle.laws.specs.Directory.Tables.{Opened};
 ghost use Rattle.laws.specs.Window.LineRanges.{Split};
 ghost use Rattle.laws.specs.Search.Sizing.{Is-string};
 ghost use Rattle.laws.specs.First.Found.{First-in};
-use finding::window::first_in_window;
 use cover::leading_lines::list_leading;
+use finding::window::first_in_window;
 
 // The first found of `starts` starts from `first` on, in a cleared window that is lent.
 fn first_in_lent<'a>(
@@ -28,8 +28,13 @@ fn first_in_lent<'a>(
     starts: usize,
     reach: &mut [u16],
 ) -> usize
-    requires { ⌜ Opened (now chars) (now lengths) (now index) (now «word_starts») (now «list_starts») × Is-string (now string) × Split (now index) «word_lines» × (now lines ≡ leading-lines (lexicon (now chars) (now lengths)) (now index) (now string) «word_lines») × (first + starts ≤ 65536) × (starts ≤ length (now reach)) × (now reach ≡ replicate (length (now reach)) 0) ⌝ }
-    ensures { λ r. ⌜ First-in (lexicon (now (chars .entry)) (now (lengths .entry))) (now (index .entry)) (now (string .entry)) starts first r ⌝ }
+    requires { ⌜
+        Opened (now chars) (now lengths) (now index) (now «word_starts») (now «list_starts») × Is-string (now string) ×
+        Split (now index) «word_lines» ×
+        (now lines ≡ leading-lines (lexicon (now chars) (now lengths)) (now index) (now string) «word_lines») × (first + starts ≤ 65536) ×
+        (starts ≤ length (now reach)) × (now reach ≡ replicate (length (now reach)) 0) ⌝ }
+    ensures { λ r. ⌜
+        First-in (lexicon (now (chars .entry)) (now (lengths .entry))) (now (index .entry)) (now (string .entry)) starts first r ⌝ }
 {
     first_in_window(
         chars,
@@ -58,8 +63,13 @@ fn first_in_short<'a>(
     first: usize,
     starts: usize,
 ) -> usize
-    requires { ⌜ Opened (now chars) (now lengths) (now index) (now «word_starts») (now «list_starts») × Is-string (now string) × Split (now index) «word_lines» × (now lines ≡ leading-lines (lexicon (now chars) (now lengths)) (now index) (now string) «word_lines») × (first + starts ≤ 65536) × (starts ≤ 1024) ⌝ }
-    ensures { λ r. ⌜ First-in (lexicon (now (chars .entry)) (now (lengths .entry))) (now (index .entry)) (now (string .entry)) starts first r ⌝ }
+    requires { ⌜
+        Opened (now chars) (now lengths) (now index) (now «word_starts») (now «list_starts») × Is-string (now string) ×
+        Split (now index) «word_lines» ×
+        (now lines ≡ leading-lines (lexicon (now chars) (now lengths)) (now index) (now string) «word_lines») × (first + starts ≤ 65536) ×
+        (starts ≤ 1024) ⌝ }
+    ensures { λ r. ⌜
+        First-in (lexicon (now (chars .entry)) (now (lengths .entry))) (now (index .entry)) (now (string .entry)) starts first r ⌝ }
 {
     let mut reach = [0u16; 1024];
     first_in_lent(
@@ -90,8 +100,13 @@ fn first_in_middle<'a>(
     first: usize,
     starts: usize,
 ) -> usize
-    requires { ⌜ Opened (now chars) (now lengths) (now index) (now «word_starts») (now «list_starts») × Is-string (now string) × Split (now index) «word_lines» × (now lines ≡ leading-lines (lexicon (now chars) (now lengths)) (now index) (now string) «word_lines») × (first + starts ≤ 65536) × (starts ≤ 8192) ⌝ }
-    ensures { λ r. ⌜ First-in (lexicon (now (chars .entry)) (now (lengths .entry))) (now (index .entry)) (now (string .entry)) starts first r ⌝ }
+    requires { ⌜
+        Opened (now chars) (now lengths) (now index) (now «word_starts») (now «list_starts») × Is-string (now string) ×
+        Split (now index) «word_lines» ×
+        (now lines ≡ leading-lines (lexicon (now chars) (now lengths)) (now index) (now string) «word_lines») × (first + starts ≤ 65536) ×
+        (starts ≤ 8192) ⌝ }
+    ensures { λ r. ⌜
+        First-in (lexicon (now (chars .entry)) (now (lengths .entry))) (now (index .entry)) (now (string .entry)) starts first r ⌝ }
 {
     let mut reach = [0u16; 8192];
     first_in_lent(
@@ -122,8 +137,12 @@ fn first_in_long<'a>(
     first: usize,
     starts: usize,
 ) -> usize
-    requires { ⌜ Opened (now chars) (now lengths) (now index) (now «word_starts») (now «list_starts») × Is-string (now string) × Split (now index) «word_lines» × (now lines ≡ leading-lines (lexicon (now chars) (now lengths)) (now index) (now string) «word_lines») × (first + starts ≤ 65536) ⌝ }
-    ensures { λ r. ⌜ First-in (lexicon (now (chars .entry)) (now (lengths .entry))) (now (index .entry)) (now (string .entry)) starts first r ⌝ }
+    requires { ⌜
+        Opened (now chars) (now lengths) (now index) (now «word_starts») (now «list_starts») × Is-string (now string) ×
+        Split (now index) «word_lines» ×
+        (now lines ≡ leading-lines (lexicon (now chars) (now lengths)) (now index) (now string) «word_lines») × (first + starts ≤ 65536) ⌝ }
+    ensures { λ r. ⌜
+        First-in (lexicon (now (chars .entry)) (now (lengths .entry))) (now (index .entry)) (now (string .entry)) starts first r ⌝ }
 {
     let mut reach = [0u16; 65536];
     first_in_lent(
@@ -153,8 +172,12 @@ fn first_by_windows<'a>(
     lines: &[u16],
     starts: usize,
 ) -> usize
-    requires { ⌜ Opened (now chars) (now lengths) (now index) (now «word_starts») (now «list_starts») × Is-string (now string) × Split (now index) «word_lines» × (now lines ≡ leading-lines (lexicon (now chars) (now lengths)) (now index) (now string) «word_lines») × (starts ≤ 65535) ⌝ }
-    ensures { λ r. ⌜ First-in (lexicon (now (chars .entry)) (now (lengths .entry))) (now (index .entry)) (now (string .entry)) starts 1 r ⌝ }
+    requires { ⌜
+        Opened (now chars) (now lengths) (now index) (now «word_starts») (now «list_starts») × Is-string (now string) ×
+        Split (now index) «word_lines» ×
+        (now lines ≡ leading-lines (lexicon (now chars) (now lengths)) (now index) (now string) «word_lines») × (starts ≤ 65535) ⌝ }
+    ensures { λ r. ⌜
+        First-in (lexicon (now (chars .entry)) (now (lengths .entry))) (now (index .entry)) (now (string .entry)) starts 1 r ⌝ }
 {
     if starts <= 1024 {
         return first_in_short(
@@ -224,8 +247,11 @@ fn first_listing<'a>(
     starts: usize,
     lines: &mut [u16],
 ) -> usize
-    requires { ⌜ Opened (now chars) (now lengths) (now index) (now «word_starts») (now «list_starts») × Is-string (now string) × (starts ≤ 65535) × (4096 ≤ length (now lines)) ⌝ }
-    ensures { λ r. ⌜ First-in (lexicon (now (chars .entry)) (now (lengths .entry))) (now (index .entry)) (now (string .entry)) starts 1 r ⌝ }
+    requires { ⌜
+        Opened (now chars) (now lengths) (now index) (now «word_starts») (now «list_starts») × Is-string (now string) × (starts ≤ 65535) ×
+        (4096 ≤ length (now lines)) ⌝ }
+    ensures { λ r. ⌜
+        First-in (lexicon (now (chars .entry)) (now (lengths .entry))) (now (index .entry)) (now (string .entry)) starts 1 r ⌝ }
 {
     let leading = list_leading(chars, lengths, index, word_starts, string, lines);
     let count = leading.count;
@@ -252,8 +278,10 @@ pub(crate) fn first_by_entries<'a>(
     string: &[u16],
     starts: usize,
 ) -> usize
-    requires { ⌜ Opened (now chars) (now lengths) (now index) (now «word_starts») (now «list_starts») × Is-string (now string) × (starts ≤ 65535) ⌝ }
-    ensures { λ r. ⌜ First-in (lexicon (now (chars .entry)) (now (lengths .entry))) (now (index .entry)) (now (string .entry)) starts 1 r ⌝ }
+    requires { ⌜
+        Opened (now chars) (now lengths) (now index) (now «word_starts») (now «list_starts») × Is-string (now string) × (starts ≤ 65535) ⌝ }
+    ensures { λ r. ⌜
+        First-in (lexicon (now (chars .entry)) (now (lengths .entry))) (now (index .entry)) (now (string .entry)) starts 1 r ⌝ }
 {
     let mut lines = [0u16; 4096];
     first_listing(

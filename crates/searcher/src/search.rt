@@ -41,10 +41,21 @@ fn search_plain<'a>(
     output: &mut [u16],
 ) -> Answer
     requires { ⌜ Opened (now chars) (now lengths) (now index) (now «word_starts») (now «list_starts») × Is-string (now string) ⌝ }
-    ensures { λ r. ⌜ Sized (find (lexicon (now (chars .entry)) (now (lengths .entry))) (now (index .entry)) (now (string .entry))) r (now (output .entry)) (now (output .exit)) ⌝ }
+    ensures { λ r. ⌜
+        Sized (find (lexicon (now (chars .entry)) (now (lengths .entry))) (now (index .entry)) (now (string .entry))) r
+        (now (output .entry)) (now (output .exit)) ⌝ }
 {
     let starts = starts_of(index[0] as usize, string.len());
-    search_starts(chars, lengths, index, word_starts, list_starts, string, starts, output)
+    search_starts(
+        chars,
+        lengths,
+        index,
+        word_starts,
+        list_starts,
+        string,
+        starts,
+        output,
+    )
 }
 
 // Searches a readable index, with its tables of starts lent, for a string as it is lent, which is replaced first.
@@ -64,7 +75,15 @@ pub fn search_tabled<'a>(
 {
     let len = string.len();
     let own = replaced_string(string);
-    search_plain(chars, lengths, index, word_starts, list_starts, &own[..len], output)
+    search_plain(
+        chars,
+        lengths,
+        index,
+        word_starts,
+        list_starts,
+        &own[..len],
+        output,
+    )
 }
 
 // Searches a readable index, whose tables of starts are filled first, one of them lent.
@@ -77,7 +96,9 @@ fn search_filled<'a>(
     list_starts: &mut [u32],
     output: &mut [u16],
 ) -> Answer
-    requires { ⌜ Can-read (now chars) (now lengths) (now index) × (keys ≡ keys-of (now index)) × Is-string (now string) × (keys ≤ length (now «list_starts»)) ⌝ }
+    requires { ⌜
+        Can-read (now chars) (now lengths) (now index) × (keys ≡ keys-of (now index)) × Is-string (now string) ×
+        (keys ≤ length (now «list_starts»)) ⌝ }
     ensures { λ r. ⌜
         Sized (find (lexicon (now (chars .entry)) (now (lengths .entry))) (now (index .entry)) (replaced (now (string .entry)))) r
         (now (output .entry)) (now (output .exit)) ⌝ }
@@ -85,7 +106,15 @@ fn search_filled<'a>(
     let mut word_starts = [0u16; 4096];
     fill_word_starts(lengths, &mut word_starts);
     fill_list_starts(index, keys, list_starts);
-    search_tabled(chars, lengths, index, &word_starts, list_starts, string, output)
+    search_tabled(
+        chars,
+        lengths,
+        index,
+        &word_starts,
+        list_starts,
+        string,
+        output,
+    )
 }
 
 // Searches an index of at most 1,024 lines, with a local table.
@@ -103,7 +132,15 @@ fn search_few_lines<'a>(
         (now (output .entry)) (now (output .exit)) ⌝ }
 {
     let mut list_starts = [0u32; 1024];
-    search_filled(chars, lengths, index, keys, string, &mut list_starts, output)
+    search_filled(
+        chars,
+        lengths,
+        index,
+        keys,
+        string,
+        &mut list_starts,
+        output,
+    )
 }
 
 // Searches an index of at most 8,192 lines, with a local table.
@@ -121,7 +158,15 @@ fn search_some_lines<'a>(
         (now (output .entry)) (now (output .exit)) ⌝ }
 {
     let mut list_starts = [0u32; 8192];
-    search_filled(chars, lengths, index, keys, string, &mut list_starts, output)
+    search_filled(
+        chars,
+        lengths,
+        index,
+        keys,
+        string,
+        &mut list_starts,
+        output,
+    )
 }
 
 // Searches an index of any number of lines, with a local table of 65,536.
@@ -139,7 +184,15 @@ fn search_many_lines<'a>(
         (now (output .entry)) (now (output .exit)) ⌝ }
 {
     let mut list_starts = [0u32; 65536];
-    search_filled(chars, lengths, index, keys, string, &mut list_starts, output)
+    search_filled(
+        chars,
+        lengths,
+        index,
+        keys,
+        string,
+        &mut list_starts,
+        output,
+    )
 }
 
 // Searches an index of `keys` lines, with the smallest table that is long enough.
@@ -176,7 +229,9 @@ fn search_opened<'a>(
     output: &mut [u16],
 ) -> Answer
     requires { ⌜ (refusal ≡ index-refusal (now chars) (now lengths) (now index)) × (keys ≡ accepted refusal (keys-of (now index)) 0) ⌝ }
-    ensures { λ r. ⌜ Search-says (now (chars .entry)) (now (lengths .entry)) (now (index .entry)) (now (string .entry)) r (now (output .entry)) (now (output .exit)) ⌝ }
+    ensures { λ r. ⌜
+        Search-says (now (chars .entry)) (now (lengths .entry)) (now (index .entry)) (now (string .entry)) r (now (output .entry))
+        (now (output .exit)) ⌝ }
 {
     if refusal != 0 {
         return Answer { refusal, count: 0 };
@@ -205,7 +260,9 @@ pub fn search_index<'a>(
     string: &'a [u16],
     output: &mut [u16],
 ) -> Answer
-    ensures { λ r. ⌜ Search-says (now (chars .entry)) (now (lengths .entry)) (now (index .entry)) (now (string .entry)) r (now (output .entry)) (now (output .exit)) ⌝ }
+    ensures { λ r. ⌜
+        Search-says (now (chars .entry)) (now (lengths .entry)) (now (index .entry)) (now (string .entry)) r (now (output .entry))
+        (now (output .exit)) ⌝ }
 {
     let opened = open_index(chars, lengths, index);
     search_opened(

@@ -22,8 +22,12 @@ fn search_lent<'a>(
     reach: &mut [u16],
     output: &mut [u16],
 ) -> Answer
-    requires { ⌜ Opened (now chars) (now lengths) (now index) (now «word_starts») (now «list_starts») × Is-string (now string) × (starts ≤ 65535) × (starts ≤ length (now reach)) × (now reach ≡ replicate (length (now reach)) 0) ⌝ }
-    ensures { λ r. ⌜ Window-says (lexicon (now (chars .entry)) (now (lengths .entry))) (now (index .entry)) (now (string .entry)) starts 1 r (now (output .entry)) (now (output .exit)) ⌝ }
+    requires { ⌜
+        Opened (now chars) (now lengths) (now index) (now «word_starts») (now «list_starts») × Is-string (now string) × (starts ≤ 65535) ×
+        (starts ≤ length (now reach)) × (now reach ≡ replicate (length (now reach)) 0) ⌝ }
+    ensures { λ r. ⌜
+        Window-says (lexicon (now (chars .entry)) (now (lengths .entry))) (now (index .entry)) (now (string .entry)) starts 1 r
+        (now (output .entry)) (now (output .exit)) ⌝ }
 {
     search_cleared(
         chars,
@@ -48,8 +52,11 @@ fn search_in_short<'a>(
     starts: usize,
     output: &mut [u16],
 ) -> Answer
-    requires { ⌜ Opened (now chars) (now lengths) (now index) (now «word_starts») (now «list_starts») × Is-string (now string) × (starts ≤ 1024) ⌝ }
-    ensures { λ r. ⌜ Window-says (lexicon (now (chars .entry)) (now (lengths .entry))) (now (index .entry)) (now (string .entry)) starts 1 r (now (output .entry)) (now (output .exit)) ⌝ }
+    requires { ⌜
+        Opened (now chars) (now lengths) (now index) (now «word_starts») (now «list_starts») × Is-string (now string) × (starts ≤ 1024) ⌝ }
+    ensures { λ r. ⌜
+        Window-says (lexicon (now (chars .entry)) (now (lengths .entry))) (now (index .entry)) (now (string .entry)) starts 1 r
+        (now (output .entry)) (now (output .exit)) ⌝ }
 {
     let mut reach = [0u16; 1024];
     search_lent(
@@ -76,8 +83,11 @@ fn search_in_middle<'a>(
     starts: usize,
     output: &mut [u16],
 ) -> Answer
-    requires { ⌜ Opened (now chars) (now lengths) (now index) (now «word_starts») (now «list_starts») × Is-string (now string) × (starts ≤ 8192) ⌝ }
-    ensures { λ r. ⌜ Window-says (lexicon (now (chars .entry)) (now (lengths .entry))) (now (index .entry)) (now (string .entry)) starts 1 r (now (output .entry)) (now (output .exit)) ⌝ }
+    requires { ⌜
+        Opened (now chars) (now lengths) (now index) (now «word_starts») (now «list_starts») × Is-string (now string) × (starts ≤ 8192) ⌝ }
+    ensures { λ r. ⌜
+        Window-says (lexicon (now (chars .entry)) (now (lengths .entry))) (now (index .entry)) (now (string .entry)) starts 1 r
+        (now (output .entry)) (now (output .exit)) ⌝ }
 {
     let mut reach = [0u16; 8192];
     search_lent(
@@ -104,8 +114,11 @@ fn search_in_long<'a>(
     starts: usize,
     output: &mut [u16],
 ) -> Answer
-    requires { ⌜ Opened (now chars) (now lengths) (now index) (now «word_starts») (now «list_starts») × Is-string (now string) × (starts ≤ 65535) ⌝ }
-    ensures { λ r. ⌜ Window-says (lexicon (now (chars .entry)) (now (lengths .entry))) (now (index .entry)) (now (string .entry)) starts 1 r (now (output .entry)) (now (output .exit)) ⌝ }
+    requires { ⌜
+        Opened (now chars) (now lengths) (now index) (now «word_starts») (now «list_starts») × Is-string (now string) × (starts ≤ 65535) ⌝ }
+    ensures { λ r. ⌜
+        Window-says (lexicon (now (chars .entry)) (now (lengths .entry))) (now (index .entry)) (now (string .entry)) starts 1 r
+        (now (output .entry)) (now (output .exit)) ⌝ }
 {
     let mut reach = [0u16; 65536];
     search_lent(
@@ -132,14 +145,44 @@ pub(crate) fn search_starts<'a>(
     starts: usize,
     output: &mut [u16],
 ) -> Answer
-    requires { ⌜ Opened (now chars) (now lengths) (now index) (now «word_starts») (now «list_starts») × Is-string (now string) × (starts ≤ 65535) ⌝ }
-    ensures { λ r. ⌜ Window-says (lexicon (now (chars .entry)) (now (lengths .entry))) (now (index .entry)) (now (string .entry)) starts 1 r (now (output .entry)) (now (output .exit)) ⌝ }
+    requires { ⌜
+        Opened (now chars) (now lengths) (now index) (now «word_starts») (now «list_starts») × Is-string (now string) × (starts ≤ 65535) ⌝ }
+    ensures { λ r. ⌜
+        Window-says (lexicon (now (chars .entry)) (now (lengths .entry))) (now (index .entry)) (now (string .entry)) starts 1 r
+        (now (output .entry)) (now (output .exit)) ⌝ }
 {
     if starts <= 1024 {
-        return search_in_short(chars, lengths, index, word_starts, list_starts, string, starts, output);
+        return search_in_short(
+            chars,
+            lengths,
+            index,
+            word_starts,
+            list_starts,
+            string,
+            starts,
+            output,
+        );
     }
     if starts <= 8192 {
-        return search_in_middle(chars, lengths, index, word_starts, list_starts, string, starts, output);
+        return search_in_middle(
+            chars,
+            lengths,
+            index,
+            word_starts,
+            list_starts,
+            string,
+            starts,
+            output,
+        );
     }
-    search_in_long(chars, lengths, index, word_starts, list_starts, string, starts, output)
+    search_in_long(
+        chars,
+        lengths,
+        index,
+        word_starts,
+        list_starts,
+        string,
+        starts,
+        output,
+    )
 }

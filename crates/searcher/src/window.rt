@@ -26,12 +26,25 @@ fn reach_in_front(
     room: &mut [u16],
     reach: &mut [u16],
 ) -> bool
-    requires { ⌜ Can-read (now chars) (now lengths) (now index) × Word-starts (now lengths) (length (now lengths)) (now «word_starts») × (length (now string) ≤ 256) × (n-of (now index) ≤ length (now room)) × (length (now reach) + length (now string) ≤ suc (n-of (now index))) ⌝ }
-    ensures told { λ r. ⌜ (r ≡ true → Finds (lexicon (now (chars .entry)) (now (lengths .entry))) (now (index .entry)) (now (string .entry)) (now (reach .exit))) ⌝ }
+    requires { ⌜
+        Can-read (now chars) (now lengths) (now index) × Word-starts (now lengths) (length (now lengths)) (now «word_starts») ×
+        (length (now string) ≤ 256) × (n-of (now index) ≤ length (now room)) ×
+        (length (now reach) + length (now string) ≤ suc (n-of (now index))) ⌝ }
+    ensures told { λ r. ⌜
+        (r ≡ true → Finds (lexicon (now (chars .entry)) (now (lengths .entry))) (now (index .entry)) (now (string .entry))
+        (now (reach .exit))) ⌝ }
     ensures kept { λ r. ⌜ (r ≡ false → now (reach .exit) ≡ now (reach .entry)) ⌝ }
 {
     let n = index[0] as usize;
-    reach_reconstructed(chars, lengths, index, word_starts, string, &mut room[..n], reach)
+    reach_reconstructed(
+        chars,
+        lengths,
+        index,
+        word_starts,
+        string,
+        &mut room[..n],
+        reach,
+    )
 }
 
 // Fills the window from the text reconstructed in a local array, which is made and cleared only here. Answers
@@ -44,8 +57,12 @@ pub(crate) fn reach_by_text(
     string: &[u16],
     reach: &mut [u16],
 ) -> bool
-    requires { ⌜ Can-read (now chars) (now lengths) (now index) × Word-starts (now lengths) (length (now lengths)) (now «word_starts») × (length (now string) ≤ 256) × (length (now reach) + length (now string) ≤ suc (n-of (now index))) ⌝ }
-    ensures told { λ r. ⌜ (r ≡ true → Finds (lexicon (now (chars .entry)) (now (lengths .entry))) (now (index .entry)) (now (string .entry)) (now (reach .exit))) ⌝ }
+    requires { ⌜
+        Can-read (now chars) (now lengths) (now index) × Word-starts (now lengths) (length (now lengths)) (now «word_starts») ×
+        (length (now string) ≤ 256) × (length (now reach) + length (now string) ≤ suc (n-of (now index))) ⌝ }
+    ensures told { λ r. ⌜
+        (r ≡ true → Finds (lexicon (now (chars .entry)) (now (lengths .entry))) (now (index .entry)) (now (string .entry))
+        (now (reach .exit))) ⌝ }
     ensures kept { λ r. ⌜ (r ≡ false → now (reach .exit) ≡ now (reach .entry)) ⌝ }
 {
     let mut room = [0u16; 65536];
@@ -61,8 +78,12 @@ fn reach_if_cheaper(
     string: &[u16],
     reach: &mut [u16],
 ) -> bool
-    requires { ⌜ Can-read (now chars) (now lengths) (now index) × Word-starts (now lengths) (length (now lengths)) (now «word_starts») × Is-string (now string) × (length (now reach) ≤ 65535) ⌝ }
-    ensures told { λ r. ⌜ (r ≡ true → Finds (lexicon (now (chars .entry)) (now (lengths .entry))) (now (index .entry)) (now (string .entry)) (now (reach .exit))) ⌝ }
+    requires { ⌜
+        Can-read (now chars) (now lengths) (now index) × Word-starts (now lengths) (length (now lengths)) (now «word_starts») ×
+        Is-string (now string) × (length (now reach) ≤ 65535) ⌝ }
+    ensures told { λ r. ⌜
+        (r ≡ true → Finds (lexicon (now (chars .entry)) (now (lengths .entry))) (now (index .entry)) (now (string .entry))
+        (now (reach .exit))) ⌝ }
     ensures kept { λ r. ⌜ (r ≡ false → now (reach .exit) ≡ now (reach .entry)) ⌝ }
 {
     if !prefers_text_scan(chars, lengths, index, word_starts, string, reach.len()) {
@@ -82,8 +103,12 @@ pub(crate) fn search_cleared<'a>(
     reach: &mut [u16],
     output: &mut [u16],
 ) -> Answer
-    requires { ⌜ Opened (now chars) (now lengths) (now index) (now «word_starts») (now «list_starts») × Is-string (now string) × (length (now reach) ≤ 65535) × (now reach ≡ replicate (length (now reach)) 0) ⌝ }
-    ensures { λ r. ⌜ Window-says (lexicon (now (chars .entry)) (now (lengths .entry))) (now (index .entry)) (now (string .entry)) (length (now (reach .entry))) 1 r (now (output .entry)) (now (output .exit)) ⌝ }
+    requires { ⌜
+        Opened (now chars) (now lengths) (now index) (now «word_starts») (now «list_starts») × Is-string (now string) ×
+        (length (now reach) ≤ 65535) × (now reach ≡ replicate (length (now reach)) 0) ⌝ }
+    ensures { λ r. ⌜
+        Window-says (lexicon (now (chars .entry)) (now (lengths .entry))) (now (index .entry)) (now (string .entry))
+        (length (now (reach .entry))) 1 r (now (output .entry)) (now (output .exit)) ⌝ }
 {
     if reach_if_cheaper(chars, lengths, index, word_starts, string, reach) {
         return answer_window(reach, string.len(), 1, output);

@@ -49,8 +49,12 @@ pub fn verify(
     text: &[u16],
     line_map: &[u16],
 ) -> bool
-    requires { ⌜ Tables (now chars) (now lengths) (now heads) (now links) (now «word_starts») × Fits (now index) × Line-map (now index) (mapped-at (now «line_map»)) × (length (now text) ≤ length (now «line_map»)) ⌝ }
-    ensures { λ r. ⌜ r ≡ verify (lexicon (now (chars .entry)) (now (lengths .entry))) (mapped-at (now («line_map» .entry))) (now (index .entry)) (now (text .entry)) ⌝ }
+    requires { ⌜
+        Tables (now chars) (now lengths) (now heads) (now links) (now «word_starts») × Fits (now index) ×
+        Line-map (now index) (mapped-at (now «line_map»)) × (length (now text) ≤ length (now «line_map»)) ⌝ }
+    ensures { λ r. ⌜
+        r ≡ verify (lexicon (now (chars .entry)) (now (lengths .entry))) (mapped-at (now («line_map» .entry))) (now (index .entry))
+        (now (text .entry)) ⌝ }
 {
     let mut count = 0;
     let mut end = 0;

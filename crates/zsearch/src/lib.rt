@@ -1,5 +1,5 @@
 // Z-search: the length of the longest prefix of a string at each start of a text, and the sentinel of a string.
-pub mod zbox;
+pub mod prefix_lengths;
 pub mod sentinel;
 pub mod zarray;
-pub mod prefix_lengths;
+pub mod zbox;

@@ -10,7 +10,9 @@ use crate::zbox::known_from;
 
 // Fills `reach` with the length of the longest prefix of the string that matches at each start of the text, by the string's Z-array.
 pub fn fill_prefix_lengths(text: &[u16], string: &[u16], zarray: &[u16], reach: &mut [u16])
-    requires { ⌜ Z-array (now string) (now zarray) × (length (now string) ≤ 256) × (length (now string) ≤ length (now zarray)) × (length (now reach) + length (now string) ≤ suc (length (now text))) ⌝ }
+    requires { ⌜
+        Z-array (now string) (now zarray) × (length (now string) ≤ 256) × (length (now string) ≤ length (now zarray)) ×
+        (length (now reach) + length (now string) ≤ suc (length (now text))) ⌝ }
     ensures { λ r. ⌜ Prefix-lengths (now (string .entry)) (now (text .entry)) (now (reach .exit)) ⌝ }
 {
     let mut left = 0;

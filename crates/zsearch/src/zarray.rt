@@ -10,7 +10,9 @@ use crate::zbox::known_from;
 // Fills the Z-array. The first number, and those past the string's length, are left unchanged.
 pub fn fill_zarray(string: &[u16], zarray: &mut [u16])
     requires { ⌜ (length (now string) ≤ 256) × (length (now string) ≤ length (now zarray)) ⌝ }
-    ensures { λ r. ⌜ Z-array (now (string .entry)) (now (zarray .exit)) × Kept-but 1 (length (now (string .entry))) (now (zarray .entry)) (now (zarray .exit)) ⌝ }
+    ensures { λ r. ⌜
+        Z-array (now (string .entry)) (now (zarray .exit)) ×
+        Kept-but 1 (length (now (string .entry))) (now (zarray .entry)) (now (zarray .exit)) ⌝ }
 {
     let mut left = 0;
     let mut right = 0;

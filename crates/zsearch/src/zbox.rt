@@ -25,7 +25,8 @@ pub(crate) fn known_from(zarray: &[u16], at: usize, left: usize, right: usize) -
 
 // The length of the longest prefix of the string that matches at index `at`, at most `limit`, where the first `known` characters match.
 pub(crate) fn extend(text: &[u16], string: &[u16], at: usize, known: usize, limit: usize) -> usize
-    requires { ⌜ Prefix-at (now string) (now text) at known × (known ≤ limit) × (limit ≤ length (now string)) × (at + limit ≤ length (now text)) ⌝ }
+    requires { ⌜
+        Prefix-at (now string) (now text) at known × (known ≤ limit) × (limit ≤ length (now string)) × (at + limit ≤ length (now text)) ⌝ }
     ensures { λ r. ⌜ Longest-prefix-at (now (string .entry)) (now (text .entry)) at limit r ⌝ }
 {
     let mut len = known;

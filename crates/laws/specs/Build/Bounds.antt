@@ -79,7 +79,7 @@ module _ {lex : Lexicon} (good : Good-lexicon lex) (bound : ℕ) (n : ℕ) (shor
     directory-below [] each few = λ x m. absurd m
     directory-below (l ∷ ls) each few =
         let both : length (l .positions ++ all-positions ls) ≡ length (l .positions) + length (all-positions ls) =
-            length-append (l .positions)
+        length-append (l .positions)
         (all-positions ls) in
         let h : Good-line lex n l = each l (inl refl) in
         below-cons bound (l .key-of .kind) (l .key-of .value ∷ length (l .positions) ∷ directory ls)

@@ -131,8 +131,11 @@ module _ {give : List Line → List ℕ} {each : Line → List ℕ} (by : Line-b
         at + length (each (line (code-key code) (chain links (getD heads code 0)))) ≤ length now
     listing-room threads b =
         let w = listing-line threads b in
-        omega (arith, length-append (each (line (code-key code) (chain links (getD heads code 0))))
-            (give (lines-at heads links (code + 1))))
+        omega (
+          arith,
+          length-append (each (line (code-key code) (chain links (getD heads code 0))))
+              (give (lines-at heads links (code + 1))),
+        )
 
     pub listing-step :
         Threads heads links → code < length heads → {next : ℕ} → Next heads (code + 1) next → (xs later : List ℕ) →

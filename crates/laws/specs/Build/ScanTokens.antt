@@ -158,7 +158,7 @@ token-entry-more lex p (x ∷ ms) (t ∷ ts) m h =
     let there : suc p + length ms ≡ p + suc (length ms) = omega arith in
     rw (token-entry-more lex (suc p) ms ts m (omega arith), there)
     (sym (append-assoc (token-entry lex p x t) (entries-of-tokens lex (suc p) ms ts)
-        (token-entry lex (p + suc (length ms)) m (getD ts (length ms) 0))))
+    (token-entry lex (p + suc (length ms)) m (getD ts (length ms) 0))))
 
 -- The first i tokens are in the work slice, whose rest is unchanged; their entries and those that the scan will register from there on
 -- make up the index.
@@ -189,7 +189,7 @@ module _ (lex : Lexicon) (ts old : List ℕ) (room : length ts ≤ length old) w
 
     pub scanning-tokens-step :
         {token : ℕ} (end : ℕ) → i < length ts → Stepped lex ts (i + 1) (e + 1) token (end + 1) →
-            Scanning lex ts old (set work i token) (i + 1) end
+        Scanning lex ts old (set work i token) (i + 1) end
     scanning-tokens-step {token} end below s =
         record {
           within = omega arith;
@@ -233,7 +233,7 @@ module _ (lex : Lexicon) (ts old : List ℕ) (room : length ts ≤ length old) w
 
         exact :
             entries-of-tokens lex 1 (take (i + 1) (set work i token)) ts ++
-                scan (longest-at lex ts) (length ts - (i + 1)) (i + 1 + 1) (end + 1)
+            scan (longest-at lex ts) (length ts - (i + 1)) (i + 1 + 1) (end + 1)
             ≡ make-index lex ts
         exact =
             rw (more, add-one (i + 1))

@@ -146,7 +146,7 @@ module _ {lex : Lexicon} (good : Good-lexicon lex) {ts : List ℕ} (chars : Char
       let position : 1 + (p - 1) ≡ p = omega arith in
       rw (← tokens .exact, code)
       (entries-of-tokens-put lex 1 ms ts (posting lex (code-key c) p) (p - 1) a b
-          (rw (position, is) (inl (refl {a = posting lex (code-key c) p}))))
+      (rw (position, is) (inl (refl {a = posting lex (code-key c) p}))))
 
   -- a position in a code's posting list is an entry of the text
   inverted-entry : (k p : ℕ) → In p (postings ms ts 0 k) → In (posting lex (code-key k) p) (make-index lex ts)

@@ -95,9 +95,12 @@ module _ (lex : Lexicon) (xs s : List ℕ) where
           within = omega arith;
           keys-left = omega (arith, ap length kept);
           entries-left =
-              omega (arith, ap (λ (l : List Line). length (all-positions l)) kept,
-                  length-append (take (count-at xs i) (drop (list-start xs i) xs)) (all-positions (bearing-from (i + 1))),
-                  positions-length i below fits);
+              omega (
+                arith,
+                ap (λ (l : List Line). length (all-positions l)) kept,
+                length-append (take (count-at xs i) (drop (list-start xs i) xs)) (all-positions (bearing-from (i + 1))),
+                positions-length i below fits,
+              );
           keys-few = omega arith;
           entries-few = omega arith;
         }

@@ -60,7 +60,7 @@ module _ (lex : Lexicon) (xs s : List ℕ) where
 
   pub offsets-next :
       {old fs : List ℕ} (now : List ℕ) {o : ℕ} → Offsets old fs o → Flagging lex xs s fs now × Flagged lex xs s 0 o 0 (keys-of xs) now →
-          Offsets old now (o + 1)
+      Offsets old now (o + 1)
   offsets-next {old} {fs} now {o} h next =
       record {
         way = flagging-on lex xs s (h .way) (next .0);

@@ -104,7 +104,7 @@ module _ (cs ls : List ℕ) (adm : admitted cs ls ≡ true) where
   -- with enough output they meet no line of search or cut
   none-find :
       (xs : List ℕ) {s : List ℕ} (result o : List ℕ) → readable longest-text (lexicon cs ls) xs ≡ true → Query s →
-          length result ≤ length o →
+      length result ≤ length o →
       None-met (find-rows cs ls xs s result o)
   none-find xs {s} result o can q room =
       none-both (string-rows cs ls xs s) (row 8 (Output-short result o) ∷ []) (none-string xs can q)
@@ -180,7 +180,7 @@ module _ (cs ls : List ℕ) (adm : admitted cs ls ≡ true) where
     -- numbers equal to the cut-down index give its answers
     cut-found :
         {s : List ℕ} (ys : List ℕ) → Query s → ys ≡ cut-down (lexicon cs ls) xs (replaced s) → Found-for cs ls ys ts s ×
-            First-for cs ls ys ts s
+        First-for cs ls ys ts s
     cut-found {s} ys q e =
         let cut = cut-down (lexicon cs ls) xs (replaced s) in
         subst (λ (zs : List ℕ). Found-for cs ls zs ts s × First-for cs ls zs ts s) (sym e) (

@@ -97,8 +97,11 @@ module _ (s : List ℕ) where
 
   long-prints : sheet-too-long s ≡ true → Refused-long s (job-answer s)
   long-prints t =
-      record { met = reflects-long .holds t; printed = answer-refused 10 (sheet-long s (reflects-long .holds t))
-          (λ (e : 10 ≡ 0). omega arith) }
+      record {
+        met = reflects-long .holds t;
+        printed = answer-refused 10 (sheet-long s (reflects-long .holds t))
+            (λ (e : 10 ≡ 0). omega arith);
+      }
 
   broken-prints : sheet-too-long s ≡ false → sheet-wrong s ≡ true → Refused-broken s (job-answer s)
   broken-prints f t =
@@ -165,7 +168,7 @@ module _ (s : List ℕ) where
     parts-only =
         ⊎-elim
         (λ (a : Accepts (parts-rows (h .words) (h .finds)) (h .number)
-            (answer ≡ answer-lines (lexicon (run-together (h .words)) (lengths-of (h .words))) (h .text) (h .finds))).
+        (answer ≡ answer-lines (lexicon (run-together (h .words)) (lengths-of (h .words))) (h .text) (h .finds))).
         a .result ∙ sym (answer-accepted (h .number) number-is (a .number) ∙ lines-are))
         (λ (r : Refuses (parts-rows (h .words) (h .finds)) (h .number) (answer ≡ refused-line (h .number))).
         r .result ∙ sym (answer-refused (h .number) number-is (r .number)))

@@ -249,7 +249,7 @@ module _ (cs ls xs : List ℕ) (chars : all-chars cs ≡ true) where
   recovery-first o w =
       subst (First (recovery-rows cs ls xs o w))
       (sym (regroup (index-refusal cs ls xs) (work-short (n-of xs) (length w)) (no-text (lexicon cs ls) xs)
-          (output-short (n-of xs) (length o))))
+      (output-short (n-of xs) (length o))))
       (first-then (index-rows cs ls xs) _ (index-numbered cs ls xs) _ _ (index-first cs ls xs)
       (λ a.
       first-cond 7 (Work-short (n-of xs) w) (work-short (n-of xs) (length w)) _ _ (reflects-work (n-of xs) w)

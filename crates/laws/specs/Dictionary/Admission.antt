@@ -125,7 +125,7 @@ module _ (cs ls : List ℕ) (at next i : ℕ) (h : Words-read cs ls at next i) w
           arith,
           leb-true 1 (getD ls i 0)
               (and-left (leb 1 (getD ls i 0)) (leb (getD ls i 0) 32)
-                  (and-left (length-good (getD ls i 0)) (lengths-good (drop (i + 1) ls)) good-cut)),
+              (and-left (length-good (getD ls i 0)) (lengths-good (drop (i + 1) ls)) good-cut)),
         )
 
     pub next-room : next + getD ls i 0 ≤ length cs

@@ -142,11 +142,11 @@ differ :
     (first-digit w < first-digit v)
     ⊎ (((first-digit w ≡ first-digit v) × (first-digit (drop 1 w) < first-digit (drop 1 v)))
     ⊎ ((first-digit w ≡ first-digit v) × (first-digit (drop 1 w) ≡ first-digit (drop 1 v)) ×
-        (first-digit (drop 2 w) < first-digit (drop 2 v))))
+    (first-digit (drop 2 w) < first-digit (drop 2 v))))
 unfolding code
 differ w v hw hv h =
     lower (first-digit w) (first-digit (drop 1 w)) (first-digit (drop 2 w)) (first-digit v) (first-digit (drop 1 v))
-        (first-digit (drop 2 v))
+    (first-digit (drop 2 v))
     (later 1 w hw) (later 2 w hw) (later 1 v hv) (later 2 v hv) h
   where
     later : (i : ℕ) (u : List ℕ) → Small u → first-digit (drop i u) ≤ 65536

@@ -69,7 +69,7 @@ module _ (q : ℕ) where
       (λ (h : (eqb (length (positions-to q (l .positions))) 0 ≡ false) × (m ≡ line-to l)).
       let unmet = eqb-false (length (positions-to q (l .positions))) 0 (h .0) in
       let some : 1 ≤ length (positions-to q (l .positions)) = at-most (length (positions-to q (l .positions))) 1
-          (λ few. unmet (omega arith)) in
+      (λ few. unmet (omega arith)) in
       (rw (h .1) some, (l, inl refl, h .1)))
       (λ (h : In m (lines-to q ls)).
       let later = lines-to-get ls m h in (later .0, (later .1 .0, inr (later .1 .1), later .1 .2)))

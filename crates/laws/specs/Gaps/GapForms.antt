@@ -162,7 +162,6 @@ module _ (e : ℕ) (cs ls ds : List ℕ) (good : admitted cs ls ≡ true) (can :
       below : Below (suc e) (prefix-sums (l .positions))
       below =
           place-below (admitted-lexicon cs ls good) (suc e) (n-of (restored ds)) (omega (arith, r .length-allowed))
-         
           (r .lines .each (line (l .key-of) (prefix-sums (l .positions)))
           (rw (lines-in-with prefix-sums (length-sums 0) ds (restored-fits .has-directory)) (in-lines-with prefix-sums l (lines-in ds) m)))
 

@@ -92,7 +92,7 @@ module _ {xs : List ℕ} (fits : Fits xs) (keys : ℕ) (is : keys ≡ keys-of xs
     masks-long =
         ap length masked
         ∙ length-lists (first-apart (first-as true) (pair-as true)) (length-apart (first-as true) (pair-as true))
-            (keys-of xs) 0 xs positions
+        (keys-of xs) 0 xs positions
         ∙ ap length (sym positions-lent)
 
 -- THE WHOLE: the directory copied, and the lists written after it
@@ -121,8 +121,13 @@ module _ (f : List ℕ → List ℕ) (keeps : Keeps-length f) {xs : List ℕ} (f
               ∙ length-append (take first xs) (drop (length (take first xs)) old)
               ∙ omega (arith, length-drop (length (take first xs)) old, front-long, even, is);
           room =
-              omega (arith, length-lists f keeps (keys-of xs) 0 xs (drop (header + 3 * keys-of xs) xs),
-                  length-drop (header + 3 * keys-of xs) xs, even, is);
+              omega (
+                arith,
+                length-lists f keeps (keys-of xs) 0 xs (drop (header + 3 * keys-of xs) xs),
+                length-drop (header + 3 * keys-of xs) xs,
+                even,
+                is,
+              );
         }
 
     pub part-long : length (lent-tail first now) ≡ length (drop (header + 3 * keys-of xs) xs)

@@ -52,7 +52,7 @@ sized-get ys r o z enough h = puts-get 0 ys r o z refl (rw (le-ltb (length o) (l
 
 pub found-in-hand :
     (lex : Lexicon) (xs : List ℕ) {s : List ℕ} (r : Answer) (o z : List ℕ) → Is-string s → n-of xs ≤ length o →
-        Sized (find lex xs s) r o z →
+    Sized (find lex xs s) r o z →
     In-hand (find lex xs s) (r .count) z
 found-in-hand lex xs {s} r o z is room =
     sized-get (find lex xs s) r o z (omega (arith, find-few lex xs s (is .some)))

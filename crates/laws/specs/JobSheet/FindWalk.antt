@@ -103,7 +103,7 @@ module _ {lex : Lexicon} {xs fs ls : List ℕ} {start : ℕ} {old : List ℕ} {f
           tested =
               sym
               (length-right ls i below (λ (e : getD ls i 0 ≡ 0). omega (arith, string-is .some, len))
-                  (omega (arith, string-is .short, len)))
+              (omega (arith, string-is .short, len)))
               ∙ h .tested;
           fits = omega (arith, h .fits, next-total);
           writing =

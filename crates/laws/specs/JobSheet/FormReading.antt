@@ -19,7 +19,7 @@ use Rattle.models.specs.JobSheet.{spaced-at, character-at}
 
 pub same-next :
     (a b : List ℕ) (i : ℕ) → i < length a → i < length b → getD a i 0 ≡ getD b i 0 →
-        same (drop i a) (drop i b) ≡ same (drop (i + 1) a) (drop (i + 1) b)
+    same (drop i a) (drop i b) ≡ same (drop (i + 1) a) (drop (i + 1) b)
 unfolding same
 same-next a b i ha hb e = rw (drop-next a i ha, drop-next b i hb, eq-eqb (getD a i 0) (getD b i 0) e)
 

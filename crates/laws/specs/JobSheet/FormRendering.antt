@@ -87,7 +87,7 @@ pub form-back : (h l : List ℕ) → is-form h l ≡ true → line-of h (string-
 unfolding is-form string-in
 form-back h l t =
     let heads : take head-length l ≡ h = same-get (take head-length l) h
-        (and-left (same (take head-length l) h) (ends-well (drop head-length l)) t) in
+    (and-left (same (take head-length l) h) (ends-well (drop head-length l)) t) in
     ap (λ (r : List ℕ). h ++ r) (tail-back (drop head-length l) (form-ends h l t))
     ∙ ap (λ (g : List ℕ). g ++ drop head-length l) (sym heads)
     ∙ take-append-drop head-length l

@@ -55,7 +55,7 @@ module _ {xs : List ℕ} {start : ℕ} {old : List ℕ} {position end i : ℕ} {
     unfolding counts-from
     counted =
         rw (add-one i) (ap (λ (k : ℕ). position + counts-from k i xs) (sym (one-more ∙ ap (λ (j : ℕ). suc (keys-of xs - j)) (add-one i))) ∙
-            h .room)
+        h .room)
 
     pub positions-fit : position + count-at xs i ≤ length xs
     positions-fit = omega (arith, counted)
@@ -87,7 +87,7 @@ module _ {xs : List ℕ} {start : ℕ} {old : List ℕ} {position end i : ℕ} {
 
 pub index-lines-parts :
     (xs : List ℕ) → Whole xs → index-lines xs ≡ index-line (n-of xs) (keys-of xs) (length xs - 2 - 3 * keys-of xs) ++
-        key-lines (lines-in xs)
+    key-lines (lines-in xs)
 unfolding index-lines
 index-lines-parts xs whole =
     let m : entries-of xs ≡ length xs - 2 - 3 * keys-of xs = omega arith in

@@ -71,8 +71,12 @@ pub shown-short :
     {cs ls xs : List ℕ} (ss : List (List ℕ)) → Usable cs ls xs → Small xs → length ss ≤ 50 →
     length (index-lines xs ++ found-lines (lexicon cs ls) xs ss) ≤ 700000
 shown-short {cs} {ls} {xs} ss u small few =
-    omega (arith, length-append (index-lines xs) (found-lines (lexicon cs ls) xs ss),
-        index-lines-short xs (usable-whole cs ls xs u) small (omega arith), found-lines-short (lexicon cs ls) xs (u .short) ss)
+    omega (
+      arith,
+      length-append (index-lines xs) (found-lines (lexicon cs ls) xs ss),
+      index-lines-short xs (usable-whole cs ls xs u) small (omega arith),
+      found-lines-short (lexicon cs ls) xs (u .short) ss,
+    )
 
 module _ {cs ls xs fs ns : List ℕ} (out : List ℕ) (u : Usable cs ls xs) (small : Small xs) (good : Strings-good fs ns)
     (room : 700000 ≤ length out) where

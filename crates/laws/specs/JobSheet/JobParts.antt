@@ -66,8 +66,12 @@ pub strings-in-front : (ws : List (List ℕ)) (rest : List ℕ) → words-from (
 unfolding words-from lengths-of run-together
 strings-in-front [] rest = refl
 strings-in-front (w ∷ ws) rest =
-    rw (append-assoc w (run-together ws) rest, take-at w (run-together ws ++ rest) (length w) refl,
-        drop-at w (run-together ws ++ rest) (length w) refl, strings-in-front ws rest)
+    rw (
+      append-assoc w (run-together ws) rest,
+      take-at w (run-together ws ++ rest) (length w) refl,
+      drop-at w (run-together ws ++ rest) (length w) refl,
+      strings-in-front ws rest,
+    )
 
 -- THE PARTS, as they are lent
 

@@ -74,7 +74,7 @@ module _ (a b c r xs : List ℕ) (whole : xs ≡ ((a ++ b) ++ c) ++ r) where
   pub third-part : take (length c) (drop (length a + length b) xs) ≡ c
   third-part =
       ap (take (length c)) (sym (drop-drop (length b) (length a) xs) ∙ ap (drop (length b)) after-first ∙
-          drop-at b (c ++ r) (length b) refl)
+      drop-at b (c ++ r) (length b) refl)
       ∙ take-at c r (length c) refl
 
   pub parts-fit : length a + length b + length c ≤ length xs
@@ -137,14 +137,24 @@ module _ {s chars₀ lengths₀ : List ℕ} {good : Bool} {words dictionary text
         words-counted = r .words-counted;
         text-counted = text-long;
         finds-counted = r .finds-counted;
-        words-few = omega (arith, leb-true (length (words-on s)) 200
-            (and-left (leb (length (words-on s)) 200) (leb (length (text-on s)) 2000)
-            (and-left (leb (length (words-on s)) 200 && leb (length (text-on s)) 2000) (leb (length (finds-on s)) 50) counts)));
-        text-short = omega (arith, text-long, leb-true (length (text-on s)) 2000
-            (and-right (leb (length (words-on s)) 200) (leb (length (text-on s)) 2000)
-            (and-left (leb (length (words-on s)) 200 && leb (length (text-on s)) 2000) (leb (length (finds-on s)) 50) counts)));
-        finds-few = omega (arith, leb-true (length (finds-on s)) 50
-            (and-right (leb (length (words-on s)) 200 && leb (length (text-on s)) 2000) (leb (length (finds-on s)) 50) counts));
+        words-few = omega (
+          arith,
+          leb-true (length (words-on s)) 200
+              (and-left (leb (length (words-on s)) 200) (leb (length (text-on s)) 2000)
+              (and-left (leb (length (words-on s)) 200 && leb (length (text-on s)) 2000) (leb (length (finds-on s)) 50) counts)),
+        );
+        text-short = omega (
+          arith,
+          text-long,
+          leb-true (length (text-on s)) 2000
+              (and-right (leb (length (words-on s)) 200) (leb (length (text-on s)) 2000)
+              (and-left (leb (length (words-on s)) 200 && leb (length (text-on s)) 2000) (leb (length (finds-on s)) 50) counts)),
+        );
+        finds-few = omega (
+          arith,
+          leb-true (length (finds-on s)) 50
+              (and-right (leb (length (words-on s)) 200 && leb (length (text-on s)) 2000) (leb (length (finds-on s)) 50) counts),
+        );
         words-are = rw (r .dictionary-counted) (first-part (run-together (words-on s)) (run-together (texts-on s))
             (run-together (finds-on s)) _ chars chars-whole);
         words-lengths = rw (r .words-counted, ← length-lengths (words-on s))
@@ -158,11 +168,20 @@ module _ {s chars₀ lengths₀ : List ℕ} {good : Bool} {words dictionary text
             (third-part (run-together (words-on s)) (run-together (texts-on s)) (run-together (finds-on s)) _ chars chars-whole);
         finds-lengths = finds-lengths;
         chars-fit =
-            omega (arith, parts-fit (run-together (words-on s)) (run-together (texts-on s))
-                (run-together (finds-on s)) _ chars chars-whole);
+            omega (
+              arith,
+              parts-fit (run-together (words-on s)) (run-together (texts-on s))
+                  (run-together (finds-on s)) _ chars chars-whole,
+            );
         lengths-fit =
-            omega (arith, one, length-lengths (words-on s), length-lengths (texts-on s), length-lengths (finds-on s),
-                parts-fit (lengths-of (words-on s)) (lengths-of (texts-on s)) (lengths-of (finds-on s)) _ lengths lengths-whole);
+            omega (
+              arith,
+              one,
+              length-lengths (words-on s),
+              length-lengths (texts-on s),
+              length-lengths (finds-on s),
+              parts-fit (lengths-of (words-on s)) (lengths-of (texts-on s)) (lengths-of (finds-on s)) _ lengths lengths-whole,
+            );
       }
     where
       finds-lengths : take finds (drop (words + 1) lengths) ≡ lengths-of (finds-on s)
@@ -171,7 +190,7 @@ module _ {s chars₀ lengths₀ : List ℕ} {good : Bool} {words dictionary text
           omega (arith, one, length-lengths (words-on s), length-lengths (texts-on s)) in
           let many : finds ≡ length (lengths-of (finds-on s)) = r .finds-counted ∙ sym (length-lengths (finds-on s)) in
           rw (skipped, many) (third-part (lengths-of (words-on s)) (lengths-of (texts-on s))
-              (lengths-of (finds-on s)) _ lengths lengths-whole)
+          (lengths-of (finds-on s)) _ lengths lengths-whole)
 
 -- THE ORDER: 10, then 11, then the rest
 
@@ -186,12 +205,12 @@ module _ (s : List ℕ) (short : length s ≤ 32768) where
 
   pub sheet-whole :
       (in-form s && in-counts s) ≡ true → sheet-refusal s ≡ parts-refusal (run-together (words-on s)) (lengths-of (words-on s))
-          (lengths-of (finds-on s))
+      (lengths-of (finds-on s))
   unfolding sheet-refusal sheet-too-long sheet-wrong contents-refusal parts-refusal
   sheet-whole t =
       rw (le-ltb 32768 (length s) short, t)
       (ap (λ (b : Bool). or-else (dictionary-refusal (run-together (words-on s)) (lengths-of (words-on s))) (cond b 6 0))
-          (strings-by-length (finds-on s)))
+      (strings-by-length (finds-on s)))
 
 -- the parts in the slices are the parts of the sheet
 pub parts-tested :

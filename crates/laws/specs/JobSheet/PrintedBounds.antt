@@ -101,10 +101,14 @@ pub index-lines-short :
     (xs : List ℕ) → Whole xs → Small xs → length xs ≤ 65535 → length (index-lines xs) ≤ 12 + 7 * length xs
 unfolding index-lines lines-in
 index-lines-short xs whole small few =
-    omega (arith, length-append (index-line (n-of xs) (keys-of xs) (entries-of xs))
-          (key-lines (lines-from (keys-of xs) 0 xs (drop (header + 3 * keys-of xs) xs))), head,
-              key-lines-short (keys-of xs) 0 xs (drop (header + 3 * keys-of xs) xs) small (small-drop (header + 3 * keys-of xs) xs small),
-              length-drop (header + 3 * keys-of xs) xs)
+    omega (
+      arith,
+      length-append (index-line (n-of xs) (keys-of xs) (entries-of xs))
+          (key-lines (lines-from (keys-of xs) 0 xs (drop (header + 3 * keys-of xs) xs))),
+      head,
+      key-lines-short (keys-of xs) 0 xs (drop (header + 3 * keys-of xs) xs) small (small-drop (header + 3 * keys-of xs) xs small),
+      length-drop (header + 3 * keys-of xs) xs,
+    )
   where
     head : length (index-line (n-of xs) (keys-of xs) (entries-of xs)) ≤ 26
     head =

@@ -52,7 +52,7 @@ stage-start s chars lengths enough =
 
 wrote-then :
     {old mid now : List ℕ} {at used end : ℕ} {xs ys : List ℕ} → at + length xs ≤ length old → Wrote xs at old used mid →
-        Wrote ys used mid end now →
+    Wrote ys used mid end now →
     Wrote (xs ++ ys) at old end now
 wrote-then {old} {mid} {now} {at} {used} {end} {xs} {ys} room first second =
     record {
@@ -93,9 +93,9 @@ module _ {s chars₀ lengths₀ cs ls : List ℕ} {rest : List (List ℕ)} {at u
 
   pub stage-step :
       {h : List ℕ} {at' used' count' : ℕ} {chars' lengths' : List ℕ} →
-          Forms-got h s at used count chars lengths at' used' count' chars' lengths' →
+      Forms-got h s at used count chars lengths at' used' count' chars' lengths' →
       Stage s chars₀ lengths₀ (cs ++ run-together (forms h rest)) (ls ++ lengths-of (forms h rest))
-          (after h rest) at' used' count' chars' lengths'
+      (after h rest) at' used' count' chars' lengths'
   stage-step {h} got =
       record {
         enough = st .enough;
@@ -160,7 +160,7 @@ sheet-tested s at words texts text finds within left ew et ex ef =
     let len : text ≡ length (getD (texts-on s) 0 []) = ex ∙ ap length (one-text (texts-on s) (eqb-true (length (texts-on s)) 1 t)) in
     rw len
     (regroup (eqb (length (texts-on s)) 1) (eqb at (length s)) (leb (length (words-on s)) 200) (leb (length (getD (texts-on s) 0 [])) 2000)
-        (leb (length (finds-on s)) 50)))
+    (leb (length (finds-on s)) 50)))
     (λ (f : eqb (length (texts-on s)) 1 ≡ false). rw f)
     (true-or-false (eqb (length (texts-on s)) 1)))
 
@@ -223,9 +223,6 @@ module _ (s chars₀ lengths₀ : List ℕ) (at used count : ℕ) (chars lengths
     unfolding finds-on left-on
     finds-read st got =
         stage-step
-       
-       
-       
         st got
 
 -- how many of each there are
@@ -243,34 +240,39 @@ module _ (s chars₀ lengths₀ : List ℕ) (at used count : ℕ) (chars lengths
 
   pub texts-count : Texts-read s chars₀ lengths₀ at used count chars lengths → count ≡ length (words-on s) + length (texts-on s)
   texts-count st =
-      omega (arith, length-append (lengths-of (words-on s)) (lengths-of (texts-on s)), length-lengths (words-on s),
-          length-lengths (texts-on s))
+      omega (
+        arith,
+        length-append (lengths-of (words-on s)) (lengths-of (texts-on s)),
+        length-lengths (words-on s),
+        length-lengths (texts-on s),
+      )
 
   pub finds-count :
       Finds-read s chars₀ lengths₀ at used count chars lengths → count ≡ length (words-on s) + length (texts-on s) + length (finds-on s)
   finds-count st =
-      omega (arith, length-append (lengths-of (words-on s) ++ lengths-of (texts-on s)) (lengths-of (finds-on s)),
-          length-append (lengths-of (words-on s)) (lengths-of (texts-on s)), length-lengths (words-on s), length-lengths (texts-on s),
-          length-lengths (finds-on s))
+      omega (
+        arith,
+        length-append (lengths-of (words-on s) ++ lengths-of (texts-on s)) (lengths-of (finds-on s)),
+        length-append (lengths-of (words-on s)) (lengths-of (texts-on s)),
+        length-lengths (words-on s),
+        length-lengths (texts-on s),
+        length-lengths (finds-on s),
+      )
 
   pub finds-chars-long : Finds-read s chars₀ lengths₀ at used count chars lengths → length chars ≡ length chars₀
   finds-chars-long st =
       chars-long
-     
-     
       st
 
   pub finds-lengths-long : Finds-read s chars₀ lengths₀ at used count chars lengths → length lengths ≡ length lengths₀
   finds-lengths-long st =
       lengths-long
-     
-     
       st
 
 pub sheet-read :
     (s chars₀ lengths₀ : List ℕ) (at used count : ℕ) (chars lengths : List ℕ) (good : Bool) (words dictionary text finds : ℕ) →
     Finds-read s chars₀ lengths₀ at used count chars lengths → words ≡ length (words-on s) →
-        dictionary ≡ length (run-together (words-on s)) →
+    dictionary ≡ length (run-together (words-on s)) →
     text ≡ length (run-together (texts-on s)) → finds ≡ length (finds-on s) → good ≡ (in-form s && in-counts s) →
     Sheet-read s chars₀ lengths₀ good words dictionary text finds chars lengths
 sheet-read s chars₀ lengths₀ at used count chars lengths good words dictionary text finds st ew ed et ef tested =

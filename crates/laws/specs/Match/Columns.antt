@@ -141,7 +141,7 @@ module _
 
     pub run-step :
         (c from to : ℕ) → c ≡ getD ts (p + d - 1) 0 → p + d ≤ length ts → Lower-bound cs ss lo hi d c from →
-            Lower-bound cs ss from hi d (c + 1) to →
+        Lower-bound cs ss from hi d (c + 1) to →
         Narrowed (lexicon cs ls .words) ts p k from to (d + 1) best
     run-step c from to e room l r =
         narrow-step (lexicon cs ls .words) ts p k h some sorted other e room

@@ -93,16 +93,22 @@ module _ (cs ls : List ℕ) (a : admitted cs ls ≡ true) (ts : List ℕ) (q e :
                 ⊎-elim (λ (x : q + 1 + length (word cs ls j) ≤ e + 1). x)
                 (λ (x : e + 1 < q + 1 + length (word cs ls j)).
                 let before : j < number = h .over j b l s x in
-                absurd (omega (arith, no-longer (number - 1) j (omega (arith, some)) there standing s,
-                    word-long cs ls a (number - 1) pair-in)))
+                absurd (omega (
+                  arith,
+                  no-longer (number - 1) j (omega (arith, some)) there standing s,
+                  word-long cs ls a (number - 1) pair-in,
+                )))
                 (le-or-lt (q + 1 + length (word cs ls j)) (e + 1));
             some = λ i y. absurd (omega arith);
           }
 
       pub pair-longest :
           e < q + getD ls (number - 1) 0 → Pair-longest (lexicon cs ls) ts (q + 1) (e + 1) number (getD ls (number - 1) 0)
-      pair-longest after = record { none = λ z. absurd (some z); some = λ i z. let here : number - 1 ≡ i =
-          omega arith in rw (← here) found }
+      pair-longest after = record {
+        none = λ z. absurd (some z);
+        some = λ i z. let here : number - 1 ≡ i =
+            omega arith in rw (← here) found;
+      }
         where
           longest : (j : ℕ) → j < length (lexicon cs ls .words) → Stand (word cs ls j) ts (q + 1) →
               length (word cs ls j) ≤ length (word cs ls (number - 1))

@@ -137,7 +137,7 @@ pub record Bucket-read (cs : List ℕ) (at len r : ℕ) : Type 0 where
 
 pub bucket-read :
     {cs : List ℕ} (ls : List ℕ) → admitted cs ls ≡ true → (i : ℕ) {at r : ℕ} → i < length ls → at ≡ start-of ls i →
-        Bucket-read cs at (getD ls i 0) r →
+    Bucket-read cs at (getD ls i 0) r →
     r ≡ bucket-of cs ls i
 bucket-read {cs} ls a i {at} below e h =
     ⊎-elim

@@ -129,7 +129,7 @@ module _ (ws : List (List ℕ)) (ts : List ℕ) (p k : ℕ) where
         pub narrow-longer : (i : ℕ) → lo ≤ i → i < hi → d < length (getD ws i [])
         narrow-longer i a b =
             ⊎-elim (λ (l : length (getD ws i []) ≤ d). absurd (no l)) (λ (l : d < length (getD ws i [])). l)
-                (le-or-lt (length (getD ws i [])) d)
+            (le-or-lt (length (getD ws i [])) d)
           where
             first : d < length (getD ws lo [])
             first = omega (arith, more, h .len lo (omega arith) some)
@@ -167,7 +167,7 @@ module _ (ws : List (List ℕ)) (ts : List ℕ) (p k : ℕ) where
         -- the equal range of the text's next character is left
         pub narrow-step :
             {c from to : ℕ} → c ≡ getD ts (p + d - 1) 0 → p + d ≤ length ts → Lower-bound-at ws lo hi d c from →
-                Lower-bound-at ws from hi d (c + 1) to →
+            Lower-bound-at ws from hi d (c + 1) to →
             Narrowed ws ts p k from to (d + 1) best
         narrow-step {c} {from} {to} e room l r =
             record {

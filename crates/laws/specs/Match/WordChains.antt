@@ -218,10 +218,10 @@ module _ {cs ls heads links ss : List ℕ} (t : Tables cs ls heads links ss) (ts
     single-read : getD cs (getD ss (next - 1) 0) 0 ≡ getD (word cs ls (next - 1)) 0 0
     single-read =
         let at : getD ss (next - 1) 0 ≡ start-of ls (next - 1) + 0 =
-            omega (arith, t .words .started (next - 1) (omega (arith, single-known))) in
+        omega (arith, t .words .started (next - 1) (omega (arith, single-known))) in
         ap (λ (x : ℕ). getD cs x 0) at
         ∙ sym (word-char cs ls (t .words .dictionary) (next - 1) single-known 0
-            (word-some cs ls (t .words .dictionary) (next - 1) single-known))
+        (word-some cs ls (t .words .dictionary) (next - 1) single-known))
 
     pub single-hit :
         q < length ts → getD cs (getD ss (next - 1) 0) 0 ≡ getD ts q 0 → Single-found (lexicon cs ls .words) ts (q + 1) next

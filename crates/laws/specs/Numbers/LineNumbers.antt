@@ -33,8 +33,11 @@ module _ (xs : List ℕ) (i : ℕ) (below : i < keys-of xs) where
   unfolding line-of lines-in
   line-of-is =
       let z : 0 + i ≡ i = omega arith in
-      rw (line-from (keys-of xs) 0 xs (drop (header + 3 * keys-of xs) xs) i below, z,
-          drop-drop (counts-from i 0 xs) (header + 3 * keys-of xs) xs)
+      rw (
+        line-from (keys-of xs) 0 xs (drop (header + 3 * keys-of xs) xs) i below,
+        z,
+        drop-drop (counts-from i 0 xs) (header + 3 * keys-of xs) xs,
+      )
 
   pub line-of-key : line-of xs i .key-of ≡ key-at xs i
   unfolding line

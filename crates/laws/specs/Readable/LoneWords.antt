@@ -178,7 +178,7 @@ module _ {cs ls : List ℕ} {w at v : ℕ} (h : Reached cs ls w at v) (below : w
           sym (or-left (listed (v ∷ []) others) (same-put (v ∷ []) here (sym is))) ∙ left-is
       by-test false t =
           later (rw here-is (word-before-rest v (getD cs at 0) [] beyond (sym e)
-              (after-nothing beyond (omega (arith, more, beyond-length)))))
+          (after-nothing beyond (omega (arith, more, beyond-length)))))
         where
           more : getD ls w 0 ≡ 1 → ⊥
           more = eqb-false (getD ls w 0) 1 t

@@ -70,7 +70,7 @@ module _ (lex : Lexicon) {xs : List ℕ} {line-for : ℕ → ℕ} (mapped : Line
       (and-right (ltb 0 (line-for (e .at))) (same-key (key-at xs (line-for (e .at) - 1)) (e .key-of)) t) in
       let is-e : posting lex (line-of xs (line-for (e .at) - 1) .key-of) (e .at) ≡ e =
       entry-eq (posting lex (line-of xs (line-for (e .at) - 1) .key-of) (e .at)) e keys refl
-          (ap (λ (k : Key). length (spells lex k)) keys ∙ sym len) in
+      (ap (λ (k : Key). length (spells lex k)) keys ∙ sym len) in
       rw is-e at
       (flat-put lex (lines-in xs) (line-of xs (line-for (e .at) - 1)) (e .at) (line-of-in xs (line-for (e .at) - 1) (here .0)) (here .1))
 
@@ -89,7 +89,7 @@ module _ (lex : Lexicon) {xs : List ℕ} {line-for : ℕ → ℕ} (mapped : Line
       ap (λ (f : Entry). f .key-of)
       (own (posting lex (line-of xs (line-for (e .at) - 1) .key-of) (e .at))
       (flat-put lex (lines-in xs) (line-of xs (line-for (e .at) - 1)) (e .at) (line-of-in xs (line-for (e .at) - 1) (here .0))
-          (here .1)) refl) in
+      (here .1)) refl) in
       and-put (lt-ltb 0 (line-for (e .at)) is)
       (same-key-put (key-at xs (line-for (e .at) - 1)) (e .key-of) (sym (line-of-key xs (line-for (e .at) - 1) (here .0)) ∙ keys))
 

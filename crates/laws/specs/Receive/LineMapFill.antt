@@ -98,7 +98,7 @@ unfolding fill-line-map
 fill-line-map-keeps i [] ns p h = h
 fill-line-map-keeps i (l ∷ ls) ns p h =
     fill-line-map-keeps (suc i) ls (fill-positions (suc i) (l .positions) ns) p
-        (fill-positions-keeps (suc i) (l .positions) ns p (omega arith) h)
+    (fill-positions-keeps (suc i) (l .positions) ns p (omega arith) h)
 
 fill-line-map-put :
     (i : ℕ) (ls : List Line) (ns : List ℕ) (p j : ℕ) → 1 ≤ p → p ≤ length ns → j < length ls → In p (getD ls j no-line .positions) →

@@ -83,7 +83,7 @@ module _ (cs ls xs : List ℕ) (w : ℕ) where
     no-index-refusal =
         ⊎-elim (λ (e : eqb (index-refusal cs ls xs) 0 ≡ true). eqb-true (index-refusal cs ls xs) 0 e)
         (λ (e : eqb (index-refusal cs ls xs) 0 ≡ false). short-refused (index-refusal cs ls xs) xs w
-            (eqb-false (index-refusal cs ls xs) 0 e) ∙ none)
+        (eqb-false (index-refusal cs ls xs) 0 e) ∙ none)
         (true-or-false (eqb (index-refusal cs ls xs) 0))
 
     pub delivered : Delivered cs ls xs w
@@ -96,7 +96,7 @@ module _ (cs ls xs : List ℕ) (w : ℕ) where
           room =
               ⊎-elim (λ (h : 8 * n-of xs ≤ w). h)
               (λ (h : w < 8 * n-of xs). absurd (omega (arith, short-work (index-refusal cs ls xs) xs w no-index-refusal h)))
-                  (le-or-lt (8 * n-of xs) w);
+              (le-or-lt (8 * n-of xs) w);
         }
 
     -- without one the refusal is 9 or none
@@ -209,7 +209,7 @@ module _ (cs ls xs : List ℕ) (r : Answer) (o w u v : List ℕ) (same : length 
       let early : reception-refusal cs ls xs (length w) ≡ number = reception-early cs ls xs (length w) number e some in
       refusing
       (recovery-early cs ls xs (length w) (length o) (λ (z : reception-refusal cs ls xs (length w) ≡ 0). some (sym early ∙ z)) ∙
-          early) some h
+      early) some h
 
   module _ (none : delivery-refusal cs ls xs (length w) ≡ 0) where
     pub recover-unreceived : received longest-text (lexicon cs ls) xs ≡ false → Refuses 9 r u v → Recover-says cs ls xs r o o w v

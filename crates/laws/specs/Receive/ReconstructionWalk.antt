@@ -76,7 +76,7 @@ reconstruct-run lex k (p ∷ ps) es us = reconstruct-run lex k ps es (sets us (p
 pub reconstruct-line :
     (lex : Lexicon) (l : Line) (ls : List Line) (us : List ℕ) →
     reconstruct lex (flat lex (l ∷ ls)) us ≡ reconstruct lex (flat lex ls)
-        (reconstruct-positions (spells lex (l .key-of)) (l .positions) us)
+    (reconstruct-positions (spells lex (l .key-of)) (l .positions) us)
 unfolding flat
 reconstruct-line lex l ls us = reconstruct-run lex (l .key-of) (l .positions) (flat lex ls) us
 

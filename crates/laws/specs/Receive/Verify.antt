@@ -141,7 +141,7 @@ module _ (lex : Lexicon) (xs us ns : List ℕ) where
         let back : q + 1 - 1 ≡ q = omega arith in
         rw back at
         (token-entry-mapped lex (mapped-at ns) xs (q + 1) token (getD us (q + 1 - 1) 0) (longest-at lex us (q + 1))
-            (s .registered (registered some) .0))
+        (s .registered (registered some) .0))
 
     pub testing-passes : token ≡ 0 → Testing lex xs us ns (q + 1) next count
     testing-passes none =
@@ -153,7 +153,7 @@ module _ (lex : Lexicon) (xs us ns : List ℕ) where
               rw (s .passed (passed none) .1, add-one (q + 1))
               (sym
               (verify-passes lex (mapped-at ns) xs us good chars (length us - (q + 1)) (e + 1) count (omega arith) (omega arith) is-longest
-                  (passed none))
+              (passed none))
               ∙ more);
         }
 
@@ -168,7 +168,7 @@ module _ (lex : Lexicon) (xs us ns : List ℕ) where
               rw (s .registered (registered some) .1, add-one (q + 1), add-one count)
               (sym
               (verify-registers lex (mapped-at ns) xs us good chars (length us - (q + 1)) (e + 1) count (omega arith)
-                  (omega arith) is-longest (registered some) (right-line some ∙ right))
+              (omega arith) is-longest (registered some) (right-line some ∙ right))
               ∙ more);
         }
 
@@ -177,7 +177,7 @@ module _ (lex : Lexicon) (xs us ns : List ℕ) where
     testing-fails some wrong =
         sym
         (verify-fails lex (mapped-at ns) xs us good chars (length us - (q + 1)) (e + 1) count (omega arith) (omega arith) is-longest
-            (registered some) (right-line some ∙ wrong))
+        (registered some) (right-line some ∙ wrong))
         ∙ more
 
   pub testing-ends :

@@ -128,7 +128,7 @@ module _ (lex : Lexicon) (ls : List Line) (s : List ℕ) (p : ℕ) where
   -- the offset o, then those after it; a reach below o is unchanged
   pub at-offsets-then :
       {n : ℕ} (o : ℕ) {r t u : ℕ} → Extends lex ls s p (λ e. In e (flat lex ls) × (e .at ≡ p + o)) r t →
-          At-offsets lex ls s p n (suc o) t u →
+      At-offsets lex ls s p n (suc o) t u →
       (r < o → u ≡ r) → At-offsets lex ls s p (suc n) o r u
   at-offsets-then {n} o {r} {t} {u} offset later stop =
       record {

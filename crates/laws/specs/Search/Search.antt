@@ -41,7 +41,7 @@ covers-get s a p e (b ∷ bs) t =
 
 covers-put :
     {s : List ℕ} {a : ℕ} (p : ℕ) {e : List ℕ} (bs : List ℕ) {b : ℕ} → In b bs → b ≤ p → p < b + length e → Agree s a e b →
-        covers s a p e bs ≡ true
+    covers s a p e bs ≡ true
 unfolding covers
 covers-put p [] m lo hi h = absurd m
 covers-put {s} {a} p {e} (c ∷ bs) {b} (inl z) lo hi h =

@@ -168,12 +168,12 @@ module _ {lex : Lexicon} {xs given counts : List ℕ} {i : ℕ} (h : Tallied lex
             ≡ getD given j 0 + counted lex (1 + j) (keys-of xs) 0 xs
         summed j b (inl e) =
             let same : eqb (length (spells lex (key-at xs i))) (1 + position) ≡ true =
-                eq-eqb (length (spells lex (key-at xs i))) (1 + position) (omega (arith, len)) in
+            eq-eqb (length (spells lex (key-at xs i))) (1 + position) (omega (arith, len)) in
             let left = rw same at (left-cut (1 + position)) in
             rw e (omega (arith, raised-here, left, h .summed position room))
         summed j b (inr other) =
             let differ : eqb (length (spells lex (key-at xs i))) (1 + j) ≡ false =
-                ne-eqb (length (spells lex (key-at xs i))) (1 + j) (λ e. other (omega (arith, len))) in
+            ne-eqb (length (spells lex (key-at xs i))) (1 + j) (λ e. other (omega (arith, len))) in
             let left = rw differ at (left-cut (1 + j)) in
             omega (arith, raised-other j other, left, h .summed j b)
 

@@ -95,9 +95,11 @@ pub reconstructed-once :
     Reflects t (All-stand lex ls ts) → t ≡ r → (g : ℕ) → Least-absent s g →
     (ts ≡ reconstructed-over lex ls n g) × Reflects r (All-stand lex ls (reconstructed-over lex ls n g))
 reconstructed-once lex ls n s ts h t r least is shown answer g also =
-    let same : ts ≡ reconstructed-over lex ls n g = is ∙ ap (reconstructed-over lex ls n) (least-one least also) in
-    (same, subst (λ (us : List ℕ). Reflects r (All-stand lex ls us)) same
-        (subst (λ (b : Bool). Reflects b (All-stand lex ls ts)) answer shown))
+    let same : ts ≡ reconstructed-over lex ls n g = is ∙ ap (reconstructed-over lex ls n) (least-one least also) in (
+      same,
+      subst (λ (us : List ℕ). Reflects r (All-stand lex ls us)) same
+          (subst (λ (b : Bool). Reflects b (All-stand lex ls ts)) answer shown),
+    )
 
 -- THE CONTRACT OF A SEARCH
 

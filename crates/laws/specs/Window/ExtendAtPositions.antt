@@ -130,7 +130,7 @@ module _ {bs : List ℕ} (l : ℕ) {i o q : ℕ} (old : List ℕ) (max-reach : �
 
   pub range-end :
       {rs : List ℕ} {highest j : ℕ} → Extending bs l i o q old max-reach rs highest j → b ≤ j →
-          Reaches (positions-all i o l q bs old) rs highest
+      Reaches (positions-all i o l q bs old) rs highest
   range-end {rs} {highest} {j} h past =
       extending-end
       (extending-skip h (length bs) (h .within) (omega arith)

@@ -107,7 +107,7 @@ module _ (lex : Lexicon) (ls : List Line) (s : List ℕ) (q : ℕ) (old : List �
 -- all offsets above 0, after the leading keys
 pub offsets-after :
     (lex : Lexicon) (ls : List Line) (s : List ℕ) (q : ℕ) (old : List ℕ) {mid now : List ℕ} {highest max-reach : ℕ} →
-        Reaches (leading-all lex ls s q old) mid highest →
+    Reaches (leading-all lex ls s q old) mid highest →
     Reaches (offsets-all (length s - 1) 1 lex ls s q mid) now max-reach →
     Reaches (offsets-all (length s - 1) 1 lex ls s q (leading-all lex ls s q old)) now max-reach
 offsets-after lex ls s q old p r =

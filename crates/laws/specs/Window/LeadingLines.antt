@@ -112,7 +112,7 @@ module _ (lex : Lexicon) (xs s : List ℕ) where
 
   pub leading-reaches :
       (q w : ℕ) (is old : List ℕ) {now : List ℕ} {max-reach : ℕ} → is ≡ leading-lines lex xs s w →
-          Reaches (run-list (leading-at lex xs s q) is old) now max-reach →
+      Reaches (run-list (leading-at lex xs s q) is old) now max-reach →
       Reaches (run (leading-at lex xs s q) 0 w old) now max-reach
   leading-reaches q w is old e r =
       record {

@@ -212,7 +212,7 @@ module _ {cs ls xs : List ℕ} (can : Can-read cs ls xs) where
           -- the character has a line, and that alone can agree
           pub lone-found :
               r < keys-of xs → (old : List ℕ) {now : List ℕ} {max-reach : ℕ} →
-                  Reaches (offset-at o (lexicon cs ls) xs s q r old) now max-reach →
+              Reaches (offset-at o (lexicon cs ls) xs s q r old) now max-reach →
               Reaches (run (offset-at o (lexicon cs ls) xs s q) w (keys-of xs) old) now max-reach
           unfolding step
           lone-found some old done =

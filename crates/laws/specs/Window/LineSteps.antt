@@ -98,7 +98,7 @@ module _ (f : ℕ → List ℕ → List ℕ) (a b : ℕ) (old : List ℕ) where
     -- the first of them is done
     pub left-step :
         lo < hi → {now : List ℕ} {max-reach : ℕ} → length now ≡ length rs → Reaches (f lo rs) now max-reach →
-            Left f a b old now max-reach (lo + 1) hi
+        Left f a b old now max-reach (lo + 1) hi
     left-step some {now} {max-reach} kept r =
         progress-step (run f (lo + 1) hi) h (run-next f lo hi some rs) kept r
 
@@ -168,9 +168,9 @@ module _ (lex : Lexicon) (xs s : List ℕ) (q : ℕ) where
   -- two walks one after the other, over the lines before w and those from it on
   pub offset-both :
       (o w : ℕ) → w ≤ keys-of xs → (old : List ℕ) {mid now : List ℕ} {highest max-reach : ℕ} →
-          Reaches (run (offset-at o lex xs s q) 0 w old) mid highest →
+      Reaches (run (offset-at o lex xs s q) 0 w old) mid highest →
       Reaches (run (offset-at o lex xs s q) w (keys-of xs) mid) now max-reach →
-          Reaches (offset-all o lex (lines-in xs) s q old) now max-reach
+      Reaches (offset-all o lex (lines-in xs) s q old) now max-reach
   offset-both o w within old p r =
       record {
         is =
@@ -186,7 +186,7 @@ module _ (lex : Lexicon) (xs s : List ℕ) (q : ℕ) where
       (w : ℕ) → w ≤ keys-of xs → ((i : ℕ) → w ≤ i → i < keys-of xs → length (spells lex (key-at xs i)) ≡ 1) →
       (old : List ℕ) {mid now : List ℕ} {highest max-reach : ℕ} → Reaches (run (leading-at lex xs s q) 0 w old) mid highest →
       Reaches (run (offset-at 0 lex xs s q) w (keys-of xs) mid) now max-reach →
-          Reaches (leading-all lex (lines-in xs) s q old) now max-reach
+      Reaches (leading-all lex (lines-in xs) s q old) now max-reach
   leading-both w within single old {mid} p r =
       record {
         is =

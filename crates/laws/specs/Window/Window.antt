@@ -104,7 +104,7 @@ progress-start rest rs max-reach w = record { left = refl; len = refl; bounded =
 -- one step, by what it does to the window
 pub progress-step :
     {rest : List ℕ → List ℕ} (next : List ℕ → List ℕ) {goal old rs now : List ℕ} {max-reach highest : ℕ} {stepped : List ℕ} →
-        Progress rest goal old rs max-reach →
+    Progress rest goal old rs max-reach →
     rest rs ≡ next stepped → length now ≡ length rs → Reaches stepped now highest → Progress next goal old now highest
 progress-step next m cut kept r =
     record { left = ap next (r .is) ∙ sym cut ∙ m .left; len = kept ∙ m .len; bounded = r .bounded }
@@ -112,14 +112,14 @@ progress-step next m cut kept r =
 -- a step that changes nothing
 pub progress-pass :
     {rest : List ℕ → List ℕ} (next : List ℕ → List ℕ) {goal old rs : List ℕ} {max-reach : ℕ} → Progress rest goal old rs max-reach →
-        rest rs ≡ next rs →
+    rest rs ≡ next rs →
     Progress next goal old rs max-reach
 progress-pass next m cut = record { left = sym cut ∙ m .left; len = m .len; bounded = m .bounded }
 
 -- nothing is left
 pub progress-end :
     {rest : List ℕ → List ℕ} {goal old rs : List ℕ} {max-reach : ℕ} → Progress rest goal old rs max-reach → rest rs ≡ rs →
-        Reaches goal rs max-reach
+    Reaches goal rs max-reach
 progress-end m done = record { is = sym done ∙ m .left; bounded = m .bounded }
 
 -- WHAT IS FOUND

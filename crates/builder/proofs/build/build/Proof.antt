@@ -27,8 +27,10 @@ returns c =
     let w = length (start .args .work .now) in
     let said = c .before .before .refuse .ensures in (
       build-refused cs ls ts w (start .args .output .now)
-          (λ (none : early-refusal cs ls ts w ≡ 0). c .before .before .before .before .if1 .taken (c .before .before .before .before .before .early-refusal .ensures ∙ none))
-          (c .before .before .refuse .result) (said .is ∙ c .before .before .before .before .before .early-refusal .ensures) (said .nothing),
+          (λ (none : early-refusal cs ls ts w ≡ 0). c .before .before .before .before .if1 .taken
+          (c .before .before .before .before .before .early-refusal .ensures ∙ none))
+          (c .before .before .refuse .result) (said .is ∙ c .before .before .before .before .before .early-refusal .ensures)
+          (said .nothing),
       said .cleared,
     )
 
@@ -48,7 +50,8 @@ returns-2 : tie.Need-returns-2
 unfolding Build-says zeros
 returns-2 c = (
   c .before .before .before .before .before .before .before .before .index-text .ensures,
-  c .before .before .clear .ensures ∙ ap (λ (n : ℕ). replicate n 0) (c .before .before .before .before .before .before .before .before .index-text .kept .1 .1 .1 .1 .0),
+  c .before .before .clear .ensures ∙ ap (λ (n : ℕ). replicate n 0)
+      (c .before .before .before .before .before .before .before .before .index-text .kept .1 .1 .1 .1 .0),
 )
 
 pub build-spec : {M : Type 1} → statement M

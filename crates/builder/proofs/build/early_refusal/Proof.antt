@@ -15,12 +15,14 @@ returns c =
     c .before .refusal-of .ensures
     ∙ sym
     (early-dictionary (start .args .chars .now) (start .args .lengths .now) (start .args .text .now) (start .args .work)
-    (λ (none : dictionary-refusal (start .args .chars .now) (start .args .lengths .now) ≡ 0). c .if1 .taken (c .before .refusal-of .ensures ∙ none)))
+    (λ (none : dictionary-refusal (start .args .chars .now) (start .args .lengths .now) ≡ 0). c .if1 .taken
+    (c .before .refusal-of .ensures ∙ none)))
 
 returns-2 : tie.Need-returns-2
 returns-2 c =
     let start = c .before .before .before .before .before .before in
-    sym (early-text (start .args .chars .now) (start .args .lengths .now) (start .args .text .now) (start .args .work) (sym (c .before .before .refusal-of .ensures) ∙ c .before .if1 .left) (c .if2 .taken))
+    sym (early-text (start .args .chars .now) (start .args .lengths .now) (start .args .text .now) (start .args .work)
+    (sym (c .before .before .refusal-of .ensures) ∙ c .before .if1 .left) (c .if2 .taken))
 
 mul-if3 : tie.Need-mul-if3
 mul-if3 c = search needs
@@ -29,13 +31,15 @@ returns-3 : tie.Need-returns-3
 returns-3 c =
     let start = c .before .before .before .before .before .before .before in
     sym
-    (early-work (start .args .chars .now) (start .args .lengths .now) (start .args .text .now) (start .args .work) (sym (c .before .before .before .refusal-of .ensures) ∙ c .before .before .if1 .left) (c .before .if2 .left) (c .if3 .taken))
+    (early-work (start .args .chars .now) (start .args .lengths .now) (start .args .text .now) (start .args .work)
+    (sym (c .before .before .before .refusal-of .ensures) ∙ c .before .before .if1 .left) (c .before .if2 .left) (c .if3 .taken))
 
 returns-4 : tie.Need-returns-4
 returns-4 c =
     let start = c .before .before .before .before .before .before .before in
     sym
-    (early-none (start .args .chars .now) (start .args .lengths .now) (start .args .text .now) (start .args .work) (sym (c .before .before .before .refusal-of .ensures) ∙ c .before .before .if1 .left) (c .before .if2 .left) (c .if3 .left))
+    (early-none (start .args .chars .now) (start .args .lengths .now) (start .args .text .now) (start .args .work)
+    (sym (c .before .before .before .refusal-of .ensures) ∙ c .before .before .if1 .left) (c .before .if2 .left) (c .if3 .left))
 
 pub early-refusal-spec : {M : Type 1} → statement M
 early-refusal-spec =

@@ -15,7 +15,10 @@ slice-aggregate-index-with-3 : tie.Need-slice-aggregate-index-with-3
 slice-aggregate-index-with-3 c = search needs
 
 index-with-requires : tie.Need-index-with-requires
-index-with-requires c κs = (c .before .before .before .before .before .before .before .before .before .before .pre, blank 10240 4096 4097 refl refl refl)
+index-with-requires c κs = (
+  c .before .before .before .before .before .before .before .before .before .before .pre,
+  blank 10240 4096 4097 refl refl refl,
+)
 
 same-length : tie.Need-same-length
 same-length c = search needs

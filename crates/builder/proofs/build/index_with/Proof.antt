@@ -1,7 +1,7 @@
 -- `index_with` meets its contract: the match table serves the scan, the scan leaves the tokens, and what is written for them
 -- is the index. Assumes nothing.
 use native.Mathlib.Omega.{arith}
-use lib.ListN.{length, take}
+use lib.ListN.{length}
 use borrow.Author.Needs.{needs}
 use Rattle.laws.specs.Build.Building.{reached, blank-room, front-linkable, build-tokens}
 use Rattle.builder.proofs.build.index_with.Statement.{statement}
@@ -15,16 +15,20 @@ fill-match-table-requires c κs =
     let ts = start .args .text .now in
     let w = length (start .args .work .now) in
     blank-room cs ls ts w
-    (λ i h. omega (arith, c .before .before .before .before .before .before .before .before .before .before .shared-slice-known .given i)) (start .pre .0) (start .pre .1)
+    (λ i h. omega (arith, c .before .before .before .before .before .before .before .before .before .before .shared-slice-known .given i))
+    (start .pre .0) (start .pre .1)
 
 scan-replaced-requires : tie.Need-scan-replaced-requires
 scan-replaced-requires c κs =
-    let start = c .before .before .before .before .before .before .before .before .before .before .before .before .before .before .before .before .before .before .before .before .before .before in
+    let start =
+    c .before .before .before .before .before .before .before .before .before .before .before .before .before .before .before .before .before .before .before .before .before .before in
     let cs = start .args .chars .now in
     let ls = start .args .lengths .now in
     let ts = start .args .text .now in
-    let w = length (start .args .work .now) in
-    (c .before .before .before .before .before .before .before .before .before .before .fill-match-table .ensures, omega (arith, reached cs ls ts w (start .pre .0) .room))
+    let w = length (start .args .work .now) in (
+      c .before .before .before .before .before .before .before .before .before .before .fill-match-table .ensures,
+      omega (arith, reached cs ls ts w (start .pre .0) .room),
+    )
 
 finish-requires : tie.Need-finish-requires
 finish-requires c κs =
@@ -58,14 +62,17 @@ same-length-5 c = search needs
 
 returns : tie.Need-returns
 returns c =
-    let start = c .before .before .before .before .before .before .before .before .before .before .before .before .before .before .before .before .before .before .before .before .before .before .before .before .before .before .before .before .before .before .before .before in
+    let start =
+    c .before .before .before .before .before .before .before .before .before .before .before .before .before .before .before .before .before .before .before .before .before .before .before .before .before .before .before .before .before .before .before .before in
     let cs = start .args .chars .now in
     let ls = start .args .lengths .now in
     let ts = start .args .text .now in
     let w = length (start .args .work .now) in
-    let work = c .before .before .before .before .before .before .before .before .before .scan-replaced .last .1 .1 .1 .1 .1 .1 .0 in
     build-tokens cs ls ts w (start .args .output .now)
-    (λ i h. omega (arith, c .before .before .before .before .before .before .before .before .before .before .before .before .before .before .before .before .before .before .before .before .before .before .before .before .before .before .before .before .before .before .before .shared-slice-known .given i)) (λ i h. omega (arith, c .before .before .before .before .before .before .before .before .before .before .before .before .before .before .before .before .before .before .before .before .before .before .before .before .before .before .before .before .before .shared-slice-known3 .given i))
+    (λ i h. omega (
+      arith,
+      c .before .before .before .before .before .before .before .before .before .before .before .before .before .before .before .before .before .before .before .before .before .before .before .before .before .before .before .before .before .before .before .shared-slice-known .given i,
+    )) (λ i h. omega (arith, c .before .before .before .before .before .before .before .before .before .before .before .before .before .before .before .before .before .before .before .before .before .before .before .before .before .before .before .before .before .shared-slice-known3 .given i))
     (start .pre .0)
     (c .before .before .before .before .before .before .before .before .before .scan-replaced .ensures)
     (c .before .before .before .before .finish .result) (c .before .before .before .before .finish .last .1 .0)

@@ -120,8 +120,12 @@ loop-less-2 c =
     let s = c .before .before .before .before .before .before .before .before .before .before .before .before .before .before in
     let a = s .args in
     let l = c .before .before .before .before .before .before .loop in
-    omega (arith, shared-deep (s .pre .0 .can) (s .pre .1) (s .pre .0 .word-starts)
-          (l .inv .1) (some (c .before .before .before .before)) (λ e. c .before .before .if2 .left (c .before .before .before .word-length .ensures ∙ e)), some (c .before .before .before .before))
+    omega (
+      arith,
+      shared-deep (s .pre .0 .can) (s .pre .1) (s .pre .0 .word-starts)
+          (l .inv .1) (some (c .before .before .before .before)) (λ e. c .before .before .if2 .left (c .before .before .before .word-length .ensures ∙ e)),
+      some (c .before .before .before .before),
+    )
 
 loop-again-2 : tie.Need-loop-again-2 Inv-loop μ-loop
 loop-again-2 c =

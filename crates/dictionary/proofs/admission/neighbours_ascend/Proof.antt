@@ -13,12 +13,6 @@ returns c =
     let start = c .before .before in
     sym
     (neighbours-less
-   
-   
-   
-   
-   
-   
     (λ (i : ℕ). omega (arith, c .before .shared-slice-known .given i))
     (start .pre)
     (c .if1 .taken))
@@ -28,12 +22,6 @@ returns-2 c =
     let start = c .before .before .before in
     sym
     (neighbours-more
-   
-   
-   
-   
-   
-   
     (λ (i : ℕ). omega (arith, c .before .before .shared-slice-known .given i))
     (start .pre)
     (c .if2 .taken))

@@ -14,7 +14,8 @@ Inv-loop links head count₀ at₀ count at = Walking links (chain links head) a
 abbrev μ-loop : tie.MeasureT-loop
 μ-loop links head count₀ at₀ count at = length (chain links head) - count
 
-member : (c : tie.In-loop Inv-loop μ-loop) → Member-in-hand (c .before .before .args .links .now) (chain (c .before .before .args .links .now) (c .before .before .args .head)) (c .before .loop .at) (c .before .loop .count)
+member : (c : tie.In-loop Inv-loop μ-loop) → Member-in-hand (c .before .before .args .links .now)
+    (chain (c .before .before .args .links .now) (c .before .before .args .head)) (c .before .loop .at) (c .before .loop .count)
 member c =
     walk-member (c .before .before .args .links .now) (chain (c .before .before .args .links .now) (c .before .before .args .head))
     (c .before .loop .at) (c .before .loop .count) (c .before .loop .inv) (c .loop-test .taken)
@@ -22,14 +23,23 @@ member c =
 inside : (c : tie.In-loop Inv-loop μ-loop) → c .before .loop .at - 1 < length (c .before .before .args .links .now)
 inside c =
     let m = member c in
-    omega (arith, c .before .before .pre .within (getD (chain (c .before .before .args .links .now) (c .before .before .args .head)) (c .before .loop .count) 0)
-          (in-getD (chain (c .before .before .args .links .now) (c .before .before .args .head)) (c .before .loop .count) 0 (m .below)))
+    omega (
+      arith,
+      c .before .before .pre .within (getD (chain (c .before .before .args .links .now) (c .before .before .args .head))
+          (c .before .loop .count) 0)
+          (in-getD (chain (c .before .before .args .links .now) (c .before .before .args .head)) (c .before .loop .count) 0 (m .below)),
+    )
 
 loop-holds : tie.Need-loop-holds Inv-loop μ-loop
 loop-holds c = walk-starts (c .args .links .now) (c .args .head) (c .pre)
 
 add-count : tie.Need-add-count Inv-loop μ-loop
-add-count c = omega (arith, member c .below, chain-short (length (c .before .before .args .links .now)) (c .before .before .args .links .now) (c .before .before .args .head))
+add-count c = omega (
+  arith,
+  member c .below,
+  chain-short (length (c .before .before .args .links .now))
+      (c .before .before .args .links .now) (c .before .before .args .head),
+)
 
 sub-at : tie.Need-sub-at Inv-loop μ-loop
 sub-at c = omega arith
@@ -50,7 +60,8 @@ loop-again : tie.Need-loop-again Inv-loop μ-loop
 loop-again c = member (c .before) .next
 
 returns : tie.Need-returns Inv-loop μ-loop
-returns c = walk-ends (c .before .before .args .links .now) (chain (c .before .before .args .links .now) (c .before .before .args .head)) (c .before .loop .at) (c .before .loop .count) (c .before .loop .inv) (c .loop-test .left)
+returns c = walk-ends (c .before .before .args .links .now) (chain (c .before .before .args .links .now) (c .before .before .args .head))
+    (c .before .loop .at) (c .before .loop .count) (c .before .loop .inv) (c .loop-test .left)
 
 pub chain-length-spec : {M : Type 1} → statement M
 chain-length-spec =

@@ -20,16 +20,21 @@ abbrev μ-loop : tie.MeasureT-loop
 
 below : (c : tie.In-loop Inv-loop μ-loop) → c .before .loop .p - 1 < length (c .before .loop .tokens)
 below c =
-    let start = c .before .before .before .before .before .before in
     let l = c .before .loop in
     links-below
     (l .p - 1) (omega arith) (l .inv)
 
 text-below :
     (c : tie.After-shared-slice-known2 Inv-loop μ-loop) →
-    c .before .before .before .before .loop .p - 1 < length (c .before .before .before .before .before .before .before .before .before .args .text .now)
+    c .before .before .before .before .loop .p - 1 < length
+    (c .before .before .before .before .before .before .before .before .before .args .text .now)
 text-below c =
-    omega (arith, below (c .before .before .before), length-replaced (c .before .before .before .before .before .before .before .before .before .args .text .now))
+    omega (
+      arith,
+      below (c .before .before .before),
+      length-replaced
+          (c .before .before .before .before .before .before .before .before .before .args .text .now),
+    )
 
 loop-holds : tie.Need-loop-holds Inv-loop μ-loop
 loop-holds c =

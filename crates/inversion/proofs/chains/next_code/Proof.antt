@@ -13,10 +13,12 @@ Inv-loop heads pages from code₀ code = Passed heads from code
 abbrev μ-loop : tie.MeasureT-loop
 μ-loop heads pages from code₀ code = length heads - code
 
-page : (c : tie.Then2 Inv-loop μ-loop) → Passed (c .before .before .before .before .before .args .heads .now) (c .before .before .before .before .before .args .from) (c .before .before .before .before .loop .code + 64)
+page : (c : tie.Then2 Inv-loop μ-loop) → Passed (c .before .before .before .before .before .args .heads .now)
+    (c .before .before .before .before .before .args .from) (c .before .before .before .before .loop .code + 64)
 page c =
     passed-page (c .before .before .before .before .loop .inv)
-    (c .before .before .before .before .before .pre .0) (c .before .before .before .loop-test .taken) (c .before .before .if1 .taken) (c .if2 .taken)
+    (c .before .before .before .before .before .pre .0) (c .before .before .before .loop-test .taken) (c .before .before .if1 .taken)
+    (c .if2 .taken)
 
 loop-holds : tie.Need-loop-holds Inv-loop μ-loop
 loop-holds c = passed-start (c .args .heads .now) (c .args .from) (c .pre .1)

@@ -28,14 +28,16 @@ same-length c = search needs
 
 returns : tie.Need-returns
 unfolding key
-returns c = rw (code-key-word (c .before .before .before .before .before .before .args .code) (c .before .before .before .before .if1 .taken)) (c .before .before .put-three .ensures)
+returns c = rw (code-key-word (c .before .before .before .before .before .before .args .code)
+    (c .before .before .before .before .if1 .taken)) (c .before .before .put-three .ensures)
 
 same-length-2 : tie.Need-same-length-2
 same-length-2 c = search needs
 
 returns-2 : tie.Need-returns-2
 unfolding key
-returns-2 c = rw (code-key-lone (c .before .before .before .before .before .before .args .code) (c .before .before .before .before .if1 .left)) (c .before .before .put-three2 .ensures)
+returns-2 c = rw (code-key-lone (c .before .before .before .before .before .before .args .code)
+    (c .before .before .before .before .if1 .left)) (c .before .before .put-three2 .ensures)
 
 pub put-line-spec : {M : Type 1} → statement M
 put-line-spec =

@@ -17,7 +17,8 @@ abbrev μ-loop : tie.MeasureT-loop
 
 hand :
     (c : tie.In-loop Inv-loop μ-loop) →
-    Copy-in-hand (c .before .before .args .links .now) (c .before .before .args .head) (c .before .before .args .part .now) (c .before .loop .part) (c .before .before .args .at) (c .before .loop .here) (c .before .loop .member)
+    Copy-in-hand (c .before .before .args .links .now) (c .before .before .args .head) (c .before .before .args .part .now)
+    (c .before .loop .part) (c .before .before .args .at) (c .before .loop .here) (c .before .loop .member)
 hand c =
     copy-member (c .before .loop .inv) (c .before .before .pre .0) (c .loop-test .taken)
 

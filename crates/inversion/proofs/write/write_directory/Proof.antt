@@ -6,14 +6,16 @@ use native.Mathlib.Omega.{arith}
 use lib.ListN.{length, getD, take}
 use Rattle.basics.specs.Chain.{chain, chain-short}
 use Rattle.spec.specs.Numbers.{line, directory}
-use Rattle.models.specs.Inversion.{code-key, line-numbers}
+use Rattle.models.specs.Inversion.{code-key}
 use Rattle.laws.specs.Build.PostingChains.{lines-at}
-use Rattle.laws.specs.Build.CodeWalk.{Listing, line-numbers-three, line-numbers-are, directory-by-line, listing-start, listing-room, listing-step, listing-end}
+use Rattle.laws.specs.Build.CodeWalk.{Listing, line-numbers-three, line-numbers-are, directory-by-line, listing-start, listing-room}
+use Rattle.laws.specs.Build.CodeWalk.{listing-step, listing-end}
 use Rattle.inversion.proofs.write.write_directory.Statement.{statement}
 use Rattle.inversion.proofs.write.write_directory.Tie as tie
 
 abbrev Inv-loop : tie.InvT-loop
-Inv-loop heads pages links output₀ at here₀ code₀ output here code = Listing directory heads links (take at output₀ ++ directory (lines-at heads links 0)) output₀ output code here
+Inv-loop heads pages links output₀ at here₀ code₀ output here code =
+    Listing directory heads links (take at output₀ ++ directory (lines-at heads links 0)) output₀ output code here
 
 abbrev μ-loop : tie.MeasureT-loop
 μ-loop heads pages links output₀ at here₀ code₀ output here code = length heads - code
@@ -23,7 +25,6 @@ room c =
     let start = c .before .before .before .before .before .before .before in
     let l = c .before .loop in
     let fits = listing-room directory-by-line (start .args .heads .now) (start .args .links .now) (start .args .output .now)
-   
     (l .inv) (start .pre .0 .threads) (c .loop-test .taken) in
     omega (
       arith,
@@ -47,14 +48,20 @@ shared-slice-read-chain-length : tie.Need-shared-slice-read-chain-length Inv-loo
 shared-slice-read-chain-length c = c .before .loop-test .taken
 
 chain-length-requires : tie.Need-chain-length-requires Inv-loop μ-loop
-chain-length-requires c κs = c .before .before .before .before .before .before .before .before .pre .0 .threads (c .before .before .loop .code) (c .before .loop-test .taken)
+chain-length-requires c κs = c .before .before .before .before .before .before .before .before .pre .0 .threads
+    (c .before .before .loop .code) (c .before .loop-test .taken)
 
 put-line-requires : tie.Need-put-line-requires Inv-loop μ-loop
 put-line-requires c κs = (
   room (c .before .before .before),
   omega arith,
-  omega (arith, chain-short (length (c .before .before .before .before .before .before .before .before .before .before .args .links .now)) (c .before .before .before .before .before .before .before .before .before .before .args .links .now)
-        (getD (c .before .before .before .before .before .before .before .before .before .before .args .heads .now) (c .before .before .before .before .loop .code) 0)),
+  omega (
+    arith,
+    chain-short (length (c .before .before .before .before .before .before .before .before .before .before .args .links .now))
+        (c .before .before .before .before .before .before .before .before .before .before .args .links .now)
+        (getD (c .before .before .before .before .before .before .before .before .before .before .args .heads .now)
+        (c .before .before .before .before .loop .code) 0),
+  ),
 )
 
 add-here : tie.Need-add-here Inv-loop μ-loop
@@ -64,7 +71,8 @@ add-next-code : tie.Need-add-next-code Inv-loop μ-loop
 add-next-code c = omega arith
 
 next-code-requires-2 : tie.Need-next-code-requires-2 Inv-loop μ-loop
-next-code-requires-2 c κs = (c .before .before .before .before .before .before .before .before .before .before .before .before .before .pre .0 .paged, omega arith)
+next-code-requires-2 c κs =
+    (c .before .before .before .before .before .before .before .before .before .before .before .before .before .pre .0 .paged, omega arith)
 
 loop-less : tie.Need-loop-less Inv-loop μ-loop
 loop-less c = omega arith
@@ -74,11 +82,12 @@ loop-again c =
     let start = c .before .before .before .before .before .before .before .before .before .before .before .before .before .before in
     let l = c .before .before .before .before .before .before .before .before .loop in
     listing-step directory-by-line (start .args .heads .now) (start .args .links .now) (start .args .output .now)
-   
     (l .inv)
     (start .pre .0 .threads) (c .before .before .before .before .before .before .before .loop-test .taken) (c .next-code2 .ensures)
-    (code-key (l .code) .kind ∷ code-key (l .code) .value ∷ c .before .before .before .before .before .chain-length .result ∷ []) (c .before .before .before .put-line .last .0)
-    (line-numbers-are (l .code) (c .before .before .before .before .before .chain-length .result) (chain (start .args .links .now) (getD (start .args .heads .now) (l .code) 0))
+    (code-key (l .code) .kind ∷ code-key (l .code) .value ∷ c .before .before .before .before .before .chain-length .result ∷ [])
+    (c .before .before .before .put-line .last .0)
+    (line-numbers-are (l .code) (c .before .before .before .before .before .chain-length .result)
+    (chain (start .args .links .now) (getD (start .args .heads .now) (l .code) 0))
     (c .before .before .before .before .before .chain-length .ensures))
     (c .before .before .before .put-line .ensures)
 
@@ -90,7 +99,6 @@ returns c =
     let start = c .before .before .before .before .before .before .before in
     let l = c .before .loop in
     listing-end directory-by-line (start .args .heads .now) (start .args .links .now) (start .args .output .now)
-   
     (l .inv) (c .loop-test .left)
 
 pub write-directory-spec : {M : Type 1} → statement M

@@ -13,13 +13,21 @@ use Rattle.inversion.proofs.write.write_index.Tie as tie
 
 done :
     (c : tie.After-slice-known3) →
-    tail-back (2 + 3 * c .before .before .before .before .before .before .before .before .before .before .before .before .args .keys) (c .before .before .before .before .before .before .write-directory .last .1 .1 .1 .0) (c .before .before .write-positions .last .1 .1 .1 .0)
-    ≡ over (numbers (length (c .before .before .before .before .before .before .before .before .before .before .before .before .args .links .now)) (lines-at (c .before .before .before .before .before .before .before .before .before .before .before .before .args .heads .now) (c .before .before .before .before .before .before .before .before .before .before .before .before .args .links .now) 0)) (c .before .before .before .before .before .before .before .before .before .before .before .before .args .output .now)
+    tail-back (2 + 3 * c .before .before .before .before .before .before .before .before .before .before .before .before .args .keys)
+    (c .before .before .before .before .before .before .write-directory .last .1 .1 .1 .0)
+    (c .before .before .write-positions .last .1 .1 .1 .0)
+    ≡ over
+    (numbers
+    (length (c .before .before .before .before .before .before .before .before .before .before .before .before .args .links .now))
+    (lines-at (c .before .before .before .before .before .before .before .before .before .before .before .before .args .heads .now)
+    (c .before .before .before .before .before .before .before .before .before .before .before .before .args .links .now) 0))
+    (c .before .before .before .before .before .before .before .before .before .before .before .before .args .output .now)
 done c =
     let start = c .before .before .before .before .before .before .before .before .before .before .before .before in
     index-written (length (start .args .links .now)) (lines-at (start .args .heads .now) (start .args .links .now) 0) (start .args .keys)
     (start .pre .1 .0 .0) (start .args .output .now) (start .pre .1 .1)
-    (c .before .before .before .before .before .before .write-directory .last .1 .1 .1 .0) (c .before .before .before .before .before .before .write-directory .ensures) (c .before .before .write-positions .last .1 .1 .1 .0)
+    (c .before .before .before .before .before .before .write-directory .last .1 .1 .1 .0)
+    (c .before .before .before .before .before .before .write-directory .ensures) (c .before .before .write-positions .last .1 .1 .1 .0)
     (c .before .before .write-positions .ensures)
 
 cast-output : tie.Need-cast-output
@@ -67,13 +75,15 @@ sub-write-positions : tie.Need-sub-write-positions
 sub-write-positions c =
     let start = c .before .before .before .before .before .before .before .before in
     positions-start (length (start .args .links .now)) (lines-at (start .args .heads .now) (start .args .links .now) 0) (start .args .keys)
-    (start .pre .1 .0 .0) (start .args .output .now) (start .pre .1 .1) (c .before .before .write-directory .last .1 .1 .1 .0) (c .before .before .write-directory .ensures)
+    (start .pre .1 .0 .0) (start .args .output .now) (start .pre .1 .1) (c .before .before .write-directory .last .1 .1 .1 .0)
+    (c .before .before .write-directory .ensures)
 
 part-write-positions-start : tie.Need-part-write-positions-start
 part-write-positions-start c =
     let start = c .before .before .before .before .before .before .before .before in
     positions-start (length (start .args .links .now)) (lines-at (start .args .heads .now) (start .args .links .now) 0) (start .args .keys)
-    (start .pre .1 .0 .0) (start .args .output .now) (start .pre .1 .1) (c .before .before .write-directory .last .1 .1 .1 .0) (c .before .before .write-directory .ensures)
+    (start .pre .1 .0 .0) (start .args .output .now) (start .pre .1 .1) (c .before .before .write-directory .last .1 .1 .1 .0)
+    (c .before .before .write-directory .ensures)
 
 part-write-positions-end : tie.Need-part-write-positions-end
 part-write-positions-end c = search needs
@@ -83,13 +93,15 @@ write-positions-requires c κs =
     let start = c .before .before .before .before .before .before .before .before .before in (
       start .pre .0,
       positions-room (length (start .args .links .now)) (lines-at (start .args .heads .now) (start .args .links .now) 0) (start .args .keys)
-          (start .pre .1 .0 .0) (start .args .output .now) (start .pre .1 .1) (c .before .before .before .write-directory .last .1 .1 .1 .0) (c .before .before .before .write-directory .ensures),
+          (start .pre .1 .0 .0) (start .args .output .now) (start .pre .1 .1)
+          (c .before .before .before .write-directory .last .1 .1 .1 .0) (c .before .before .before .write-directory .ensures),
     )
 
 same-length : tie.Need-same-length
 same-length c =
     let start = c .before .before .before .before .before .before .before .before .before .before .before .before in
-    ap length (done c) ∙ written-long (length (start .args .links .now)) (lines-at (start .args .heads .now) (start .args .links .now) 0) (start .args .keys)
+    ap length (done c) ∙ written-long (length (start .args .links .now)) (lines-at (start .args .heads .now) (start .args .links .now) 0)
+    (start .args .keys)
     (start .pre .1 .0 .0) (start .args .output .now) (start .pre .1 .1)
 
 returns : tie.Need-returns

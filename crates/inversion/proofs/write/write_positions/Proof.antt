@@ -6,21 +6,23 @@ use native.Mathlib.Omega.{arith}
 use lib.ListN.{length, getD}
 use Rattle.basics.specs.Chain.{chain}
 use Rattle.spec.specs.Numbers.{all-positions}
-use Rattle.models.specs.Inversion.{line-positions}
 use Rattle.laws.specs.Build.PostingChains.{lines-at}
-use Rattle.laws.specs.Build.CodeWalk.{Listing, line-positions-are, positions-by-line, listing-start, listing-room, listing-step, listing-end}
+use Rattle.laws.specs.Build.CodeWalk.{Listing, line-positions-are, positions-by-line, listing-start, listing-room, listing-step}
+use Rattle.laws.specs.Build.CodeWalk.{listing-end}
 use Rattle.inversion.proofs.write.write_positions.Statement.{statement}
 use Rattle.inversion.proofs.write.write_positions.Tie as tie
 
 abbrev Inv-loop : tie.InvT-loop
-Inv-loop heads pages links part₀ here₀ code₀ part here code = Listing all-positions heads links (all-positions (lines-at heads links 0)) part₀ part code here
+Inv-loop heads pages links part₀ here₀ code₀ part here code = Listing all-positions heads links
+    (all-positions (lines-at heads links 0)) part₀ part code here
 
 abbrev μ-loop : tie.MeasureT-loop
 μ-loop heads pages links part₀ here₀ code₀ part here code = length heads - code
 
 room :
     (c : tie.In-loop Inv-loop μ-loop) →
-    c .before .loop .here + length (chain (c .before .before .before .before .before .before .before .args .links .now) (getD (c .before .before .before .before .before .before .before .args .heads .now) (c .before .loop .code) 0))
+    c .before .loop .here + length (chain (c .before .before .before .before .before .before .before .args .links .now)
+    (getD (c .before .before .before .before .before .before .before .args .heads .now) (c .before .loop .code) 0))
     ≤ length (c .before .loop .part)
 room c =
     let start = c .before .before .before .before .before .before .before in
@@ -50,7 +52,8 @@ shared-slice-read-write-chain c = c .before .loop-test .taken
 
 write-chain-requires : tie.Need-write-chain-requires Inv-loop μ-loop
 write-chain-requires c κs = (
-  c .before .before .before .before .before .before .before .before .before .pre .0 .threads (c .before .before .before .loop .code) (c .before .before .loop-test .taken),
+  c .before .before .before .before .before .before .before .before .before .pre .0 .threads (c .before .before .before .loop .code)
+      (c .before .before .loop-test .taken),
   room (c .before .before),
 )
 
@@ -58,7 +61,8 @@ add-next-code : tie.Need-add-next-code Inv-loop μ-loop
 add-next-code c = omega arith
 
 next-code-requires-2 : tie.Need-next-code-requires-2 Inv-loop μ-loop
-next-code-requires-2 c κs = (c .before .before .before .before .before .before .before .before .before .before .before .before .pre .0 .paged, omega arith)
+next-code-requires-2 c κs =
+    (c .before .before .before .before .before .before .before .before .before .before .before .before .pre .0 .paged, omega arith)
 
 loop-less : tie.Need-loop-less Inv-loop μ-loop
 loop-less c = omega arith

@@ -27,7 +27,9 @@ is-spaced-requires c κs = omega arith
 
 returns : tie.Need-returns Inv-loop μ-loop
 returns c =
-    sym (sym (c .before .before .before .loop .inv .1) ∙ ends-next (c .before .before .before .before .before .args .line .now) (c .before .before .before .loop .at) (c .before .before .loop-test .taken) ∙ rw (sym (c .before .is-spaced .ensures) ∙ not-true (c .before .is-spaced .result) (c .if1 .taken)))
+    sym (sym (c .before .before .before .loop .inv .1) ∙ ends-next (c .before .before .before .before .before .args .line .now)
+    (c .before .before .before .loop .at) (c .before .before .loop-test .taken) ∙
+    rw (sym (c .before .is-spaced .ensures) ∙ not-true (c .before .is-spaced .result) (c .if1 .taken)))
 
 add-at : tie.Need-add-at Inv-loop μ-loop
 add-at c = omega arith
@@ -38,7 +40,9 @@ loop-less c = omega arith
 loop-again : tie.Need-loop-again Inv-loop μ-loop
 loop-again c = (
   omega arith,
-  sym (ends-next (c .before .before .before .before .before .args .line .now) (c .before .before .before .loop .at) (c .before .before .loop-test .taken) ∙ rw (sym (c .before .is-spaced .ensures) ∙ not-false (c .before .is-spaced .result) (c .if1 .left))) ∙ c .before .before .before .loop .inv .1,
+  sym (ends-next (c .before .before .before .before .before .args .line .now) (c .before .before .before .loop .at)
+      (c .before .before .loop-test .taken) ∙ rw (sym (c .before .is-spaced .ensures) ∙
+      not-false (c .before .is-spaced .result) (c .if1 .left))) ∙ c .before .before .before .loop .inv .1,
 )
 
 add-if2 : tie.Need-add-if2 Inv-loop μ-loop
@@ -46,14 +50,16 @@ add-if2 c = omega arith
 
 returns-2 : tie.Need-returns-2 Inv-loop μ-loop
 returns-2 c =
-    sym (sym (c .before .before .loop .inv .1) ∙ ends-other (c .before .before .before .before .args .line .now) (c .before .before .loop .at) (c .before .loop-test .left) (c .before .before .loop .inv .0) (c .if2 .taken))
+    sym (sym (c .before .before .loop .inv .1) ∙ ends-other (c .before .before .before .before .args .line .now)
+    (c .before .before .loop .at) (c .before .loop-test .left) (c .before .before .loop .inv .0) (c .if2 .taken))
 
 shared-slice-read-result : tie.Need-shared-slice-read-result Inv-loop μ-loop
 shared-slice-read-result c = omega arith
 
 returns-3 : tie.Need-returns-3 Inv-loop μ-loop
 returns-3 c =
-    sym (ends-last (c .before .before .before .before .before .args .line .now) (c .before .before .before .loop .at) (c .before .if2 .left)) ∙ c .before .before .before .loop .inv .1
+    sym (ends-last (c .before .before .before .before .before .args .line .now) (c .before .before .before .loop .at)
+    (c .before .if2 .left)) ∙ c .before .before .before .loop .inv .1
 
 pub ends-well-spec : {M : Type 1} → statement M
 ends-well-spec =

@@ -7,21 +7,26 @@ use Rattle.jobreader.proofs.form.is_form.Statement.{statement}
 use Rattle.jobreader.proofs.form.is_form.Tie as tie
 
 returns : tie.Need-returns
-returns c = sym (form-short (c .before .before .before .args .line .now) (c .before .before .before .args .head .now) (c .before .before .before .pre) (c .if1 .taken))
+returns c = sym (form-short (c .before .before .before .args .line .now) (c .before .before .before .args .head .now)
+    (c .before .before .before .pre) (c .if1 .taken))
 
 has-head-requires : tie.Need-has-head-requires
 has-head-requires c κs = search needs
 
 returns-2 : tie.Need-returns-2
 returns-2 c =
-    sym (form-other (c .before .before .before .before .before .args .line .now) (c .before .before .before .before .before .args .head .now) (c .before .before .before .before .before .pre) (sym (c .before .has-head .ensures) ∙ not-true (c .before .has-head .result) (c .if2 .taken)))
+    sym (form-other (c .before .before .before .before .before .args .line .now)
+    (c .before .before .before .before .before .args .head .now) (c .before .before .before .before .before .pre)
+    (sym (c .before .has-head .ensures) ∙ not-true (c .before .has-head .result) (c .if2 .taken)))
 
 ends-well-requires : tie.Need-ends-well-requires
 ends-well-requires c κs = search needs
 
 returns-3 : tie.Need-returns-3
 returns-3 c =
-    c .ends-well .ensures ∙ sym (form-headed (c .before .before .before .before .before .before .args .line .now) (c .before .before .before .before .before .before .args .head .now) (c .before .before .before .before .before .before .pre) (sym (c .before .before .has-head .ensures) ∙ not-false (c .before .before .has-head .result) (c .before .if2 .left)))
+    c .ends-well .ensures ∙ sym (form-headed (c .before .before .before .before .before .before .args .line .now)
+    (c .before .before .before .before .before .before .args .head .now) (c .before .before .before .before .before .before .pre)
+    (sym (c .before .before .has-head .ensures) ∙ not-false (c .before .before .has-head .result) (c .before .if2 .left)))
 
 pub is-form-spec : {M : Type 1} → statement M
 is-form-spec =

@@ -14,7 +14,8 @@ abbrev μ-loop : tie.MeasureT-loop
 μ-loop line out₀ at end₀ from₀ out end from = length line - from
 
 loop-holds : tie.Need-loop-holds Inv-loop μ-loop
-loop-holds c = string-start (c .before .before .args .line .now) (c .before .before .args .at) (c .before .before .args .out .now) (c .before .before .pre .0) (c .before .before .pre .1) (c .before .before .pre .2)
+loop-holds c = string-start (c .before .before .args .line .now) (c .before .before .args .at) (c .before .before .args .out .now)
+    (c .before .before .pre .0) (c .before .before .pre .1) (c .before .before .pre .2)
 
 add-loop : tie.Need-add-loop Inv-loop μ-loop
 add-loop c = omega arith

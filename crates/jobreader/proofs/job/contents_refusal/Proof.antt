@@ -14,10 +14,12 @@ add-end : tie.Need-add-end
 add-end c = search needs
 
 slice-aggregate-parts-refusal : tie.Need-slice-aggregate-parts-refusal
-slice-aggregate-parts-refusal c = sym (length-take-le (c .before .before .before .args .dictionary) (c .before .before .before .args .chars .now) (c .before .before .before .pre .0))
+slice-aggregate-parts-refusal c = sym (length-take-le (c .before .before .before .args .dictionary)
+    (c .before .before .before .args .chars .now) (c .before .before .before .pre .0))
 
 slice-aggregate-parts-refusal-2 : tie.Need-slice-aggregate-parts-refusal-2
-slice-aggregate-parts-refusal-2 c = sym (length-take-le (c .before .before .before .before .args .words) (c .before .before .before .before .args .lengths .now) (omega arith))
+slice-aggregate-parts-refusal-2 c = sym (length-take-le (c .before .before .before .before .args .words)
+    (c .before .before .before .before .args .lengths .now) (omega arith))
 
 mul-parts-refusal : tie.Need-mul-parts-refusal
 mul-parts-refusal c = search needs

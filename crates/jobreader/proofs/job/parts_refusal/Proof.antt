@@ -13,18 +13,29 @@ refusal-of-requires c κs = search needs
 returns : tie.Need-returns
 returns c =
     c .before .refusal-of .ensures
-    ∙ sym (dictionary-first (c .before .before .before .before .before .args .chars .now) (c .before .before .before .before .before .args .words .now) (c .before .before .before .before .before .args .finds .now) (λ (e : dictionary-refusal (c .before .before .before .before .before .args .chars .now) (c .before .before .before .before .before .args .words .now) ≡ 0). c .if1 .taken (c .before .refusal-of .ensures ∙ e)))
+    ∙ sym (dictionary-first (c .before .before .before .before .before .args .chars .now)
+    (c .before .before .before .before .before .args .words .now) (c .before .before .before .before .before .args .finds .now)
+    (λ (e : dictionary-refusal (c .before .before .before .before .before .args .chars .now)
+    (c .before .before .before .before .before .args .words .now) ≡ 0). c .if1 .taken (c .before .refusal-of .ensures ∙ e)))
 
 some-length-wrong-requires : tie.Need-some-length-wrong-requires
 some-length-wrong-requires c κs = search needs
 
 returns-2 : tie.Need-returns-2
 returns-2 c =
-    sym (then-finds (c .before .before .before .before .before .before .before .args .chars .now) (c .before .before .before .before .before .before .before .args .words .now) (c .before .before .before .before .before .before .before .args .finds .now) true (sym (c .before .before .before .refusal-of .ensures) ∙ c .before .before .if1 .left) (sym (c .before .some-length-wrong .ensures) ∙ c .if2 .taken))
+    sym (then-finds (c .before .before .before .before .before .before .before .args .chars .now)
+    (c .before .before .before .before .before .before .before .args .words .now)
+    (c .before .before .before .before .before .before .before .args .finds .now) true
+    (sym (c .before .before .before .refusal-of .ensures) ∙ c .before .before .if1 .left)
+    (sym (c .before .some-length-wrong .ensures) ∙ c .if2 .taken))
 
 returns-3 : tie.Need-returns-3
 returns-3 c =
-    sym (then-finds (c .before .before .before .before .before .before .before .args .chars .now) (c .before .before .before .before .before .before .before .args .words .now) (c .before .before .before .before .before .before .before .args .finds .now) false (sym (c .before .before .before .refusal-of .ensures) ∙ c .before .before .if1 .left) (sym (c .before .some-length-wrong .ensures) ∙ c .if2 .left))
+    sym (then-finds (c .before .before .before .before .before .before .before .args .chars .now)
+    (c .before .before .before .before .before .before .before .args .words .now)
+    (c .before .before .before .before .before .before .before .args .finds .now) false
+    (sym (c .before .before .before .refusal-of .ensures) ∙ c .before .before .if1 .left)
+    (sym (c .before .some-length-wrong .ensures) ∙ c .if2 .left))
 
 pub parts-refusal-spec : {M : Type 1} → statement M
 parts-refusal-spec =

@@ -31,14 +31,20 @@ same-length-2 c = search needs
 
 returns-2 : tie.Need-returns-2
 returns-2 c =
-    let s = c .before .before .before .before .before .before .before .before .before .before .before .before .before .before .args .sheet .now in
+    let s =
+    c .before .before .before .before .before .before .before .before .before .before .before .before .before .before .args .sheet .now
+    in
     let broken : sheet-refusal s ≡ 11 =
-    sheet-broken s (c .before .before .before .before .before .before .before .before .before .before .if1 .left) (sym (c .before .before .before .before .before .before .before .read-sheet .ensures .tested) ∙ not-true (c .before .before .before .before .before .before .before .read-sheet .result .good) (c .before .if2 .taken)) in
+    sheet-broken s (c .before .before .before .before .before .before .before .before .before .before .if1 .left)
+    (sym (c .before .before .before .before .before .before .before .read-sheet .ensures .tested) ∙
+    not-true (c .before .before .before .before .before .before .before .read-sheet .result .good) (c .before .if2 .taken)) in
     (c .refused2 .ensures ∙ sym broken, λ (none : sheet-refusal s ≡ 0). absurd (omega arith))
 
 contents-refusal-requires : tie.Need-contents-refusal-requires
 contents-refusal-requires c κs =
-    let parts = job-parts (c .before .before .before .before .before .before .before .before .read-sheet .ensures) (not-false (c .before .before .before .before .before .before .before .before .read-sheet .result .good) (c .before .before .if2 .left)) in
+    let parts = job-parts (c .before .before .before .before .before .before .before .before .read-sheet .ensures)
+    (not-false (c .before .before .before .before .before .before .before .before .read-sheet .result .good)
+    (c .before .before .if2 .left)) in
     (omega arith, parts .lengths-fit)
 
 same-length-3 : tie.Need-same-length-3
@@ -49,12 +55,17 @@ same-length-4 c = search needs
 
 returns-3 : tie.Need-returns-3
 returns-3 c =
-    let s = c .before .before .before .before .before .before .before .before .before .before .before .before .before .before .before .before .args .sheet .now in
-    let good = not-false (c .before .before .before .before .before .before .before .before .before .read-sheet .result .good) (c .before .before .before .if2 .left) in
+    let s =
+    c .before .before .before .before .before .before .before .before .before .before .before .before .before .before .before .before .args .sheet .now in
+    let good = not-false (c .before .before .before .before .before .before .before .before .before .read-sheet .result .good)
+    (c .before .before .before .if2 .left) in
     let parts = job-parts (c .before .before .before .before .before .before .before .before .before .read-sheet .ensures) good in (
       c .contents-refusal .ensures
           ∙ parts-tested parts
-          ∙ sym (sheet-whole s (c .before .before .before .before .before .before .before .before .before .before .before .before .if1 .left) (sym (c .before .before .before .before .before .before .before .before .before .read-sheet .ensures .tested) ∙ good)),
+          ∙
+          sym
+          (sheet-whole s (c .before .before .before .before .before .before .before .before .before .before .before .before .if1 .left)
+          (sym (c .before .before .before .before .before .before .before .before .before .read-sheet .ensures .tested) ∙ good)),
       λ (none : sheet-refusal s ≡ 0). parts,
     )
 

@@ -26,10 +26,14 @@ shared-slice-read-len : tie.Need-shared-slice-read-len Inv-loop μ-loop
 shared-slice-read-len c = omega arith
 
 returns : tie.Need-returns Inv-loop μ-loop
-returns c = sym (sym (c .before .before .before .loop .inv .1) ∙ length-none (c .before .before .before .before .args .lengths .now) (c .before .before .before .loop .i) (c .before .before .loop-test .taken) (c .if1 .taken))
+returns c = sym (sym (c .before .before .before .loop .inv .1) ∙
+    length-none (c .before .before .before .before .args .lengths .now) (c .before .before .before .loop .i)
+    (c .before .before .loop-test .taken) (c .if1 .taken))
 
 returns-2 : tie.Need-returns-2 Inv-loop μ-loop
-returns-2 c = sym (sym (c .before .before .before .before .loop .inv .1) ∙ length-many (c .before .before .before .before .before .args .lengths .now) (c .before .before .before .before .loop .i) (c .before .before .before .loop-test .taken) (c .if2 .taken))
+returns-2 c = sym (sym (c .before .before .before .before .loop .inv .1) ∙
+    length-many (c .before .before .before .before .before .args .lengths .now) (c .before .before .before .before .loop .i)
+    (c .before .before .before .loop-test .taken) (c .if2 .taken))
 
 add-i : tie.Need-add-i Inv-loop μ-loop
 add-i c = omega arith
@@ -38,10 +42,16 @@ loop-less : tie.Need-loop-less Inv-loop μ-loop
 loop-less c = omega arith
 
 loop-again : tie.Need-loop-again Inv-loop μ-loop
-loop-again c = (omega arith, sym (length-right (c .before .before .before .before .before .args .lengths .now) (c .before .before .before .before .loop .i) (c .before .before .before .loop-test .taken) (c .before .if1 .left) (c .if2 .left)) ∙ c .before .before .before .before .loop .inv .1)
+loop-again c = (
+  omega arith,
+  sym (length-right (c .before .before .before .before .before .args .lengths .now)
+      (c .before .before .before .before .loop .i) (c .before .before .before .loop-test .taken) (c .before .if1 .left) (c .if2 .left)) ∙
+      c .before .before .before .before .loop .inv .1,
+)
 
 returns-3 : tie.Need-returns-3 Inv-loop μ-loop
-returns-3 c = sym (sym (c .before .loop .inv .1) ∙ lengths-end (c .before .before .args .lengths .now) (c .before .loop .i) (c .loop-test .left))
+returns-3 c = sym (sym (c .before .loop .inv .1) ∙ lengths-end (c .before .before .args .lengths .now) (c .before .loop .i)
+    (c .loop-test .left))
 
 pub some-length-wrong-spec : {M : Type 1} → statement M
 some-length-wrong-spec =

@@ -25,11 +25,15 @@ is-form-requires c κs = search needs
 
 returns-2 : tie.Need-returns-2
 returns-2 c =
-    form-there (c .before .before .before .before .before .before .before .args .head .now) (c .before .before .before .before .line-end .ensures) (c .before .before .before .if1 .left) (sym (c .before .is-form .ensures) ∙ c .if2 .taken)
+    form-there (c .before .before .before .before .before .before .before .args .head .now)
+    (c .before .before .before .before .line-end .ensures) (c .before .before .before .if1 .left)
+    (sym (c .before .is-form .ensures) ∙ c .if2 .taken)
 
 returns-3 : tie.Need-returns-3
 returns-3 c =
-    form-other-line (c .before .before .before .before .before .before .before .args .head .now) (c .before .before .before .before .line-end .ensures) (c .before .before .before .if1 .left) (sym (c .before .is-form .ensures) ∙ c .if2 .left) (c .before .before .before .before .before .before .before .pre .0)
+    form-other-line (c .before .before .before .before .before .before .before .args .head .now)
+    (c .before .before .before .before .line-end .ensures) (c .before .before .before .if1 .left)
+    (sym (c .before .is-form .ensures) ∙ c .if2 .left) (c .before .before .before .before .before .before .before .pre .0)
 
 pub form-end-spec : {M : Type 1} → statement M
 form-end-spec =

@@ -4,7 +4,8 @@ use mathlib.Core.Path.{_≡_}
 use Prim.Native.Nat.{_-_, _≤_}
 use native.Mathlib.Omega.{arith}
 use lib.ListN.{length}
-use Rattle.laws.specs.JobSheet.SheetReading.{Forms-read, forms-start, forms-end, forms-step, line-long, line-good, string-short, string-fits, length-fits}
+use Rattle.laws.specs.JobSheet.SheetReading.{Forms-read, forms-start, forms-end, forms-step, line-long, line-good, string-short}
+use Rattle.laws.specs.JobSheet.SheetReading.{string-fits, length-fits}
 use Rattle.jobreader.proofs.sheet.read_forms.Statement.{statement}
 use Rattle.jobreader.proofs.sheet.read_forms.Tie as tie
 
@@ -46,16 +47,29 @@ sub-lengths : tie.Need-sub-lengths Inv-loop μ-loop
 sub-lengths c = omega arith
 
 cast-lengths : tie.Need-cast-lengths Inv-loop μ-loop
-cast-lengths c = omega (arith, string-short (c .before .before .before .before .before .before .loop .inv .2) (c .before .before .before .before .before .loop-test .taken) (c .before .before .before .before .before .before .loop .inv .0))
+cast-lengths c = omega (
+  arith,
+  string-short (c .before .before .before .before .before .before .loop .inv .2)
+      (c .before .before .before .before .before .loop-test .taken) (c .before .before .before .before .before .before .loop .inv .0),
+)
 
 mul-lengths : tie.Need-mul-lengths Inv-loop μ-loop
-mul-lengths c = omega (arith, length-fits (c .before .before .before .before .before .before .loop .inv .2) (c .before .before .before .before .before .loop-test .taken))
+mul-lengths c = omega (
+  arith,
+  length-fits (c .before .before .before .before .before .before .loop .inv .2)
+      (c .before .before .before .before .before .loop-test .taken),
+)
 
 slice-write-lengths : tie.Need-slice-write-lengths Inv-loop μ-loop
-slice-write-lengths c = length-fits (c .before .before .before .before .before .before .loop .inv .2) (c .before .before .before .before .before .loop-test .taken)
+slice-write-lengths c = length-fits (c .before .before .before .before .before .before .loop .inv .2)
+    (c .before .before .before .before .before .loop-test .taken)
 
 add-i : tie.Need-add-i Inv-loop μ-loop
-add-i c = omega (arith, length-fits (c .before .before .before .before .before .before .loop .inv .2) (c .before .before .before .before .before .loop-test .taken))
+add-i c = omega (
+  arith,
+  length-fits (c .before .before .before .before .before .before .loop .inv .2)
+      (c .before .before .before .before .before .loop-test .taken),
+)
 
 add-from : tie.Need-add-from Inv-loop μ-loop
 add-from c = omega arith
@@ -70,7 +84,9 @@ loop-again : tie.Need-loop-again Inv-loop μ-loop
 loop-again c = (
   c .before .before .before .before .before .before .before .loop .inv .0,
   c .before .before .before .before .before .before .before .loop .inv .1,
-  forms-step (c .before .before .before .before .before .before .before .loop .inv .2) (c .before .before .before .before .before .before .loop-test .taken) (c .before .before .before .put-string .ensures) (c .form-end2 .ensures),
+  forms-step (c .before .before .before .before .before .before .before .loop .inv .2)
+      (c .before .before .before .before .before .before .loop-test .taken) (c .before .before .before .put-string .ensures)
+      (c .form-end2 .ensures),
 )
 
 same-length : tie.Need-same-length Inv-loop μ-loop

@@ -1,11 +1,11 @@
 -- `put_decimal` meets its contract, by recursion. The measure is the number, which falls to its tenth part. Assumes nothing.
-use mathlib.Core.Path.{_≡_, ap}
+use mathlib.Core.Path.{ap}
 use mathlib.Core.List.{List, [], _∷_, _++_}
 use Prim.Native.Nat.{ℕ, _+_, _/_, _%_, _<_, _≤_}
 use native.Mathlib.Omega.{arith}
 use borrow.Author.Needs.{needs}
 use lib.ListN.{length}
-use Rattle.basics.specs.Placed.{Wrote, Writing, writing-start, writing-as, writing-room, writing-step, writing-last}
+use Rattle.basics.specs.Placed.{Writing, writing-start, writing-as, writing-room, writing-step, writing-last}
 use Rattle.spec.specs.JobAnswer.{decimal}
 use Rattle.laws.specs.JobSheet.Printing.{decimal-small, decimal-large}
 use borrow.Fn.Kinds.{In}
@@ -73,7 +73,8 @@ put-decimal-returns : (t : ℕ) → put-decimal-lts.Need-returns (
   put-decimal-below t,
   put-decimal.Post,
 ) (put-decimal-at t) put-decimal.Post
-put-decimal-returns t c = rw (decimal-small (c .before .before .before .before .before .before .args .n) (c .before .before .before .before .if1 .taken)) (c .before .before .put-byte .ensures)
+put-decimal-returns t c = rw (decimal-small (c .before .before .before .before .before .before .args .n)
+    (c .before .before .before .before .if1 .taken)) (c .before .before .put-byte .ensures)
 
 put-decimal-put-decimal-requires : (t : ℕ) → put-decimal-lts.Need-put-decimal-requires (
   put-byte-reads.Asked,
@@ -99,7 +100,8 @@ put-decimal-put-byte-requires-2 t c κs =
     omega (
       arith,
       (writing-step (decimal (start .args .n / 10)) ((48 + start .args .n % 10) ∷ [])
-          (tenth (start .args .n) (start .args .at) (start .args .out .now) (c .before .before .before .before .before .if1 .left) (start .pre .1))
+          (tenth (start .args .n) (start .args .at) (start .args .out .now) (c .before .before .before .before .before .if1 .left)
+          (start .pre .1))
           (c .before .before .before .put-decimal .ensures))
           .room,
     )
@@ -122,7 +124,8 @@ put-decimal-returns-2 t c =
     let start = c .before .before .before .before .before .before .before .before .before .before in
     writing-last ((48 + start .args .n % 10) ∷ [])
     (writing-step (decimal (start .args .n / 10)) ((48 + start .args .n % 10) ∷ [])
-    (tenth (start .args .n) (start .args .at) (start .args .out .now) (c .before .before .before .before .before .before .before .before .if1 .left) (start .pre .1))
+    (tenth (start .args .n) (start .args .at) (start .args .out .now)
+    (c .before .before .before .before .before .before .before .before .if1 .left) (start .pre .1))
     (c .before .before .before .before .before .before .put-decimal .ensures))
     (c .before .before .put-byte2 .ensures)
 
@@ -132,8 +135,7 @@ pub +put-decimal-spec : {M : Type 1} → statement M
   put-byte-reads.Learnt,
   put-decimal-below t,
   put-decimal.Post,
-)
-    (put-decimal-at t)
+) (put-decimal-at t)
     put-decimal.Post
     (put-decimal-add-last t)
     (put-decimal-cast-last t)

@@ -21,10 +21,15 @@ shared-slice-read-out : tie.Need-shared-slice-read-out Inv-loop μ-loop
 shared-slice-read-out c = omega arith
 
 slice-write-out : tie.Need-slice-write-out Inv-loop μ-loop
-slice-write-out c = copy-room (c .before .before .before .args .bytes .now) (c .before .before .loop .i) (c .before .before .loop .inv .1) (c .before .loop-test .taken)
+slice-write-out c = copy-room (c .before .before .before .args .bytes .now) (c .before .before .loop .i) (c .before .before .loop .inv .1)
+    (c .before .loop-test .taken)
 
 add-end : tie.Need-add-end Inv-loop μ-loop
-add-end c = omega (arith, copy-room (c .before .before .before .args .bytes .now) (c .before .before .loop .i) (c .before .before .loop .inv .1) (c .before .loop-test .taken))
+add-end c = omega (
+  arith,
+  copy-room (c .before .before .before .args .bytes .now) (c .before .before .loop .i)
+      (c .before .before .loop .inv .1) (c .before .loop-test .taken),
+)
 
 add-i : tie.Need-add-i Inv-loop μ-loop
 add-i c = omega arith
@@ -33,7 +38,11 @@ loop-less : tie.Need-loop-less Inv-loop μ-loop
 loop-less c = omega arith
 
 loop-again : tie.Need-loop-again Inv-loop μ-loop
-loop-again c = (omega arith, copy-step (c .before .before .before .args .bytes .now) (c .before .before .loop .i) (c .before .before .loop .inv .1) (c .before .loop-test .taken))
+loop-again c = (
+  omega arith,
+  copy-step (c .before .before .before .args .bytes .now) (c .before .before .loop .i)
+      (c .before .before .loop .inv .1) (c .before .loop-test .taken),
+)
 
 same-length : tie.Need-same-length Inv-loop μ-loop
 same-length c = c .before .loop .inv .1 .len

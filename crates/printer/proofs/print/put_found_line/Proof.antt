@@ -11,22 +11,28 @@ use Rattle.printer.proofs.print.put_found_line.Tie as tie
 
 at-head :
     (s : tie.Start) →
-    Writing (found-line (s .args .positions .now)) (s .args .at) (s .args .out .now) (found-head ++ (decimal (length (s .args .positions .now)) ++ (listed (s .args .positions .now)))) (s .args .at) (s .args .out .now)
-at-head s = writing-as (found-line-parts (s .args .positions .now)) (writing-start (found-line (s .args .positions .now)) (s .args .at) (s .args .out .now) (s .pre))
+    Writing (found-line (s .args .positions .now)) (s .args .at) (s .args .out .now)
+    (found-head ++ (decimal (length (s .args .positions .now)) ++ (listed (s .args .positions .now)))) (s .args .at) (s .args .out .now)
+at-head s = writing-as (found-line-parts (s .args .positions .now))
+    (writing-start (found-line (s .args .positions .now)) (s .args .at) (s .args .out .now) (s .pre))
 
 at-count :
     (c : tie.After-put-bytes) → let s = c .before .before .before .before .before in
-    Writing (found-line (s .args .positions .now)) (s .args .at) (s .args .out .now) (decimal (length (s .args .positions .now)) ++ (listed (s .args .positions .now))) (c .put-bytes .result) (c .put-bytes .last .0)
+    Writing (found-line (s .args .positions .now)) (s .args .at) (s .args .out .now)
+    (decimal (length (s .args .positions .now)) ++ (listed (s .args .positions .now))) (c .put-bytes .result) (c .put-bytes .last .0)
 at-count c =
     let s = c .before .before .before .before .before in
-    writing-step found-head (decimal (length (s .args .positions .now)) ++ (listed (s .args .positions .now))) (at-head s) (c .put-bytes .ensures)
+    writing-step found-head (decimal (length (s .args .positions .now)) ++ (listed (s .args .positions .now))) (at-head s)
+    (c .put-bytes .ensures)
 
 at-list :
     (c : tie.After-put-decimal) → let s = c .before .before .before .before .before .before .before .before .before in
-    Writing (found-line (s .args .positions .now)) (s .args .at) (s .args .out .now) (listed (s .args .positions .now)) (c .put-decimal .result) (c .put-decimal .last .0)
+    Writing (found-line (s .args .positions .now)) (s .args .at) (s .args .out .now) (listed (s .args .positions .now))
+    (c .put-decimal .result) (c .put-decimal .last .0)
 at-list c =
     let s = c .before .before .before .before .before .before .before .before .before in
-    writing-step (decimal (length (s .args .positions .now))) (listed (s .args .positions .now)) (at-count (c .before .before .before .before)) (c .put-decimal .ensures)
+    writing-step (decimal (length (s .args .positions .now))) (listed (s .args .positions .now))
+    (at-count (c .before .before .before .before)) (c .put-decimal .ensures)
 
 slice-aggregate-put-bytes : tie.Need-slice-aggregate-put-bytes
 slice-aggregate-put-bytes c = search needs
@@ -50,7 +56,8 @@ same-length c = search needs
 returns : tie.Need-returns
 returns c =
     let s = c .before .before .before .before .before .before .before .before .before .before .before .before .before .before .before in
-    writing-last (listed (s .args .positions .now)) (at-list (c .before .before .before .before .before .before)) (c .before .before .put-list .ensures)
+    writing-last (listed (s .args .positions .now)) (at-list (c .before .before .before .before .before .before))
+    (c .before .before .put-list .ensures)
 
 pub put-found-line-spec : {M : Type 1} → statement M
 put-found-line-spec =

@@ -9,35 +9,49 @@ use Rattle.printer.proofs.print.put_index_line.Tie as tie
 
 at-head :
     (s : tie.Start) →
-    Writing (index-line (s .args .n) (s .args .k) (s .args .m)) (s .args .at) (s .args .out .now) (index-head ++ (decimal (s .args .n) ++ ((gap ++ decimal (s .args .k)) ++ ((gap ++ decimal (s .args .m)) ++ ending)))) (s .args .at) (s .args .out .now)
-at-head s = writing-as (index-line-parts (s .args .n) (s .args .k) (s .args .m)) (writing-start (index-line (s .args .n) (s .args .k) (s .args .m)) (s .args .at) (s .args .out .now) (s .pre))
+    Writing (index-line (s .args .n) (s .args .k) (s .args .m)) (s .args .at) (s .args .out .now)
+    (index-head ++ (decimal (s .args .n) ++ ((gap ++ decimal (s .args .k)) ++ ((gap ++ decimal (s .args .m)) ++ ending))))
+    (s .args .at) (s .args .out .now)
+at-head s = writing-as (index-line-parts (s .args .n) (s .args .k) (s .args .m))
+    (writing-start (index-line (s .args .n) (s .args .k) (s .args .m)) (s .args .at) (s .args .out .now) (s .pre))
 
 at-first :
     (c : tie.After-put-bytes) → let s = c .before .before .before .before in
-    Writing (index-line (s .args .n) (s .args .k) (s .args .m)) (s .args .at) (s .args .out .now) (decimal (s .args .n) ++ ((gap ++ decimal (s .args .k)) ++ ((gap ++ decimal (s .args .m)) ++ ending))) (c .put-bytes .result) (c .put-bytes .last .0)
+    Writing (index-line (s .args .n) (s .args .k) (s .args .m)) (s .args .at) (s .args .out .now)
+    (decimal (s .args .n) ++ ((gap ++ decimal (s .args .k)) ++ ((gap ++ decimal (s .args .m)) ++ ending))) (c .put-bytes .result)
+    (c .put-bytes .last .0)
 at-first c =
     let s = c .before .before .before .before in
-    writing-step index-head (decimal (s .args .n) ++ ((gap ++ decimal (s .args .k)) ++ ((gap ++ decimal (s .args .m)) ++ ending))) (at-head s) (c .put-bytes .ensures)
+    writing-step index-head (decimal (s .args .n) ++ ((gap ++ decimal (s .args .k)) ++ ((gap ++ decimal (s .args .m)) ++ ending)))
+    (at-head s) (c .put-bytes .ensures)
 
 at-second :
     (c : tie.After-put-decimal) → let s = c .before .before .before .before .before .before .before .before in
-    Writing (index-line (s .args .n) (s .args .k) (s .args .m)) (s .args .at) (s .args .out .now) ((gap ++ decimal (s .args .k)) ++ ((gap ++ decimal (s .args .m)) ++ ending)) (c .put-decimal .result) (c .put-decimal .last .0)
+    Writing (index-line (s .args .n) (s .args .k) (s .args .m)) (s .args .at) (s .args .out .now)
+    ((gap ++ decimal (s .args .k)) ++ ((gap ++ decimal (s .args .m)) ++ ending)) (c .put-decimal .result) (c .put-decimal .last .0)
 at-second c =
     let s = c .before .before .before .before .before .before .before .before in
-    writing-step (decimal (s .args .n)) ((gap ++ decimal (s .args .k)) ++ ((gap ++ decimal (s .args .m)) ++ ending)) (at-first (c .before .before .before .before)) (c .put-decimal .ensures)
+    writing-step (decimal (s .args .n)) ((gap ++ decimal (s .args .k)) ++ ((gap ++ decimal (s .args .m)) ++ ending))
+    (at-first (c .before .before .before .before)) (c .put-decimal .ensures)
 
 at-third :
-    (c : tie.After-put-next-decimal) → let s = c .before .before .before .before .before .before .before .before .before .before .before .before in
-    Writing (index-line (s .args .n) (s .args .k) (s .args .m)) (s .args .at) (s .args .out .now) ((gap ++ decimal (s .args .m)) ++ ending) (c .put-next-decimal .result) (c .put-next-decimal .last .0)
+    (c : tie.After-put-next-decimal) → let s =
+    c .before .before .before .before .before .before .before .before .before .before .before .before in
+    Writing (index-line (s .args .n) (s .args .k) (s .args .m)) (s .args .at) (s .args .out .now) ((gap ++ decimal (s .args .m)) ++ ending)
+    (c .put-next-decimal .result) (c .put-next-decimal .last .0)
 at-third c =
     let s = c .before .before .before .before .before .before .before .before .before .before .before .before in
-    writing-step ((gap ++ decimal (s .args .k))) ((gap ++ decimal (s .args .m)) ++ ending) (at-second (c .before .before .before .before)) (c .put-next-decimal .ensures)
+    writing-step ((gap ++ decimal (s .args .k))) ((gap ++ decimal (s .args .m)) ++ ending) (at-second (c .before .before .before .before))
+    (c .put-next-decimal .ensures)
 
 at-end :
-    (c : tie.After-put-next-decimal2) → let s = c .before .before .before .before .before .before .before .before .before .before .before .before .before .before .before .before in
-    Writing (index-line (s .args .n) (s .args .k) (s .args .m)) (s .args .at) (s .args .out .now) ending (c .put-next-decimal2 .result) (c .put-next-decimal2 .last .0)
+    (c : tie.After-put-next-decimal2) → let s =
+    c .before .before .before .before .before .before .before .before .before .before .before .before .before .before .before .before in
+    Writing (index-line (s .args .n) (s .args .k) (s .args .m)) (s .args .at) (s .args .out .now) ending (c .put-next-decimal2 .result)
+    (c .put-next-decimal2 .last .0)
 at-end c =
-    let s = c .before .before .before .before .before .before .before .before .before .before .before .before .before .before .before .before in
+    let s =
+    c .before .before .before .before .before .before .before .before .before .before .before .before .before .before .before .before in
     writing-step ((gap ++ decimal (s .args .m))) ending (at-third (c .before .before .before .before)) (c .put-next-decimal2 .ensures)
 
 slice-aggregate-put-bytes : tie.Need-slice-aggregate-put-bytes
@@ -46,12 +60,14 @@ slice-aggregate-put-bytes c = search needs
 put-bytes-requires : tie.Need-put-bytes-requires
 put-bytes-requires c κs =
     let s = c .before .before .before in
-    writing-room index-head (decimal (s .args .n) ++ ((gap ++ decimal (s .args .k)) ++ ((gap ++ decimal (s .args .m)) ++ ending))) (at-head s)
+    writing-room index-head (decimal (s .args .n) ++ ((gap ++ decimal (s .args .k)) ++ ((gap ++ decimal (s .args .m)) ++ ending)))
+    (at-head s)
 
 put-decimal-requires : tie.Need-put-decimal-requires
 put-decimal-requires c κs =
     let s = c .before .before .before .before .before .before .before in
-    writing-room (decimal (s .args .n)) ((gap ++ decimal (s .args .k)) ++ ((gap ++ decimal (s .args .m)) ++ ending)) (at-first (c .before .before .before))
+    writing-room (decimal (s .args .n)) ((gap ++ decimal (s .args .k)) ++ ((gap ++ decimal (s .args .m)) ++ ending))
+    (at-first (c .before .before .before))
 
 put-next-decimal-requires : tie.Need-put-next-decimal-requires
 put-next-decimal-requires c κs =
@@ -74,7 +90,6 @@ same-length c = search needs
 
 returns : tie.Need-returns
 returns c =
-    let s = c .before .before .before .before .before .before .before .before .before .before .before .before .before .before .before .before .before .before .before .before .before .before .before in
     writing-last ending (at-end (c .before .before .before .before .before .before .before)) (c .before .before .put-bytes2 .ensures)
 
 pub put-index-line-spec : {M : Type 1} → statement M

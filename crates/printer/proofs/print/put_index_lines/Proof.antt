@@ -16,17 +16,20 @@ first-line xs = index-line (n-of xs) (keys-of xs) (length xs - 2 - 3 * keys-of x
 
 at-first :
     (s : tie.Start) →
-    Writing (index-lines (s .args .numbers .now)) (s .args .at) (s .args .out .now) (first-line (s .args .numbers .now) ++ key-lines (lines-in (s .args .numbers .now))) (s .args .at) (s .args .out .now)
+    Writing (index-lines (s .args .numbers .now)) (s .args .at) (s .args .out .now)
+    (first-line (s .args .numbers .now) ++ key-lines (lines-in (s .args .numbers .now))) (s .args .at) (s .args .out .now)
 at-first s =
     writing-as (index-lines-parts (s .args .numbers .now) (s .pre .0))
     (writing-start (index-lines (s .args .numbers .now)) (s .args .at) (s .args .out .now) (s .pre .1))
 
 at-keys :
     (c : tie.After-put-index-line) → let s = c .before .before .before .before .before .before in
-    Writing (index-lines (s .args .numbers .now)) (s .args .at) (s .args .out .now) (key-lines (lines-in (s .args .numbers .now))) (c .put-index-line .result) (c .put-index-line .last .0)
+    Writing (index-lines (s .args .numbers .now)) (s .args .at) (s .args .out .now) (key-lines (lines-in (s .args .numbers .now)))
+    (c .put-index-line .result) (c .put-index-line .last .0)
 at-keys c =
     let s = c .before .before .before .before .before .before in
-    writing-step (first-line (s .args .numbers .now)) (key-lines (lines-in (s .args .numbers .now))) (at-first s) (c .put-index-line .ensures)
+    writing-step (first-line (s .args .numbers .now)) (key-lines (lines-in (s .args .numbers .now))) (at-first s)
+    (c .put-index-line .ensures)
 
 shared-slice-read-n : tie.Need-shared-slice-read-n
 shared-slice-read-n c = search needs
@@ -51,7 +54,8 @@ sub-put-index-line-2 c = search needs
 
 put-index-line-requires : tie.Need-put-index-line-requires
 put-index-line-requires c κs =
-    let s = c .before .before .before .before .before in writing-room (first-line (s .args .numbers .now)) (key-lines (lines-in (s .args .numbers .now))) (at-first s)
+    let s = c .before .before .before .before .before in writing-room (first-line (s .args .numbers .now))
+    (key-lines (lines-in (s .args .numbers .now))) (at-first s)
 
 put-key-lines-requires : tie.Need-put-key-lines-requires
 put-key-lines-requires c κs =
@@ -62,7 +66,9 @@ same-length c = search needs
 
 returns : tie.Need-returns
 returns c =
-    let s = c .before .before .before .before .before .before .before .before .before .before .before .before in writing-last (key-lines (lines-in (s .args .numbers .now))) (at-keys (c .before .before .before .before .before .before)) (c .before .before .put-key-lines .ensures)
+    let s = c .before .before .before .before .before .before .before .before .before .before .before .before in writing-last
+    (key-lines (lines-in (s .args .numbers .now))) (at-keys (c .before .before .before .before .before .before))
+    (c .before .before .put-key-lines .ensures)
 
 pub put-index-lines-spec : {M : Type 1} → statement M
 put-index-lines-spec =

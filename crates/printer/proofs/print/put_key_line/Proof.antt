@@ -12,12 +12,16 @@ use Rattle.printer.proofs.print.put_key_line.Tie as tie
 
 at-name :
     (s : tie.Start) →
-    Writing (key-line (line (key (s .args .kind) (s .args .value)) (s .args .positions .now))) (s .args .at) (s .args .out .now) (key-name (key (s .args .kind) (s .args .value)) ++ (listed (s .args .positions .now))) (s .args .at) (s .args .out .now)
-at-name s = writing-as (key-line-parts (key (s .args .kind) (s .args .value)) (s .args .positions .now)) (writing-start (key-line (line (key (s .args .kind) (s .args .value)) (s .args .positions .now))) (s .args .at) (s .args .out .now) (s .pre))
+    Writing (key-line (line (key (s .args .kind) (s .args .value)) (s .args .positions .now))) (s .args .at) (s .args .out .now)
+    (key-name (key (s .args .kind) (s .args .value)) ++ (listed (s .args .positions .now))) (s .args .at) (s .args .out .now)
+at-name s = writing-as (key-line-parts (key (s .args .kind) (s .args .value)) (s .args .positions .now))
+    (writing-start (key-line (line (key (s .args .kind) (s .args .value)) (s .args .positions .now))) (s .args .at) (s .args .out .now)
+    (s .pre))
 
 at-list :
     (c : tie.After-put-key-name) → let s = c .before .before .before .before in
-    Writing (key-line (line (key (s .args .kind) (s .args .value)) (s .args .positions .now))) (s .args .at) (s .args .out .now) (listed (s .args .positions .now)) (c .put-key-name .result) (c .put-key-name .last .0)
+    Writing (key-line (line (key (s .args .kind) (s .args .value)) (s .args .positions .now))) (s .args .at) (s .args .out .now)
+    (listed (s .args .positions .now)) (c .put-key-name .result) (c .put-key-name .last .0)
 at-list c =
     let s = c .before .before .before .before in
     writing-step (key-name (key (s .args .kind) (s .args .value))) (listed (s .args .positions .now)) (at-name s) (c .put-key-name .ensures)
@@ -36,7 +40,8 @@ same-length c = search needs
 returns : tie.Need-returns
 returns c =
     let s = c .before .before .before .before .before .before .before .before .before .before in
-    writing-last (listed (s .args .positions .now)) (at-list (c .before .before .before .before .before .before)) (c .before .before .put-list .ensures)
+    writing-last (listed (s .args .positions .now)) (at-list (c .before .before .before .before .before .before))
+    (c .before .before .put-list .ensures)
 
 pub put-key-line-spec : {M : Type 1} → statement M
 put-key-line-spec =

@@ -9,7 +9,8 @@ use Rattle.printer.proofs.print.put_key_lines.Statement.{statement}
 use Rattle.printer.proofs.print.put_key_lines.Tie as tie
 
 abbrev Inv-loop : tie.InvT-loop
-Inv-loop out₀ at numbers keys position₀ end₀ i₀ out position end i = (keys ≡ keys-of numbers) × Whole numbers × Keys-printed numbers end₀ out₀ position end i out
+Inv-loop out₀ at numbers keys position₀ end₀ i₀ out position end i = (keys ≡ keys-of numbers) × Whole numbers ×
+    Keys-printed numbers end₀ out₀ position end i out
 
 abbrev μ-loop : tie.MeasureT-loop
 μ-loop out₀ at numbers keys position₀ end₀ i₀ out position end i = keys-of numbers - i
@@ -30,7 +31,8 @@ loop-holds : tie.Need-loop-holds Inv-loop μ-loop
 loop-holds c = (
   refl,
   c .before .before .before .pre .0,
-  keys-start (c .before .before .before .args .at) (c .before .before .before .args .out .now) (c .before .before .before .pre .0) (c .before .before .before .pre .1),
+  keys-start (c .before .before .before .args .at) (c .before .before .before .args .out .now) (c .before .before .before .pre .0)
+      (c .before .before .before .pre .1),
 )
 
 mul-kind : tie.Need-mul-kind Inv-loop μ-loop
@@ -82,20 +84,33 @@ add-next-3 : tie.Need-add-next-3 Inv-loop μ-loop
 add-next-3 c = omega (arith, positions-fit (c .before .before .before .before .loop .inv .2) (c .before .before .before .loop-test .taken))
 
 mul-put-key-line : tie.Need-mul-put-key-line Inv-loop μ-loop
-mul-put-key-line c = omega (arith, positions-fit (c .before .before .before .before .before .loop .inv .2) (c .before .before .before .before .loop-test .taken))
+mul-put-key-line c = omega (
+  arith,
+  positions-fit (c .before .before .before .before .before .loop .inv .2)
+      (c .before .before .before .before .loop-test .taken),
+)
 
 sub-put-key-line : tie.Need-sub-put-key-line Inv-loop μ-loop
 sub-put-key-line c = omega arith
 
 part-put-key-line-start : tie.Need-part-put-key-line-start Inv-loop μ-loop
-part-put-key-line-start c = omega (arith, positions-fit (c .before .before .before .before .before .loop .inv .2) (c .before .before .before .before .loop-test .taken))
+part-put-key-line-start c = omega (
+  arith,
+  positions-fit (c .before .before .before .before .before .loop .inv .2)
+      (c .before .before .before .before .loop-test .taken),
+)
 
 part-put-key-line-end : tie.Need-part-put-key-line-end Inv-loop μ-loop
-part-put-key-line-end c = omega (arith, positions-fit (c .before .before .before .before .before .loop .inv .2) (c .before .before .before .before .loop-test .taken))
+part-put-key-line-end c = omega (
+  arith,
+  positions-fit (c .before .before .before .before .before .loop .inv .2)
+      (c .before .before .before .before .loop-test .taken),
+)
 
 put-key-line-requires : tie.Need-put-key-line-requires Inv-loop μ-loop
 put-key-line-requires c κs =
-    line-fits (c .before .before .before .before .before .before .loop .inv .2) (c .before .before .before .before .before .loop-test .taken)
+    line-fits (c .before .before .before .before .before .before .loop .inv .2)
+    (c .before .before .before .before .before .loop-test .taken)
 
 add-i : tie.Need-add-i Inv-loop μ-loop
 add-i c = omega arith
@@ -107,7 +122,8 @@ loop-again : tie.Need-loop-again Inv-loop μ-loop
 loop-again c = (
   refl,
   c .before .before .before .before .before .before .before .before .before .loop .inv .1,
-  keys-step (c .before .before .before .before .before .before .before .before .before .loop .inv .2) (c .before .before .before .before .before .before .before .before .loop-test .taken) (c .before .before .put-key-line .ensures),
+  keys-step (c .before .before .before .before .before .before .before .before .before .loop .inv .2)
+      (c .before .before .before .before .before .before .before .before .loop-test .taken) (c .before .before .put-key-line .ensures),
 )
 
 same-length : tie.Need-same-length Inv-loop μ-loop

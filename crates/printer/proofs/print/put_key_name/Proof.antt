@@ -12,28 +12,32 @@ use Rattle.printer.proofs.print.put_key_name.Tie as tie
 
 at-word :
     (s : tie.Start) → s .args .kind ≡ 0 →
-    Writing (key-name (key (s .args .kind) (s .args .value))) (s .args .at) (s .args .out .now) (key-word-head ++ decimal (s .args .value)) (s .args .at) (s .args .out .now)
+    Writing (key-name (key (s .args .kind) (s .args .value))) (s .args .at) (s .args .out .now) (key-word-head ++ decimal (s .args .value))
+    (s .args .at) (s .args .out .now)
 at-word s e =
     writing-as (word-name (s .args .value) (s .args .kind) e)
     (writing-start (key-name (key (s .args .kind) (s .args .value))) (s .args .at) (s .args .out .now) (s .pre))
 
 at-number :
     (c : tie.After-put-bytes) → let s = c .before .before .before .before .before in
-    Writing (key-name (key (s .args .kind) (s .args .value))) (s .args .at) (s .args .out .now) (decimal (s .args .value)) (c .put-bytes .result) (c .put-bytes .last .0)
+    Writing (key-name (key (s .args .kind) (s .args .value))) (s .args .at) (s .args .out .now) (decimal (s .args .value))
+    (c .put-bytes .result) (c .put-bytes .last .0)
 at-number c =
     let s = c .before .before .before .before .before in
     writing-step key-word-head (decimal (s .args .value)) (at-word s (c .before .before .before .if1 .taken)) (c .put-bytes .ensures)
 
 at-lone :
     (s : tie.Start) → (s .args .kind ≡ 0 → ⊥) →
-    Writing (key-name (key (s .args .kind) (s .args .value))) (s .args .at) (s .args .out .now) (key-lone-head ++ hexadecimal (s .args .value)) (s .args .at) (s .args .out .now)
+    Writing (key-name (key (s .args .kind) (s .args .value))) (s .args .at) (s .args .out .now)
+    (key-lone-head ++ hexadecimal (s .args .value)) (s .args .at) (s .args .out .now)
 at-lone s ne =
     writing-as (lone-name (s .args .value) (s .args .kind) ne)
     (writing-start (key-name (key (s .args .kind) (s .args .value))) (s .args .at) (s .args .out .now) (s .pre))
 
 at-character :
     (c : tie.After-put-bytes2) → let s = c .before .before .before .before .before in
-    Writing (key-name (key (s .args .kind) (s .args .value))) (s .args .at) (s .args .out .now) (hexadecimal (s .args .value)) (c .put-bytes2 .result) (c .put-bytes2 .last .0)
+    Writing (key-name (key (s .args .kind) (s .args .value))) (s .args .at) (s .args .out .now) (hexadecimal (s .args .value))
+    (c .put-bytes2 .result) (c .put-bytes2 .last .0)
 at-character c =
     let s = c .before .before .before .before .before in
     writing-step key-lone-head (hexadecimal (s .args .value)) (at-lone s (c .before .before .before .if1 .left)) (c .put-bytes2 .ensures)
@@ -43,7 +47,8 @@ slice-aggregate-put-bytes c = search needs
 
 put-bytes-requires : tie.Need-put-bytes-requires
 put-bytes-requires c κs =
-    writing-room key-word-head (decimal (c .before .before .before .before .args .value)) (at-word (c .before .before .before .before) (c .before .before .if1 .taken))
+    writing-room key-word-head (decimal (c .before .before .before .before .args .value))
+    (at-word (c .before .before .before .before) (c .before .before .if1 .taken))
 
 put-decimal-requires : tie.Need-put-decimal-requires
 put-decimal-requires c κs =
@@ -55,18 +60,24 @@ same-length c = search needs
 returns : tie.Need-returns
 returns c =
     let s = c .before .before .before .before .before .before .before .before .before .before .before in
-    writing-last (decimal (s .args .value)) (at-number (c .before .before .before .before .before .before)) (c .before .before .put-decimal .ensures)
+    writing-last (decimal (s .args .value)) (at-number (c .before .before .before .before .before .before))
+    (c .before .before .put-decimal .ensures)
 
 slice-aggregate-put-bytes-2 : tie.Need-slice-aggregate-put-bytes-2
 slice-aggregate-put-bytes-2 c = search needs
 
 put-bytes-requires-2 : tie.Need-put-bytes-requires-2
 put-bytes-requires-2 c κs =
-    writing-room key-lone-head (hexadecimal (c .before .before .before .before .args .value)) (at-lone (c .before .before .before .before) (c .before .before .if1 .left))
+    writing-room key-lone-head (hexadecimal (c .before .before .before .before .args .value))
+    (at-lone (c .before .before .before .before) (c .before .before .if1 .left))
 
 put-hexadecimal-requires : tie.Need-put-hexadecimal-requires
 put-hexadecimal-requires c κs =
-    omega (arith, at-character (c .before .before .before) .room, length-hexadecimal (c .before .before .before .before .before .before .before .before .args .value))
+    omega (
+      arith,
+      at-character (c .before .before .before) .room,
+      length-hexadecimal (c .before .before .before .before .before .before .before .before .args .value),
+    )
 
 same-length-2 : tie.Need-same-length-2
 same-length-2 c = search needs
@@ -74,7 +85,8 @@ same-length-2 c = search needs
 returns-2 : tie.Need-returns-2
 returns-2 c =
     let s = c .before .before .before .before .before .before .before .before .before .before .before in
-    writing-last (hexadecimal (s .args .value)) (at-character (c .before .before .before .before .before .before)) (c .before .before .put-hexadecimal .ensures)
+    writing-last (hexadecimal (s .args .value)) (at-character (c .before .before .before .before .before .before))
+    (c .before .before .put-hexadecimal .ensures)
 
 pub put-key-name-spec : {M : Type 1} → statement M
 put-key-name-spec =

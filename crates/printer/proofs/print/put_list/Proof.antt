@@ -10,22 +10,27 @@ use Rattle.printer.proofs.print.put_list.Tie as tie
 
 at-opening :
     (s : tie.Start) →
-    Writing (listed (s .args .positions .now)) (s .args .at) (s .args .out .now) (opening-list ++ (spaced (s .args .positions .now) ++ ending-list)) (s .args .at) (s .args .out .now)
-at-opening s = writing-as (listed-parts (s .args .positions .now)) (writing-start (listed (s .args .positions .now)) (s .args .at) (s .args .out .now) (s .pre))
+    Writing (listed (s .args .positions .now)) (s .args .at) (s .args .out .now)
+    (opening-list ++ (spaced (s .args .positions .now) ++ ending-list)) (s .args .at) (s .args .out .now)
+at-opening s = writing-as (listed-parts (s .args .positions .now))
+    (writing-start (listed (s .args .positions .now)) (s .args .at) (s .args .out .now) (s .pre))
 
 at-positions :
     (c : tie.After-put-bytes) → let s = c .before .before .before .before .before in
-    Writing (listed (s .args .positions .now)) (s .args .at) (s .args .out .now) (spaced (s .args .positions .now) ++ ending-list) (c .put-bytes .result) (c .put-bytes .last .0)
+    Writing (listed (s .args .positions .now)) (s .args .at) (s .args .out .now) (spaced (s .args .positions .now) ++ ending-list)
+    (c .put-bytes .result) (c .put-bytes .last .0)
 at-positions c =
     let s = c .before .before .before .before .before in
     writing-step opening-list (spaced (s .args .positions .now) ++ ending-list) (at-opening s) (c .put-bytes .ensures)
 
 at-ending :
     (c : tie.After-put-positions) → let s = c .before .before .before .before .before .before .before .before .before in
-    Writing (listed (s .args .positions .now)) (s .args .at) (s .args .out .now) ending-list (c .put-positions .result) (c .put-positions .last .0)
+    Writing (listed (s .args .positions .now)) (s .args .at) (s .args .out .now) ending-list (c .put-positions .result)
+    (c .put-positions .last .0)
 at-ending c =
     let s = c .before .before .before .before .before .before .before .before .before in
-    writing-step (spaced (s .args .positions .now)) ending-list (at-positions (c .before .before .before .before)) (c .put-positions .ensures)
+    writing-step (spaced (s .args .positions .now)) ending-list (at-positions (c .before .before .before .before))
+    (c .put-positions .ensures)
 
 slice-aggregate-put-bytes : tie.Need-slice-aggregate-put-bytes
 slice-aggregate-put-bytes c = search needs
@@ -51,8 +56,8 @@ same-length c = search needs
 
 returns : tie.Need-returns
 returns c =
-    let s = c .before .before .before .before .before .before .before .before .before .before .before .before .before .before .before .before in
-    writing-last ending-list (at-ending (c .before .before .before .before .before .before .before)) (c .before .before .put-bytes2 .ensures)
+    writing-last ending-list (at-ending (c .before .before .before .before .before .before .before))
+    (c .before .before .put-bytes2 .ensures)
 
 pub put-list-spec : {M : Type 1} → statement M
 put-list-spec =

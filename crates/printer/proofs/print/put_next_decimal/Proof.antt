@@ -13,7 +13,8 @@ at-space s = writing-start (gap ++ decimal (s .args .n)) (s .args .at) (s .args 
 
 at-number :
     (c : tie.After-put-bytes) → let s = c .before .before .before .before in
-    Writing (gap ++ decimal (s .args .n)) (s .args .at) (s .args .out .now) (decimal (s .args .n)) (c .put-bytes .result) (c .put-bytes .last .0)
+    Writing (gap ++ decimal (s .args .n)) (s .args .at) (s .args .out .now) (decimal (s .args .n)) (c .put-bytes .result)
+    (c .put-bytes .last .0)
 at-number c =
     let s = c .before .before .before .before in
     writing-step gap (decimal (s .args .n)) (at-space s) (c .put-bytes .ensures)
@@ -34,7 +35,8 @@ same-length c = search needs
 returns : tie.Need-returns
 returns c =
     let s = c .before .before .before .before .before .before .before .before .before .before in
-    writing-last (decimal (s .args .n)) (at-number (c .before .before .before .before .before .before)) (c .before .before .put-decimal .ensures)
+    writing-last (decimal (s .args .n)) (at-number (c .before .before .before .before .before .before))
+    (c .before .before .put-decimal .ensures)
 
 pub put-next-decimal-spec : {M : Type 1} → statement M
 put-next-decimal-spec =

@@ -13,14 +13,18 @@ use Rattle.printer.proofs.print.put_next_positions.Statement.{statement
 use Rattle.printer.proofs.print.put_next_positions.Tie as tie
 
 abbrev Inv-loop : tie.InvT-loop
-Inv-loop out₀ at positions end₀ i₀ out end i = (i ≤ length positions) × Writing (each-spaced positions) end₀ out₀ (each-spaced (drop i positions)) end out
+Inv-loop out₀ at positions end₀ i₀ out end i = (i ≤ length positions) ×
+    Writing (each-spaced positions) end₀ out₀ (each-spaced (drop i positions)) end out
 
 abbrev μ-loop : tie.MeasureT-loop
 μ-loop out₀ at positions end₀ i₀ out end i = length positions - i
 
 loop-holds : tie.Need-loop-holds Inv-loop μ-loop
-loop-holds c =
-    (omega arith, writing-start (each-spaced (c .before .before .args .positions .now)) (c .before .before .args .at) (c .before .before .args .out .now) (c .before .before .pre))
+loop-holds c = (
+  omega arith,
+  writing-start (each-spaced (c .before .before .args .positions .now)) (c .before .before .args .at)
+      (c .before .before .args .out .now) (c .before .before .pre),
+)
 
 mul-put-next-decimal : tie.Need-mul-put-next-decimal Inv-loop μ-loop
 mul-put-next-decimal c =
@@ -55,7 +59,8 @@ loop-again c =
     let i = c .before .before .before .before .before .before .loop .i in (
       omega arith,
       writing-step (gap ++ decimal (getD ps i 0)) (each-spaced (drop (i + 1) ps))
-          (writing-as (each-next ps i (c .before .before .before .before .before .loop-test .taken)) (c .before .before .before .before .before .before .loop .inv .1))
+          (writing-as (each-next ps i (c .before .before .before .before .before .loop-test .taken))
+          (c .before .before .before .before .before .before .loop .inv .1))
           (c .before .before .put-next-decimal .ensures),
     )
 
@@ -65,7 +70,8 @@ same-length c =
 
 returns : tie.Need-returns Inv-loop μ-loop
 returns c =
-    writing-end (writing-as (each-end (c .before .before .before .before .args .positions .now) (c .before .loop .i) (c .loop-test .left)) (c .before .loop .inv .1))
+    writing-end (writing-as (each-end (c .before .before .before .before .args .positions .now) (c .before .loop .i) (c .loop-test .left))
+    (c .before .loop .inv .1))
 
 pub put-next-positions-spec : {M : Type 1} → statement M
 put-next-positions-spec =

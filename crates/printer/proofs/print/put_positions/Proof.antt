@@ -1,5 +1,5 @@
 -- `put_positions` meets its contract: nothing, or the first position and then the others. Assumes nothing.
-use mathlib.Core.List.{List, [], _++_}
+use mathlib.Core.List.{List, _++_}
 use Prim.Native.Nat.{ℕ, _-_, _<_}
 use native.Mathlib.Omega.{arith}
 use borrow.Author.Needs.{needs}
@@ -16,17 +16,20 @@ others ps = each-spaced (take (length ps - 1) (drop 1 ps))
 
 at-first :
     (s : tie.Start) → 0 < length (s .args .positions .now) →
-    Writing (spaced (s .args .positions .now)) (s .args .at) (s .args .out .now) (decimal (getD (s .args .positions .now) 0 0) ++ others (s .args .positions .now)) (s .args .at) (s .args .out .now)
+    Writing (spaced (s .args .positions .now)) (s .args .at) (s .args .out .now)
+    (decimal (getD (s .args .positions .now) 0 0) ++ others (s .args .positions .now)) (s .args .at) (s .args .out .now)
 at-first s some =
     writing-as (spaced-some (s .args .positions .now) some)
     (writing-start (spaced (s .args .positions .now)) (s .args .at) (s .args .out .now) (s .pre))
 
 at-others :
     (c : tie.After-put-decimal) → let s = c .before .before .before .before .before .before in
-    Writing (spaced (s .args .positions .now)) (s .args .at) (s .args .out .now) (others (s .args .positions .now)) (c .put-decimal .result) (c .put-decimal .last .0)
+    Writing (spaced (s .args .positions .now)) (s .args .at) (s .args .out .now) (others (s .args .positions .now))
+    (c .put-decimal .result) (c .put-decimal .last .0)
 at-others c =
     let s = c .before .before .before .before .before .before in
-    writing-step (decimal (getD (s .args .positions .now) 0 0)) (others (s .args .positions .now)) (at-first s (omega arith)) (c .put-decimal .ensures)
+    writing-step (decimal (getD (s .args .positions .now) 0 0)) (others (s .args .positions .now)) (at-first s (omega arith))
+    (c .put-decimal .ensures)
 
 returns : tie.Need-returns
 returns c =
@@ -66,7 +69,8 @@ same-length c = search needs
 returns-2 : tie.Need-returns-2
 returns-2 c =
     let s = c .before .before .before .before .before .before .before .before .before .before .before .before .before in
-    writing-last (others (s .args .positions .now)) (at-others (c .before .before .before .before .before .before .before)) (c .before .before .put-next-positions .ensures)
+    writing-last (others (s .args .positions .now)) (at-others (c .before .before .before .before .before .before .before))
+    (c .before .before .put-next-positions .ensures)
 
 pub put-positions-spec : {M : Type 1} → statement M
 put-positions-spec =

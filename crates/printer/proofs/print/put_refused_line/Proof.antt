@@ -9,13 +9,17 @@ use Rattle.printer.proofs.print.put_refused_line.Tie as tie
 
 at-head :
     (s : tie.Start) →
-    Writing (refused-line (s .args .refusal)) (s .args .at) (s .args .out .now) (refused-head ++ (decimal (s .args .refusal) ++ ending)) (s .args .at) (s .args .out .now)
-at-head s = writing-as (refused-line-parts (s .args .refusal)) (writing-start (refused-line (s .args .refusal)) (s .args .at) (s .args .out .now) (s .pre))
+    Writing (refused-line (s .args .refusal)) (s .args .at) (s .args .out .now) (refused-head ++ (decimal (s .args .refusal) ++ ending))
+    (s .args .at) (s .args .out .now)
+at-head s = writing-as (refused-line-parts (s .args .refusal)) (writing-start (refused-line (s .args .refusal)) (s .args .at)
+    (s .args .out .now) (s .pre))
 
 at-number :
     (c : tie.After-put-bytes) → let s = c .before .before .before .before in
-    Writing (refused-line (s .args .refusal)) (s .args .at) (s .args .out .now) (decimal (s .args .refusal) ++ ending) (c .put-bytes .result) (c .put-bytes .last .0)
-at-number c = let s = c .before .before .before .before in writing-step refused-head (decimal (s .args .refusal) ++ ending) (at-head s) (c .put-bytes .ensures)
+    Writing (refused-line (s .args .refusal)) (s .args .at) (s .args .out .now) (decimal (s .args .refusal) ++ ending)
+    (c .put-bytes .result) (c .put-bytes .last .0)
+at-number c = let s = c .before .before .before .before in writing-step refused-head (decimal (s .args .refusal) ++ ending) (at-head s)
+    (c .put-bytes .ensures)
 
 at-end :
     (c : tie.After-put-decimal) → let s = c .before .before .before .before .before .before .before .before in
@@ -45,7 +49,8 @@ same-length : tie.Need-same-length
 same-length c = search needs
 
 returns : tie.Need-returns
-returns c = writing-last ending (at-end (c .before .before .before .before .before .before .before)) (c .before .before .put-bytes2 .ensures)
+returns c = writing-last ending (at-end (c .before .before .before .before .before .before .before))
+    (c .before .before .put-bytes2 .ensures)
 
 pub put-refused-line-spec : {M : Type 1} → statement M
 put-refused-line-spec =

@@ -34,8 +34,11 @@ room :
     ≤ length (c .before .before .before .before .is-index-of-text .last .1 .1 .1 .1 .1 .1 .0)
 room c =
     let start = c .before .before .before .before .before .before .before .before .before .before .before .before .before in
-    omega (arith, delivered (start .args .chars .now) (start .args .lengths .now) (start .args .index .now) (length (start .args .work .now))
-          (start .pre .0) .room)
+    omega (
+      arith,
+      delivered (start .args .chars .now) (start .args .lengths .now) (start .args .index .now) (length (start .args .work .now))
+          (start .pre .0) .room,
+    )
 
 shared-slice-read-n : tie.Need-shared-slice-read-n
 shared-slice-read-n c =

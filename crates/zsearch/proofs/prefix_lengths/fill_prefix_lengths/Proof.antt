@@ -9,7 +9,8 @@ use Rattle.zsearch.proofs.prefix_lengths.fill_prefix_lengths.Statement.
 use Rattle.zsearch.proofs.prefix_lengths.fill_prefix_lengths.Tie as tie
 
 abbrev Inv-loop : tie.InvT-loop
-Inv-loop text string zarray reach₀ left₀ right₀ at₀ reach left right at = Filling 0 string text (Prefix-length string text) reach₀ reach at left right
+Inv-loop text string zarray reach₀ left₀ right₀ at₀ reach left right at =
+    Filling 0 string text (Prefix-length string text) reach₀ reach at left right
 
 abbrev μ-loop : tie.MeasureT-loop
 μ-loop text string zarray reach₀ left₀ right₀ at₀ reach left right at = length reach₀ - at
@@ -17,7 +18,8 @@ abbrev μ-loop : tie.MeasureT-loop
 loop-holds : tie.Need-loop-holds Inv-loop μ-loop
 loop-holds c =
     let a = c .before .before .before .before .args in
-    filling-start 0 (a .string .now) (a .text .now) (Prefix-length (a .string .now) (a .text .now)) (a .reach .now) (λ j b. absurd (omega arith))
+    filling-start 0 (a .string .now) (a .text .now) (Prefix-length (a .string .now) (a .text .now)) (a .reach .now)
+    (λ j b. absurd (omega arith))
 
 known-from-requires : tie.Need-known-from-requires Inv-loop μ-loop
 known-from-requires c κs =
@@ -68,7 +70,8 @@ loop-again c =
     let len = c .before .extend .result in
     let end = c .before .extend .ensures in
     let below = c .before .before .before .loop-test .taken in
-    filling-new 0 (s .args .string .now) (s .args .text .now) (Prefix-length (s .args .string .now) (s .args .text .now)) (s .args .reach .now)
+    filling-new 0 (s .args .string .now) (s .args .text .now) (Prefix-length (s .args .string .now) (s .args .text .now))
+    (s .args .reach .now)
     len (l .inv) (omega (arith, below))
     end (end .lies)
 
@@ -82,7 +85,8 @@ loop-again-2 c =
     let len = c .before .extend .result in
     let end = c .before .extend .ensures in
     let below = c .before .before .before .loop-test .taken in
-    filling-on 0 (s .args .string .now) (s .args .text .now) (Prefix-length (s .args .string .now) (s .args .text .now)) (s .args .reach .now)
+    filling-on 0 (s .args .string .now) (s .args .text .now) (Prefix-length (s .args .string .now) (s .args .text .now))
+    (s .args .reach .now)
     len (l .inv) (omega (arith, below))
     end
 

@@ -5,7 +5,8 @@ use Prim.Native.Nat.{_-_, _≤_, _<_}
 use native.Mathlib.Omega.{arith}
 use borrow.Author.Needs.{needs}
 use lib.ListN.{length}
-use Rattle.laws.specs.TextScan.ZSearch.{Prefix-at, Z-value, Filling, filling-start, filling-on, filling-new, filled-rest, zbox-short, known-lies}
+use Rattle.laws.specs.TextScan.ZSearch.{Prefix-at, Z-value, Filling, filling-start, filling-on, filling-new, filled-rest, zbox-short}
+use Rattle.laws.specs.TextScan.ZSearch.{known-lies}
 use Rattle.zsearch.proofs.zarray.fill_zarray.Statement.{statement}
 use Rattle.zsearch.proofs.zarray.fill_zarray.Tie as tie
 
@@ -72,8 +73,7 @@ loop-again c =
     let l = c .before .before .before .before .before .loop in
     let end = c .before .extend .ensures in
     let below = c .before .before .before .before .loop-test .taken in (
-      filling-new 1 (a .string .now) (a .string .now) (Z-value (a .string .now)) (a .zarray .now)
-          (c .before .extend .result) (l .inv .0)
+      filling-new 1 (a .string .now) (a .string .now) (Z-value (a .string .now)) (a .zarray .now) (c .before .extend .result) (l .inv .0)
           (omega (arith, below))
           (λ from. end) (end .lies),
       λ more. omega (arith, below),
@@ -88,8 +88,7 @@ loop-again-2 c =
     let l = c .before .before .before .before .before .loop in
     let end = c .before .extend .ensures in
     let below = c .before .before .before .before .loop-test .taken in (
-      filling-on 1 (a .string .now) (a .string .now) (Z-value (a .string .now)) (a .zarray .now)
-          (c .before .extend .result) (l .inv .0)
+      filling-on 1 (a .string .now) (a .string .now) (Z-value (a .string .now)) (a .zarray .now) (c .before .extend .result) (l .inv .0)
           (omega (arith, below))
           (λ from. end),
       λ more. omega (arith, below),
@@ -100,11 +99,9 @@ same-length c = c .before .loop .inv .0 .len
 
 returns : tie.Need-returns Inv-loop μ-loop
 returns c =
-    let a = c .before .before .before .before .args in
     let l = c .before .loop in (
       λ j b. l .inv .0 .told j (omega arith),
-      filled-rest
-          (l .inv .0) (l .inv .1),
+      filled-rest (l .inv .0) (l .inv .1),
     )
 
 pub fill-zarray-spec : {M : Type 1} → statement M
