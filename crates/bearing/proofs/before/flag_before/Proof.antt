@@ -46,9 +46,6 @@ slice-write-flags c =
     let s = c .before .before .before .before .before .before .before .before .before .before .before in
     omega arith
 
-loop-less : tie.Need-loop-less Inv-loop μ-loop
-loop-less c = omega arith
-
 loop-again : tie.Need-loop-again Inv-loop μ-loop
 loop-again c =
     let s = c .before .before .before .before .before .before .before .before .before .before .before in
@@ -58,9 +55,6 @@ loop-again c =
       backs-next (lexicon (a .chars .now) (a .lengths .now)) (a .index .now) (a .string .now) (l .inv .1) (omega arith)
           (ap (λ (k : List ℕ). bears k (a .string .now)) (sym (c .before .before .key-of .ensures)) ∙ c .before .begins-before .ensures .0 (c .if1 .taken)),
     )
-
-loop-less-2 : tie.Need-loop-less-2 Inv-loop μ-loop
-loop-less-2 c = omega arith
 
 loop-again-2 : tie.Need-loop-again-2 Inv-loop μ-loop
 loop-again-2 c =
@@ -87,16 +81,5 @@ pub flag-before-spec : {M : Type 1} → statement M
 flag-before-spec =
     tie.close
     (tie.spec
-    Inv-loop
-    μ-loop
-    loop-holds
-    key-of-requires
-    add-line
-    begins-before-requires
-    slice-write-flags
-    loop-less
-    loop-again
-    loop-less-2
-    loop-again-2
-    same-length
-    returns)
+    Inv-loop μ-loop loop-holds key-of-requires add-line begins-before-requires slice-write-flags (λ c. omega arith) loop-again
+    (λ c. omega arith) loop-again-2 same-length returns)

@@ -10,18 +10,6 @@ use Rattle.laws.specs.Cut.Flagging.{flagged-one, flagged-none}
 use Rattle.bearing.proofs.within.flag_lone.Statement.{statement}
 use Rattle.bearing.proofs.within.flag_lone.Tie as tie
 
-shared-slice-read-keys : tie.Need-shared-slice-read-keys
-shared-slice-read-keys c = search needs
-
-cast-keys : tie.Need-cast-keys
-cast-keys c = search needs
-
-mul-character : tie.Need-mul-character
-mul-character c = search needs
-
-shared-slice-read-character : tie.Need-shared-slice-read-character
-shared-slice-read-character c = search needs
-
 cast-line-lower-bound : tie.Need-cast-line-lower-bound
 cast-line-lower-bound c = omega (arith, c .shared-slice-known6 .given (c .before .before .before .before .before .before .before .args .key-start))
 
@@ -30,27 +18,6 @@ line-lower-bound-requires c κs =
     let s = c .before .before .before .before .before .before .before in
     let a = s .args in
     (s .pre .0 .fits .has-directory, omega arith, lone-rise (s .pre .0) (s .pre .1))
-
-mul-if2 : tie.Need-mul-if2
-mul-if2 c = search needs
-
-add-if2 : tie.Need-add-if2
-add-if2 c = search needs
-
-add-if2-2 : tie.Need-add-if2-2
-add-if2-2 c = search needs
-
-mul-if2-2 : tie.Need-mul-if2-2
-mul-if2-2 c = search needs
-
-shared-slice-read-if2 : tie.Need-shared-slice-read-if2
-shared-slice-read-if2 c = search needs
-
-slice-write-flags : tie.Need-slice-write-flags
-slice-write-flags c = search needs
-
-same-length : tie.Need-same-length
-same-length c = search needs
 
 returns : tie.Need-returns
 returns c =
@@ -83,19 +50,6 @@ pub flag-lone-spec : {M : Type 1} → statement M
 flag-lone-spec =
     tie.close
     (tie.spec
-    shared-slice-read-keys
-    cast-keys
-    mul-character
-    shared-slice-read-character
-    cast-line-lower-bound
-    line-lower-bound-requires
-    mul-if2
-    add-if2
-    add-if2-2
-    mul-if2-2
-    shared-slice-read-if2
-    slice-write-flags
-    same-length
-    returns
-    returns-2
-    returns-3)
+    (λ c. search needs) (λ c. search needs) (λ c. search needs) (λ c. search needs) cast-line-lower-bound line-lower-bound-requires
+    (λ c. search needs) (λ c. search needs) (λ c. search needs) (λ c. search needs) (λ c. search needs) (λ c. search needs)
+    (λ c. search needs) returns returns-2 returns-3)

@@ -17,9 +17,6 @@ Inv-loop chars lengths index word-starts string word-lines flags₀ last key-sta
 abbrev μ-loop : tie.MeasureT-loop
 μ-loop chars lengths index word-starts string word-lines flags₀ last key-start₀ flags key-start = length string - key-start
 
-sub-last : tie.Need-sub-last Inv-loop μ-loop
-sub-last c = search needs
-
 loop-holds : tie.Need-loop-holds Inv-loop μ-loop
 loop-holds c =
     let s = c .before .before .before .before .before .before in
@@ -30,12 +27,6 @@ flag-offset-requires : tie.Need-flag-offset-requires Inv-loop μ-loop
 flag-offset-requires c κs =
     let s = c .before .before .before .before .before .before .before .before .before in
     (s .pre .0, s .pre .1, s .pre .2, s .pre .3, omega arith, c .before .before .loop .inv .1 .way .flags)
-
-add-key-start : tie.Need-add-key-start Inv-loop μ-loop
-add-key-start c = search needs
-
-loop-less : tie.Need-loop-less Inv-loop μ-loop
-loop-less c = omega arith
 
 loop-again : tie.Need-loop-again Inv-loop μ-loop
 loop-again c =
@@ -60,13 +51,5 @@ pub flag-within-spec : {M : Type 1} → statement M
 flag-within-spec =
     tie.close
     (tie.spec
-    Inv-loop
-    μ-loop
-    sub-last
-    loop-holds
-    flag-offset-requires
-    add-key-start
-    loop-less
-    loop-again
-    same-length
+    Inv-loop μ-loop (λ c. search needs) loop-holds flag-offset-requires (λ c. search needs) (λ c. omega arith) loop-again same-length
     returns)

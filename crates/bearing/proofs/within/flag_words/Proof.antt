@@ -25,9 +25,6 @@ abbrev μ-loop : tie.MeasureT-loop
 below : (c : tie.Else1 Inv-loop μ-loop) → c .before .before .before .before .before .before .before .before .before .args .key-start + c .before .before .loop .depth < length (c .before .before .before .before .before .before .before .before .before .args .string .now)
 below c = omega arith
 
-sub-left : tie.Need-sub-left Inv-loop μ-loop
-sub-left c = omega arith
-
 loop-holds : tie.Need-loop-holds Inv-loop μ-loop
 loop-holds c =
     let s = c .before .before .before .before .before .before in
@@ -76,9 +73,6 @@ add-low c =
     let a = s .args in
     let l = c .before .before .before .before .loop in
     omega arith
-
-loop-less : tie.Need-loop-less Inv-loop μ-loop
-loop-less c = omega arith
 
 loop-again : tie.Need-loop-again Inv-loop μ-loop
 loop-again c =
@@ -145,24 +139,6 @@ pub flag-words-spec : {M : Type 1} → statement M
 flag-words-spec =
     tie.close
     (tie.spec
-    Inv-loop
-    μ-loop
-    sub-left
-    loop-holds
-    flag-lines-requires
-    same-length
-    returns
-    word-length-requires
-    slice-write-flags
-    add-low
-    loop-less
-    loop-again
-    add-character
-    mul-character
-    shared-slice-read-character
-    equal-range-requires
-    add-depth
-    loop-less-2
-    loop-again-2
-    same-length-2
-    returns-2)
+    Inv-loop μ-loop (λ c. omega arith) loop-holds flag-lines-requires same-length returns word-length-requires slice-write-flags add-low
+    (λ c. omega arith) loop-again add-character mul-character shared-slice-read-character equal-range-requires add-depth loop-less-2
+    loop-again-2 same-length-2 returns-2)

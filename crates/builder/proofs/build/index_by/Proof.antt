@@ -4,27 +4,6 @@ use borrow.Author.Needs.{needs}
 use Rattle.builder.proofs.build.index_by.Statement.{statement}
 use Rattle.builder.proofs.build.index_by.Tie as tie
 
-chain-positions-requires : tie.Need-chain-positions-requires
-chain-positions-requires c κs = search needs
-
-mul-size : tie.Need-mul-size
-mul-size c = search needs
-
-add-size : tie.Need-add-size
-add-size c = search needs
-
-add-size-2 : tie.Need-add-size-2
-add-size-2 c = search needs
-
-same-length : tie.Need-same-length
-same-length c = search needs
-
-same-length-2 : tie.Need-same-length-2
-same-length-2 c = search needs
-
-same-length-3 : tie.Need-same-length-3
-same-length-3 c = search needs
-
 returns : tie.Need-returns
 returns c =
     let start =
@@ -52,18 +31,6 @@ write-index-requires c κs =
       ),
     )
 
-same-length-4 : tie.Need-same-length-4
-same-length-4 c = search needs
-
-same-length-5 : tie.Need-same-length-5
-same-length-5 c = search needs
-
-same-length-6 : tie.Need-same-length-6
-same-length-6 c = search needs
-
-same-length-7 : tie.Need-same-length-7
-same-length-7 c = search needs
-
 returns-2 : tie.Need-returns-2
 returns-2 c =
     let start =
@@ -78,17 +45,6 @@ pub index-by-spec : {M : Type 1} → statement M
 index-by-spec =
     tie.close
     (tie.spec
-    chain-positions-requires
-    mul-size
-    add-size
-    add-size-2
-    same-length
-    same-length-2
-    same-length-3
-    returns
-    write-index-requires
-    same-length-4
-    same-length-5
-    same-length-6
-    same-length-7
+    (λ c κs. search needs) (λ c. search needs) (λ c. search needs) (λ c. search needs) (λ c. search needs) (λ c. search needs)
+    (λ c. search needs) returns write-index-requires (λ c. search needs) (λ c. search needs) (λ c. search needs) (λ c. search needs)
     returns-2)

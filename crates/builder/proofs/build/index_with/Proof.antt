@@ -45,21 +45,6 @@ finish-requires c κs =
           (λ i h. omega (arith, given .shared-slice-known .given i)) (start .pre .0) (scanned .scan-replaced .ensures),
     )
 
-same-length : tie.Need-same-length
-same-length c = search needs
-
-same-length-2 : tie.Need-same-length-2
-same-length-2 c = search needs
-
-same-length-3 : tie.Need-same-length-3
-same-length-3 c = search needs
-
-same-length-4 : tie.Need-same-length-4
-same-length-4 c = search needs
-
-same-length-5 : tie.Need-same-length-5
-same-length-5 c = search needs
-
 returns : tie.Need-returns
 returns c =
     let start =
@@ -82,12 +67,5 @@ pub index-with-spec : {M : Type 1} → statement M
 index-with-spec =
     tie.close
     (tie.spec
-    fill-match-table-requires
-    scan-replaced-requires
-    finish-requires
-    same-length
-    same-length-2
-    same-length-3
-    same-length-4
-    same-length-5
-    returns)
+    fill-match-table-requires scan-replaced-requires finish-requires (λ c. search needs) (λ c. search needs) (λ c. search needs)
+    (λ c. search needs) (λ c. search needs) returns)

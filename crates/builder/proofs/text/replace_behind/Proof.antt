@@ -9,27 +9,6 @@ use Rattle.laws.specs.Receive.WorkParts.{behind-long, behind-put, front-whole}
 use Rattle.builder.proofs.text.replace_behind.Statement.{statement}
 use Rattle.builder.proofs.text.replace_behind.Tie as tie
 
-mul-behind : tie.Need-mul-behind
-mul-behind c = search needs
-
-mul-replace-into : tie.Need-mul-replace-into
-mul-replace-into c = search needs
-
-sub-replace-into : tie.Need-sub-replace-into
-sub-replace-into c = search needs
-
-part-replace-into-start : tie.Need-part-replace-into-start
-part-replace-into-start c = search needs
-
-part-replace-into-end : tie.Need-part-replace-into-end
-part-replace-into-end c = search needs
-
-replace-into-requires : tie.Need-replace-into-requires
-replace-into-requires c κs = search needs
-
-same-length : tie.Need-same-length
-same-length c = search needs
-
 returns : tie.Need-returns
 returns c =
     let start = c .before .before .before .before .before .before in
@@ -47,11 +26,5 @@ pub replace-behind-spec : {M : Type 1} → statement M
 replace-behind-spec =
     tie.close
     (tie.spec
-    mul-behind
-    mul-replace-into
-    sub-replace-into
-    part-replace-into-start
-    part-replace-into-end
-    replace-into-requires
-    same-length
-    returns)
+    (λ c. search needs) (λ c. search needs) (λ c. search needs) (λ c. search needs) (λ c. search needs) (λ c κs. search needs)
+    (λ c. search needs) returns)

@@ -10,33 +10,6 @@ use Rattle.laws.specs.Cut.Cutting.{cut-long}
 use Rattle.cutter.proofs.cut.cut_lent.Statement.{statement}
 use Rattle.cutter.proofs.cut.cut_lent.Tie as tie
 
-slice-aggregate-fill-word-starts : tie.Need-slice-aggregate-fill-word-starts
-slice-aggregate-fill-word-starts c = search needs
-
-fill-word-starts-requires : tie.Need-fill-word-starts-requires
-fill-word-starts-requires c κs = search needs
-
-slice-aggregate-flag-bearing : tie.Need-slice-aggregate-flag-bearing
-slice-aggregate-flag-bearing c = search needs
-
-flag-bearing-requires : tie.Need-flag-bearing-requires
-flag-bearing-requires c κs = search needs
-
-size-flagged-requires : tie.Need-size-flagged-requires
-size-flagged-requires c κs = search needs
-
-mul-count : tie.Need-mul-count
-mul-count c = search needs
-
-add-count : tie.Need-add-count
-add-count c = search needs
-
-add-count-2 : tie.Need-add-count-2
-add-count-2 c = search needs
-
-same-length : tie.Need-same-length
-same-length c = search needs
-
 returns : tie.Need-returns
 returns c =
     let s = c .before .before .before .before .before .before .before .before .before .before .before .before .before .before .before .before .before .before .before in
@@ -52,12 +25,6 @@ write-cut-requires c κs =
     let size = c .before .before .before .before .before .size-flagged in
     (s .pre .0 .fits, c .before .before .before .before .before .before .before .before .before .flag-bearing .ensures, size .ensures, omega (arith, cut-long (size .ensures)))
 
-same-length-2 : tie.Need-same-length-2
-same-length-2 c = search needs
-
-same-length-3 : tie.Need-same-length-3
-same-length-3 c = search needs
-
 returns-2 : tie.Need-returns-2
 returns-2 c =
     let s = c .before .before .before .before .before .before .before .before .before .before .before .before .before .before .before .before .before .before .before .before .before .before .before .before in
@@ -72,17 +39,5 @@ pub cut-lent-spec : {M : Type 1} → statement M
 cut-lent-spec =
     tie.close
     (tie.spec
-    slice-aggregate-fill-word-starts
-    fill-word-starts-requires
-    slice-aggregate-flag-bearing
-    flag-bearing-requires
-    size-flagged-requires
-    mul-count
-    add-count
-    add-count-2
-    same-length
-    returns
-    write-cut-requires
-    same-length-2
-    same-length-3
-    returns-2)
+    (λ c. search needs) (λ c κs. search needs) (λ c. search needs) (λ c κs. search needs) (λ c κs. search needs) (λ c. search needs)
+    (λ c. search needs) (λ c. search needs) (λ c. search needs) returns write-cut-requires (λ c. search needs) (λ c. search needs) returns-2)

@@ -47,9 +47,6 @@ cut-string-requires c κs =
       s .pre .1 ∙ accepted-yes (a .refusal) (keys-of (a .index .now)) 0 none,
     )
 
-same-length : tie.Need-same-length
-same-length c = search needs
-
 returns-4 : tie.Need-returns-4
 returns-4 c =
     let s = c .before .before .before .before .before .before .before .before .before .before .before .before in
@@ -63,9 +60,4 @@ pub cut-opened-spec : {M : Type 1} → statement M
 cut-opened-spec =
     tie.close
     (tie.spec
-    returns
-    returns-2
-    returns-3
-    cut-string-requires
-    same-length
-    returns-4)
+    returns returns-2 returns-3 cut-string-requires (λ c. search needs) returns-4)

@@ -4,12 +4,6 @@ use Rattle.laws.specs.Search.Sizing.{own-long, own-string}
 use Rattle.cutter.proofs.cut.cut_string.Statement.{statement}
 use Rattle.cutter.proofs.cut.cut_string.Tie as tie
 
-replaced-string-requires : tie.Need-replaced-string-requires
-replaced-string-requires c κs = search needs
-
-array-share-prefix-own : tie.Need-array-share-prefix-own
-array-share-prefix-own c = search needs
-
 slice-aggregate-cut-lines : tie.Need-slice-aggregate-cut-lines
 slice-aggregate-cut-lines c =
     let start = c .before .before .before .before .before .before .before in
@@ -21,9 +15,6 @@ cut-lines-requires c κs =
     let own = c .before .before .replaced-string in
     (start .pre .0, own-string (start .args .string .now) (own .result) (own .ensures) (start .pre .1), start .pre .2, start .pre .3)
 
-same-length : tie.Need-same-length
-same-length c = search needs
-
 returns : tie.Need-returns
 returns c = rw (c .before .before .before .before .before .replaced-string .ensures) at (c .before .before .cut-lines .ensures)
 
@@ -31,9 +22,4 @@ pub cut-string-spec : {M : Type 1} → statement M
 cut-string-spec =
     tie.close
     (tie.spec
-    replaced-string-requires
-    array-share-prefix-own
-    slice-aggregate-cut-lines
-    cut-lines-requires
-    same-length
-    returns)
+    (λ c κs. search needs) (λ c. search needs) slice-aggregate-cut-lines cut-lines-requires (λ c. search needs) returns)

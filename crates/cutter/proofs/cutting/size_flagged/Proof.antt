@@ -16,40 +16,16 @@ Inv-loop chars lengths index string flags count keys₀ entries₀ line₀ keys 
 abbrev μ-loop : tie.MeasureT-loop
 μ-loop chars lengths index string flags count keys₀ entries₀ line₀ keys entries line = count - line
 
-shared-slice-read-count : tie.Need-shared-slice-read-count Inv-loop μ-loop
-shared-slice-read-count c = search needs
-
-cast-count : tie.Need-cast-count Inv-loop μ-loop
-cast-count c = search needs
-
 loop-holds : tie.Need-loop-holds Inv-loop μ-loop
 loop-holds c =
     let a = c .before .args in
     counting-start (lexicon (a .chars .now) (a .lengths .now)) (a .index .now) (a .string .now)
 
-add-line : tie.Need-add-line Inv-loop μ-loop
-add-line c = search needs
-
-shared-slice-read-if1 : tie.Need-shared-slice-read-if1 Inv-loop μ-loop
-shared-slice-read-if1 c = omega arith
-
 add-keys : tie.Need-add-keys Inv-loop μ-loop
 add-keys c = omega (arith, c .before .before .before .before .shared-slice-known .given 1)
 
-mul-entries : tie.Need-mul-entries Inv-loop μ-loop
-mul-entries c = search needs
-
 add-entries : tie.Need-add-entries Inv-loop μ-loop
 add-entries c = omega (arith, c .before .before .before .before .shared-slice-known .given 1)
-
-add-entries-2 : tie.Need-add-entries-2 Inv-loop μ-loop
-add-entries-2 c = search needs
-
-mul-entries-2 : tie.Need-mul-entries-2 Inv-loop μ-loop
-mul-entries-2 c = search needs
-
-shared-slice-read-entries : tie.Need-shared-slice-read-entries Inv-loop μ-loop
-shared-slice-read-entries c = omega arith
 
 cast-entries : tie.Need-cast-entries Inv-loop μ-loop
 cast-entries c = omega (arith, c .shared-slice-known3 .given (2 + 3 * c .before .before .before .before .loop .line + 2))
@@ -59,9 +35,6 @@ add-entries-3 c =
     let l = c .before .before .before .before .loop in
     omega (arith, c .before .before .before .before .before .shared-slice-known .given 1, c .shared-slice-known3 .given (2 + 3 * l .line + 2))
 
-loop-less : tie.Need-loop-less Inv-loop μ-loop
-loop-less c = search needs
-
 loop-again : tie.Need-loop-again Inv-loop μ-loop
 loop-again c =
     let s = c .before .before .before .before .before .before in
@@ -70,9 +43,6 @@ loop-again c =
     counting-bears (lexicon (a .chars .now) (a .lengths .now)) (a .index .now) (a .string .now) (l .inv) (c .before .before .before .loop-test .taken)
     (exact-flags-get (lexicon (a .chars .now) (a .lengths .now)) (a .index .now) (a .string .now) (s .pre .1) (l .line) (c .before .before .before .loop-test .taken) (c .before .if1 .taken))
     (omega (arith, c .shared-slice-known3 .given (2 + 3 * l .line + 2))) (s .pre .0)
-
-loop-less-2 : tie.Need-loop-less-2 Inv-loop μ-loop
-loop-less-2 c = search needs
 
 loop-again-2 : tie.Need-loop-again-2 Inv-loop μ-loop
 loop-again-2 c =
@@ -93,23 +63,6 @@ pub size-flagged-spec : {M : Type 1} → statement M
 size-flagged-spec =
     tie.close
     (tie.spec
-    Inv-loop
-    μ-loop
-    shared-slice-read-count
-    cast-count
-    loop-holds
-    add-line
-    shared-slice-read-if1
-    add-keys
-    mul-entries
-    add-entries
-    add-entries-2
-    mul-entries-2
-    shared-slice-read-entries
-    cast-entries
-    add-entries-3
-    loop-less
-    loop-again
-    loop-less-2
-    loop-again-2
-    returns)
+    Inv-loop μ-loop (λ c. search needs) (λ c. search needs) loop-holds (λ c. search needs) (λ c. omega arith) add-keys (λ c. search needs)
+    add-entries (λ c. search needs) (λ c. search needs) (λ c. omega arith) cast-entries add-entries-3 (λ c. search needs) loop-again
+    (λ c. search needs) loop-again-2 returns)

@@ -25,9 +25,6 @@ done c =
     (c .before .before .before .before .before .before .write-directory .last .1 .1 .1 .1 .1 .1 .0) (c .before .before .before .before .before .before .write-directory .ensures) (c .before .before .write-positions .last .1 .1 .1 .1 .1 .0)
     (c .before .before .write-positions .ensures)
 
-shared-slice-read-output : tie.Need-shared-slice-read-output
-shared-slice-read-output c = search needs
-
 slice-write-output : tie.Need-slice-write-output
 slice-write-output c =
     let s = c .before .before .before .before .before .before .before in
@@ -36,9 +33,6 @@ slice-write-output c =
       room-is (n-of (s .args .index .now)) (bearing (lexicon (s .args .chars .now) (s .args .lengths .now)) (s .args .string .now) (lines-in (s .args .index .now))) (s .args .size .keys)
           (s .pre .2 .keys-are) (s .args .output .now) (cut-room (lexicon (s .args .chars .now) (s .args .lengths .now)) (s .args .index .now) (s .args .string .now) (s .args .output .now) (s .pre .3)),
     )
-
-cast-output : tie.Need-cast-output
-cast-output c = search needs
 
 slice-write-output-2 : tie.Need-slice-write-output-2
 slice-write-output-2 c =
@@ -58,15 +52,6 @@ write-directory-requires c κs =
           (s .pre .2 .keys-are) (s .args .output .now) (cut-room (lexicon (s .args .chars .now) (s .args .lengths .now)) (s .args .index .now) (s .args .string .now) (s .args .output .now) (s .pre .3)),
     )
 
-mul-after : tie.Need-mul-after
-mul-after c = search needs
-
-add-after : tie.Need-add-after
-add-after c = search needs
-
-mul-write-positions : tie.Need-mul-write-positions
-mul-write-positions c = search needs
-
 sub-write-positions : tie.Need-sub-write-positions
 sub-write-positions c =
     let s = c .before .before .before .before .before .before .before .before .before .before .before in
@@ -80,9 +65,6 @@ part-write-positions-start c =
     positions-start (n-of (s .args .index .now)) (bearing (lexicon (s .args .chars .now) (s .args .lengths .now)) (s .args .string .now) (lines-in (s .args .index .now))) (s .args .size .keys)
     (s .pre .2 .keys-are) (s .args .output .now) (cut-room (lexicon (s .args .chars .now) (s .args .lengths .now)) (s .args .index .now) (s .args .string .now) (s .args .output .now) (s .pre .3))
     (c .before .before .write-directory .last .1 .1 .1 .1 .1 .1 .0) (c .before .before .write-directory .ensures)
-
-part-write-positions-end : tie.Need-part-write-positions-end
-part-write-positions-end c = search needs
 
 write-positions-requires : tie.Need-write-positions-requires
 write-positions-requires c κs =
@@ -110,17 +92,6 @@ pub write-cut-spec : {M : Type 1} → statement M
 write-cut-spec =
     tie.close
     (tie.spec
-    shared-slice-read-output
-    slice-write-output
-    cast-output
-    slice-write-output-2
-    write-directory-requires
-    mul-after
-    add-after
-    mul-write-positions
-    sub-write-positions
-    part-write-positions-start
-    part-write-positions-end
-    write-positions-requires
-    same-length
-    returns)
+    (λ c. search needs) slice-write-output (λ c. search needs) slice-write-output-2 write-directory-requires (λ c. search needs)
+    (λ c. search needs) (λ c. search needs) sub-write-positions part-write-positions-start (λ c. search needs) write-positions-requires
+    same-length returns)

@@ -18,9 +18,6 @@ Inv-loop chars lengths index string flags from output₀ count at₀ line₀ out
 abbrev μ-loop : tie.MeasureT-loop
 μ-loop chars lengths index string flags from output₀ count at₀ line₀ output at line = count - line
 
-shared-slice-read-count : tie.Need-shared-slice-read-count Inv-loop μ-loop
-shared-slice-read-count c = omega arith
-
 cast-count : tie.Need-cast-count Inv-loop μ-loop
 cast-count c = omega (arith, c .shared-slice-known .given 1)
 
@@ -30,18 +27,12 @@ loop-holds c =
     let a = s .args in
     listing-start (lexicon (a .chars .now) (a .lengths .now)) (a .index .now) (a .string .now) (a .from) (a .output .now) (s .pre .2)
 
-add-line : tie.Need-add-line Inv-loop μ-loop
-add-line c = search needs
-
 shared-slice-read-if1 : tie.Need-shared-slice-read-if1 Inv-loop μ-loop
 shared-slice-read-if1 c =
     let s = c .before .before .before .before in
     let a = s .args in
     let l = c .before .before .loop in
     omega arith
-
-mul-output : tie.Need-mul-output Inv-loop μ-loop
-mul-output c = search needs
 
 add-output : tie.Need-add-output Inv-loop μ-loop
 add-output c =
@@ -50,9 +41,6 @@ add-output c =
     let l = c .before .before .before .loop in
     omega arith
 
-mul-output-2 : tie.Need-mul-output-2 Inv-loop μ-loop
-mul-output-2 c = search needs
-
 shared-slice-read-output : tie.Need-shared-slice-read-output Inv-loop μ-loop
 shared-slice-read-output c =
     let s = c .before .before .before .before .before .before in
@@ -60,18 +48,12 @@ shared-slice-read-output c =
     let l = c .before .before .before .before .loop in
     omega arith
 
-mul-output-3 : tie.Need-mul-output-3 Inv-loop μ-loop
-mul-output-3 c = search needs
-
 slice-write-output : tie.Need-slice-write-output Inv-loop μ-loop
 slice-write-output c =
     let s = c .before .before .before .before .before .before in
     let a = s .args in
     let l = c .before .before .before .before .loop in
     omega (arith, listing-room (lexicon (a .chars .now) (a .lengths .now)) (a .index .now) (a .string .now) (l .inv) (c .before .before .before .loop-test .taken) (exact-flags-get (lexicon (a .chars .now) (a .lengths .now)) (a .index .now) (a .string .now) (s .pre .1) (l .line) (c .before .before .before .loop-test .taken) (c .before .if1 .taken)) (s .pre .0))
-
-mul-output-4 : tie.Need-mul-output-4 Inv-loop μ-loop
-mul-output-4 c = search needs
 
 add-output-2 : tie.Need-add-output-2 Inv-loop μ-loop
 add-output-2 c =
@@ -87,9 +69,6 @@ add-output-3 c =
     let l = c .before .before .before .before .loop in
     omega arith
 
-mul-output-5 : tie.Need-mul-output-5 Inv-loop μ-loop
-mul-output-5 c = search needs
-
 shared-slice-read-output-2 : tie.Need-shared-slice-read-output-2 Inv-loop μ-loop
 shared-slice-read-output-2 c =
     let s = c .before .before .before .before .before .before .before in
@@ -104,18 +83,12 @@ add-output-4 c =
     let l = c .before .before .before .before .before .loop in
     omega (arith, listing-room (lexicon (a .chars .now) (a .lengths .now)) (a .index .now) (a .string .now) (l .inv) (c .before .before .before .before .loop-test .taken) (exact-flags-get (lexicon (a .chars .now) (a .lengths .now)) (a .index .now) (a .string .now) (s .pre .1) (l .line) (c .before .before .before .before .loop-test .taken) (c .before .before .if1 .taken)) (s .pre .0))
 
-mul-output-6 : tie.Need-mul-output-6 Inv-loop μ-loop
-mul-output-6 c = search needs
-
 slice-write-output-2 : tie.Need-slice-write-output-2 Inv-loop μ-loop
 slice-write-output-2 c =
     let s = c .before .before .before .before .before .before .before in
     let a = s .args in
     let l = c .before .before .before .before .before .loop in
     simp length-set (omega (arith, listing-room (lexicon (a .chars .now) (a .lengths .now)) (a .index .now) (a .string .now) (l .inv) (c .before .before .before .before .loop-test .taken) (exact-flags-get (lexicon (a .chars .now) (a .lengths .now)) (a .index .now) (a .string .now) (s .pre .1) (l .line) (c .before .before .before .before .loop-test .taken) (c .before .before .if1 .taken)) (s .pre .0)))
-
-mul-output-7 : tie.Need-mul-output-7 Inv-loop μ-loop
-mul-output-7 c = search needs
 
 add-output-5 : tie.Need-add-output-5 Inv-loop μ-loop
 add-output-5 c =
@@ -131,9 +104,6 @@ add-output-6 c =
     let l = c .before .before .before .before .before .loop in
     omega arith
 
-mul-output-8 : tie.Need-mul-output-8 Inv-loop μ-loop
-mul-output-8 c = search needs
-
 shared-slice-read-output-3 : tie.Need-shared-slice-read-output-3 Inv-loop μ-loop
 shared-slice-read-output-3 c =
     let s = c .before .before .before .before .before .before .before .before in
@@ -147,9 +117,6 @@ add-output-7 c =
     let a = s .args in
     let l = c .before .before .before .before .before .before .loop in
     omega (arith, listing-room (lexicon (a .chars .now) (a .lengths .now)) (a .index .now) (a .string .now) (l .inv) (c .before .before .before .before .before .loop-test .taken) (exact-flags-get (lexicon (a .chars .now) (a .lengths .now)) (a .index .now) (a .string .now) (s .pre .1) (l .line) (c .before .before .before .before .before .loop-test .taken) (c .before .before .before .if1 .taken)) (s .pre .0))
-
-mul-output-9 : tie.Need-mul-output-9 Inv-loop μ-loop
-mul-output-9 c = search needs
 
 slice-write-output-3 : tie.Need-slice-write-output-3 Inv-loop μ-loop
 slice-write-output-3 c =
@@ -165,9 +132,6 @@ add-at c =
     let l = c .before .before .before .before .before .before .loop in
     omega (arith, listing-room (lexicon (a .chars .now) (a .lengths .now)) (a .index .now) (a .string .now) (l .inv) (c .before .before .before .before .before .loop-test .taken) (exact-flags-get (lexicon (a .chars .now) (a .lengths .now)) (a .index .now) (a .string .now) (s .pre .1) (l .line) (c .before .before .before .before .before .loop-test .taken) (c .before .before .before .if1 .taken)) (s .pre .0))
 
-loop-less : tie.Need-loop-less Inv-loop μ-loop
-loop-less c = search needs
-
 loop-again : tie.Need-loop-again Inv-loop μ-loop
 loop-again c =
     let s = c .before .before .before .before .before .before .before .before in
@@ -175,9 +139,6 @@ loop-again c =
     let l = c .before .before .before .before .before .before .loop in
     listing-step (lexicon (a .chars .now) (a .lengths .now)) (a .index .now) (a .string .now) (l .inv) (c .before .before .before .before .before .loop-test .taken)
     (exact-flags-get (lexicon (a .chars .now) (a .lengths .now)) (a .index .now) (a .string .now) (s .pre .1) (l .line) (c .before .before .before .before .before .loop-test .taken) (c .before .before .before .if1 .taken)) (s .pre .0)
-
-loop-less-2 : tie.Need-loop-less-2 Inv-loop μ-loop
-loop-less-2 c = search needs
 
 loop-again-2 : tie.Need-loop-again-2 Inv-loop μ-loop
 loop-again-2 c =
@@ -201,39 +162,8 @@ pub write-directory-spec : {M : Type 1} → statement M
 write-directory-spec =
     tie.close
     (tie.spec
-    Inv-loop
-    μ-loop
-    shared-slice-read-count
-    cast-count
-    loop-holds
-    add-line
-    shared-slice-read-if1
-    mul-output
-    add-output
-    mul-output-2
-    shared-slice-read-output
-    mul-output-3
-    slice-write-output
-    mul-output-4
-    add-output-2
-    add-output-3
-    mul-output-5
-    shared-slice-read-output-2
-    add-output-4
-    mul-output-6
-    slice-write-output-2
-    mul-output-7
-    add-output-5
-    add-output-6
-    mul-output-8
-    shared-slice-read-output-3
-    add-output-7
-    mul-output-9
-    slice-write-output-3
-    add-at
-    loop-less
-    loop-again
-    loop-less-2
-    loop-again-2
-    same-length
-    returns)
+    Inv-loop μ-loop (λ c. omega arith) cast-count loop-holds (λ c. search needs) shared-slice-read-if1 (λ c. search needs) add-output
+    (λ c. search needs) shared-slice-read-output (λ c. search needs) slice-write-output (λ c. search needs) add-output-2 add-output-3
+    (λ c. search needs) shared-slice-read-output-2 add-output-4 (λ c. search needs) slice-write-output-2 (λ c. search needs) add-output-5
+    add-output-6 (λ c. search needs) shared-slice-read-output-3 add-output-7 (λ c. search needs) slice-write-output-3 add-at
+    (λ c. search needs) loop-again (λ c. search needs) loop-again-2 same-length returns)

@@ -17,9 +17,6 @@ Inv-loop chars lengths index string flags part₀ count start₀ at₀ line₀ p
 abbrev μ-loop : tie.MeasureT-loop
 μ-loop chars lengths index string flags part₀ count start₀ at₀ line₀ part start at line = count - line
 
-shared-slice-read-count : tie.Need-shared-slice-read-count Inv-loop μ-loop
-shared-slice-read-count c = omega arith
-
 cast-count : tie.Need-cast-count Inv-loop μ-loop
 cast-count c = omega (arith, c .shared-slice-known6 .given 1)
 
@@ -81,12 +78,6 @@ mul-write-list c =
     let l = c .before .before .before .before .loop in
     omega (arith, placing-there (lexicon (a .chars .now) (a .lengths .now)) (a .index .now) (a .string .now) (l .inv) (c .before .before .before .loop-test .taken) (s .pre .0))
 
-sub-write-list : tie.Need-sub-write-list Inv-loop μ-loop
-sub-write-list c = omega arith
-
-part-write-list-start : tie.Need-part-write-list-start Inv-loop μ-loop
-part-write-list-start c = search needs
-
 part-write-list-end : tie.Need-part-write-list-end Inv-loop μ-loop
 part-write-list-end c =
     let s = c .before .before .before .before .before .before .before .before .before .before .before .before in
@@ -101,18 +92,12 @@ write-list-requires c κs =
     let l = c .before .before .before .before .before .before .loop in
     placing-room (lexicon (a .chars .now) (a .lengths .now)) (a .index .now) (a .string .now) (l .inv) (c .before .before .before .before .before .loop-test .taken) (s .pre .0) (exact-flags-get (lexicon (a .chars .now) (a .lengths .now)) (a .index .now) (a .string .now) (s .pre .1) (l .line) (c .before .before .before .before .before .loop-test .taken) (c .before .before .if1 .taken))
 
-sub-at : tie.Need-sub-at Inv-loop μ-loop
-sub-at c = omega arith
-
 add-at : tie.Need-add-at Inv-loop μ-loop
 add-at c =
     let s = c .before .before .before .before .before .before .before .before .before .before .before .before .before .before .before .before .before in
     let a = s .args in
     let l = c .before .before .before .before .before .before .before .before .before .loop in
     omega (arith, placing-room (lexicon (a .chars .now) (a .lengths .now)) (a .index .now) (a .string .now) (l .inv) (c .before .before .before .before .before .before .before .before .loop-test .taken) (s .pre .0) (exact-flags-get (lexicon (a .chars .now) (a .lengths .now)) (a .index .now) (a .string .now) (s .pre .1) (l .line) (c .before .before .before .before .before .before .before .before .loop-test .taken) (c .before .before .before .before .before .if1 .taken)), placing-counted (lexicon (a .chars .now) (a .lengths .now)) (a .index .now) (a .string .now) (l .inv) (c .before .before .before .before .before .before .before .before .loop-test .taken) (s .pre .0))
-
-loop-less : tie.Need-loop-less Inv-loop μ-loop
-loop-less c = search needs
 
 loop-again : tie.Need-loop-again Inv-loop μ-loop
 loop-again c =
@@ -122,9 +107,6 @@ loop-again c =
     placing-step (lexicon (a .chars .now) (a .lengths .now)) (a .index .now) (a .string .now) (l .inv) (c .before .before .before .before .before .before .before .before .loop-test .taken) (s .pre .0)
     (exact-flags-get (lexicon (a .chars .now) (a .lengths .now)) (a .index .now) (a .string .now) (s .pre .1) (l .line) (c .before .before .before .before .before .before .before .before .loop-test .taken) (c .before .before .before .before .before .if1 .taken))
     (c .before .before .write-list .last .1 .1 .0) (c .before .before .write-list .ensures)
-
-loop-less-2 : tie.Need-loop-less-2 Inv-loop μ-loop
-loop-less-2 c = search needs
 
 loop-again-2 : tie.Need-loop-again-2 Inv-loop μ-loop
 loop-again-2 c =
@@ -148,32 +130,6 @@ pub write-positions-spec : {M : Type 1} → statement M
 write-positions-spec =
     tie.close
     (tie.spec
-    Inv-loop
-    μ-loop
-    shared-slice-read-count
-    cast-count
-    mul-start
-    add-start
-    loop-holds
-    mul-end
-    add-end
-    add-end-2
-    mul-end-2
-    shared-slice-read-end
-    cast-end
-    add-end-3
-    add-line
-    shared-slice-read-if1
-    mul-write-list
-    sub-write-list
-    part-write-list-start
-    part-write-list-end
-    write-list-requires
-    sub-at
-    add-at
-    loop-less
-    loop-again
-    loop-less-2
-    loop-again-2
-    same-length
-    returns)
+    Inv-loop μ-loop (λ c. omega arith) cast-count mul-start add-start loop-holds mul-end add-end add-end-2 mul-end-2 shared-slice-read-end
+    cast-end add-end-3 add-line shared-slice-read-if1 mul-write-list (λ c. omega arith) (λ c. search needs) part-write-list-end
+    write-list-requires (λ c. omega arith) add-at (λ c. search needs) loop-again (λ c. search needs) loop-again-2 same-length returns)

@@ -30,12 +30,6 @@ bit-small false = omega arith
 loop-holds : tie.Need-loop-holds Inv-loop μ-loop
 loop-holds c = counting-start (c .args .len) (c .args .reach .now)
 
-mul-count : tie.Need-mul-count Inv-loop μ-loop
-mul-count c = search needs
-
-shared-slice-read-count : tie.Need-shared-slice-read-count Inv-loop μ-loop
-shared-slice-read-count c = search needs
-
 cast-count : tie.Need-cast-count Inv-loop μ-loop
 cast-count c = omega (arith, c .shared-slice-known .given (c .before .before .loop .i))
 
@@ -47,12 +41,6 @@ add-count c =
     let a = c .before .before .before .args in
     let l = c .before .before .loop in
     omega (arith, bit-small (leb (a .len) (getD (a .reach .now) (l .i) 0)))
-
-add-i : tie.Need-add-i Inv-loop μ-loop
-add-i c = search needs
-
-loop-less : tie.Need-loop-less Inv-loop μ-loop
-loop-less c = search needs
 
 loop-again : tie.Need-loop-again Inv-loop μ-loop
 loop-again c =
@@ -71,15 +59,5 @@ pub count-found-spec : {M : Type 1} → statement M
 count-found-spec =
     tie.close
     (tie.spec
-    Inv-loop
-    μ-loop
-    loop-holds
-    mul-count
-    shared-slice-read-count
-    cast-count
-    cast-count-2
-    add-count
-    add-i
-    loop-less
-    loop-again
-    returns)
+    Inv-loop μ-loop loop-holds (λ c. search needs) (λ c. search needs) cast-count cast-count-2 add-count (λ c. search needs)
+    (λ c. search needs) loop-again returns)

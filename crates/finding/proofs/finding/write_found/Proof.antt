@@ -47,16 +47,10 @@ slice-write-output c =
     let s = c .before .before .before .before .before in
     omega arith
 
-add-written : tie.Need-add-written Inv-loop μ-loop
-add-written c = search needs
-
 add-i : tie.Need-add-i Inv-loop μ-loop
 add-i c =
     let s = c .before .before .before .before .before in
     omega arith
-
-loop-less : tie.Need-loop-less Inv-loop μ-loop
-loop-less c = omega arith
 
 loop-again : tie.Need-loop-again Inv-loop μ-loop
 loop-again c =
@@ -82,17 +76,5 @@ pub write-found-spec : {M : Type 1} → statement M
 write-found-spec =
     tie.close
     (tie.spec
-    Inv-loop
-    μ-loop
-    loop-holds
-    next-found-requires
-    add-output
-    cast-output
-    mul-output
-    slice-write-output
-    add-written
-    add-i
-    loop-less
-    loop-again
-    same-length
-    returns)
+    Inv-loop μ-loop loop-holds next-found-requires add-output cast-output mul-output slice-write-output (λ c. search needs) add-i
+    (λ c. omega arith) loop-again same-length returns)

@@ -13,15 +13,6 @@ use Rattle.laws.specs.TextScan.ReconstructedSearch.{reconstructed-finds, recons
 use Rattle.finding.proofs.text_scan.reach_reconstructed.Statement.{statement}
 use Rattle.finding.proofs.text_scan.reach_reconstructed.Tie as tie
 
-sentinel-of-requires : tie.Need-sentinel-of-requires
-sentinel-of-requires c κs = search needs
-
-reconstruct-checked-requires : tie.Need-reconstruct-checked-requires
-reconstruct-checked-requires c κs = search needs
-
-same-length : tie.Need-same-length
-same-length c = search needs
-
 returns : tie.Need-returns
 returns c =
     let a = c .before .before .before .before .before .before .before .before .before .before .before .before .before .args in
@@ -38,15 +29,6 @@ returns c =
         ),
       ),
     )
-
-reach-prefixes-requires : tie.Need-reach-prefixes-requires
-reach-prefixes-requires c κs = search needs
-
-same-length-2 : tie.Need-same-length-2
-same-length-2 c = search needs
-
-same-length-3 : tie.Need-same-length-3
-same-length-3 c = search needs
 
 returns-2 : tie.Need-returns-2
 returns-2 c =
@@ -75,11 +57,5 @@ pub reach-reconstructed-spec : {M : Type 1} → statement M
 reach-reconstructed-spec =
     tie.close
     (tie.spec
-    sentinel-of-requires
-    reconstruct-checked-requires
-    same-length
-    returns
-    reach-prefixes-requires
-    same-length-2
-    same-length-3
+    (λ c κs. search needs) (λ c κs. search needs) (λ c. search needs) returns (λ c κs. search needs) (λ c. search needs) (λ c. search needs)
     returns-2)

@@ -9,16 +9,10 @@ use borrow.Author.Needs.{needs}
 use Rattle.finding.proofs.window.search_window.Statement.{statement}
 use Rattle.finding.proofs.window.search_window.Tie as tie
 
-slice-aggregate-extend-listing : tie.Need-slice-aggregate-extend-listing
-slice-aggregate-extend-listing c = search needs
-
 extend-listing-requires : tie.Need-extend-listing-requires
 extend-listing-requires c κs =
     let s = c .before .before .before .before .before .before .before .before .before .before in
     (s .pre .0, s .pre .1, omega arith, omega arith, cleared-within (length (s .args .reach .now)) (s .args .reach .now) (s .pre .3))
-
-same-length : tie.Need-same-length
-same-length c = search needs
 
 returns : tie.Need-returns
 returns c =
@@ -27,15 +21,6 @@ returns c =
     let window = c .before .before .before .before .extend-listing in
     says-none (lexicon (a .chars .now) (a .lengths .now)) (a .index .now) (a .string .now) (length (a .reach .now)) (a .first) (a .output .now)
     (a .reach .now) (s .pre .3) (window .ensures) (c .if1 .taken) (record { refusal = 0; count = 0 }) refl refl
-
-answer-window-requires : tie.Need-answer-window-requires
-answer-window-requires c κs = search needs
-
-same-length-2 : tie.Need-same-length-2
-same-length-2 c = search needs
-
-same-length-3 : tie.Need-same-length-3
-same-length-3 c = search needs
 
 returns-2 : tie.Need-returns-2
 returns-2 c =
@@ -50,11 +35,5 @@ pub search-window-spec : {M : Type 1} → statement M
 search-window-spec =
     tie.close
     (tie.spec
-    slice-aggregate-extend-listing
-    extend-listing-requires
-    same-length
-    returns
-    answer-window-requires
-    same-length-2
-    same-length-3
+    (λ c. search needs) extend-listing-requires (λ c. search needs) returns (λ c κs. search needs) (λ c. search needs) (λ c. search needs)
     returns-2)

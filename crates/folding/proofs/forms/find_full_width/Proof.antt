@@ -18,21 +18,6 @@ abbrev μ-loop : tie.MeasureT-loop
 loop-holds : tie.Need-loop-holds Inv-loop μ-loop
 loop-holds c = (omega arith, refl)
 
-mul-is-full-width : tie.Need-mul-is-full-width Inv-loop μ-loop
-mul-is-full-width c = search needs
-
-shared-slice-read-is-full-width : tie.Need-shared-slice-read-is-full-width Inv-loop μ-loop
-shared-slice-read-is-full-width c = search needs
-
-is-full-width-requires : tie.Need-is-full-width-requires Inv-loop μ-loop
-is-full-width-requires c κs = search needs
-
-add-i : tie.Need-add-i Inv-loop μ-loop
-add-i c = search needs
-
-loop-less : tie.Need-loop-less Inv-loop μ-loop
-loop-less c = search needs
-
 loop-again : tie.Need-loop-again Inv-loop μ-loop
 loop-again c =
     let turn = c .before .before .before .loop in
@@ -49,13 +34,5 @@ pub find-full-width-spec : {M : Type 1} → statement M
 find-full-width-spec =
     tie.close
     (tie.spec
-    Inv-loop
-    μ-loop
-    loop-holds
-    mul-is-full-width
-    shared-slice-read-is-full-width
-    is-full-width-requires
-    add-i
-    loop-less
-    loop-again
-    returns)
+    Inv-loop μ-loop loop-holds (λ c. search needs) (λ c. search needs) (λ c κs. search needs) (λ c. search needs) (λ c. search needs)
+    loop-again returns)

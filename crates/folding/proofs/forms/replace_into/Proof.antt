@@ -26,29 +26,11 @@ loop-holds c =
           (omega (arith, length-replaced (start .args .text .now))),
     )
 
-mul-replace : tie.Need-mul-replace Inv-loop μ-loop
-mul-replace c = search needs
-
-shared-slice-read-replace : tie.Need-shared-slice-read-replace Inv-loop μ-loop
-shared-slice-read-replace c = search needs
-
-replace-requires : tie.Need-replace-requires Inv-loop μ-loop
-replace-requires c κs = search needs
-
-mul-slots : tie.Need-mul-slots Inv-loop μ-loop
-mul-slots c = search needs
-
 slice-write-slots : tie.Need-slice-write-slots Inv-loop μ-loop
 slice-write-slots c =
     let text = c .before .before .before .before .before .before .args .text .now in
     let turn = c .before .before .before .loop in
     copy-room (replaced text) (turn .i) (turn .inv .1) (omega (arith, length-replaced text))
-
-add-i : tie.Need-add-i Inv-loop μ-loop
-add-i c = search needs
-
-loop-less : tie.Need-loop-less Inv-loop μ-loop
-loop-less c = search needs
 
 loop-again : tie.Need-loop-again Inv-loop μ-loop
 loop-again c =
@@ -74,16 +56,5 @@ pub replace-into-spec : {M : Type 1} → statement M
 replace-into-spec =
     tie.close
     (tie.spec
-    Inv-loop
-    μ-loop
-    loop-holds
-    mul-replace
-    shared-slice-read-replace
-    replace-requires
-    mul-slots
-    slice-write-slots
-    add-i
-    loop-less
-    loop-again
-    same-length
-    returns)
+    Inv-loop μ-loop loop-holds (λ c. search needs) (λ c. search needs) (λ c κs. search needs) (λ c. search needs) slice-write-slots
+    (λ c. search needs) (λ c. search needs) loop-again same-length returns)

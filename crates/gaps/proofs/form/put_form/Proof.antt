@@ -14,9 +14,6 @@ use borrow.Author.Needs.{needs}
 use Rattle.gaps.proofs.form.put_form.Statement.{statement}
 use Rattle.gaps.proofs.form.put_form.Tie as tie
 
-refusal-as-requires : tie.Need-refusal-as-requires
-refusal-as-requires c κs = search needs
-
 returns : tie.Need-returns
 returns c =
     let start = c .before .before .before .before .before .before in
@@ -40,9 +37,6 @@ returns-2 c =
     let short : length o < length form = omega (arith, form-length (start .args .restore) (start .args .index .now)) in
     gaps-sized cs ls read form _ o none _ (sized-short form _ o short refl refl)
 
-slice-relend-prefix-write-form : tie.Need-slice-relend-prefix-write-form
-slice-relend-prefix-write-form c = search needs
-
 slice-aggregate-write-form : tie.Need-slice-aggregate-write-form
 slice-aggregate-write-form c =
     let start = c .before .before .before .before .before .before .before .before in
@@ -57,9 +51,6 @@ write-form-requires c κs =
           (λ (i : ℕ). omega (arith, known .shared-slice-known .given i)) none,
       length-take-le (length (start .args .index .now)) (start .args .output .now) (c .before .if2 .left),
     )
-
-same-length : tie.Need-same-length
-same-length c = search needs
 
 returns-3 : tie.Need-returns-3
 returns-3 c =
@@ -80,11 +71,5 @@ pub put-form-spec : {M : Type 1} → statement M
 put-form-spec =
     tie.close
     (tie.spec
-    refusal-as-requires
-    returns
-    returns-2
-    slice-relend-prefix-write-form
-    slice-aggregate-write-form
-    write-form-requires
-    same-length
+    (λ c κs. search needs) returns returns-2 (λ c. search needs) slice-aggregate-write-form write-form-requires (λ c. search needs)
     returns-3)

@@ -12,18 +12,6 @@ use borrow.Author.Needs.{needs}
 use Rattle.gaps.proofs.form.write_form.Statement.{statement}
 use Rattle.gaps.proofs.form.write_form.Tie as tie
 
-shared-slice-read-keys : tie.Need-shared-slice-read-keys
-shared-slice-read-keys c = search needs
-
-cast-keys : tie.Need-cast-keys
-cast-keys c = search needs
-
-mul-first : tie.Need-mul-first
-mul-first c = search needs
-
-add-first : tie.Need-add-first
-add-first c = search needs
-
 slice-aggregate-write-list : tie.Need-slice-aggregate-write-list
 slice-aggregate-write-list c =
     let start = c .before .before .before .before in
@@ -36,18 +24,6 @@ write-list-requires c κs =
     let fits = start .pre .0 .fits in
     omega (arith, front-long gaps (length-gaps 0) fits (2 + 3 * keys-of xs) refl)
 
-mul-write-positions : tie.Need-mul-write-positions
-mul-write-positions c = search needs
-
-sub-write-positions : tie.Need-sub-write-positions
-sub-write-positions c = search needs
-
-part-write-positions-start : tie.Need-part-write-positions-start
-part-write-positions-start c = search needs
-
-part-write-positions-end : tie.Need-part-write-positions-end
-part-write-positions-end c = search needs
-
 write-positions-requires : tie.Need-write-positions-requires
 write-positions-requires c κs =
     let start = c .before .before .before .before .before .before .before .before .before .before in
@@ -58,18 +34,6 @@ write-positions-requires c κs =
       part-long prefix-sums (length-sums 0) (can .fits) (2 + 3 * keys-of xs) refl (start .args .form .now) _ (start .pre .1)
           (c .before .before .before .before .write-list .ensures),
     )
-
-mul-write-gaps : tie.Need-mul-write-gaps
-mul-write-gaps c = search needs
-
-sub-write-gaps : tie.Need-sub-write-gaps
-sub-write-gaps c = search needs
-
-part-write-gaps-start : tie.Need-part-write-gaps-start
-part-write-gaps-start c = search needs
-
-part-write-gaps-end : tie.Need-part-write-gaps-end
-part-write-gaps-end c = search needs
 
 write-gaps-requires : tie.Need-write-gaps-requires
 write-gaps-requires c κs =
@@ -82,9 +46,6 @@ write-gaps-requires c κs =
           (c .before .before .before .before .write-list .ensures),
     )
 
-same-length : tie.Need-same-length
-same-length c = search needs
-
 returns : tie.Need-returns
 returns c =
     let start = c .before .before .before .before .before .before .before .before .before .before .before .before .before in
@@ -93,9 +54,6 @@ returns c =
     form-written prefix-sums (length-sums 0) (start .pre .0 .fits) (2 + 3 * keys-of xs) refl (start .args .form .now) _ (start .pre .1)
     copied _ (c .before .before .write-positions .ensures)
     ∙ ap (λ (b : Bool). with-lists (write-as b) xs) (sym (c .before .before .before .before .if1 .taken))
-
-same-length-2 : tie.Need-same-length-2
-same-length-2 c = search needs
 
 returns-2 : tie.Need-returns-2
 returns-2 c =
@@ -110,23 +68,7 @@ pub write-form-spec : {M : Type 1} → statement M
 write-form-spec =
     tie.close
     (tie.spec
-    shared-slice-read-keys
-    cast-keys
-    mul-first
-    add-first
-    slice-aggregate-write-list
-    write-list-requires
-    mul-write-positions
-    sub-write-positions
-    part-write-positions-start
-    part-write-positions-end
-    write-positions-requires
-    mul-write-gaps
-    sub-write-gaps
-    part-write-gaps-start
-    part-write-gaps-end
-    write-gaps-requires
-    same-length
-    returns
-    same-length-2
+    (λ c. search needs) (λ c. search needs) (λ c. search needs) (λ c. search needs) slice-aggregate-write-list write-list-requires
+    (λ c. search needs) (λ c. search needs) (λ c. search needs) (λ c. search needs) write-positions-requires (λ c. search needs)
+    (λ c. search needs) (λ c. search needs) (λ c. search needs) write-gaps-requires (λ c. search needs) returns (λ c. search needs)
     returns-2)

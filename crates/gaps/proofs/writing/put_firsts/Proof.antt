@@ -20,12 +20,6 @@ Inv-loop index keys restore part₀ first at₀ i₀ part at i =
 abbrev μ-loop : tie.MeasureT-loop
 μ-loop index keys restore part₀ first at₀ i₀ part at i = keys - i
 
-mul-first : tie.Need-mul-first Inv-loop μ-loop
-mul-first c = search needs
-
-add-first : tie.Need-add-first Inv-loop μ-loop
-add-first c = search needs
-
 loop-holds : tie.Need-loop-holds Inv-loop μ-loop
 loop-holds c =
     let start = c .before .before in
@@ -61,9 +55,6 @@ shared-slice-read-first-number c =
     let there = line-there (start .pre .0) (walk .inv) below in
     omega arith
 
-first-number-requires : tie.Need-first-number-requires Inv-loop μ-loop
-first-number-requires c κs = search needs
-
 mul-part : tie.Need-mul-part Inv-loop μ-loop
 mul-part c =
     let start = c .before .before .before .before .before .before in
@@ -82,21 +73,6 @@ slice-write-part c =
     let there = line-there (start .pre .0) (walk .inv) below in
     there .write
 
-mul-at : tie.Need-mul-at Inv-loop μ-loop
-mul-at c = search needs
-
-add-at : tie.Need-add-at Inv-loop μ-loop
-add-at c = search needs
-
-add-at-2 : tie.Need-add-at-2 Inv-loop μ-loop
-add-at-2 c = search needs
-
-mul-at-2 : tie.Need-mul-at-2 Inv-loop μ-loop
-mul-at-2 c = search needs
-
-shared-slice-read-at : tie.Need-shared-slice-read-at Inv-loop μ-loop
-shared-slice-read-at c = search needs
-
 cast-at : tie.Need-cast-at Inv-loop μ-loop
 cast-at c = omega (arith, c .shared-slice-known3 .given (2 + 3 * c .before .before .before .before .loop .i + 2))
 
@@ -108,12 +84,6 @@ add-at-3 c =
     let below : walk .i < keys-of (a .index .now) = omega arith in
     let there = line-there (start .pre .0) (walk .inv) below in
     omega arith
-
-add-i : tie.Need-add-i Inv-loop μ-loop
-add-i c = search needs
-
-loop-less : tie.Need-loop-less Inv-loop μ-loop
-loop-less c = search needs
 
 loop-again : tie.Need-loop-again Inv-loop μ-loop
 loop-again c =
@@ -154,26 +124,6 @@ pub put-firsts-spec : {M : Type 1} → statement M
 put-firsts-spec =
     tie.close
     (tie.spec
-    Inv-loop
-    μ-loop
-    mul-first
-    add-first
-    loop-holds
-    add-first-number
-    mul-first-number
-    shared-slice-read-first-number
-    first-number-requires
-    mul-part
-    slice-write-part
-    mul-at
-    add-at
-    add-at-2
-    mul-at-2
-    shared-slice-read-at
-    cast-at
-    add-at-3
-    add-i
-    loop-less
-    loop-again
-    same-length
-    returns)
+    Inv-loop μ-loop (λ c. search needs) (λ c. search needs) loop-holds add-first-number mul-first-number shared-slice-read-first-number
+    (λ c κs. search needs) mul-part slice-write-part (λ c. search needs) (λ c. search needs) (λ c. search needs) (λ c. search needs)
+    (λ c. search needs) cast-at add-at-3 (λ c. search needs) (λ c. search needs) loop-again same-length returns)

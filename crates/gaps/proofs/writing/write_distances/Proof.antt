@@ -16,36 +16,6 @@ abbrev μ-loop : tie.MeasureT-loop
 loop-holds : tie.Need-loop-holds Inv-loop μ-loop
 loop-holds c = distances-start (c .before .before .args .run .now) (c .before .before .args .part .now) (c .before .before .pre)
 
-mul-distance : tie.Need-mul-distance Inv-loop μ-loop
-mul-distance c = search needs
-
-shared-slice-read-distance : tie.Need-shared-slice-read-distance Inv-loop μ-loop
-shared-slice-read-distance c = search needs
-
-add-distance : tie.Need-add-distance Inv-loop μ-loop
-add-distance c = search needs
-
-mul-distance-2 : tie.Need-mul-distance-2 Inv-loop μ-loop
-mul-distance-2 c = search needs
-
-shared-slice-read-distance-2 : tie.Need-shared-slice-read-distance-2 Inv-loop μ-loop
-shared-slice-read-distance-2 c = search needs
-
-distance-requires : tie.Need-distance-requires Inv-loop μ-loop
-distance-requires c κs = search needs
-
-mul-part : tie.Need-mul-part Inv-loop μ-loop
-mul-part c = search needs
-
-slice-write-part : tie.Need-slice-write-part Inv-loop μ-loop
-slice-write-part c = search needs
-
-add-i : tie.Need-add-i Inv-loop μ-loop
-add-i c = search needs
-
-loop-less : tie.Need-loop-less Inv-loop μ-loop
-loop-less c = search needs
-
 loop-again : tie.Need-loop-again Inv-loop μ-loop
 loop-again c =
     let start = c .before .before .before .before .before .before .before in
@@ -67,19 +37,5 @@ pub write-distances-spec : {M : Type 1} → statement M
 write-distances-spec =
     tie.close
     (tie.spec
-    Inv-loop
-    μ-loop
-    loop-holds
-    mul-distance
-    shared-slice-read-distance
-    add-distance
-    mul-distance-2
-    shared-slice-read-distance-2
-    distance-requires
-    mul-part
-    slice-write-part
-    add-i
-    loop-less
-    loop-again
-    same-length
-    returns)
+    Inv-loop μ-loop loop-holds (λ c. search needs) (λ c. search needs) (λ c. search needs) (λ c. search needs) (λ c. search needs)
+    (λ c κs. search needs) (λ c. search needs) (λ c. search needs) (λ c. search needs) (λ c. search needs) loop-again same-length returns)

@@ -6,24 +6,6 @@ use borrow.Author.Needs.{needs}
 use Rattle.gaps.proofs.writing.write_gaps.Statement.{statement}
 use Rattle.gaps.proofs.writing.write_gaps.Tie as tie
 
-mul-before : tie.Need-mul-before
-mul-before c = search needs
-
-add-before : tie.Need-add-before
-add-before c = search needs
-
-mul-write-distances : tie.Need-mul-write-distances
-mul-write-distances c = search needs
-
-sub-write-distances : tie.Need-sub-write-distances
-sub-write-distances c = search needs
-
-part-write-distances-start : tie.Need-part-write-distances-start
-part-write-distances-start c = search needs
-
-part-write-distances-end : tie.Need-part-write-distances-end
-part-write-distances-end c = search needs
-
 write-distances-requires : tie.Need-write-distances-requires
 write-distances-requires c κs =
     let start = c .before .before .before .before in
@@ -38,9 +20,6 @@ put-firsts-requires c κs =
           (c .before .before .before .write-distances .ensures),
     )
 
-same-length : tie.Need-same-length
-same-length c = search needs
-
 returns : tie.Need-returns
 returns c =
     let start = c .before .before .before .before .before .before .before .before .before .before .before in
@@ -51,13 +30,5 @@ pub write-gaps-spec : {M : Type 1} → statement M
 write-gaps-spec =
     tie.close
     (tie.spec
-    mul-before
-    add-before
-    mul-write-distances
-    sub-write-distances
-    part-write-distances-start
-    part-write-distances-end
-    write-distances-requires
-    put-firsts-requires
-    same-length
-    returns)
+    (λ c. search needs) (λ c. search needs) (λ c. search needs) (λ c. search needs) (λ c. search needs) (λ c. search needs)
+    write-distances-requires put-firsts-requires (λ c. search needs) returns)

@@ -10,15 +10,6 @@ use borrow.Author.Needs.{needs}
 use Rattle.gaps.proofs.writing.write_positions.Statement.{statement}
 use Rattle.gaps.proofs.writing.write_positions.Tie as tie
 
-mul-first : tie.Need-mul-first
-mul-first c = search needs
-
-add-first : tie.Need-add-first
-add-first c = search needs
-
-fill-requires : tie.Need-fill-requires
-fill-requires c κs = search needs
-
 put-firsts-requires : tie.Need-put-firsts-requires
 put-firsts-requires c κs =
     let start = c .before .before .before .before .before .before .before in
@@ -28,18 +19,6 @@ put-firsts-requires c κs =
       masks-ready (start .pre .0 .fits) (start .args .keys) (start .pre .1) (start .args .part .now) _
           (start .pre .2) (filled .ensures),
     )
-
-mul-add-up : tie.Need-mul-add-up
-mul-add-up c = search needs
-
-sub-add-up : tie.Need-sub-add-up
-sub-add-up c = search needs
-
-part-add-up-start : tie.Need-part-add-up-start
-part-add-up-start c = search needs
-
-part-add-up-end : tie.Need-part-add-up-end
-part-add-up-end c = search needs
 
 add-up-requires : tie.Need-add-up-requires
 add-up-requires c κs =
@@ -51,9 +30,6 @@ add-up-requires c κs =
       masks-long (can .fits) (start .args .keys) (start .pre .1) (can .totals refl) _ masked,
       λ j. subst (λ (l : List ℕ). getD l j 0 ≤ carry) (sym sums) (can .sums refl j),
     )
-
-same-length : tie.Need-same-length
-same-length c = search needs
 
 returns : tie.Need-returns
 returns c =
@@ -67,14 +43,5 @@ pub write-positions-spec : {M : Type 1} → statement M
 write-positions-spec =
     tie.close
     (tie.spec
-    mul-first
-    add-first
-    fill-requires
-    put-firsts-requires
-    mul-add-up
-    sub-add-up
-    part-add-up-start
-    part-add-up-end
-    add-up-requires
-    same-length
-    returns)
+    (λ c. search needs) (λ c. search needs) (λ c κs. search needs) put-firsts-requires (λ c. search needs) (λ c. search needs)
+    (λ c. search needs) (λ c. search needs) add-up-requires (λ c. search needs) returns)

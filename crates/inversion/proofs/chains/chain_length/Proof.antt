@@ -41,9 +41,6 @@ add-count c = omega (
       (c .before .before .args .links .now) (c .before .before .args .head),
 )
 
-sub-at : tie.Need-sub-at Inv-loop μ-loop
-sub-at c = omega arith
-
 mul-at : tie.Need-mul-at Inv-loop μ-loop
 mul-at c = omega (arith, inside c)
 
@@ -67,14 +64,4 @@ pub chain-length-spec : {M : Type 1} → statement M
 chain-length-spec =
     tie.close
     (tie.spec
-    Inv-loop
-    μ-loop
-    loop-holds
-    add-count
-    sub-at
-    mul-at
-    shared-slice-read-at
-    cast-at
-    loop-less
-    loop-again
-    returns)
+    Inv-loop μ-loop loop-holds add-count (λ c. omega arith) mul-at shared-slice-read-at cast-at loop-less loop-again returns)

@@ -42,9 +42,6 @@ loop-holds c =
     links-start (replaced (start .args .text .now)) (start .args .tokens .now)
     (start .pre .1)
 
-sub-p : tie.Need-sub-p Inv-loop μ-loop
-sub-p c = omega arith
-
 mul-token : tie.Need-mul-token Inv-loop μ-loop
 mul-token c = omega (arith, below c)
 
@@ -66,12 +63,6 @@ code-of-requires c κs =
     (l .p - 1) (omega arith) (l .inv) in
     (omega arith, omega (arith, start .pre .0 .small (l .p - 1) (omega (arith, below (c .before .before .before)))))
 
-mul-head : tie.Need-mul-head Inv-loop μ-loop
-mul-head c = omega arith
-
-slice-read-head : tie.Need-slice-read-head Inv-loop μ-loop
-slice-read-head c = omega arith
-
 mul-tokens : tie.Need-mul-tokens Inv-loop μ-loop
 mul-tokens c = omega (arith, below (c .before .before .before .before .before))
 
@@ -84,24 +75,6 @@ add-heads c = omega (arith, below (c .before .before .before .before .before))
 cast-heads : tie.Need-cast-heads Inv-loop μ-loop
 cast-heads c = omega (arith, below (c .before .before .before .before .before))
 
-mul-heads : tie.Need-mul-heads Inv-loop μ-loop
-mul-heads c = omega arith
-
-slice-write-heads : tie.Need-slice-write-heads Inv-loop μ-loop
-slice-write-heads c = omega arith
-
-slice-write-pages : tie.Need-slice-write-pages Inv-loop μ-loop
-slice-write-pages c = omega arith
-
-add-entries : tie.Need-add-entries Inv-loop μ-loop
-add-entries c = omega arith
-
-add-keys : tie.Need-add-keys Inv-loop μ-loop
-add-keys c = omega arith
-
-loop-less : tie.Need-loop-less Inv-loop μ-loop
-loop-less c = omega arith
-
 loop-again : tie.Need-loop-again Inv-loop μ-loop
 loop-again c =
     let start = c .before .before .before .before .before .before .before .before .before .before .before .before in
@@ -112,9 +85,6 @@ loop-again c =
     (rw (← getD-replaced (start .args .text .now) (l .p - 1)) at (c .before .before .code-of .ensures .0))
     (c .before .before .code-of .ensures .1) (c .if2 .taken)
 
-loop-less-2 : tie.Need-loop-less-2 Inv-loop μ-loop
-loop-less-2 c = omega arith
-
 loop-again-2 : tie.Need-loop-again-2 Inv-loop μ-loop
 loop-again-2 c =
     let start = c .before .before .before .before .before .before .before .before .before .before .before .before in
@@ -124,9 +94,6 @@ loop-again-2 c =
     (omega arith) (l .inv) (c .before .before .code-of .result)
     (rw (← getD-replaced (start .args .text .now) (l .p - 1)) at (c .before .before .code-of .ensures .0))
     (c .before .before .code-of .ensures .1) (c .if2 .left)
-
-loop-less-3 : tie.Need-loop-less-3 Inv-loop μ-loop
-loop-less-3 c = omega arith
 
 loop-again-3 : tie.Need-loop-again-3 Inv-loop μ-loop
 loop-again-3 c =
@@ -143,9 +110,6 @@ same-length c = c .before .loop .inv .linked .len
 same-length-2 : tie.Need-same-length-2 Inv-loop μ-loop
 same-length-2 c = c .before .loop .inv .codes ∙ sym (c .before .before .before .before .before .before .pre .1 .codes)
 
-same-length-3 : tie.Need-same-length-3 Inv-loop μ-loop
-same-length-3 c = omega arith
-
 returns : tie.Need-returns Inv-loop μ-loop
 returns c =
     let none : c .before .loop .p ≡ 0 = omega arith in
@@ -155,33 +119,7 @@ pub chain-positions-spec : {M : Type 1} → statement M
 chain-positions-spec =
     tie.close
     (tie.spec
-    Inv-loop
-    μ-loop
-    loop-holds
-    sub-p
-    mul-token
-    slice-read-token
-    mul-code-of
-    shared-slice-read-code-of
-    code-of-requires
-    mul-head
-    slice-read-head
-    mul-tokens
-    slice-write-tokens
-    add-heads
-    cast-heads
-    mul-heads
-    slice-write-heads
-    slice-write-pages
-    add-entries
-    add-keys
-    loop-less
-    loop-again
-    loop-less-2
-    loop-again-2
-    loop-less-3
-    loop-again-3
-    same-length
-    same-length-2
-    same-length-3
-    returns)
+    Inv-loop μ-loop loop-holds (λ c. omega arith) mul-token slice-read-token mul-code-of shared-slice-read-code-of code-of-requires
+    (λ c. omega arith) (λ c. omega arith) mul-tokens slice-write-tokens add-heads cast-heads (λ c. omega arith) (λ c. omega arith)
+    (λ c. omega arith) (λ c. omega arith) (λ c. omega arith) (λ c. omega arith) loop-again (λ c. omega arith) loop-again-2
+    (λ c. omega arith) loop-again-3 same-length same-length-2 (λ c. omega arith) returns)

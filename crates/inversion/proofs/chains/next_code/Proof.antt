@@ -23,32 +23,14 @@ page c =
 loop-holds : tie.Need-loop-holds Inv-loop μ-loop
 loop-holds c = passed-start (c .args .heads .now) (c .args .from) (c .pre .1)
 
-shared-slice-read-if2 : tie.Need-shared-slice-read-if2 Inv-loop μ-loop
-shared-slice-read-if2 c = omega arith
-
 add-code : tie.Need-add-code Inv-loop μ-loop
 add-code c = omega (arith, page c .within)
-
-loop-less : tie.Need-loop-less Inv-loop μ-loop
-loop-less c = omega arith
 
 loop-again : tie.Need-loop-again Inv-loop μ-loop
 loop-again c = page c
 
-mul-if3 : tie.Need-mul-if3 Inv-loop μ-loop
-mul-if3 c = search needs
-
-shared-slice-read-if3 : tie.Need-shared-slice-read-if3 Inv-loop μ-loop
-shared-slice-read-if3 c = search needs
-
 returns : tie.Need-returns Inv-loop μ-loop
 returns c = next-found (c .before .before .before .before .loop .inv) (c .if3 .taken)
-
-add-code-2 : tie.Need-add-code-2 Inv-loop μ-loop
-add-code-2 c = omega arith
-
-loop-less-2 : tie.Need-loop-less-2 Inv-loop μ-loop
-loop-less-2 c = omega arith
 
 loop-again-2 : tie.Need-loop-again-2 Inv-loop μ-loop
 loop-again-2 c = passed-one (c .before .before .before .before .loop .inv) (omega arith) (c .if3 .left)
@@ -60,17 +42,5 @@ pub next-code-spec : {M : Type 1} → statement M
 next-code-spec =
     tie.close
     (tie.spec
-    Inv-loop
-    μ-loop
-    loop-holds
-    shared-slice-read-if2
-    add-code
-    loop-less
-    loop-again
-    mul-if3
-    shared-slice-read-if3
-    returns
-    add-code-2
-    loop-less-2
-    loop-again-2
-    returns-2)
+    Inv-loop μ-loop loop-holds (λ c. omega arith) add-code (λ c. omega arith) loop-again (λ c. search needs) (λ c. search needs) returns
+    (λ c. omega arith) (λ c. omega arith) loop-again-2 returns-2)

@@ -40,9 +40,6 @@ add-here c = omega (arith, hand c .room, len c)
 cast-member : tie.Need-cast-member Inv-loop μ-loop
 cast-member c = omega (arith, hand c .linked)
 
-sub-member : tie.Need-sub-member Inv-loop μ-loop
-sub-member c = omega arith
-
 mul-member : tie.Need-mul-member Inv-loop μ-loop
 mul-member c = omega (arith, hand c .linked)
 
@@ -68,17 +65,5 @@ pub write-chain-spec : {M : Type 1} → statement M
 write-chain-spec =
     tie.close
     (tie.spec
-    Inv-loop
-    μ-loop
-    loop-holds
-    mul-part
-    slice-write-part
-    add-here
-    cast-member
-    sub-member
-    mul-member
-    shared-slice-read-member
-    loop-less
-    loop-again
-    same-length
-    returns)
+    Inv-loop μ-loop loop-holds mul-part slice-write-part add-here cast-member (λ c. omega arith) mul-member shared-slice-read-member
+    loop-less loop-again same-length returns)

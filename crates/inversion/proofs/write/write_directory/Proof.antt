@@ -41,9 +41,6 @@ loop-holds c =
     listing-start directory-by-line (start .args .heads .now) (start .args .links .now) (start .args .output .now)
     (start .args .at) (start .pre .1) (c .next-code .ensures)
 
-mul-chain-length : tie.Need-mul-chain-length Inv-loop μ-loop
-mul-chain-length c = omega arith
-
 shared-slice-read-chain-length : tie.Need-shared-slice-read-chain-length Inv-loop μ-loop
 shared-slice-read-chain-length c = c .before .loop-test .taken
 
@@ -67,15 +64,9 @@ put-line-requires c κs = (
 add-here : tie.Need-add-here Inv-loop μ-loop
 add-here c = omega (arith, room (c .before .before .before .before .before .before))
 
-add-next-code : tie.Need-add-next-code Inv-loop μ-loop
-add-next-code c = omega arith
-
 next-code-requires-2 : tie.Need-next-code-requires-2 Inv-loop μ-loop
 next-code-requires-2 c κs =
     (c .before .before .before .before .before .before .before .before .before .before .before .before .before .pre .0 .paged, omega arith)
-
-loop-less : tie.Need-loop-less Inv-loop μ-loop
-loop-less c = omega arith
 
 loop-again : tie.Need-loop-again Inv-loop μ-loop
 loop-again c =
@@ -105,18 +96,5 @@ pub write-directory-spec : {M : Type 1} → statement M
 write-directory-spec =
     tie.close
     (tie.spec
-    Inv-loop
-    μ-loop
-    next-code-requires
-    loop-holds
-    mul-chain-length
-    shared-slice-read-chain-length
-    chain-length-requires
-    put-line-requires
-    add-here
-    add-next-code
-    next-code-requires-2
-    loop-less
-    loop-again
-    same-length
-    returns)
+    Inv-loop μ-loop next-code-requires loop-holds (λ c. omega arith) shared-slice-read-chain-length chain-length-requires put-line-requires
+    add-here (λ c. omega arith) next-code-requires-2 (λ c. omega arith) loop-again same-length returns)

@@ -30,9 +30,6 @@ done c =
     (c .before .before .before .before .before .before .write-directory .ensures) (c .before .before .write-positions .last .1 .1 .1 .0)
     (c .before .before .write-positions .ensures)
 
-cast-output : tie.Need-cast-output
-cast-output c = search needs
-
 slice-write-output : tie.Need-slice-write-output
 slice-write-output c =
     let start = c .before .before .before .before in
@@ -41,9 +38,6 @@ slice-write-output c =
       room-is (length (start .args .links .now)) (lines-at (start .args .heads .now) (start .args .links .now) 0) (start .args .keys)
           (start .pre .1 .0 .0) (start .args .output .now) (start .pre .1 .1),
     )
-
-cast-output-2 : tie.Need-cast-output-2
-cast-output-2 c = search needs
 
 slice-write-output-2 : tie.Need-slice-write-output-2
 slice-write-output-2 c =
@@ -62,15 +56,6 @@ write-directory-requires c κs =
           (start .pre .1 .0 .0) (start .args .output .now) (start .pre .1 .1),
     )
 
-mul-after : tie.Need-mul-after
-mul-after c = search needs
-
-add-after : tie.Need-add-after
-add-after c = search needs
-
-mul-write-positions : tie.Need-mul-write-positions
-mul-write-positions c = search needs
-
 sub-write-positions : tie.Need-sub-write-positions
 sub-write-positions c =
     let start = c .before .before .before .before .before .before .before .before in
@@ -84,9 +69,6 @@ part-write-positions-start c =
     positions-start (length (start .args .links .now)) (lines-at (start .args .heads .now) (start .args .links .now) 0) (start .args .keys)
     (start .pre .1 .0 .0) (start .args .output .now) (start .pre .1 .1) (c .before .before .write-directory .last .1 .1 .1 .0)
     (c .before .before .write-directory .ensures)
-
-part-write-positions-end : tie.Need-part-write-positions-end
-part-write-positions-end c = search needs
 
 write-positions-requires : tie.Need-write-positions-requires
 write-positions-requires c κs =
@@ -111,17 +93,6 @@ pub write-index-spec : {M : Type 1} → statement M
 write-index-spec =
     tie.close
     (tie.spec
-    cast-output
-    slice-write-output
-    cast-output-2
-    slice-write-output-2
-    write-directory-requires
-    mul-after
-    add-after
-    mul-write-positions
-    sub-write-positions
-    part-write-positions-start
-    part-write-positions-end
-    write-positions-requires
-    same-length
-    returns)
+    (λ c. search needs) slice-write-output (λ c. search needs) slice-write-output-2 write-directory-requires (λ c. search needs)
+    (λ c. search needs) (λ c. search needs) sub-write-positions part-write-positions-start (λ c. search needs) write-positions-requires
+    same-length returns)

@@ -44,9 +44,6 @@ loop-holds c =
     listing-start positions-by-line (start .args .heads .now) (start .args .links .now) (start .args .part .now) 0
     (omega arith) (c .next-code .ensures)
 
-mul-write-chain : tie.Need-mul-write-chain Inv-loop μ-loop
-mul-write-chain c = omega arith
-
 shared-slice-read-write-chain : tie.Need-shared-slice-read-write-chain Inv-loop μ-loop
 shared-slice-read-write-chain c = c .before .loop-test .taken
 
@@ -57,15 +54,9 @@ write-chain-requires c κs = (
   room (c .before .before),
 )
 
-add-next-code : tie.Need-add-next-code Inv-loop μ-loop
-add-next-code c = omega arith
-
 next-code-requires-2 : tie.Need-next-code-requires-2 Inv-loop μ-loop
 next-code-requires-2 c κs =
     (c .before .before .before .before .before .before .before .before .before .before .before .before .pre .0 .paged, omega arith)
-
-loop-less : tie.Need-loop-less Inv-loop μ-loop
-loop-less c = omega arith
 
 loop-again : tie.Need-loop-again Inv-loop μ-loop
 loop-again c =
@@ -93,16 +84,5 @@ pub write-positions-spec : {M : Type 1} → statement M
 write-positions-spec =
     tie.close
     (tie.spec
-    Inv-loop
-    μ-loop
-    next-code-requires
-    loop-holds
-    mul-write-chain
-    shared-slice-read-write-chain
-    write-chain-requires
-    add-next-code
-    next-code-requires-2
-    loop-less
-    loop-again
-    same-length
-    returns)
+    Inv-loop μ-loop next-code-requires loop-holds (λ c. omega arith) shared-slice-read-write-chain write-chain-requires (λ c. omega arith)
+    next-code-requires-2 (λ c. omega arith) loop-again same-length returns)

@@ -19,23 +19,11 @@ abbrev μ-loop : tie.MeasureT-loop
 loop-holds : tie.Need-loop-holds Inv-loop μ-loop
 loop-holds c = (c .before .pre, refl)
 
-add-loop : tie.Need-add-loop Inv-loop μ-loop
-add-loop c = omega arith
-
-is-spaced-requires : tie.Need-is-spaced-requires Inv-loop μ-loop
-is-spaced-requires c κs = omega arith
-
 returns : tie.Need-returns Inv-loop μ-loop
 returns c =
     sym (sym (c .before .before .before .loop .inv .1) ∙ ends-next (c .before .before .before .before .before .args .line .now)
     (c .before .before .before .loop .at) (c .before .before .loop-test .taken) ∙
     rw (sym (c .before .is-spaced .ensures) ∙ not-true (c .before .is-spaced .result) (c .if1 .taken)))
-
-add-at : tie.Need-add-at Inv-loop μ-loop
-add-at c = omega arith
-
-loop-less : tie.Need-loop-less Inv-loop μ-loop
-loop-less c = omega arith
 
 loop-again : tie.Need-loop-again Inv-loop μ-loop
 loop-again c = (
@@ -45,16 +33,10 @@ loop-again c = (
       not-false (c .before .is-spaced .result) (c .if1 .left))) ∙ c .before .before .before .loop .inv .1,
 )
 
-add-if2 : tie.Need-add-if2 Inv-loop μ-loop
-add-if2 c = omega arith
-
 returns-2 : tie.Need-returns-2 Inv-loop μ-loop
 returns-2 c =
     sym (sym (c .before .before .loop .inv .1) ∙ ends-other (c .before .before .before .before .args .line .now)
     (c .before .before .loop .at) (c .before .loop-test .left) (c .before .before .loop .inv .0) (c .if2 .taken))
-
-shared-slice-read-result : tie.Need-shared-slice-read-result Inv-loop μ-loop
-shared-slice-read-result c = omega arith
 
 returns-3 : tie.Need-returns-3 Inv-loop μ-loop
 returns-3 c =
@@ -65,16 +47,5 @@ pub ends-well-spec : {M : Type 1} → statement M
 ends-well-spec =
     tie.close
     (tie.spec
-    Inv-loop
-    μ-loop
-    loop-holds
-    add-loop
-    is-spaced-requires
-    returns
-    add-at
-    loop-less
-    loop-again
-    add-if2
-    returns-2
-    shared-slice-read-result
-    returns-3)
+    Inv-loop μ-loop loop-holds (λ c. omega arith) (λ c κs. omega arith) returns (λ c. omega arith) (λ c. omega arith) loop-again
+    (λ c. omega arith) returns-2 (λ c. omega arith) returns-3)

@@ -17,9 +17,6 @@ loop-holds : tie.Need-loop-holds Inv-loop μ-loop
 loop-holds c = string-start (c .before .before .args .line .now) (c .before .before .args .at) (c .before .before .args .out .now)
     (c .before .before .pre .0) (c .before .before .pre .1) (c .before .before .pre .2)
 
-add-loop : tie.Need-add-loop Inv-loop μ-loop
-add-loop c = omega arith
-
 character-requires : tie.Need-character-requires Inv-loop μ-loop
 character-requires c κs = (c .loop-test .taken, spaced-here (c .before .loop .inv) (c .loop-test .taken))
 
@@ -31,12 +28,6 @@ slice-write-out c = string-room (c .before .before .loop .inv) (c .before .loop-
 
 add-end : tie.Need-add-end Inv-loop μ-loop
 add-end c = omega (arith, string-room (c .before .before .loop .inv) (c .before .loop-test .taken))
-
-add-from : tie.Need-add-from Inv-loop μ-loop
-add-from c = omega arith
-
-loop-less : tie.Need-loop-less Inv-loop μ-loop
-loop-less c = omega arith
 
 loop-again : tie.Need-loop-again Inv-loop μ-loop
 loop-again c = string-step (c .before .before .loop .inv) (c .before .loop-test .taken) (c .character .result) (c .character .ensures)
@@ -51,16 +42,5 @@ pub put-string-spec : {M : Type 1} → statement M
 put-string-spec =
     tie.close
     (tie.spec
-    Inv-loop
-    μ-loop
-    loop-holds
-    add-loop
-    character-requires
-    mul-out
-    slice-write-out
-    add-end
-    add-from
-    loop-less
-    loop-again
-    same-length
-    returns)
+    Inv-loop μ-loop loop-holds (λ c. omega arith) character-requires mul-out slice-write-out add-end (λ c. omega arith) (λ c. omega arith)
+    loop-again same-length returns)

@@ -27,24 +27,12 @@ loop-holds c = (
   forms-start (c .before .before .before .before .before .pre .0) (c .form-end .ensures),
 )
 
-sub-put-string : tie.Need-sub-put-string Inv-loop μ-loop
-sub-put-string c = omega arith
-
-part-put-string-start : tie.Need-part-put-string-start Inv-loop μ-loop
-part-put-string-start c = omega arith
-
-part-put-string-end : tie.Need-part-put-string-end Inv-loop μ-loop
-part-put-string-end c = omega arith
-
 put-string-requires : tie.Need-put-string-requires Inv-loop μ-loop
 put-string-requires c κs = (
   omega (arith, line-long (c .before .before .before .loop .inv .2) (c .before .before .loop-test .taken)),
   line-good (c .before .before .before .loop .inv .2) (c .before .before .loop-test .taken),
   string-fits (c .before .before .before .loop .inv .2) (c .before .before .loop-test .taken),
 )
-
-sub-lengths : tie.Need-sub-lengths Inv-loop μ-loop
-sub-lengths c = omega arith
 
 cast-lengths : tie.Need-cast-lengths Inv-loop μ-loop
 cast-lengths c = omega (
@@ -71,14 +59,8 @@ add-i c = omega (
       (c .before .before .before .before .before .loop-test .taken),
 )
 
-add-from : tie.Need-add-from Inv-loop μ-loop
-add-from c = omega arith
-
 form-end-requires-2 : tie.Need-form-end-requires-2 Inv-loop μ-loop
 form-end-requires-2 c κs = (omega arith, c .before .before .before .before .before .before .loop .inv .1)
-
-loop-less : tie.Need-loop-less Inv-loop μ-loop
-loop-less c = omega arith
 
 loop-again : tie.Need-loop-again Inv-loop μ-loop
 loop-again c = (
@@ -102,23 +84,6 @@ pub read-forms-spec : {M : Type 1} → statement M
 read-forms-spec =
     tie.close
     (tie.spec
-    Inv-loop
-    μ-loop
-    form-end-requires
-    loop-holds
-    sub-put-string
-    part-put-string-start
-    part-put-string-end
-    put-string-requires
-    sub-lengths
-    cast-lengths
-    mul-lengths
-    slice-write-lengths
-    add-i
-    add-from
-    form-end-requires-2
-    loop-less
-    loop-again
-    same-length
-    same-length-2
-    returns)
+    Inv-loop μ-loop form-end-requires loop-holds (λ c. omega arith) (λ c. omega arith) (λ c. omega arith) put-string-requires
+    (λ c. omega arith) cast-lengths mul-lengths slice-write-lengths add-i (λ c. omega arith) form-end-requires-2 (λ c. omega arith)
+    loop-again same-length same-length-2 returns)

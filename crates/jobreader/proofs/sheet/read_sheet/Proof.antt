@@ -50,24 +50,15 @@ after-finds c =
     (c .read-forms3 .result .count) (c .read-forms3 .last .1 .1 .1 .0) (c .read-forms3 .last .1 .1 .1 .1 .1 .0) (after-texts t)
     (c .read-forms3 .ensures)
 
-slice-aggregate-read-forms : tie.Need-slice-aggregate-read-forms
-slice-aggregate-read-forms c = search needs
-
 read-forms-requires : tie.Need-read-forms-requires
 read-forms-requires c κs =
     let s = c .before .before .before .before .before .before in
     (stage-room (stage-start (s .args .sheet .now) (s .args .chars .now) (s .args .lengths .now) (s .pre)) word-head, refl)
 
-slice-aggregate-read-forms-2 : tie.Need-slice-aggregate-read-forms-2
-slice-aggregate-read-forms-2 c = search needs
-
 read-forms-requires-2 : tie.Need-read-forms-requires-2
 read-forms-requires-2 c κs =
     let w = c .before .before .before .before .before .before .before in
     (stage-room (after-words w) text-head, refl)
-
-slice-aggregate-read-forms-3 : tie.Need-slice-aggregate-read-forms-3
-slice-aggregate-read-forms-3 c = search needs
 
 read-forms-requires-3 : tie.Need-read-forms-requires-3
 read-forms-requires-3 c κs =
@@ -197,15 +188,5 @@ pub read-sheet-spec : {M : Type 1} → statement M
 read-sheet-spec =
     tie.close
     (tie.spec
-    slice-aggregate-read-forms
-    read-forms-requires
-    slice-aggregate-read-forms-2
-    read-forms-requires-2
-    slice-aggregate-read-forms-3
-    read-forms-requires-3
-    sub-text
-    sub-found
-    sub-one-text
-    same-length
-    same-length-2
-    returns)
+    (λ c. search needs) read-forms-requires (λ c. search needs) read-forms-requires-2 (λ c. search needs) read-forms-requires-3 sub-text
+    sub-found sub-one-text same-length same-length-2 returns)

@@ -16,24 +16,12 @@ answer-in-hand c =
     let a = c .before .before .before .before .before .args in
     written-in-hand (c .put-answer .ensures)
 
-put-answer-requires : tie.Need-put-answer-requires
-put-answer-requires c κs = search needs
-
 slice-reshare-prefix-hand-over : tie.Need-slice-reshare-prefix-hand-over
 slice-reshare-prefix-hand-over c = answer-in-hand (c .before .before) .room
 
 slice-aggregate-hand-over : tie.Need-slice-aggregate-hand-over
 slice-aggregate-hand-over c =
     let put = c .before .before .before .put-answer in sym (length-take-le (put .result) (put .last .1 .0) (answer-in-hand (c .before .before .before) .room))
-
-hand-over-requires : tie.Need-hand-over-requires
-hand-over-requires c κs = search needs
-
-same-length : tie.Need-same-length
-same-length c = search needs
-
-same-length-2 : tie.Need-same-length-2
-same-length-2 c = search needs
 
 returns : tie.Need-returns
 returns c =
@@ -47,10 +35,5 @@ pub answer-through-spec : {M : Type 1} → statement M
 answer-through-spec =
     tie.close
     (tie.spec
-    put-answer-requires
-    slice-reshare-prefix-hand-over
-    slice-aggregate-hand-over
-    hand-over-requires
-    same-length
-    same-length-2
-    returns)
+    (λ c κs. search needs) slice-reshare-prefix-hand-over slice-aggregate-hand-over (λ c κs. search needs) (λ c. search needs)
+    (λ c. search needs) returns)

@@ -11,26 +11,11 @@ use Rattle.laws.specs.JobSheet.JobParts.{parts-there, parts-answer}
 use Rattle.jobsheet.proofs.answer.put_job.Statement.{statement}
 use Rattle.jobsheet.proofs.answer.put_job.Tie as tie
 
-read-job-requires : tie.Need-read-job-requires
-read-job-requires c κs = search needs
-
-cast-put-refused-line : tie.Need-cast-put-refused-line
-cast-put-refused-line c = search needs
-
 put-refused-line-requires : tie.Need-put-refused-line-requires
 put-refused-line-requires c κs =
     let s = c .before .before .before .before .before .before .before .before .before .before .before .before .before in
     let read = c .before .before .before .before .before .before .read-job in
     omega (arith, refused-fits (s .args .sheet .now) (read .result .refusal) (read .ensures .0) (c .before .if1 .taken))
-
-same-length : tie.Need-same-length
-same-length c = search needs
-
-same-length-2 : tie.Need-same-length-2
-same-length-2 c = search needs
-
-same-length-3 : tie.Need-same-length-3
-same-length-3 c = search needs
 
 returns : tie.Need-returns
 returns c =
@@ -51,15 +36,6 @@ put-parts-requires c κs =
       s .pre .2,
     )
 
-same-length-4 : tie.Need-same-length-4
-same-length-4 c = search needs
-
-same-length-5 : tie.Need-same-length-5
-same-length-5 c = search needs
-
-same-length-6 : tie.Need-same-length-6
-same-length-6 c = search needs
-
 returns-2 : tie.Need-returns-2
 returns-2 c =
     let a = c .before .before .before .before .before .before .before .before .before .before .before .before .before .before .before .before .before .before .args in
@@ -75,15 +51,5 @@ pub put-job-spec : {M : Type 1} → statement M
 put-job-spec =
     tie.close
     (tie.spec
-    read-job-requires
-    cast-put-refused-line
-    put-refused-line-requires
-    same-length
-    same-length-2
-    same-length-3
-    returns
-    put-parts-requires
-    same-length-4
-    same-length-5
-    same-length-6
-    returns-2)
+    (λ c κs. search needs) (λ c. search needs) put-refused-line-requires (λ c. search needs) (λ c. search needs) (λ c. search needs) returns
+    put-parts-requires (λ c. search needs) (λ c. search needs) (λ c. search needs) returns-2)

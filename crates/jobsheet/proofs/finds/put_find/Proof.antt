@@ -27,9 +27,6 @@ positions-in-hand c =
     })
     (s .pre .0 .2) (c .search-tabled .ensures)
 
-search-tabled-requires : tie.Need-search-tabled-requires
-search-tabled-requires c κs = search needs
-
 slice-reshare-prefix-put-found-line : tie.Need-slice-reshare-prefix-put-found-line
 slice-reshare-prefix-put-found-line c = positions-in-hand (c .before .before .before) .room
 
@@ -45,12 +42,6 @@ put-found-line-requires c κs =
     rw (positions-in-hand (c .before .before .before .before) .is)
     (c .before .before .before .before .before .before .before .before .before .before .before .before .before .before .pre .1)
 
-same-length : tie.Need-same-length
-same-length c = search needs
-
-same-length-2 : tie.Need-same-length-2
-same-length-2 c = search needs
-
 returns : tie.Need-returns
 returns c =
     rw (positions-in-hand (c .before .before .before .before .before .before .before) .is) at (c .before .before .put-found-line .ensures)
@@ -59,10 +50,5 @@ pub put-find-spec : {M : Type 1} → statement M
 put-find-spec =
     tie.close
     (tie.spec
-    search-tabled-requires
-    slice-reshare-prefix-put-found-line
-    slice-aggregate-put-found-line
-    put-found-line-requires
-    same-length
-    same-length-2
-    returns)
+    (λ c κs. search needs) slice-reshare-prefix-put-found-line slice-aggregate-put-found-line put-found-line-requires (λ c. search needs)
+    (λ c. search needs) returns)

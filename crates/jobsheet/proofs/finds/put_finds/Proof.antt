@@ -35,9 +35,6 @@ loop-holds c =
           (s .pre .0 .1 .fits) (s .pre .1),
     )
 
-mul-next : tie.Need-mul-next Inv-loop μ-loop
-mul-next c = omega arith
-
 shared-slice-read-next : tie.Need-shared-slice-read-next Inv-loop μ-loop
 shared-slice-read-next c = c .before .loop-test .taken
 
@@ -49,9 +46,6 @@ add-next c = omega (arith, next-fits (c .before))
 
 mul-put-find : tie.Need-mul-put-find Inv-loop μ-loop
 mul-put-find c = omega (arith, next-fits (c .before))
-
-sub-put-find : tie.Need-sub-put-find Inv-loop μ-loop
-sub-put-find c = omega arith
 
 part-put-find-start : tie.Need-part-put-find-start Inv-loop μ-loop
 part-put-find-start c = omega (arith, next-fits (c .before))
@@ -74,12 +68,6 @@ put-find-requires c κs =
       find-fits
           (l .inv .1) taken,
     )
-
-add-i : tie.Need-add-i Inv-loop μ-loop
-add-i c = omega arith
-
-loop-less : tie.Need-loop-less Inv-loop μ-loop
-loop-less c = omega arith
 
 loop-again : tie.Need-loop-again Inv-loop μ-loop
 loop-again c =
@@ -108,21 +96,6 @@ pub put-finds-spec : {M : Type 1} → statement M
 put-finds-spec =
     tie.close
     (tie.spec
-    Inv-loop
-    μ-loop
-    loop-holds
-    mul-next
-    shared-slice-read-next
-    cast-next
-    add-next
-    mul-put-find
-    sub-put-find
-    part-put-find-start
-    part-put-find-end
-    put-find-requires
-    add-i
-    loop-less
-    loop-again
-    same-length
-    same-length-2
+    Inv-loop μ-loop loop-holds (λ c. omega arith) shared-slice-read-next cast-next add-next mul-put-find (λ c. omega arith)
+    part-put-find-start part-put-find-end put-find-requires (λ c. omega arith) (λ c. omega arith) loop-again same-length same-length-2
     returns)

@@ -37,9 +37,6 @@ in-hand-usable c =
     (index-usable (a .chars .now) (a .lengths .now) (a .text .now) (λ i h. omega (arith, c .before .before .before .before .before .before .before .before .before .before .before .shared-slice-known .given i))
     (λ i h. omega (arith, c .before .before .before .before .before .before .before .before .before .shared-slice-known3 .given i)) (s .pre .0 .admits) (s .pre .0 .short))
 
-build-requires : tie.Need-build-requires
-build-requires c κs = search needs
-
 slice-reshare-prefix-put-lines : tie.Need-slice-reshare-prefix-put-lines
 slice-reshare-prefix-put-lines c = index-in-hand (c .before .before .before .before) .room
 
@@ -52,18 +49,6 @@ put-lines-requires : tie.Need-put-lines-requires
 put-lines-requires c κs =
     let s = c .before .before .before .before .before .before .before .before .before .before .before .before .before .before .before .before .before .before .before in
     (in-hand-usable (c .before .before .before .before .before .before .before), s .pre .0 .strings, s .pre .1 .2, s .pre .1 .3)
-
-same-length : tie.Need-same-length
-same-length c = search needs
-
-same-length-2 : tie.Need-same-length-2
-same-length-2 c = search needs
-
-same-length-3 : tie.Need-same-length-3
-same-length-3 c = search needs
-
-same-length-4 : tie.Need-same-length-4
-same-length-4 c = search needs
 
 returns : tie.Need-returns
 returns c =
@@ -79,12 +64,5 @@ pub put-built-spec : {M : Type 1} → statement M
 put-built-spec =
     tie.close
     (tie.spec
-    build-requires
-    slice-reshare-prefix-put-lines
-    slice-aggregate-put-lines
-    put-lines-requires
-    same-length
-    same-length-2
-    same-length-3
-    same-length-4
-    returns)
+    (λ c κs. search needs) slice-reshare-prefix-put-lines slice-aggregate-put-lines put-lines-requires (λ c. search needs)
+    (λ c. search needs) (λ c. search needs) (λ c. search needs) returns)

@@ -11,15 +11,6 @@ use Rattle.laws.specs.JobSheet.JobAnswering.{index-lines-fit, then-finds}
 use Rattle.jobsheet.proofs.lines.put_filled.Statement.{statement}
 use Rattle.jobsheet.proofs.lines.put_filled.Tie as tie
 
-slice-aggregate-fill-word-starts : tie.Need-slice-aggregate-fill-word-starts
-slice-aggregate-fill-word-starts c = search needs
-
-fill-word-starts-requires : tie.Need-fill-word-starts-requires
-fill-word-starts-requires c κs = search needs
-
-fill-list-starts-requires : tie.Need-fill-list-starts-requires
-fill-list-starts-requires c κs = search needs
-
 put-index-lines-requires : tie.Need-put-index-lines-requires
 put-index-lines-requires c κs =
     let s = c .before .before .before .before .before .before .before .before .before .before .before .before .before .before .before .before in
@@ -42,9 +33,6 @@ at-finds c =
     (λ i. omega (arith, c .before .before .before .before .before .before .before .before .before .before .before .before .before .before .shared-slice-known3 .given i)) (s .pre .1 .0) (s .pre .1 .2)
     (c .put-index-lines .ensures)
 
-slice-aggregate-put-finds : tie.Need-slice-aggregate-put-finds
-slice-aggregate-put-finds c = search needs
-
 put-finds-requires : tie.Need-put-finds-requires
 put-finds-requires c κs =
     let s = c .before .before .before .before .before .before .before .before .before .before .before .before .before .before .before .before .before .before .before .before .before .before .before in (
@@ -56,15 +44,6 @@ put-finds-requires c κs =
       at-finds (c .before .before .before .before .before .before) .room,
     )
 
-same-length : tie.Need-same-length
-same-length c = search needs
-
-same-length-2 : tie.Need-same-length-2
-same-length-2 c = search needs
-
-same-length-3 : tie.Need-same-length-3
-same-length-3 c = search needs
-
 returns : tie.Need-returns
 returns c =
     let a = c .before .before .before .before .before .before .before .before .before .before .before .before .before .before .before .before .before .before .before .before .before .before .before .before .before .before .before .before .args in
@@ -75,13 +54,5 @@ pub put-filled-spec : {M : Type 1} → statement M
 put-filled-spec =
     tie.close
     (tie.spec
-    slice-aggregate-fill-word-starts
-    fill-word-starts-requires
-    fill-list-starts-requires
-    put-index-lines-requires
-    slice-aggregate-put-finds
-    put-finds-requires
-    same-length
-    same-length-2
-    same-length-3
-    returns)
+    (λ c. search needs) (λ c κs. search needs) (λ c κs. search needs) put-index-lines-requires (λ c. search needs) put-finds-requires
+    (λ c. search needs) (λ c. search needs) (λ c. search needs) returns)

@@ -9,9 +9,6 @@ use borrow.Author.Needs.{needs}
 use Rattle.opening.proofs.opened.bounds_of.Statement.{statement}
 use Rattle.opening.proofs.opened.bounds_of.Tie as tie
 
-refusal-of-requires : tie.Need-refusal-of-requires
-refusal-of-requires c κs = search needs
-
 returns : tie.Need-returns
 returns c =
     let a = c .before .before .before .before .before .args in
@@ -41,10 +38,4 @@ pub bounds-of-spec : {M : Type 1} → statement M
 bounds-of-spec =
     tie.close
     (tie.spec
-    refusal-of-requires
-    returns
-    shared-slice-read-keys
-    cast-keys
-    mul-t9
-    add-t10
-    returns-2)
+    (λ c κs. search needs) returns shared-slice-read-keys cast-keys mul-t9 add-t10 returns-2)

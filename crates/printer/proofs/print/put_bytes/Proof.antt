@@ -17,9 +17,6 @@ abbrev μ-loop : tie.MeasureT-loop
 loop-holds : tie.Need-loop-holds Inv-loop μ-loop
 loop-holds c = (omega arith, writing-start (c .args .bytes .now) (c .args .at) (c .args .out .now) (c .pre))
 
-shared-slice-read-out : tie.Need-shared-slice-read-out Inv-loop μ-loop
-shared-slice-read-out c = omega arith
-
 slice-write-out : tie.Need-slice-write-out Inv-loop μ-loop
 slice-write-out c = copy-room (c .before .before .before .args .bytes .now) (c .before .before .loop .i) (c .before .before .loop .inv .1)
     (c .before .loop-test .taken)
@@ -30,12 +27,6 @@ add-end c = omega (
   copy-room (c .before .before .before .args .bytes .now) (c .before .before .loop .i)
       (c .before .before .loop .inv .1) (c .before .loop-test .taken),
 )
-
-add-i : tie.Need-add-i Inv-loop μ-loop
-add-i c = omega arith
-
-loop-less : tie.Need-loop-less Inv-loop μ-loop
-loop-less c = omega arith
 
 loop-again : tie.Need-loop-again Inv-loop μ-loop
 loop-again c = (
@@ -54,14 +45,5 @@ pub put-bytes-spec : {M : Type 1} → statement M
 put-bytes-spec =
     tie.close
     (tie.spec
-    Inv-loop
-    μ-loop
-    loop-holds
-    shared-slice-read-out
-    slice-write-out
-    add-end
-    add-i
-    loop-less
-    loop-again
-    same-length
+    Inv-loop μ-loop loop-holds (λ c. omega arith) slice-write-out add-end (λ c. omega arith) (λ c. omega arith) loop-again same-length
     returns)

@@ -34,9 +34,6 @@ at-list c =
     writing-step (decimal (length (s .args .positions .now))) (listed (s .args .positions .now))
     (at-count (c .before .before .before .before)) (c .put-decimal .ensures)
 
-slice-aggregate-put-bytes : tie.Need-slice-aggregate-put-bytes
-slice-aggregate-put-bytes c = search needs
-
 put-bytes-requires : tie.Need-put-bytes-requires
 put-bytes-requires c κs =
     let s = c .before .before .before .before in
@@ -50,9 +47,6 @@ put-decimal-requires c κs =
 put-list-requires : tie.Need-put-list-requires
 put-list-requires c κs = at-list (c .before .before .before) .room
 
-same-length : tie.Need-same-length
-same-length c = search needs
-
 returns : tie.Need-returns
 returns c =
     let s = c .before .before .before .before .before .before .before .before .before .before .before .before .before .before .before in
@@ -63,9 +57,4 @@ pub put-found-line-spec : {M : Type 1} → statement M
 put-found-line-spec =
     tie.close
     (tie.spec
-    slice-aggregate-put-bytes
-    put-bytes-requires
-    put-decimal-requires
-    put-list-requires
-    same-length
-    returns)
+    (λ c. search needs) put-bytes-requires put-decimal-requires put-list-requires (λ c. search needs) returns)

@@ -54,9 +54,6 @@ at-end c =
     c .before .before .before .before .before .before .before .before .before .before .before .before .before .before .before .before in
     writing-step ((gap ++ decimal (s .args .m))) ending (at-third (c .before .before .before .before)) (c .put-next-decimal2 .ensures)
 
-slice-aggregate-put-bytes : tie.Need-slice-aggregate-put-bytes
-slice-aggregate-put-bytes c = search needs
-
 put-bytes-requires : tie.Need-put-bytes-requires
 put-bytes-requires c κs =
     let s = c .before .before .before in
@@ -79,14 +76,8 @@ put-next-decimal-requires-2 c κs =
     let s = c .before .before .before .before .before .before .before .before .before .before .before .before .before .before .before in
     writing-room ((gap ++ decimal (s .args .m))) ending (at-third (c .before .before .before))
 
-slice-aggregate-put-bytes-2 : tie.Need-slice-aggregate-put-bytes-2
-slice-aggregate-put-bytes-2 c = search needs
-
 put-bytes-requires-2 : tie.Need-put-bytes-requires-2
 put-bytes-requires-2 c κs = at-end (c .before .before .before .before) .room
-
-same-length : tie.Need-same-length
-same-length c = search needs
 
 returns : tie.Need-returns
 returns c =
@@ -96,12 +87,5 @@ pub put-index-line-spec : {M : Type 1} → statement M
 put-index-line-spec =
     tie.close
     (tie.spec
-    slice-aggregate-put-bytes
-    put-bytes-requires
-    put-decimal-requires
-    put-next-decimal-requires
-    put-next-decimal-requires-2
-    slice-aggregate-put-bytes-2
-    put-bytes-requires-2
-    same-length
-    returns)
+    (λ c. search needs) put-bytes-requires put-decimal-requires put-next-decimal-requires put-next-decimal-requires-2 (λ c. search needs)
+    put-bytes-requires-2 (λ c. search needs) returns)

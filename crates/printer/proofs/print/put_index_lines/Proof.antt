@@ -31,26 +31,8 @@ at-keys c =
     writing-step (first-line (s .args .numbers .now)) (key-lines (lines-in (s .args .numbers .now))) (at-first s)
     (c .put-index-line .ensures)
 
-shared-slice-read-n : tie.Need-shared-slice-read-n
-shared-slice-read-n c = search needs
-
 cast-n : tie.Need-cast-n
 cast-n c = omega (arith, c .shared-slice-known2 .given 0)
-
-shared-slice-read-k : tie.Need-shared-slice-read-k
-shared-slice-read-k c = search needs
-
-cast-k : tie.Need-cast-k
-cast-k c = search needs
-
-sub-put-index-line : tie.Need-sub-put-index-line
-sub-put-index-line c = search needs
-
-mul-put-index-line : tie.Need-mul-put-index-line
-mul-put-index-line c = search needs
-
-sub-put-index-line-2 : tie.Need-sub-put-index-line-2
-sub-put-index-line-2 c = search needs
 
 put-index-line-requires : tie.Need-put-index-line-requires
 put-index-line-requires c κs =
@@ -60,9 +42,6 @@ put-index-line-requires c κs =
 put-key-lines-requires : tie.Need-put-key-lines-requires
 put-key-lines-requires c κs =
     (c .before .before .before .before .before .before .before .before .before .pre .0, at-keys (c .before .before .before) .room)
-
-same-length : tie.Need-same-length
-same-length c = search needs
 
 returns : tie.Need-returns
 returns c =
@@ -74,14 +53,5 @@ pub put-index-lines-spec : {M : Type 1} → statement M
 put-index-lines-spec =
     tie.close
     (tie.spec
-    shared-slice-read-n
-    cast-n
-    shared-slice-read-k
-    cast-k
-    sub-put-index-line
-    mul-put-index-line
-    sub-put-index-line-2
-    put-index-line-requires
-    put-key-lines-requires
-    same-length
-    returns)
+    (λ c. search needs) cast-n (λ c. search needs) (λ c. search needs) (λ c. search needs) (λ c. search needs) (λ c. search needs)
+    put-index-line-requires put-key-lines-requires (λ c. search needs) returns)

@@ -15,9 +15,6 @@ Inv-loop out₀ at numbers keys position₀ end₀ i₀ out position end i = (ke
 abbrev μ-loop : tie.MeasureT-loop
 μ-loop out₀ at numbers keys position₀ end₀ i₀ out position end i = keys-of numbers - i
 
-shared-slice-read-keys : tie.Need-shared-slice-read-keys Inv-loop μ-loop
-shared-slice-read-keys c = omega arith
-
 cast-keys : tie.Need-cast-keys Inv-loop μ-loop
 cast-keys c = omega (arith, c .shared-slice-known2 .given 1)
 
@@ -35,48 +32,6 @@ loop-holds c = (
       (c .before .before .before .pre .1),
 )
 
-mul-kind : tie.Need-mul-kind Inv-loop μ-loop
-mul-kind c = omega arith
-
-add-kind : tie.Need-add-kind Inv-loop μ-loop
-add-kind c = omega arith
-
-mul-kind-2 : tie.Need-mul-kind-2 Inv-loop μ-loop
-mul-kind-2 c = omega arith
-
-shared-slice-read-kind : tie.Need-shared-slice-read-kind Inv-loop μ-loop
-shared-slice-read-kind c = omega arith
-
-mul-value : tie.Need-mul-value Inv-loop μ-loop
-mul-value c = omega arith
-
-add-value : tie.Need-add-value Inv-loop μ-loop
-add-value c = omega arith
-
-add-value-2 : tie.Need-add-value-2 Inv-loop μ-loop
-add-value-2 c = omega arith
-
-mul-value-2 : tie.Need-mul-value-2 Inv-loop μ-loop
-mul-value-2 c = omega arith
-
-shared-slice-read-value : tie.Need-shared-slice-read-value Inv-loop μ-loop
-shared-slice-read-value c = omega arith
-
-mul-next : tie.Need-mul-next Inv-loop μ-loop
-mul-next c = omega arith
-
-add-next : tie.Need-add-next Inv-loop μ-loop
-add-next c = omega arith
-
-add-next-2 : tie.Need-add-next-2 Inv-loop μ-loop
-add-next-2 c = omega arith
-
-mul-next-2 : tie.Need-mul-next-2 Inv-loop μ-loop
-mul-next-2 c = omega arith
-
-shared-slice-read-next : tie.Need-shared-slice-read-next Inv-loop μ-loop
-shared-slice-read-next c = omega arith
-
 cast-next : tie.Need-cast-next Inv-loop μ-loop
 cast-next c = omega (arith, c .shared-slice-known5 .given (2 + 3 * c .before .before .before .before .loop .i + 2))
 
@@ -89,9 +44,6 @@ mul-put-key-line c = omega (
   positions-fit (c .before .before .before .before .before .loop .inv .2)
       (c .before .before .before .before .loop-test .taken),
 )
-
-sub-put-key-line : tie.Need-sub-put-key-line Inv-loop μ-loop
-sub-put-key-line c = omega arith
 
 part-put-key-line-start : tie.Need-part-put-key-line-start Inv-loop μ-loop
 part-put-key-line-start c = omega (
@@ -112,12 +64,6 @@ put-key-line-requires c κs =
     line-fits (c .before .before .before .before .before .before .loop .inv .2)
     (c .before .before .before .before .before .loop-test .taken)
 
-add-i : tie.Need-add-i Inv-loop μ-loop
-add-i c = omega arith
-
-loop-less : tie.Need-loop-less Inv-loop μ-loop
-loop-less c = omega arith
-
 loop-again : tie.Need-loop-again Inv-loop μ-loop
 loop-again c = (
   refl,
@@ -137,36 +83,8 @@ pub put-key-lines-spec : {M : Type 1} → statement M
 put-key-lines-spec =
     tie.close
     (tie.spec
-    Inv-loop
-    μ-loop
-    shared-slice-read-keys
-    cast-keys
-    mul-position
-    add-position
-    loop-holds
-    mul-kind
-    add-kind
-    mul-kind-2
-    shared-slice-read-kind
-    mul-value
-    add-value
-    add-value-2
-    mul-value-2
-    shared-slice-read-value
-    mul-next
-    add-next
-    add-next-2
-    mul-next-2
-    shared-slice-read-next
-    cast-next
-    add-next-3
-    mul-put-key-line
-    sub-put-key-line
-    part-put-key-line-start
-    part-put-key-line-end
-    put-key-line-requires
-    add-i
-    loop-less
-    loop-again
-    same-length
-    returns)
+    Inv-loop μ-loop (λ c. omega arith) cast-keys mul-position add-position loop-holds (λ c. omega arith) (λ c. omega arith)
+    (λ c. omega arith) (λ c. omega arith) (λ c. omega arith) (λ c. omega arith) (λ c. omega arith) (λ c. omega arith) (λ c. omega arith)
+    (λ c. omega arith) (λ c. omega arith) (λ c. omega arith) (λ c. omega arith) (λ c. omega arith) cast-next add-next-3 mul-put-key-line
+    (λ c. omega arith) part-put-key-line-start part-put-key-line-end put-key-line-requires (λ c. omega arith) (λ c. omega arith) loop-again
+    same-length returns)

@@ -42,9 +42,6 @@ at-character c =
     let s = c .before .before .before .before .before in
     writing-step key-lone-head (hexadecimal (s .args .value)) (at-lone s (c .before .before .before .if1 .left)) (c .put-bytes2 .ensures)
 
-slice-aggregate-put-bytes : tie.Need-slice-aggregate-put-bytes
-slice-aggregate-put-bytes c = search needs
-
 put-bytes-requires : tie.Need-put-bytes-requires
 put-bytes-requires c κs =
     writing-room key-word-head (decimal (c .before .before .before .before .args .value))
@@ -54,17 +51,11 @@ put-decimal-requires : tie.Need-put-decimal-requires
 put-decimal-requires c κs =
     at-number (c .before .before .before) .room
 
-same-length : tie.Need-same-length
-same-length c = search needs
-
 returns : tie.Need-returns
 returns c =
     let s = c .before .before .before .before .before .before .before .before .before .before .before in
     writing-last (decimal (s .args .value)) (at-number (c .before .before .before .before .before .before))
     (c .before .before .put-decimal .ensures)
-
-slice-aggregate-put-bytes-2 : tie.Need-slice-aggregate-put-bytes-2
-slice-aggregate-put-bytes-2 c = search needs
 
 put-bytes-requires-2 : tie.Need-put-bytes-requires-2
 put-bytes-requires-2 c κs =
@@ -79,9 +70,6 @@ put-hexadecimal-requires c κs =
       length-hexadecimal (c .before .before .before .before .before .before .before .before .args .value),
     )
 
-same-length-2 : tie.Need-same-length-2
-same-length-2 c = search needs
-
 returns-2 : tie.Need-returns-2
 returns-2 c =
     let s = c .before .before .before .before .before .before .before .before .before .before .before in
@@ -92,13 +80,5 @@ pub put-key-name-spec : {M : Type 1} → statement M
 put-key-name-spec =
     tie.close
     (tie.spec
-    slice-aggregate-put-bytes
-    put-bytes-requires
-    put-decimal-requires
-    same-length
-    returns
-    slice-aggregate-put-bytes-2
-    put-bytes-requires-2
-    put-hexadecimal-requires
-    same-length-2
-    returns-2)
+    (λ c. search needs) put-bytes-requires put-decimal-requires (λ c. search needs) returns (λ c. search needs) put-bytes-requires-2
+    put-hexadecimal-requires (λ c. search needs) returns-2)

@@ -32,9 +32,6 @@ at-ending c =
     writing-step (spaced (s .args .positions .now)) ending-list (at-positions (c .before .before .before .before))
     (c .put-positions .ensures)
 
-slice-aggregate-put-bytes : tie.Need-slice-aggregate-put-bytes
-slice-aggregate-put-bytes c = search needs
-
 put-bytes-requires : tie.Need-put-bytes-requires
 put-bytes-requires c κs =
     let s = c .before .before .before .before in
@@ -45,14 +42,8 @@ put-positions-requires c κs =
     let s = c .before .before .before .before .before .before .before .before in
     writing-room (spaced (s .args .positions .now)) ending-list (at-positions (c .before .before .before))
 
-slice-aggregate-put-bytes-2 : tie.Need-slice-aggregate-put-bytes-2
-slice-aggregate-put-bytes-2 c = search needs
-
 put-bytes-requires-2 : tie.Need-put-bytes-requires-2
 put-bytes-requires-2 c κs = at-ending (c .before .before .before .before) .room
-
-same-length : tie.Need-same-length
-same-length c = search needs
 
 returns : tie.Need-returns
 returns c =
@@ -63,10 +54,4 @@ pub put-list-spec : {M : Type 1} → statement M
 put-list-spec =
     tie.close
     (tie.spec
-    slice-aggregate-put-bytes
-    put-bytes-requires
-    put-positions-requires
-    slice-aggregate-put-bytes-2
-    put-bytes-requires-2
-    same-length
-    returns)
+    (λ c. search needs) put-bytes-requires put-positions-requires (λ c. search needs) put-bytes-requires-2 (λ c. search needs) returns)

@@ -38,9 +38,6 @@ returns c =
     (writing-as (spaced-none (s .args .positions .now) (c .if1 .taken))
     (writing-start (spaced (s .args .positions .now)) (s .args .at) (s .args .out .now) (s .pre)))
 
-shared-slice-read-put-decimal : tie.Need-shared-slice-read-put-decimal
-shared-slice-read-put-decimal c = search needs
-
 cast-put-decimal : tie.Need-cast-put-decimal
 cast-put-decimal c =
     omega (arith, c .shared-slice-known2 .given 0)
@@ -50,21 +47,9 @@ put-decimal-requires c κs =
     let s = c .before .before .before .before .before in
     writing-room (decimal (getD (s .args .positions .now) 0 0)) (others (s .args .positions .now)) (at-first s (omega arith))
 
-sub-put-next-positions : tie.Need-sub-put-next-positions
-sub-put-next-positions c = search needs
-
-part-put-next-positions-start : tie.Need-part-put-next-positions-start
-part-put-next-positions-start c = search needs
-
-part-put-next-positions-end : tie.Need-part-put-next-positions-end
-part-put-next-positions-end c = search needs
-
 put-next-positions-requires : tie.Need-put-next-positions-requires
 put-next-positions-requires c κs =
     at-others (c .before .before .before .before) .room
-
-same-length : tie.Need-same-length
-same-length c = search needs
 
 returns-2 : tie.Need-returns-2
 returns-2 c =
@@ -76,13 +61,5 @@ pub put-positions-spec : {M : Type 1} → statement M
 put-positions-spec =
     tie.close
     (tie.spec
-    returns
-    shared-slice-read-put-decimal
-    cast-put-decimal
-    put-decimal-requires
-    sub-put-next-positions
-    part-put-next-positions-start
-    part-put-next-positions-end
-    put-next-positions-requires
-    same-length
-    returns-2)
+    returns (λ c. search needs) cast-put-decimal put-decimal-requires (λ c. search needs) (λ c. search needs) (λ c. search needs)
+    put-next-positions-requires (λ c. search needs) returns-2)

@@ -28,9 +28,6 @@ at-end c =
     let s = c .before .before .before .before .before .before .before .before in
     writing-step (decimal (s .args .refusal)) ending (at-number (c .before .before .before .before)) (c .put-decimal .ensures)
 
-slice-aggregate-put-bytes : tie.Need-slice-aggregate-put-bytes
-slice-aggregate-put-bytes c = search needs
-
 put-bytes-requires : tie.Need-put-bytes-requires
 put-bytes-requires c κs = let s = c .before .before .before in writing-room refused-head (decimal (s .args .refusal) ++ ending) (at-head s)
 
@@ -39,14 +36,8 @@ put-decimal-requires c κs =
     let s = c .before .before .before .before .before .before .before in
     writing-room (decimal (s .args .refusal)) ending (at-number (c .before .before .before))
 
-slice-aggregate-put-bytes-2 : tie.Need-slice-aggregate-put-bytes-2
-slice-aggregate-put-bytes-2 c = search needs
-
 put-bytes-requires-2 : tie.Need-put-bytes-requires-2
 put-bytes-requires-2 c κs = at-end (c .before .before .before .before) .room
-
-same-length : tie.Need-same-length
-same-length c = search needs
 
 returns : tie.Need-returns
 returns c = writing-last ending (at-end (c .before .before .before .before .before .before .before))
@@ -56,10 +47,4 @@ pub put-refused-line-spec : {M : Type 1} → statement M
 put-refused-line-spec =
     tie.close
     (tie.spec
-    slice-aggregate-put-bytes
-    put-bytes-requires
-    put-decimal-requires
-    slice-aggregate-put-bytes-2
-    put-bytes-requires-2
-    same-length
-    returns)
+    (λ c. search needs) put-bytes-requires put-decimal-requires (λ c. search needs) put-bytes-requires-2 (λ c. search needs) returns)

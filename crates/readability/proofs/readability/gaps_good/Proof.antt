@@ -17,12 +17,6 @@ abbrev μ-loop : tie.MeasureT-loop
 loop-holds : tie.Need-loop-holds Inv-loop μ-loop
 loop-holds c = summed-start (c .args .gaps .now)
 
-mul-gap : tie.Need-mul-gap Inv-loop μ-loop
-mul-gap c = search needs
-
-shared-slice-read-gap : tie.Need-shared-slice-read-gap Inv-loop μ-loop
-shared-slice-read-gap c = search needs
-
 cast-sum : tie.Need-cast-sum Inv-loop μ-loop
 cast-sum c = omega (arith, c .shared-slice-known .given (c .before .before .loop .i))
 
@@ -32,26 +26,11 @@ add-sum c =
     let walk = c .before .before .loop in
     omega (arith, c .shared-slice-known .given (walk .i))
 
-add-i : tie.Need-add-i Inv-loop μ-loop
-add-i c = search needs
-
-loop-less : tie.Need-loop-less Inv-loop μ-loop
-loop-less c = search needs
-
 loop-again : tie.Need-loop-again Inv-loop μ-loop
 loop-again c =
     let walk = c .before .before .loop in
     summed-step (walk .inv) (c .before .loop-test .taken)
     (omega (arith, c .shared-slice-known .given (walk .i)))
-
-add-if1 : tie.Need-add-if1 Inv-loop μ-loop
-add-if1 c = search needs
-
-cast-if1 : tie.Need-cast-if1 Inv-loop μ-loop
-cast-if1 c = search needs
-
-add-if1-2 : tie.Need-add-if1-2 Inv-loop μ-loop
-add-if1-2 c = search needs
 
 returns : tie.Need-returns Inv-loop μ-loop
 returns c =
@@ -71,18 +50,5 @@ pub gaps-good-spec : {M : Type 1} → statement M
 gaps-good-spec =
     tie.close
     (tie.spec
-    Inv-loop
-    μ-loop
-    loop-holds
-    mul-gap
-    shared-slice-read-gap
-    cast-sum
-    add-sum
-    add-i
-    loop-less
-    loop-again
-    add-if1
-    cast-if1
-    add-if1-2
-    returns
-    returns-2)
+    Inv-loop μ-loop loop-holds (λ c. search needs) (λ c. search needs) cast-sum add-sum (λ c. search needs) (λ c. search needs) loop-again
+    (λ c. search needs) (λ c. search needs) (λ c. search needs) returns returns-2)

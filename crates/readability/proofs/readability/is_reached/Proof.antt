@@ -7,20 +7,11 @@ use Rattle.readability.proofs.readability.is_reached.Tie as tie
 returns : tie.Need-returns
 returns c = passed-none (c .before .args .chars .now) (c .before .args .lengths .now) (c .before .args .position .word) (c .before .args .position .at) (c .before .args .value) (c .before .pre .passed) (c .if1 .taken)
 
-mul-if2 : tie.Need-mul-if2
-mul-if2 c = search needs
-
 shared-slice-read-if2 : tie.Need-shared-slice-read-if2
 shared-slice-read-if2 c = word-some (c .before .before .args .chars .now) (c .before .before .args .lengths .now) (c .before .before .args .position .word) (c .before .before .args .position .at) (c .before .before .args .value) (c .before .before .pre .passed) (c .before .if1 .left)
 
 returns-2 : tie.Need-returns-2
 returns-2 c = reached-other (c .before .before .before .pre) (c .before .before .if1 .left) (c .if2 .taken)
-
-mul-result : tie.Need-mul-result
-mul-result c = search needs
-
-shared-slice-read-result : tie.Need-shared-slice-read-result
-shared-slice-read-result c = search needs
 
 returns-3 : tie.Need-returns-3
 returns-3 c = reached-same (c .before .before .before .before .pre) (c .before .before .before .if1 .left) (c .before .if2 .left)
@@ -29,10 +20,4 @@ pub is-reached-spec : {M : Type 1} → statement M
 is-reached-spec =
     tie.close
     (tie.spec
-    returns
-    mul-if2
-    shared-slice-read-if2
-    returns-2
-    mul-result
-    shared-slice-read-result
-    returns-3)
+    returns (λ c. search needs) shared-slice-read-if2 returns-2 (λ c. search needs) (λ c. search needs) returns-3)

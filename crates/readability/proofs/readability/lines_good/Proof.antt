@@ -19,23 +19,11 @@ Inv-loop chars lengths index as-gaps n keys at₀ least₀ i₀ at least i =
 abbrev μ-loop : tie.MeasureT-loop
 μ-loop chars lengths index as-gaps n keys at₀ least₀ i₀ at least i = keys - i
 
-shared-slice-read-n : tie.Need-shared-slice-read-n Inv-loop μ-loop
-shared-slice-read-n c = omega arith
-
 cast-n : tie.Need-cast-n Inv-loop μ-loop
 cast-n c = omega (arith, c .shared-slice-known4 .given 0)
 
-shared-slice-read-keys : tie.Need-shared-slice-read-keys Inv-loop μ-loop
-shared-slice-read-keys c = omega arith
-
 cast-keys : tie.Need-cast-keys Inv-loop μ-loop
 cast-keys c = omega (arith, c .shared-slice-known5 .given 1)
-
-mul-at : tie.Need-mul-at Inv-loop μ-loop
-mul-at c = search needs
-
-add-at : tie.Need-add-at Inv-loop μ-loop
-add-at c = omega arith
 
 loop-holds : tie.Need-loop-holds Inv-loop μ-loop
 loop-holds c =
@@ -43,18 +31,6 @@ loop-holds c =
     let args = start .args in
     let lex = lexicon (args .chars .now) (args .lengths .now) in
     (lines-start (read-as (args .as-gaps)) lex (args .index .now) (start .pre .2), omega arith)
-
-mul-if1 : tie.Need-mul-if1 Inv-loop μ-loop
-mul-if1 c = search needs
-
-add-if1 : tie.Need-add-if1 Inv-loop μ-loop
-add-if1 c = omega arith
-
-mul-if1-2 : tie.Need-mul-if1-2 Inv-loop μ-loop
-mul-if1-2 c = search needs
-
-shared-slice-read-if1 : tie.Need-shared-slice-read-if1 Inv-loop μ-loop
-shared-slice-read-if1 c = omega arith
 
 lone-lines-requires : tie.Need-lone-lines-requires Inv-loop μ-loop
 lone-lines-requires c κs =
@@ -71,38 +47,8 @@ lone-lines-requires c κs =
 returns : tie.Need-returns Inv-loop μ-loop
 returns c = c .lone-lines .ensures
 
-mul-value : tie.Need-mul-value Inv-loop μ-loop
-mul-value c = search needs
-
-add-value : tie.Need-add-value Inv-loop μ-loop
-add-value c = omega arith
-
-add-value-2 : tie.Need-add-value-2 Inv-loop μ-loop
-add-value-2 c = omega arith
-
-mul-value-2 : tie.Need-mul-value-2 Inv-loop μ-loop
-mul-value-2 c = search needs
-
-shared-slice-read-value : tie.Need-shared-slice-read-value Inv-loop μ-loop
-shared-slice-read-value c = omega arith
-
 cast-value : tie.Need-cast-value Inv-loop μ-loop
 cast-value c = omega (arith, c .shared-slice-known7 .given (2 + 3 * c .before .before .before .before .loop .i + 1))
-
-mul-count : tie.Need-mul-count Inv-loop μ-loop
-mul-count c = search needs
-
-add-count : tie.Need-add-count Inv-loop μ-loop
-add-count c = omega arith
-
-add-count-2 : tie.Need-add-count-2 Inv-loop μ-loop
-add-count-2 c = omega arith
-
-mul-count-2 : tie.Need-mul-count-2 Inv-loop μ-loop
-mul-count-2 c = search needs
-
-shared-slice-read-count : tie.Need-shared-slice-read-count Inv-loop μ-loop
-shared-slice-read-count c = omega arith
 
 cast-count : tie.Need-cast-count Inv-loop μ-loop
 cast-count c = omega (arith, c .shared-slice-known8 .given (2 + 3 * c .before .before .before .before .before .loop .i + 2))
@@ -143,12 +89,6 @@ add-at-2 c =
 add-least : tie.Need-add-least Inv-loop μ-loop
 add-least c = omega (arith, c .before .before .shared-slice-known8 .given (2 + 3 * c .before .before .before .before .before .before .before .loop .i + 1))
 
-add-i : tie.Need-add-i Inv-loop μ-loop
-add-i c = omega arith
-
-loop-less : tie.Need-loop-less Inv-loop μ-loop
-loop-less c = omega arith
-
 loop-again : tie.Need-loop-again Inv-loop μ-loop
 loop-again c =
     let word = c .before .before .before .before in
@@ -175,38 +115,8 @@ pub lines-good-spec : {M : Type 1} → statement M
 lines-good-spec =
     tie.close
     (tie.spec
-    Inv-loop
-    μ-loop
-    shared-slice-read-n
-    cast-n
-    shared-slice-read-keys
-    cast-keys
-    mul-at
-    add-at
-    loop-holds
-    mul-if1
-    add-if1
-    mul-if1-2
-    shared-slice-read-if1
-    lone-lines-requires
-    returns
-    mul-value
-    add-value
-    add-value-2
-    mul-value-2
-    shared-slice-read-value
-    cast-value
-    mul-count
-    add-count
-    add-count-2
-    mul-count-2
-    shared-slice-read-count
-    cast-count
-    word-line-good-requires
-    returns-2
-    add-at-2
-    add-least
-    add-i
-    loop-less
-    loop-again
-    returns-3)
+    Inv-loop μ-loop (λ c. omega arith) cast-n (λ c. omega arith) cast-keys (λ c. search needs) (λ c. omega arith) loop-holds
+    (λ c. search needs) (λ c. omega arith) (λ c. search needs) (λ c. omega arith) lone-lines-requires returns (λ c. search needs)
+    (λ c. omega arith) (λ c. omega arith) (λ c. search needs) (λ c. omega arith) cast-value (λ c. search needs) (λ c. omega arith)
+    (λ c. omega arith) (λ c. search needs) (λ c. omega arith) cast-count word-line-good-requires returns-2 add-at-2 add-least
+    (λ c. omega arith) (λ c. omega arith) loop-again returns-3)

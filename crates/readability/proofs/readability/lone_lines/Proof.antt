@@ -22,62 +22,14 @@ Inv-loop chars lengths index from start as-gaps n keys at₀ least₀ words₀ i
 abbrev μ-loop : tie.MeasureT-loop
 μ-loop chars lengths index from start as-gaps n keys at₀ least₀ words₀ i₀ at least words i = keys - i
 
-shared-slice-read-n : tie.Need-shared-slice-read-n Inv-loop μ-loop
-shared-slice-read-n c = omega arith
-
 cast-n : tie.Need-cast-n Inv-loop μ-loop
 cast-n c = omega (arith, c .shared-slice-known4 .given 0)
-
-shared-slice-read-keys : tie.Need-shared-slice-read-keys Inv-loop μ-loop
-shared-slice-read-keys c = omega arith
 
 cast-keys : tie.Need-cast-keys Inv-loop μ-loop
 cast-keys c = omega (arith, c .shared-slice-known5 .given 1)
 
 loop-holds : tie.Need-loop-holds Inv-loop μ-loop
 loop-holds c = (c .before .before .before .before .before .pre .2, passed-start (c .before .before .before .before .before .args .chars .now) (c .before .before .before .before .before .args .lengths .now) (c .before .before .before .before .before .pre .0))
-
-mul-kind : tie.Need-mul-kind Inv-loop μ-loop
-mul-kind c = search needs
-
-add-kind : tie.Need-add-kind Inv-loop μ-loop
-add-kind c = omega arith
-
-mul-kind-2 : tie.Need-mul-kind-2 Inv-loop μ-loop
-mul-kind-2 c = search needs
-
-shared-slice-read-kind : tie.Need-shared-slice-read-kind Inv-loop μ-loop
-shared-slice-read-kind c = omega arith
-
-mul-value : tie.Need-mul-value Inv-loop μ-loop
-mul-value c = search needs
-
-add-value : tie.Need-add-value Inv-loop μ-loop
-add-value c = omega arith
-
-add-value-2 : tie.Need-add-value-2 Inv-loop μ-loop
-add-value-2 c = omega arith
-
-mul-value-2 : tie.Need-mul-value-2 Inv-loop μ-loop
-mul-value-2 c = search needs
-
-shared-slice-read-value : tie.Need-shared-slice-read-value Inv-loop μ-loop
-shared-slice-read-value c = omega arith
-
-mul-count : tie.Need-mul-count Inv-loop μ-loop
-mul-count c = search needs
-
-add-count : tie.Need-add-count Inv-loop μ-loop
-add-count c = omega arith
-
-add-count-2 : tie.Need-add-count-2 Inv-loop μ-loop
-add-count-2 c = omega arith
-
-mul-count-2 : tie.Need-mul-count-2 Inv-loop μ-loop
-mul-count-2 c = search needs
-
-shared-slice-read-count : tie.Need-shared-slice-read-count Inv-loop μ-loop
-shared-slice-read-count c = omega arith
 
 cast-count : tie.Need-cast-count Inv-loop μ-loop
 cast-count c = omega (arith, c .shared-slice-known8 .given (2 + 3 * c .before .before .before .before .loop .i + 2))
@@ -175,12 +127,6 @@ cast-least c = omega (arith, c .before .before .before .before .before .before .
 add-least : tie.Need-add-least Inv-loop μ-loop
 add-least c = omega (arith, c .before .before .before .before .before .before .before .shared-slice-known8 .given (2 + 3 * c .before .before .before .before .before .before .before .before .before .before .before .loop .i + 1))
 
-add-i : tie.Need-add-i Inv-loop μ-loop
-add-i c = omega arith
-
-loop-less : tie.Need-loop-less Inv-loop μ-loop
-loop-less c = omega arith
-
 loop-again : tie.Need-loop-again Inv-loop μ-loop
 loop-again c =
     let reached = c .before .before in
@@ -212,40 +158,8 @@ pub lone-lines-spec : {M : Type 1} → statement M
 lone-lines-spec =
     tie.close
     (tie.spec
-    Inv-loop
-    μ-loop
-    shared-slice-read-n
-    cast-n
-    shared-slice-read-keys
-    cast-keys
-    loop-holds
-    mul-kind
-    add-kind
-    mul-kind-2
-    shared-slice-read-kind
-    mul-value
-    add-value
-    add-value-2
-    mul-value-2
-    shared-slice-read-value
-    mul-count
-    add-count
-    add-count-2
-    mul-count-2
-    shared-slice-read-count
-    cast-count
-    returns
-    cast-if2
-    returns-2
-    skip-below-requires
-    is-reached-requires
-    returns-3
-    line-list-good-requires
-    returns-4
-    add-at
-    cast-least
-    add-least
-    add-i
-    loop-less
-    loop-again
-    returns-5)
+    Inv-loop μ-loop (λ c. omega arith) cast-n (λ c. omega arith) cast-keys loop-holds (λ c. search needs) (λ c. omega arith)
+    (λ c. search needs) (λ c. omega arith) (λ c. search needs) (λ c. omega arith) (λ c. omega arith) (λ c. search needs) (λ c. omega arith)
+    (λ c. search needs) (λ c. omega arith) (λ c. omega arith) (λ c. search needs) (λ c. omega arith) cast-count returns cast-if2 returns-2
+    skip-below-requires is-reached-requires returns-3 line-list-good-requires returns-4 add-at cast-least add-least (λ c. omega arith)
+    (λ c. omega arith) loop-again returns-5)

@@ -8,20 +8,8 @@ use borrow.Author.Needs.{needs}
 use Rattle.readability.proofs.readability.positions_good.Statement.{statement}
 use Rattle.readability.proofs.readability.positions_good.Tie as tie
 
-sub-last : tie.Need-sub-last
-sub-last c = search needs
-
-mul-last : tie.Need-mul-last
-mul-last c = search needs
-
-shared-slice-read-last : tie.Need-shared-slice-read-last
-shared-slice-read-last c = search needs
-
 cast-last : tie.Need-cast-last
 cast-last c = omega (arith, c .shared-slice-known2 .given (length (c .before .before .args .positions .now) - 1))
-
-add-if1 : tie.Need-add-if1
-add-if1 c = search needs
 
 add-if1-2 : tie.Need-add-if1-2
 add-if1-2 c = omega (arith, c .shared-slice-known2 .given (length (c .before .before .args .positions .now) - 1))
@@ -30,9 +18,6 @@ returns : tie.Need-returns
 returns c =
     let start = c .before .before .before in
     list-late (start .args .positions .now) (start .args .n) (start .args .len) (start .pre .0) (c .if1 .taken)
-
-rise-requires : tie.Need-rise-requires
-rise-requires c κs = search needs
 
 returns-2 : tie.Need-returns-2
 returns-2 c =
@@ -43,12 +28,5 @@ pub positions-good-spec : {M : Type 1} → statement M
 positions-good-spec =
     tie.close
     (tie.spec
-    sub-last
-    mul-last
-    shared-slice-read-last
-    cast-last
-    add-if1
-    add-if1-2
-    returns
-    rise-requires
+    (λ c. search needs) (λ c. search needs) (λ c. search needs) cast-last (λ c. search needs) add-if1-2 returns (λ c κs. search needs)
     returns-2)

@@ -17,9 +17,6 @@ returns c =
     header-missing (read-as (args .as-gaps)) (read-keeps (args .as-gaps)) longest-text (lexicon (args .chars .now) (args .lengths .now))
     (args .index .now) (c .if1 .taken)
 
-shared-slice-read-keys : tie.Need-shared-slice-read-keys
-shared-slice-read-keys c = search needs
-
 cast-keys : tie.Need-cast-keys
 cast-keys c = omega (arith, c .shared-slice-known4 .given 1)
 
@@ -35,9 +32,6 @@ returns-2 c =
     directory-missing (read-as (args .as-gaps)) (read-keeps (args .as-gaps)) longest-text (lexicon (args .chars .now) (args .lengths .now))
     (args .index .now) (c .if2 .taken)
 
-lines-good-requires : tie.Need-lines-good-requires
-lines-good-requires c κs = search needs
-
 returns-3 : tie.Need-returns-3
 returns-3 c =
     let args = c .before .before .before .before .before .before .before .args in
@@ -51,11 +45,4 @@ pub readable-spec : {M : Type 1} → statement M
 readable-spec =
     tie.close
     (tie.spec
-    returns
-    shared-slice-read-keys
-    cast-keys
-    mul-if2
-    add-if2
-    returns-2
-    lines-good-requires
-    returns-3)
+    returns (λ c. search needs) cast-keys mul-if2 add-if2 returns-2 (λ c κs. search needs) returns-3)

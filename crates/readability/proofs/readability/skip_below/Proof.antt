@@ -17,32 +17,17 @@ abbrev μ-loop : tie.MeasureT-loop
 loop-holds : tie.Need-loop-holds Inv-loop μ-loop
 loop-holds c = c .pre
 
-mul-if1 : tie.Need-mul-if1 Inv-loop μ-loop
-mul-if1 c = search needs
-
 shared-slice-read-if1 : tie.Need-shared-slice-read-if1 Inv-loop μ-loop
 shared-slice-read-if1 c = word-some (c .before .before .before .args .chars .now) (c .before .before .before .args .lengths .now) (c .before .before .loop .word) (c .before .before .loop .at) (c .before .before .before .args .value) (c .before .before .loop .inv) (c .before .loop-test .taken)
 
 returns : tie.Need-returns Inv-loop μ-loop
 returns c = record { passed = c .before .before .before .loop .inv; first = λ h. c .if1 .taken }
 
-mul-at : tie.Need-mul-at Inv-loop μ-loop
-mul-at c = search needs
-
-shared-slice-read-at : tie.Need-shared-slice-read-at Inv-loop μ-loop
-shared-slice-read-at c = search needs
-
 cast-at : tie.Need-cast-at Inv-loop μ-loop
 cast-at c = omega (arith, c .shared-slice-known2 .given (c .before .before .before .before .loop .word))
 
 add-at : tie.Need-add-at Inv-loop μ-loop
 add-at c = omega (arith, word-room (c .before .before .before .before .before .args .chars .now) (c .before .before .before .before .before .args .lengths .now) (c .before .before .before .before .loop .word) (c .before .before .before .before .loop .at) (c .before .before .before .before .before .args .value) (c .before .before .before .before .loop .inv) (c .before .before .before .loop-test .taken))
-
-add-word : tie.Need-add-word Inv-loop μ-loop
-add-word c = search needs
-
-loop-less : tie.Need-loop-less Inv-loop μ-loop
-loop-less c = search needs
 
 loop-again : tie.Need-loop-again Inv-loop μ-loop
 loop-again c = passed-step (c .before .before .before .before .before .args .chars .now) (c .before .before .before .before .before .args .lengths .now) (c .before .before .before .before .loop .word) (c .before .before .before .before .loop .at) (c .before .before .before .before .before .args .value) (c .before .before .before .before .loop .inv) (c .before .before .before .loop-test .taken) (c .before .if1 .left)
@@ -54,17 +39,5 @@ pub skip-below-spec : {M : Type 1} → statement M
 skip-below-spec =
     tie.close
     (tie.spec
-    Inv-loop
-    μ-loop
-    loop-holds
-    mul-if1
-    shared-slice-read-if1
-    returns
-    mul-at
-    shared-slice-read-at
-    cast-at
-    add-at
-    add-word
-    loop-less
-    loop-again
-    returns-2)
+    Inv-loop μ-loop loop-holds (λ c. search needs) shared-slice-read-if1 returns (λ c. search needs) (λ c. search needs) cast-at add-at
+    (λ c. search needs) (λ c. search needs) loop-again returns-2)

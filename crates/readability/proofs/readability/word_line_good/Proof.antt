@@ -22,12 +22,6 @@ returns-2 c =
     word-high (read-as (args .as-gaps)) (start .pre .0) (args .n) (args .least) (args .value)
     (args .count) (drop (args .at) (args .index .now)) (c .if2 .taken)
 
-mul-line-list-good : tie.Need-mul-line-list-good
-mul-line-list-good c = search needs
-
-shared-slice-read-line-list-good : tie.Need-shared-slice-read-line-list-good
-shared-slice-read-line-list-good c = search needs
-
 cast-line-list-good : tie.Need-cast-line-list-good
 cast-line-list-good c = omega (arith, c .shared-slice-known4 .given (c .before .before .before .before .before .before .args .value))
 
@@ -48,10 +42,4 @@ pub word-line-good-spec : {M : Type 1} → statement M
 word-line-good-spec =
     tie.close
     (tie.spec
-    returns
-    returns-2
-    mul-line-list-good
-    shared-slice-read-line-list-good
-    cast-line-list-good
-    line-list-good-requires
-    returns-3)
+    returns returns-2 (λ c. search needs) (λ c. search needs) cast-line-list-good line-list-good-requires returns-3)

@@ -13,9 +13,6 @@ Inv-loop chars lengths index word-starts string word-lines limit stride sum₀ a
 abbrev μ-loop : tie.MeasureT-loop
 μ-loop chars lengths index word-starts string word-lines limit stride sum₀ at₀ sum at = length string - at
 
-add-stride : tie.Need-add-stride Inv-loop μ-loop
-add-stride c = omega arith
-
 estimate-words-requires : tie.Need-estimate-words-requires Inv-loop μ-loop
 estimate-words-requires c κs = let s = c .before .before .before .before .before in (s .pre .0, s .pre .1, s .pre .2, s .pre .3, s .pre .3 .some)
 
@@ -70,16 +67,5 @@ pub cost-exceeds-spec : {M : Type 1} → statement M
 cost-exceeds-spec =
     tie.close
     (tie.spec
-    Inv-loop
-    μ-loop
-    add-stride
-    estimate-words-requires
-    loop-holds
-    returns
-    count-keys-requires
-    mul-sum
-    add-sum
-    add-at
-    loop-less
-    loop-again
-    returns-2)
+    Inv-loop μ-loop (λ c. omega arith) estimate-words-requires loop-holds returns count-keys-requires mul-sum add-sum add-at loop-less
+    loop-again returns-2)

@@ -7,26 +7,8 @@ use borrow.Author.Needs.{needs}
 use Rattle.searcher.proofs.estimate.estimate_line.Statement.{statement}
 use Rattle.searcher.proofs.estimate.estimate_line.Tie as tie
 
-mul-count : tie.Need-mul-count
-mul-count c = search needs
-
-add-count : tie.Need-add-count
-add-count c = search needs
-
-add-count-2 : tie.Need-add-count-2
-add-count-2 c = search needs
-
-mul-count-2 : tie.Need-mul-count-2
-mul-count-2 c = search needs
-
-shared-slice-read-count : tie.Need-shared-slice-read-count
-shared-slice-read-count c = search needs
-
 cast-count : tie.Need-cast-count
 cast-count c = omega (arith, c .shared-slice-known3 .given (2 + 3 * c .before .before .before .args .line + 2))
-
-word-length-requires : tie.Need-word-length-requires
-word-length-requires c κs = search needs
 
 mul-result : tie.Need-mul-result
 mul-result c =
@@ -49,13 +31,5 @@ pub estimate-line-spec : {M : Type 1} → statement M
 estimate-line-spec =
     tie.close
     (tie.spec
-    mul-count
-    add-count
-    add-count-2
-    mul-count-2
-    shared-slice-read-count
-    cast-count
-    word-length-requires
-    mul-result
-    returns
-    returns-2)
+    (λ c. search needs) (λ c. search needs) (λ c. search needs) (λ c. search needs) (λ c. search needs) cast-count (λ c κs. search needs)
+    mul-result returns returns-2)

@@ -20,31 +20,11 @@ estimate-line-requires c κs =
     let below = c .loop-test .taken in
     (omega arith, s .pre .3 (c .before .loop .line) below, omega arith)
 
-add-sum : tie.Need-add-sum Inv-loop μ-loop
-add-sum c = omega arith
-
-add-line : tie.Need-add-line Inv-loop μ-loop
-add-line c = omega arith
-
-loop-less : tie.Need-loop-less Inv-loop μ-loop
-loop-less c = omega arith
-
 loop-again : tie.Need-loop-again Inv-loop μ-loop
 loop-again c = (omega arith, omega arith)
-
-returns : tie.Need-returns Inv-loop μ-loop
-returns c = omega arith
 
 pub estimate-lines-spec : {M : Type 1} → statement M
 estimate-lines-spec =
     tie.close
     (tie.spec
-    Inv-loop
-    μ-loop
-    loop-holds
-    estimate-line-requires
-    add-sum
-    add-line
-    loop-less
-    loop-again
-    returns)
+    Inv-loop μ-loop loop-holds estimate-line-requires (λ c. omega arith) (λ c. omega arith) (λ c. omega arith) loop-again (λ c. omega arith))

@@ -15,9 +15,6 @@ Inv-loop chars lengths index word-starts string key-start word-lines whole left 
 abbrev μ-loop : tie.MeasureT-loop
 μ-loop chars lengths index word-starts string key-start word-lines whole left sum₀ low₀ high₀ depth₀ sum low high depth = (high - low) + (32 - depth)
 
-sub-left : tie.Need-sub-left Inv-loop μ-loop
-sub-left c = omega arith
-
 loop-holds : tie.Need-loop-holds Inv-loop μ-loop
 loop-holds c =
     let a = c .before .before .before .before .before .args in
@@ -77,9 +74,6 @@ add-low c =
     let a = s .args in
     let l = c .before .before .before .before .before .loop in omega arith
 
-loop-less : tie.Need-loop-less Inv-loop μ-loop
-loop-less c = omega arith
-
 loop-again : tie.Need-loop-again Inv-loop μ-loop
 loop-again c =
     let s = c .before .before .before .before .before .before .before .before .before .before .before in
@@ -87,24 +81,12 @@ loop-again c =
     let l = c .before .before .before .before .before .loop in
     (omega arith, shared-prefix-next (s .pre .0) (s .pre .2) (s .pre .1) (l .inv .1) (c .before .before .before .before .loop-test .taken))
 
-add-character : tie.Need-add-character Inv-loop μ-loop
-add-character c = omega arith
-
-mul-character : tie.Need-mul-character Inv-loop μ-loop
-mul-character c = omega arith
-
-shared-slice-read-character : tie.Need-shared-slice-read-character Inv-loop μ-loop
-shared-slice-read-character c = omega arith
-
 equal-range-requires : tie.Need-equal-range-requires Inv-loop μ-loop
 equal-range-requires c κs =
     let s = c .before .before .before .before .before .before .before .before .before .before .before in
     let a = s .args in
     let l = c .before .before .before .before .before .loop in
     shared-prefix-column (s .pre .0) (s .pre .2) (s .pre .1) (l .inv .1) (c .before .before .before .before .loop-test .taken) (λ e. c .before .if2 .left (c .before .before .word-length .ensures ∙ e))
-
-add-depth : tie.Need-add-depth Inv-loop μ-loop
-add-depth c = omega arith
 
 loop-less-2 : tie.Need-loop-less-2 Inv-loop μ-loop
 loop-less-2 c =
@@ -133,24 +115,6 @@ pub estimate-words-spec : {M : Type 1} → statement M
 estimate-words-spec =
     tie.close
     (tie.spec
-    Inv-loop
-    μ-loop
-    sub-left
-    loop-holds
-    estimate-lines-requires
-    add-result
-    returns
-    word-length-requires
-    estimate-line-requires
-    add-sum
-    add-low
-    loop-less
-    loop-again
-    add-character
-    mul-character
-    shared-slice-read-character
-    equal-range-requires
-    add-depth
-    loop-less-2
-    loop-again-2
-    returns-2)
+    Inv-loop μ-loop (λ c. omega arith) loop-holds estimate-lines-requires add-result returns word-length-requires estimate-line-requires
+    add-sum add-low (λ c. omega arith) loop-again (λ c. omega arith) (λ c. omega arith) (λ c. omega arith) equal-range-requires
+    (λ c. omega arith) loop-less-2 loop-again-2 returns-2)

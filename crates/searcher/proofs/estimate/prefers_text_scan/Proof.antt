@@ -9,18 +9,6 @@ use Rattle.searcher.proofs.estimate.prefers_text_scan.Tie as tie
 use Rattle.directory.proofs.ranges.count_word_lines.Reads as words-end-reads
 use Rattle.searcher.proofs.estimate.cost_exceeds.Reads as visits-more-reads
 
-shared-slice-read-n : tie.Need-shared-slice-read-n
-shared-slice-read-n c = search needs
-
-cast-n : tie.Need-cast-n
-cast-n c = search needs
-
-add-if1 : tie.Need-add-if1
-add-if1 c = search needs
-
-add-if1-2 : tie.Need-add-if1-2
-add-if1-2 c = search needs
-
 returns : tie.Need-returns
 returns c = λ t. clash t refl
 
@@ -29,9 +17,6 @@ count-word-lines-requires c κs =
     let s = c .before .before .before .before .before .before .before in
     let a = s .args in
     (s .pre .0 .fits, kinds-rise (s .pre .0))
-
-mul-cost-exceeds : tie.Need-mul-cost-exceeds
-mul-cost-exceeds c = search needs
 
 cost-exceeds-requires : tie.Need-cost-exceeds-requires
 cost-exceeds-requires c κs =
@@ -44,19 +29,9 @@ cost-exceeds-requires c κs =
       omega arith,
     )
 
-returns-2 : tie.Need-returns-2
-returns-2 c = search needs
-
 pub prefers-text-scan-spec : {M : Type 1} → statement M
 prefers-text-scan-spec =
     tie.close
     (tie.spec
-    shared-slice-read-n
-    cast-n
-    add-if1
-    add-if1-2
-    returns
-    count-word-lines-requires
-    mul-cost-exceeds
-    cost-exceeds-requires
-    returns-2)
+    (λ c. search needs) (λ c. search needs) (λ c. search needs) (λ c. search needs) returns count-word-lines-requires (λ c. search needs)
+    cost-exceeds-requires (λ c. search needs))

@@ -5,18 +5,6 @@ use borrow.Author.Needs.{needs}
 use Rattle.searcher.proofs.first.first_plain.Statement.{statement}
 use Rattle.searcher.proofs.first.first_plain.Tie as tie
 
-shared-slice-read-starts-of : tie.Need-shared-slice-read-starts-of
-shared-slice-read-starts-of c = search needs
-
-cast-starts-of : tie.Need-cast-starts-of
-cast-starts-of c = search needs
-
-starts-of-requires : tie.Need-starts-of-requires
-starts-of-requires c κs = search needs
-
-first-of-starts-requires : tie.Need-first-of-starts-requires
-first-of-starts-requires c κs = search needs
-
 returns : tie.Need-returns
 returns c =
     let a = c .before .before .before .before .before .before .before .before .before .args in
@@ -29,8 +17,4 @@ pub first-plain-spec : {M : Type 1} → statement M
 first-plain-spec =
     tie.close
     (tie.spec
-    shared-slice-read-starts-of
-    cast-starts-of
-    starts-of-requires
-    first-of-starts-requires
-    returns)
+    (λ c. search needs) (λ c. search needs) (λ c κs. search needs) (λ c κs. search needs) returns)

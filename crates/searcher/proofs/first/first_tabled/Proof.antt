@@ -4,12 +4,6 @@ use Rattle.laws.specs.Search.Sizing.{own-long, own-string}
 use Rattle.searcher.proofs.first.first_tabled.Statement.{statement}
 use Rattle.searcher.proofs.first.first_tabled.Tie as tie
 
-replaced-string-requires : tie.Need-replaced-string-requires
-replaced-string-requires c κs = search needs
-
-array-share-prefix-own : tie.Need-array-share-prefix-own
-array-share-prefix-own c = search needs
-
 slice-aggregate-first-plain : tie.Need-slice-aggregate-first-plain
 slice-aggregate-first-plain c =
     let start = c .before .before .before .before .before .before .before .before in
@@ -30,8 +24,4 @@ pub first-tabled-spec : {M : Type 1} → statement M
 first-tabled-spec =
     tie.close
     (tie.spec
-    replaced-string-requires
-    array-share-prefix-own
-    slice-aggregate-first-plain
-    first-plain-requires
-    returns)
+    (λ c κs. search needs) (λ c. search needs) slice-aggregate-first-plain first-plain-requires returns)

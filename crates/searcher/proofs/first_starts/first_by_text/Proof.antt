@@ -6,27 +6,12 @@ use borrow.Author.Needs.{needs}
 use Rattle.searcher.proofs.first_starts.first_by_text.Statement.{statement}
 use Rattle.searcher.proofs.first_starts.first_by_text.Tie as tie
 
-reach-by-text-requires : tie.Need-reach-by-text-requires
-reach-by-text-requires c κs = search needs
-
-first-found-requires : tie.Need-first-found-requires
-first-found-requires c κs = search needs
-
-same-length : tie.Need-same-length
-same-length c = search needs
-
 returns : tie.Need-returns
 returns c =
     let a = c .before .before .before .before .before .before .before .before .before .before .before .before .before .before .args in
     let told = c .before .before .before .before .before .reach-by-text in
     first-in-told (lexicon (a .chars .now) (a .lengths .now)) (a .index .now) (a .string .now) (length (a .reach .now)) (told .last .1 .1 .1 .1 .1 .0)
     (told .ensures .0 (c .before .before .if1 .taken)) (told .kept .1 .1 .1 .1 .1 .0) (c .first-found .result) (c .first-found .ensures)
-
-first-by-entries-requires : tie.Need-first-by-entries-requires
-first-by-entries-requires c κs = search needs
-
-same-length-2 : tie.Need-same-length-2
-same-length-2 c = search needs
 
 returns-2 : tie.Need-returns-2
 returns-2 c =
@@ -40,10 +25,4 @@ pub first-by-text-spec : {M : Type 1} → statement M
 first-by-text-spec =
     tie.close
     (tie.spec
-    reach-by-text-requires
-    first-found-requires
-    same-length
-    returns
-    first-by-entries-requires
-    same-length-2
-    returns-2)
+    (λ c κs. search needs) (λ c κs. search needs) (λ c. search needs) returns (λ c κs. search needs) (λ c. search needs) returns-2)

@@ -9,9 +9,6 @@ use borrow.Author.Needs.{needs}
 use Rattle.searcher.proofs.first_starts.first_by_text_in.Statement.{statement}
 use Rattle.searcher.proofs.first_starts.first_by_text_in.Tie as tie
 
-slice-relend-prefix-first-by-text : tie.Need-slice-relend-prefix-first-by-text
-slice-relend-prefix-first-by-text c = search needs
-
 slice-aggregate-first-by-text : tie.Need-slice-aggregate-first-by-text
 slice-aggregate-first-by-text c =
     let s = c .before .before .before .before .before .before .before .before in sym (length-take-le (s .args .starts) (s .args .room .now) (s .pre .2))
@@ -20,9 +17,6 @@ first-by-text-requires : tie.Need-first-by-text-requires
 first-by-text-requires c κs =
     let s = c .before .before .before .before .before .before .before .before in
     (s .pre .0, s .pre .1, omega (arith, length-take-le (s .args .starts) (s .args .room .now) (s .pre .2)))
-
-same-length : tie.Need-same-length
-same-length c = search needs
 
 returns : tie.Need-returns
 returns c =
@@ -36,8 +30,4 @@ pub first-by-text-in-spec : {M : Type 1} → statement M
 first-by-text-in-spec =
     tie.close
     (tie.spec
-    slice-relend-prefix-first-by-text
-    slice-aggregate-first-by-text
-    first-by-text-requires
-    same-length
-    returns)
+    (λ c. search needs) slice-aggregate-first-by-text first-by-text-requires (λ c. search needs) returns)

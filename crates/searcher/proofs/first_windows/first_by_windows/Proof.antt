@@ -7,33 +7,12 @@ use borrow.Author.Needs.{needs}
 use Rattle.searcher.proofs.first_windows.first_by_windows.Statement.{statement}
 use Rattle.searcher.proofs.first_windows.first_by_windows.Tie as tie
 
-first-in-short-requires : tie.Need-first-in-short-requires
-first-in-short-requires c κs = search needs
-
-returns : tie.Need-returns
-returns c = search needs
-
-first-in-middle-requires : tie.Need-first-in-middle-requires
-first-in-middle-requires c κs = search needs
-
-returns-2 : tie.Need-returns-2
-returns-2 c = search needs
-
-first-in-middle-requires-2 : tie.Need-first-in-middle-requires-2
-first-in-middle-requires-2 c κs = search needs
-
 returns-3 : tie.Need-returns-3
 returns-3 c =
     let a = c .before .before .before .before .before .before .before .before .before .before .before .args in
     let near = c .before .first-in-middle2 in
     first-in-first (lexicon (a .chars .now) (a .lengths .now)) (a .index .now) (a .string .now) (a .starts) 8192 (a .starts - 8192) 1 (omega arith) (near .result) (near .ensures)
     (c .if3 .taken)
-
-sub-first-in-long : tie.Need-sub-first-in-long
-sub-first-in-long c = search needs
-
-first-in-long-requires : tie.Need-first-in-long-requires
-first-in-long-requires c κs = search needs
 
 returns-4 : tie.Need-returns-4
 returns-4 c =
@@ -46,12 +25,5 @@ pub first-by-windows-spec : {M : Type 1} → statement M
 first-by-windows-spec =
     tie.close
     (tie.spec
-    first-in-short-requires
-    returns
-    first-in-middle-requires
-    returns-2
-    first-in-middle-requires-2
-    returns-3
-    sub-first-in-long
-    first-in-long-requires
-    returns-4)
+    (λ c κs. search needs) (λ c. search needs) (λ c κs. search needs) (λ c. search needs) (λ c κs. search needs) returns-3
+    (λ c. search needs) (λ c κs. search needs) returns-4)

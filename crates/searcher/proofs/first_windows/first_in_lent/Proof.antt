@@ -10,9 +10,6 @@ use borrow.Author.Needs.{needs}
 use Rattle.searcher.proofs.first_windows.first_in_lent.Statement.{statement}
 use Rattle.searcher.proofs.first_windows.first_in_lent.Tie as tie
 
-slice-relend-prefix-first-in-window : tie.Need-slice-relend-prefix-first-in-window
-slice-relend-prefix-first-in-window c = search needs
-
 slice-aggregate-first-in-window : tie.Need-slice-aggregate-first-in-window
 slice-aggregate-first-in-window c =
     let s = c .before .before .before .before .before .before .before .before .before in sym (length-take-le (s .args .starts) (s .args .reach .now) (s .pre .5))
@@ -29,9 +26,6 @@ first-in-window-requires c κs =
       cleared-part (length (a .reach .now)) (a .starts) (a .reach .now) (s .pre .6) (s .pre .5),
     )
 
-same-length : tie.Need-same-length
-same-length c = search needs
-
 returns : tie.Need-returns
 returns c =
     let s = c .before .before .before .before .before .before .before .before .before .before .before .before in
@@ -44,8 +38,4 @@ pub first-in-lent-spec : {M : Type 1} → statement M
 first-in-lent-spec =
     tie.close
     (tie.spec
-    slice-relend-prefix-first-in-window
-    slice-aggregate-first-in-window
-    first-in-window-requires
-    same-length
-    returns)
+    (λ c. search needs) slice-aggregate-first-in-window first-in-window-requires (λ c. search needs) returns)

@@ -46,9 +46,6 @@ search-lines-requires c κs =
       record { some = omega arith; short = c .before .if3 .left },
     )
 
-same-length : tie.Need-same-length
-same-length c = search needs
-
 returns-4 : tie.Need-returns-4
 returns-4 c =
     let s = c .before .before .before .before .before .before .before .before .before .before .before .before in
@@ -62,9 +59,4 @@ pub search-opened-spec : {M : Type 1} → statement M
 search-opened-spec =
     tie.close
     (tie.spec
-    returns
-    returns-2
-    returns-3
-    search-lines-requires
-    same-length
-    returns-4)
+    returns returns-2 returns-3 search-lines-requires (λ c. search needs) returns-4)

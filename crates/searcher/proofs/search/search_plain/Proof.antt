@@ -5,21 +5,6 @@ use borrow.Author.Needs.{needs}
 use Rattle.searcher.proofs.search.search_plain.Statement.{statement}
 use Rattle.searcher.proofs.search.search_plain.Tie as tie
 
-shared-slice-read-starts-of : tie.Need-shared-slice-read-starts-of
-shared-slice-read-starts-of c = search needs
-
-cast-starts-of : tie.Need-cast-starts-of
-cast-starts-of c = search needs
-
-starts-of-requires : tie.Need-starts-of-requires
-starts-of-requires c κs = search needs
-
-search-starts-requires : tie.Need-search-starts-requires
-search-starts-requires c κs = search needs
-
-same-length : tie.Need-same-length
-same-length c = search needs
-
 returns : tie.Need-returns
 returns c =
     let a = c .before .before .before .before .before .before .before .before .before .before .before .before .before .args in
@@ -33,9 +18,4 @@ pub search-plain-spec : {M : Type 1} → statement M
 search-plain-spec =
     tie.close
     (tie.spec
-    shared-slice-read-starts-of
-    cast-starts-of
-    starts-of-requires
-    search-starts-requires
-    same-length
-    returns)
+    (λ c. search needs) (λ c. search needs) (λ c κs. search needs) (λ c κs. search needs) (λ c. search needs) returns)

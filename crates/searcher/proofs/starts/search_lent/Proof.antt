@@ -9,9 +9,6 @@ use borrow.Author.Needs.{needs}
 use Rattle.searcher.proofs.starts.search_lent.Statement.{statement}
 use Rattle.searcher.proofs.starts.search_lent.Tie as tie
 
-slice-relend-prefix-search-cleared : tie.Need-slice-relend-prefix-search-cleared
-slice-relend-prefix-search-cleared c = search needs
-
 slice-aggregate-search-cleared : tie.Need-slice-aggregate-search-cleared
 slice-aggregate-search-cleared c =
     let s = c .before .before .before .before .before .before .before .before .before in sym (length-take-le (s .args .starts) (s .args .reach .now) (s .pre .3))
@@ -26,12 +23,6 @@ search-cleared-requires c κs =
       cleared-part (length (a .reach .now)) (a .starts) (a .reach .now) (s .pre .4) (s .pre .3),
     )
 
-same-length : tie.Need-same-length
-same-length c = search needs
-
-same-length-2 : tie.Need-same-length-2
-same-length-2 c = search needs
-
 returns : tie.Need-returns
 returns c =
     let s = c .before .before .before .before .before .before .before .before .before .before .before .before .before .before .before in
@@ -45,9 +36,4 @@ pub search-lent-spec : {M : Type 1} → statement M
 search-lent-spec =
     tie.close
     (tie.spec
-    slice-relend-prefix-search-cleared
-    slice-aggregate-search-cleared
-    search-cleared-requires
-    same-length
-    same-length-2
-    returns)
+    (λ c. search needs) slice-aggregate-search-cleared search-cleared-requires (λ c. search needs) (λ c. search needs) returns)

@@ -9,18 +9,6 @@ use borrow.Author.Needs.{needs}
 use Rattle.searcher.proofs.window.search_cleared.Statement.{statement}
 use Rattle.searcher.proofs.window.search_cleared.Tie as tie
 
-reach-if-cheaper-requires : tie.Need-reach-if-cheaper-requires
-reach-if-cheaper-requires c κs = search needs
-
-answer-window-requires : tie.Need-answer-window-requires
-answer-window-requires c κs = search needs
-
-same-length : tie.Need-same-length
-same-length c = search needs
-
-same-length-2 : tie.Need-same-length-2
-same-length-2 c = search needs
-
 returns : tie.Need-returns
 returns c =
     let a = c .before .before .before .before .before .before .before .before .before .before .before .before .before .before .before .before .before .before .args in
@@ -40,12 +28,6 @@ search-window-requires c κs =
       still-clear (a .reach .now) (told .last .1 .1 .1 .1 .1 .0) (told .ensures .1 (c .before .before .if1 .left)) (s .pre .3),
     )
 
-same-length-3 : tie.Need-same-length-3
-same-length-3 c = search needs
-
-same-length-4 : tie.Need-same-length-4
-same-length-4 c = search needs
-
 returns-2 : tie.Need-returns-2
 returns-2 c =
     let a = c .before .before .before .before .before .before .before .before .before .before .before .before .before .before .before .before .before .before .before .before .args in
@@ -58,12 +40,5 @@ pub search-cleared-spec : {M : Type 1} → statement M
 search-cleared-spec =
     tie.close
     (tie.spec
-    reach-if-cheaper-requires
-    answer-window-requires
-    same-length
-    same-length-2
-    returns
-    search-window-requires
-    same-length-3
-    same-length-4
-    returns-2)
+    (λ c κs. search needs) (λ c κs. search needs) (λ c. search needs) (λ c. search needs) returns search-window-requires (λ c. search needs)
+    (λ c. search needs) returns-2)

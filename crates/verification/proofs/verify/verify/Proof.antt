@@ -26,21 +26,6 @@ loop-holds c =
 step-requires : tie.Need-step-requires Inv-loop μ-loop
 step-requires c κs = (c .before .before .before .before .before .before .before .before .before .before .pre .0, c .loop-test .taken, c .before .loop .inv .end)
 
-add-at : tie.Need-add-at Inv-loop μ-loop
-add-at c = search needs
-
-mul-line-has-key : tie.Need-mul-line-has-key Inv-loop μ-loop
-mul-line-has-key c = search needs
-
-shared-slice-read-line-has-key : tie.Need-shared-slice-read-line-has-key Inv-loop μ-loop
-shared-slice-read-line-has-key c = search needs
-
-mul-line-has-key-2 : tie.Need-mul-line-has-key-2 Inv-loop μ-loop
-mul-line-has-key-2 c = search needs
-
-shared-slice-read-line-has-key-2 : tie.Need-shared-slice-read-line-has-key-2 Inv-loop μ-loop
-shared-slice-read-line-has-key-2 c = search needs
-
 line-has-key-requires : tie.Need-line-has-key-requires Inv-loop μ-loop
 line-has-key-requires c κs =
     let start = c .before .before .before .before .before .before .before .before .before .before .before .before .before .before in
@@ -52,41 +37,17 @@ returns c =
     let turn = c .before .before .before .before .before .before .before .loop in
     testing-fails (lexicon (start .args .chars .now) (start .args .lengths .now)) (start .args .index .now) (start .args .text .now) (start .args .line-map .now) (admitted-lexicon (start .args .chars .now) (start .args .lengths .now) (start .pre .0 .words .dictionary)) (λ i b. omega (arith, c .before .before .before .before .before .before .before .before .before .shared-slice-known7 .given i)) (turn .at) (turn .end) (turn .count) (c .before .before .before .before .before .step .result .token) (c .before .before .before .before .before .step .result .end) (turn .inv) (c .before .before .before .before .before .before .loop-test .taken) (c .before .before .before .before .before .step .ensures) (c .before .before .before .before .if1 .taken) (sym (c .before .line-has-key .ensures) ∙ not-true (c .before .line-has-key .result) (c .if2 .taken))
 
-add-count : tie.Need-add-count Inv-loop μ-loop
-add-count c = search needs
-
-loop-less : tie.Need-loop-less Inv-loop μ-loop
-loop-less c = search needs
-
 loop-again : tie.Need-loop-again Inv-loop μ-loop
 loop-again c =
     let start = c .before .before .before .before .before .before .before .before .before .before .before .before .before .before .before .before in
     let turn = c .before .before .before .before .before .before .before .loop in
     testing-registers (lexicon (start .args .chars .now) (start .args .lengths .now)) (start .args .index .now) (start .args .text .now) (start .args .line-map .now) (admitted-lexicon (start .args .chars .now) (start .args .lengths .now) (start .pre .0 .words .dictionary)) (λ i b. omega (arith, c .before .before .before .before .before .before .before .before .before .shared-slice-known7 .given i)) (turn .at) (turn .end) (turn .count) (c .before .before .before .before .before .step .result .token) (c .before .before .before .before .before .step .result .end) (turn .inv) (c .before .before .before .before .before .before .loop-test .taken) (c .before .before .before .before .before .step .ensures) (c .before .before .before .before .if1 .taken) (sym (c .before .line-has-key .ensures) ∙ not-false (c .before .line-has-key .result) (c .if2 .left))
 
-loop-less-2 : tie.Need-loop-less-2 Inv-loop μ-loop
-loop-less-2 c = search needs
-
 loop-again-2 : tie.Need-loop-again-2 Inv-loop μ-loop
 loop-again-2 c =
     let start = c .before .before .before .before .before .before .before .before .before .before .before .before in
     let turn = c .before .before .before .loop in
     testing-passes (lexicon (start .args .chars .now) (start .args .lengths .now)) (start .args .index .now) (start .args .text .now) (start .args .line-map .now) (admitted-lexicon (start .args .chars .now) (start .args .lengths .now) (start .pre .0 .words .dictionary)) (λ i b. omega (arith, c .before .before .before .before .before .shared-slice-known7 .given i)) (turn .at) (turn .end) (turn .count) (c .before .step .result .token) (c .before .step .result .end) (turn .inv) (c .before .before .loop-test .taken) (c .before .step .ensures) (c .if1 .left)
-
-shared-slice-read-result : tie.Need-shared-slice-read-result Inv-loop μ-loop
-shared-slice-read-result c = search needs
-
-cast-result : tie.Need-cast-result Inv-loop μ-loop
-cast-result c = search needs
-
-mul-result : tie.Need-mul-result Inv-loop μ-loop
-mul-result c = search needs
-
-add-result : tie.Need-add-result Inv-loop μ-loop
-add-result c = search needs
-
-add-result-2 : tie.Need-add-result-2 Inv-loop μ-loop
-add-result-2 c = search needs
 
 returns-2 : tie.Need-returns-2 Inv-loop μ-loop
 returns-2 c =
@@ -98,25 +59,6 @@ pub verify-spec : {M : Type 1} → statement M
 verify-spec =
     tie.close
     (tie.spec
-    Inv-loop
-    μ-loop
-    loop-holds
-    step-requires
-    add-at
-    mul-line-has-key
-    shared-slice-read-line-has-key
-    mul-line-has-key-2
-    shared-slice-read-line-has-key-2
-    line-has-key-requires
-    returns
-    add-count
-    loop-less
-    loop-again
-    loop-less-2
-    loop-again-2
-    shared-slice-read-result
-    cast-result
-    mul-result
-    add-result
-    add-result-2
-    returns-2)
+    Inv-loop μ-loop loop-holds step-requires (λ c. search needs) (λ c. search needs) (λ c. search needs) (λ c. search needs)
+    (λ c. search needs) line-has-key-requires returns (λ c. search needs) (λ c. search needs) loop-again (λ c. search needs) loop-again-2
+    (λ c. search needs) (λ c. search needs) (λ c. search needs) (λ c. search needs) (λ c. search needs) returns-2)

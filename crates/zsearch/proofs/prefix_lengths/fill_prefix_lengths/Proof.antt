@@ -42,27 +42,6 @@ extend-requires c κs =
     (c .known-from .ensures) in
     (lies, lies .short, omega arith, fits)
 
-cast-reach : tie.Need-cast-reach Inv-loop μ-loop
-cast-reach c = search needs
-
-mul-reach : tie.Need-mul-reach Inv-loop μ-loop
-mul-reach c = search needs
-
-slice-write-reach : tie.Need-slice-write-reach Inv-loop μ-loop
-slice-write-reach c = search needs
-
-add-at : tie.Need-add-at Inv-loop μ-loop
-add-at c = search needs
-
-add-if1 : tie.Need-add-if1 Inv-loop μ-loop
-add-if1 c = search needs
-
-add-right : tie.Need-add-right Inv-loop μ-loop
-add-right c = search needs
-
-loop-less : tie.Need-loop-less Inv-loop μ-loop
-loop-less c = search needs
-
 loop-again : tie.Need-loop-again Inv-loop μ-loop
 loop-again c =
     let s = c .before .before .before .before .before .before .before .before .before in
@@ -74,9 +53,6 @@ loop-again c =
     (s .args .reach .now)
     len (l .inv) (omega (arith, below))
     end (end .lies)
-
-loop-less-2 : tie.Need-loop-less-2 Inv-loop μ-loop
-loop-less-2 c = search needs
 
 loop-again-2 : tie.Need-loop-again-2 Inv-loop μ-loop
 loop-again-2 c =
@@ -100,20 +76,6 @@ pub fill-prefix-lengths-spec : {M : Type 1} → statement M
 fill-prefix-lengths-spec =
     tie.close
     (tie.spec
-    Inv-loop
-    μ-loop
-    loop-holds
-    known-from-requires
-    extend-requires
-    cast-reach
-    mul-reach
-    slice-write-reach
-    add-at
-    add-if1
-    add-right
-    loop-less
-    loop-again
-    loop-less-2
-    loop-again-2
-    same-length
+    Inv-loop μ-loop loop-holds known-from-requires extend-requires (λ c. search needs) (λ c. search needs) (λ c. search needs)
+    (λ c. search needs) (λ c. search needs) (λ c. search needs) (λ c. search needs) loop-again (λ c. search needs) loop-again-2 same-length
     returns)

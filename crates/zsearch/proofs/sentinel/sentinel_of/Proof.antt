@@ -17,9 +17,6 @@ abbrev μ-loop : tie.MeasureT-loop
 loop-holds : tie.Need-loop-holds Inv-loop μ-loop
 loop-holds c = lower-none (c .before .args .string .now)
 
-has-char-requires : tie.Need-has-char-requires Inv-loop μ-loop
-has-char-requires c κs = search needs
-
 -- every number below the next one is a character too
 more :
     (c : tie.Then1 Inv-loop μ-loop) → Lower-in (c .before .before .before .before .args .string .now) (c .before .before .loop .ground + 1)
@@ -48,11 +45,4 @@ pub sentinel-of-spec : {M : Type 1} → statement M
 sentinel-of-spec =
     tie.close
     (tie.spec
-    Inv-loop
-    μ-loop
-    loop-holds
-    has-char-requires
-    add-ground
-    loop-less
-    loop-again
-    returns)
+    Inv-loop μ-loop loop-holds (λ c κs. search needs) add-ground loop-less loop-again returns)

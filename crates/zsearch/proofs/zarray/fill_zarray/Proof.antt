@@ -32,9 +32,6 @@ known-from-requires c κs =
     let short = zbox-short 1 (s .args .string .now) (s .args .string .now) (l .at) (l .inv .0 .zbox) b in
     (omega (arith, l .inv .0 .zbox .begun b .1), omega (arith, short))
 
-sub-extend : tie.Need-sub-extend Inv-loop μ-loop
-sub-extend c = search needs
-
 extend-requires : tie.Need-extend-requires Inv-loop μ-loop
 extend-requires c κs =
     let s = c .before .before .before .before .before .before in
@@ -45,27 +42,6 @@ extend-requires c κs =
     (l .inv .0 .told) (λ b. omega (arith, l .inv .0 .zbox .begun b .0, l .inv .0 .zbox .begun b .1))
     (omega (arith, below)) (c .known-from .ensures) in
     (lies, omega arith, omega arith, omega (arith, below))
-
-cast-zarray : tie.Need-cast-zarray Inv-loop μ-loop
-cast-zarray c = search needs
-
-mul-zarray : tie.Need-mul-zarray Inv-loop μ-loop
-mul-zarray c = search needs
-
-slice-write-zarray : tie.Need-slice-write-zarray Inv-loop μ-loop
-slice-write-zarray c = search needs
-
-add-at : tie.Need-add-at Inv-loop μ-loop
-add-at c = search needs
-
-add-if1 : tie.Need-add-if1 Inv-loop μ-loop
-add-if1 c = search needs
-
-add-right : tie.Need-add-right Inv-loop μ-loop
-add-right c = search needs
-
-loop-less : tie.Need-loop-less Inv-loop μ-loop
-loop-less c = search needs
 
 loop-again : tie.Need-loop-again Inv-loop μ-loop
 loop-again c =
@@ -78,9 +54,6 @@ loop-again c =
           (λ from. end) (end .lies),
       λ more. omega (arith, below),
     )
-
-loop-less-2 : tie.Need-loop-less-2 Inv-loop μ-loop
-loop-less-2 c = search needs
 
 loop-again-2 : tie.Need-loop-again-2 Inv-loop μ-loop
 loop-again-2 c =
@@ -108,21 +81,6 @@ pub fill-zarray-spec : {M : Type 1} → statement M
 fill-zarray-spec =
     tie.close
     (tie.spec
-    Inv-loop
-    μ-loop
-    loop-holds
-    known-from-requires
-    sub-extend
-    extend-requires
-    cast-zarray
-    mul-zarray
-    slice-write-zarray
-    add-at
-    add-if1
-    add-right
-    loop-less
-    loop-again
-    loop-less-2
-    loop-again-2
-    same-length
-    returns)
+    Inv-loop μ-loop loop-holds known-from-requires (λ c. search needs) extend-requires (λ c. search needs) (λ c. search needs)
+    (λ c. search needs) (λ c. search needs) (λ c. search needs) (λ c. search needs) (λ c. search needs) loop-again (λ c. search needs)
+    loop-again-2 same-length returns)

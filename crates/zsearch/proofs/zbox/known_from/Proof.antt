@@ -5,9 +5,6 @@ use borrow.Author.Needs.{needs}
 use Rattle.zsearch.proofs.zbox.known_from.Statement.{statement}
 use Rattle.zsearch.proofs.zbox.known_from.Tie as tie
 
-returns : tie.Need-returns
-returns c = search needs
-
 sub-known : tie.Need-sub-known
 sub-known c = c .before .pre (c .if1 .left) .0
 
@@ -20,24 +17,8 @@ shared-slice-read-known c = c .before .before .pre (c .before .if1 .left) .1
 cast-known : tie.Need-cast-known
 cast-known c = omega (arith, c .shared-slice-known .given (c .before .before .args .at - c .before .before .args .left))
 
-sub-rest : tie.Need-sub-rest
-sub-rest c = search needs
-
-returns-2 : tie.Need-returns-2
-returns-2 c = search needs
-
-returns-3 : tie.Need-returns-3
-returns-3 c = search needs
-
 pub known-from-spec : {M : Type 1} → statement M
 known-from-spec =
     tie.close
     (tie.spec
-    returns
-    sub-known
-    mul-known
-    shared-slice-read-known
-    cast-known
-    sub-rest
-    returns-2
-    returns-3)
+    (λ c. search needs) sub-known mul-known shared-slice-read-known cast-known (λ c. search needs) (λ c. search needs) (λ c. search needs))
