@@ -4,24 +4,6 @@
 ghost use Rattle.laws.specs.Window.ListRange.{Ascending, List-lower-bound};
 
 // The first index whose position is not below `least`, or the list's length.
-fn search_positions(positions: &[u16], least: usize) -> usize
-    requires { ⌜ Ascending (now positions) ⌝ }
-    ensures { λ r. ⌜ List-lower-bound (now (positions .entry)) least r ⌝ }
-{
-    let mut a = 0;
-    let mut b = positions.len();
-    while a < b {
-        let middle = a + (b - a) / 2;
-        if (positions[middle] as usize) < least {
-            a = middle + 1;
-        } else {
-            b = middle;
-        }
-    }
-    a
-}
-
-// The first index whose position is not below `least`, or the list's length; no search where the first or the last position decides.
 pub(crate) fn lower_bound(positions: &[u16], least: usize) -> usize
     requires { ⌜ Ascending (now positions) ⌝ }
     ensures { λ r. ⌜ List-lower-bound (now (positions .entry)) least r ⌝ }
@@ -36,5 +18,15 @@ pub(crate) fn lower_bound(positions: &[u16], least: usize) -> usize
     if (positions[count - 1] as usize) < least {
         return count;
     }
-    search_positions(positions, least)
+    let mut a = 0;
+    let mut b = count;
+    while a < b {
+        let middle = a + (b - a) / 2;
+        if (positions[middle] as usize) < least {
+            a = middle + 1;
+        } else {
+            b = middle;
+        }
+    }
+    a
 }

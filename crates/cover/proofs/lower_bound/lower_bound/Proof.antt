@@ -1,55 +1,106 @@
--- `lower_bound` meets its contract: in an ascending list no position is below the first or above the last. Assumes nothing.
-use Prim.Native.Nat.{_-_}
+-- `lower_bound` meets its contract: in an ascending list no position is below the first or above the last. The invariant: the lower bound
+-- is not before a and not after b. The measure is b - a. Assumes nothing.
+use Prim.Native.Nat.{ℕ, _/_, _+_, _-_}
 use native.Mathlib.Omega.{arith}
-use lib.ListN.{length, getD}
-use Rattle.basics.specs.LowerBound.{bound-first, bound-last}
 use borrow.Author.Needs.{needs}
+use lib.ListN.{length, getD}
+use Rattle.basics.specs.LowerBound.{Bisected, bound-first, bound-last, bisected-start, bisected-up, bisected-down, bisected-end}
 use Rattle.cover.proofs.lower_bound.lower_bound.Statement.{statement}
 use Rattle.cover.proofs.lower_bound.lower_bound.Tie as tie
 
-returns : tie.Need-returns
+abbrev Inv-loop : tie.InvT-loop
+Inv-loop positions least count a₀ b₀ a b = Bisected (λ i. getD positions i 0) 0 (length positions) least a b
+
+abbrev μ-loop : tie.MeasureT-loop
+μ-loop positions least count a₀ b₀ a b = b - a
+
+abbrev middle : tie.At-loop Inv-loop μ-loop → ℕ
+middle turn = turn .loop .a + (turn .loop .b - turn .loop .a) / 2
+
+returns : tie.Need-returns Inv-loop μ-loop
 returns c = search needs
 
-shared-slice-read-if2 : tie.Need-shared-slice-read-if2
+shared-slice-read-if2 : tie.Need-shared-slice-read-if2 Inv-loop μ-loop
 shared-slice-read-if2 c = search needs
 
-cast-if2 : tie.Need-cast-if2
-cast-if2 c = omega (arith, c .shared-slice-known2 .given 0)
+cast-if2 : tie.Need-cast-if2 Inv-loop μ-loop
+cast-if2 c = omega (arith, c .shared-slice-known .given 0)
 
-returns-2 : tie.Need-returns-2
+returns-2 : tie.Need-returns-2 Inv-loop μ-loop
 returns-2 c =
-    let s = c .before .before .before .before in
-    let bs = s .args .positions .now in
-    bound-first (s .pre) (s .args .least) (omega arith) (c .if2 .taken)
+    let start = c .before .before .before in
+    bound-first (start .pre) (start .args .least) (omega arith) (c .if2 .taken)
 
-sub-if3 : tie.Need-sub-if3
+sub-if3 : tie.Need-sub-if3 Inv-loop μ-loop
 sub-if3 c = search needs
 
-mul-if3 : tie.Need-mul-if3
+mul-if3 : tie.Need-mul-if3 Inv-loop μ-loop
 mul-if3 c = search needs
 
-shared-slice-read-if3 : tie.Need-shared-slice-read-if3
+shared-slice-read-if3 : tie.Need-shared-slice-read-if3 Inv-loop μ-loop
 shared-slice-read-if3 c = search needs
 
-cast-if3 : tie.Need-cast-if3
-cast-if3 c = omega (arith, c .shared-slice-known3 .given (length (c .before .before .before .before .before .args .positions .now) - 1))
+cast-if3 : tie.Need-cast-if3 Inv-loop μ-loop
+cast-if3 c =
+    omega (arith, c .shared-slice-known2 .given (length (c .before .before .before .before .args .positions .now) - 1))
 
-returns-3 : tie.Need-returns-3
+returns-3 : tie.Need-returns-3 Inv-loop μ-loop
 returns-3 c =
-    let s = c .before .before .before .before .before .before in
-    let bs = s .args .positions .now in
-    bound-last (s .pre) (s .args .least) (omega arith) (c .if3 .taken)
+    let start = c .before .before .before .before .before in
+    bound-last (start .pre) (start .args .least) (omega arith) (c .if3 .taken)
 
-search-positions-requires : tie.Need-search-positions-requires
-search-positions-requires c κs = search needs
+loop-holds : tie.Need-loop-holds Inv-loop μ-loop
+loop-holds c =
+    let start = c .before .before .before .before .before in
+    bisected-start (start .pre) (start .args .least)
 
-returns-4 : tie.Need-returns-4
-returns-4 c = search needs
+sub-middle : tie.Need-sub-middle Inv-loop μ-loop
+sub-middle c = search needs
+
+add-middle : tie.Need-add-middle Inv-loop μ-loop
+add-middle c = search needs
+
+mul-if4 : tie.Need-mul-if4 Inv-loop μ-loop
+mul-if4 c = omega arith
+
+shared-slice-read-if4 : tie.Need-shared-slice-read-if4 Inv-loop μ-loop
+shared-slice-read-if4 c = omega arith
+
+cast-if4 : tie.Need-cast-if4 Inv-loop μ-loop
+cast-if4 c = omega (arith, c .shared-slice-known3 .given (middle (c .before .before)))
+
+add-a : tie.Need-add-a Inv-loop μ-loop
+add-a c = search needs
+
+loop-less : tie.Need-loop-less Inv-loop μ-loop
+loop-less c = omega arith
+
+loop-again : tie.Need-loop-again Inv-loop μ-loop
+loop-again c =
+    let turn = c .before .before .before in
+    let start = turn .before .before .before .before .before .before in
+    bisected-up (start .pre) (start .args .least) (turn .loop .inv) (middle turn) (omega arith) (omega arith) (c .if4 .taken)
+
+loop-less-2 : tie.Need-loop-less-2 Inv-loop μ-loop
+loop-less-2 c = omega arith
+
+loop-again-2 : tie.Need-loop-again-2 Inv-loop μ-loop
+loop-again-2 c =
+    let turn = c .before .before .before in
+    let start = turn .before .before .before .before .before .before in
+    bisected-down (start .pre) (start .args .least) (turn .loop .inv) (middle turn) (omega arith) (omega arith) (c .if4 .left)
+
+returns-4 : tie.Need-returns-4 Inv-loop μ-loop
+returns-4 c =
+    let start = c .before .before .before .before .before .before .before in
+    bisected-end (start .pre) (start .args .least) (c .before .loop .inv) (c .loop-test .left)
 
 pub lower-bound-spec : {M : Type 1} → statement M
 lower-bound-spec =
     tie.close
     (tie.spec
+    Inv-loop
+    μ-loop
     returns
     shared-slice-read-if2
     cast-if2
@@ -59,5 +110,15 @@ lower-bound-spec =
     shared-slice-read-if3
     cast-if3
     returns-3
-    search-positions-requires
+    loop-holds
+    sub-middle
+    add-middle
+    mul-if4
+    shared-slice-read-if4
+    cast-if4
+    add-a
+    loop-less
+    loop-again
+    loop-less-2
+    loop-again-2
     returns-4)
