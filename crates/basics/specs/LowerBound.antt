@@ -23,8 +23,8 @@ pub record Bisected (f : ℕ → ℕ) (lo hi c a b : ℕ) : Type 0 where
   pub above : (i : ℕ) → b ≤ i → i < hi → c ≤ f i
 
 module _ {f : ℕ → ℕ} {lo hi : ℕ} (h : Rising f lo hi) where
-  pub rising-part : (a b : ℕ) → lo ≤ a → a ≤ b → b ≤ hi → Rising f a b
-  rising-part a b l m r = record { order = m; rises = λ i j p q s. h .rises i j (omega arith) q (omega arith) }
+  pub rising-part : {a : ℕ} → lo ≤ a → a ≤ hi → Rising f a hi
+  rising-part l r = record { order = r; rises = λ i j p q s. h .rises i j (omega arith) q s }
 
   module _ (c : ℕ) where
     -- f is at least c at the first index already

@@ -1,7 +1,8 @@
 // Binary search over the directory: lower bounds, and the equal range of words that have a character at a depth.
 //
 // The lines of words come first and their words ascend, so words that share their first characters are neighbours, sorted by the next one.
-// The lines of lone characters follow, sorted by value.
+// The lines of lone characters follow, sorted by value. Where the first or the last word of a range already has the character, that end is
+// not searched.
 ghost use mathlib.Core.Path.{_≡_};
 ghost use Prim.Native.Nat.{_+_, _*_, _≤_, _<_};
 ghost use lib.ListN.{length, getD};
@@ -66,6 +67,15 @@ fn word_lower_bound(
     requires { ⌜ Word-column (now chars) (now index) (now «word_starts») low high depth ⌝ }
     ensures { λ r. ⌜ Lower-bound (word-char (now (chars .entry)) (now (index .entry)) (now («word_starts» .entry)) depth) low high least r ⌝ }
 {
+    if high <= low {
+        return low;
+    }
+    if least <= char_at(chars, index, word_starts, low, depth) as usize {
+        return low;
+    }
+    if (char_at(chars, index, word_starts, high - 1, depth) as usize) < least {
+        return high;
+    }
     let mut a = low;
     let mut b = high;
     while a < b {
@@ -79,8 +89,7 @@ fn word_lower_bound(
     a
 }
 
-// The equal range among the lines `low` to `high` - 1: those whose word has this character at `depth`. No search where
-// the first and the last have it.
+// The equal range among the lines `low` to `high` - 1: those whose word has this character at `depth`.
 pub fn equal_range(
     chars: &[u16],
     index: &[u16],
@@ -93,16 +102,6 @@ pub fn equal_range(
     requires { ⌜ Word-column (now chars) (now index) (now «word_starts») low high depth ⌝ }
     ensures { λ r. ⌜ Lower-bound (word-char (now (chars .entry)) (now (index .entry)) (now («word_starts» .entry)) depth) low high character (r .from) × Lower-bound (word-char (now (chars .entry)) (now (index .entry)) (now («word_starts» .entry)) depth) (r .from) high (character + 1) (r .to) ⌝ }
 {
-    if low < high {
-        if char_at(chars, index, word_starts, low, depth) == character {
-            if char_at(chars, index, word_starts, high - 1, depth) == character {
-                return Range {
-                    from: low,
-                    to: high,
-                };
-            }
-        }
-    }
     let least = character as usize;
     let from = word_lower_bound(chars, index, word_starts, low, high, depth, least);
     let to = word_lower_bound(chars, index, word_starts, from, high, depth, least + 1);

@@ -3,12 +3,23 @@
 // Words are sorted, so those that share d characters with the text are neighbours, and binary search finds the equal range of those that
 // share the next one. The cost is bounded by the longest word times the logarithm of k, however many words begin alike. Where the first or
 // the last word of a range already has the text's character, as nearly always after the first few, that end is not searched.
+ghost use mathlib.Core.Path.{_≡_};
 ghost use Prim.Native.Nat.{_+_, _≤_, _<_};
-ghost use lib.ListN.{length};
+ghost use lib.ListN.{length, getD};
 ghost use Rattle.spec.specs.Dictionary.{lexicon};
+ghost use Rattle.basics.specs.LowerBound.{Lower-bound};
 ghost use Rattle.laws.specs.Match.MatchTable.{Started};
 ghost use Rattle.laws.specs.Match.PrefixRanges.{Last-standing};
-ghost use Rattle.laws.specs.Match.Columns.{Column, Lower-bound};
+ghost use Rattle.laws.specs.Match.Columns.{Column, column};
+
+// The character at `depth` of a word.
+fn char_at(chars: &[u16], word_starts: &[u16], word: usize, depth: usize) -> u16
+    requires { ⌜ (word < length (now «word_starts»)) × (getD (now «word_starts») word 0 + depth < length (now chars)) ⌝ }
+    ensures { λ r. ⌜ r ≡ column (now (chars .entry)) (now («word_starts» .entry)) depth word ⌝ }
+{
+    let at = word_starts[word] as usize + depth;
+    chars[at]
+}
 
 // The first of the words `low` to `high` - 1 whose character at `depth` is not below `least`, or `high`.
 fn lower_bound(
@@ -20,65 +31,28 @@ fn lower_bound(
     least: usize,
 ) -> usize
     requires { ⌜ Column (now chars) (now «word_starts») low high depth ⌝ }
-    ensures { λ r. ⌜ Lower-bound (now (chars .entry)) (now («word_starts» .entry)) low high depth least r ⌝ }
+    ensures { λ r. ⌜ Lower-bound (column (now (chars .entry)) (now («word_starts» .entry)) depth) low high least r ⌝ }
 {
+    if high <= low {
+        return low;
+    }
+    if least <= char_at(chars, word_starts, low, depth) as usize {
+        return low;
+    }
+    if (char_at(chars, word_starts, high - 1, depth) as usize) < least {
+        return high;
+    }
     let mut a = low;
     let mut b = high;
     while a < b {
         let middle = a + (b - a) / 2;
-        let at = word_starts[middle] as usize + depth;
-        if (chars[at] as usize) < least {
+        if (char_at(chars, word_starts, middle, depth) as usize) < least {
             a = middle + 1;
         } else {
             b = middle;
         }
     }
     a
-}
-
-// The first of the words `low` to `high` - 1 whose character at `depth` is not below `least`, or `high`; no search where it is the first.
-fn cut_low(
-    chars: &[u16],
-    word_starts: &[u16],
-    low: usize,
-    high: usize,
-    depth: usize,
-    least: usize,
-) -> usize
-    requires { ⌜ Column (now chars) (now «word_starts») low high depth ⌝ }
-    ensures { λ r. ⌜ Lower-bound (now (chars .entry)) (now («word_starts» .entry)) low high depth least r ⌝ }
-{
-    if high <= low {
-        return low;
-    }
-    let at = word_starts[low] as usize + depth;
-    if least <= chars[at] as usize {
-        return low;
-    }
-    lower_bound(chars, word_starts, low, high, depth, least)
-}
-
-// The first of the words `low` to `high` - 1 whose character at `depth` is not below `least`, or `high`; no search where it is `high`.
-fn cut_high(
-    chars: &[u16],
-    word_starts: &[u16],
-    low: usize,
-    high: usize,
-    depth: usize,
-    least: usize,
-) -> usize
-    requires { ⌜ Column (now chars) (now «word_starts») low high depth ⌝ }
-    ensures { λ r. ⌜ Lower-bound (now (chars .entry)) (now («word_starts» .entry)) low high depth least r ⌝ }
-{
-    if high <= low {
-        return high;
-    }
-    let last = high - 1;
-    let at = word_starts[last] as usize + depth;
-    if (chars[at] as usize) < least {
-        return high;
-    }
-    lower_bound(chars, word_starts, low, high, depth, least)
 }
 
 // One more than the number of the last of the first `count` words that stands in the text at index `at`, or 0.
@@ -106,8 +80,8 @@ pub(crate) fn find_last_standing(
                 return best;
             }
             let c = text[at + depth] as usize;
-            low = cut_low(chars, word_starts, low, high, depth, c);
-            high = cut_high(chars, word_starts, low, high, depth, c + 1);
+            low = lower_bound(chars, word_starts, low, high, depth, c);
+            high = lower_bound(chars, word_starts, low, high, depth, c + 1);
             depth += 1;
         }
     }

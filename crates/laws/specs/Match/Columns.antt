@@ -7,68 +7,30 @@ use Prim.Native.Nat.{ℕ, suc, _+_, _-_, _≤_, _<_}
 use native.Mathlib.Omega.{arith}
 use lib.ListN.{length, getD}
 use Rattle.spec.specs.Dictionary.{lexicon, ascend}
-use Rattle.basics.specs.LowerBound.{Rising}
-use Rattle.basics.specs.LowerBound as halving
+use Rattle.basics.specs.LowerBound.{Rising, Lower-bound, rising-part}
 use Rattle.models.specs.MatchTable.{word, start-of}
 use Rattle.laws.specs.Dictionary.Lexicon.{admitted-ascend}
 use Rattle.laws.specs.Match.MatchTable.{Started, many-words, word-long, word-short, word-room, word-char}
 use Rattle.laws.specs.Match.PrefixRanges.{Last-standing, Narrowed, Lower-bound-at, narrow-hit, narrow-longer, narrow-rises}
 use Rattle.laws.specs.Match.PrefixRanges.{narrow-stop, narrow-step}
 
+-- the d-th character of word i
 abbrev pub column : (cs ss : List ℕ) (d i : ℕ) → ℕ
 column cs ss d i = getD cs (getD ss i 0 + d) 0
 
 -- words lo to hi − 1 have a d-th character, and these are nondecreasing
 pub record Column (cs ss : List ℕ) (lo hi d : ℕ) : Type 0 where
-  pub order : lo ≤ hi
+  pub rising : Rising (column cs ss d) lo hi
   pub known : hi ≤ length ss
   pub room : (i : ℕ) → lo ≤ i → i < hi → getD ss i 0 + d < length cs
-  pub rises : (i j : ℕ) → lo ≤ i → i ≤ j → j < hi → column cs ss d i ≤ column cs ss d j
-
--- r is the first of them whose d-th character is not below c
-abbrev pub Lower-bound : (cs ss : List ℕ) (lo hi d c r : ℕ) → Type 0
-Lower-bound cs ss lo hi d c r = halving.Lower-bound (column cs ss d) lo hi c r
-
--- BINARY SEARCH
-
--- the lower bound is not before a and not after b
-abbrev pub Bisected : (cs ss : List ℕ) (lo hi d c a b : ℕ) → Type 0
-Bisected cs ss lo hi d c a b = halving.Bisected (column cs ss d) lo hi c a b
-
-module _ {cs ss : List ℕ} {lo hi d : ℕ} (c : ℕ) (h : Column cs ss lo hi d) where
-  rising : Rising (column cs ss d) lo hi
-  rising = record { order = h .order; rises = h .rises }
-
-  pub bisected-start : Bisected cs ss lo hi d c lo hi
-  bisected-start = halving.bisected-start rising c
-
-  -- the first character is not below c already
-  pub bound-first : lo < hi → c ≤ column cs ss d lo → Lower-bound cs ss lo hi d c lo
-  bound-first = halving.bound-first rising c
-
-  -- the last character is below c
-  pub bound-last : lo < hi → column cs ss d (hi - 1) < c → Lower-bound cs ss lo hi d c hi
-  bound-last = halving.bound-last rising c
-
-  module _ (a b : ℕ) (s : Bisected cs ss lo hi d c a b) where
-    pub bisected-end : b ≤ a → Lower-bound cs ss lo hi d c a
-    bisected-end = halving.bisected-end rising c s
-
-    module _ (m : ℕ) (l : a ≤ m) (r : m < b) where
-      pub bisected-up : column cs ss d m < c → Bisected cs ss lo hi d c (m + 1) b
-      bisected-up = halving.bisected-up rising c s m l r
-
-      pub bisected-down : c ≤ column cs ss d m → Bisected cs ss lo hi d c a m
-      bisected-down = halving.bisected-down rising c s m l r
 
 -- the end of a run has its column too
-pub column-part : {cs ss : List ℕ} {lo hi d : ℕ} (r : ℕ) → Column cs ss lo hi d → lo ≤ r → r ≤ hi → Column cs ss r hi d
-column-part r h from to =
+pub column-part : {cs ss : List ℕ} {lo hi d r : ℕ} → Column cs ss lo hi d → lo ≤ r → r ≤ hi → Column cs ss r hi d
+column-part h from to =
     record {
-      order = to;
+      rising = rising-part (h .rising) from to;
       known = h .known;
       room = λ i a b. h .room i (omega arith) b;
-      rises = λ i j a b c. h .rises i j (omega arith) b c;
     }
 
 -- THE COLUMN OF A PREFIX RANGE OF WORDS
@@ -114,21 +76,24 @@ module _
     pub run-column : Column cs ss lo hi d
     run-column =
         record {
-          order = h .order;
+          rising =
+              record {
+                order = h .order;
+                rises =
+                    λ i j a b c.
+                    omega (
+                      arith,
+                      column-word i a (omega arith),
+                      column-word j (omega arith) c,
+                      narrow-rises (lexicon cs ls .words) ts p k h some sorted other i j a b c,
+                    );
+              };
           known = omega (arith, known (hi - 1) (omega arith));
           room = λ i a b. omega (arith, start i b, longer i a b, word-room cs ls (t .dictionary) i (known i b));
-          rises =
-              λ i j a b c.
-              omega (
-                arith,
-                column-word i a (omega arith),
-                column-word j (omega arith) c,
-                narrow-rises (lexicon cs ls .words) ts p k h some sorted other i j a b c,
-              );
         }
 
-    cut-words : (from c r : ℕ) → lo ≤ from → Lower-bound cs ss from hi d c r → Lower-bound-at (lexicon cs ls .words) from hi d c r
-    cut-words from c r l q =
+    cut-words : {from c r : ℕ} → lo ≤ from → Lower-bound (column cs ss d) from hi c r → Lower-bound-at (lexicon cs ls .words) from hi d c r
+    cut-words l q =
         record {
           from = q .from;
           to = q .to;
@@ -140,9 +105,8 @@ module _
     run-stop past = narrow-stop (lexicon cs ls .words) ts p k h some sorted other past
 
     pub run-step :
-        (c from to : ℕ) → c ≡ getD ts (p + d - 1) 0 → p + d ≤ length ts → Lower-bound cs ss lo hi d c from →
-        Lower-bound cs ss from hi d (c + 1) to →
-        Narrowed (lexicon cs ls .words) ts p k from to (d + 1) best
-    run-step c from to e room l r =
+        {c from to : ℕ} → c ≡ getD ts (p + d - 1) 0 → p + d ≤ length ts → Lower-bound (column cs ss d) lo hi c from →
+        Lower-bound (column cs ss d) from hi (c + 1) to → Narrowed (lexicon cs ls .words) ts p k from to (d + 1) best
+    run-step e room l r =
         narrow-step (lexicon cs ls .words) ts p k h some sorted other e room
-        (cut-words lo c from (omega arith) l) (cut-words from (c + 1) to (l .from) r)
+        (cut-words (omega arith) l) (cut-words (l .from) r)

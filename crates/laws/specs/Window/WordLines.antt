@@ -36,18 +36,16 @@ word-char cs xs ws d i = getD cs (getD ws (value-at xs i) 0 + d) 0
 -- words lo to hi − 1 have a character at depth d, and these are nondecreasing
 pub record Word-column (cs xs ws : List ℕ) (lo hi d : ℕ) : Type 0 where
   pub rising : Rising (word-char cs xs ws d) lo hi
-  pub line : (i : ℕ) → lo ≤ i → i < hi → header + 3 * i + 2 < length xs
-  pub word : (i : ℕ) → lo ≤ i → i < hi → value-at xs i < length ws
-  pub room : (i : ℕ) → lo ≤ i → i < hi → getD ws (value-at xs i) 0 + d < length cs
+  pub reads :
+      (i : ℕ) → lo ≤ i → i < hi →
+      (header + 3 * i + 2 < length xs) × (value-at xs i < length ws) × (getD ws (value-at xs i) 0 + d < length cs)
 
 pub column-part :
-    {cs xs ws : List ℕ} {lo hi d : ℕ} (from : ℕ) → Word-column cs xs ws lo hi d → lo ≤ from → from ≤ hi → Word-column cs xs ws from hi d
-column-part {cs} {xs} {ws} {lo} {hi} {d} from h l r =
+    {cs xs ws : List ℕ} {lo hi d from : ℕ} → Word-column cs xs ws lo hi d → lo ≤ from → from ≤ hi → Word-column cs xs ws from hi d
+column-part h l r =
     record {
-      rising = rising-part (h .rising) from hi l r (omega arith);
-      line = λ i a b. h .line i (omega arith) b;
-      word = λ i a b. h .word i (omega arith) b;
-      room = λ i a b. h .room i (omega arith) b;
+      rising = rising-part (h .rising) l r;
+      reads = λ i a b. h .reads i (omega arith) b;
     }
 
 -- words lo to hi − 1, of the first w lines, have at least d characters, and share these with the string from o on
@@ -176,9 +174,12 @@ module _
                       rises i j a b c,
                     );
               };
-          line = λ i a b. line-room can i (shared-line i a b);
-          word = λ i a b. omega (arith, shared-word i a b);
-          room = λ i a b. omega (arith, room i a b, shared-long i a b, longer i a b);
+          reads =
+              λ i a b. (
+                line-room can i (shared-line i a b),
+                omega (arith, shared-word i a b),
+                omega (arith, room i a b, shared-long i a b, longer i a b),
+              );
         }
 
     -- the equal range of the string's next character shares one character more

@@ -1,9 +1,9 @@
--- `word_lower_bound` meets its contract. The invariant: the lower bound is not before a and not after b. The
--- measure is b - a. Assumes nothing.
-use Prim.Native.Nat.{ℕ, _/_, _+_, _-_, _≤_, _<_}
+-- `word_lower_bound` meets its contract: the first or the last line decides, or the search does. The invariant: the lower bound is not
+-- before a and not after b. The measure is b - a. Assumes nothing.
+use Prim.Native.Nat.{ℕ, _/_, _+_, _-_}
 use native.Mathlib.Omega.{arith}
 use borrow.Author.Needs.{needs}
-use Rattle.basics.specs.LowerBound.{Bisected, bisected-start, bisected-up, bisected-down, bisected-end}
+use Rattle.basics.specs.LowerBound.{Bisected, bound-first, bound-last, bisected-start, bisected-up, bisected-down, bisected-end}
 use Rattle.laws.specs.Window.WordLines.{word-char}
 use Rattle.directory.proofs.ranges.word_lower_bound.Statement.{statement}
 use Rattle.directory.proofs.ranges.word_lower_bound.Tie as tie
@@ -14,68 +14,85 @@ Inv-loop chars index word-starts low high depth least a₀ b₀ a b = Bisected (
 abbrev μ-loop : tie.MeasureT-loop
 μ-loop chars index word-starts low high depth least a₀ b₀ a b = b - a
 
--- the line in the middle
-abbrev middle : tie.In-loop Inv-loop μ-loop → ℕ
-middle c = c .before .loop .a + (c .before .loop .b - c .before .loop .a) / 2
+abbrev middle : tie.At-loop Inv-loop μ-loop → ℕ
+middle turn = turn .loop .a + (turn .loop .b - turn .loop .a) / 2
 
-after-low : (c : tie.In-loop Inv-loop μ-loop) → c .before .before .before .before .before .args .low ≤ middle c
-after-low c = omega arith
-
-before-high : (c : tie.In-loop Inv-loop μ-loop) → middle c < c .before .before .before .before .before .args .high
-before-high c = omega arith
-
-loop-holds : tie.Need-loop-holds Inv-loop μ-loop
-loop-holds c =
-    let s = c .before .before .before in
-    let a = s .args in
-    bisected-start (s .pre .rising) (a .least)
-
-sub-middle : tie.Need-sub-middle Inv-loop μ-loop
-sub-middle c = search needs
-
-add-middle : tie.Need-add-middle Inv-loop μ-loop
-add-middle c = omega (arith, c .before .before .before .before .before .pre .line (middle c) (after-low c) (before-high c))
+returns : tie.Need-returns Inv-loop μ-loop
+returns c = search needs
 
 char-at-requires : tie.Need-char-at-requires Inv-loop μ-loop
 char-at-requires c κs =
-    let p = c .before .before .before .before .before .pre in
-    (p .line (middle c) (after-low c) (before-high c), p .word (middle c) (after-low c) (before-high c), p .room (middle c) (after-low c) (before-high c))
+    let start = c .before .before .before .before in
+    start .pre .reads (start .args .low) (omega arith) (omega arith)
 
-cast-if1 : tie.Need-cast-if1 Inv-loop μ-loop
-cast-if1 c = omega arith
+cast-if2 : tie.Need-cast-if2 Inv-loop μ-loop
+cast-if2 c = omega arith
+
+returns-2 : tie.Need-returns-2 Inv-loop μ-loop
+returns-2 c =
+    let start = c .before .before .before .before .before .before in
+    bound-first (start .pre .rising) (start .args .least) (omega arith) (omega arith)
+
+sub-char-at : tie.Need-sub-char-at Inv-loop μ-loop
+sub-char-at c = omega arith
+
+char-at-requires-2 : tie.Need-char-at-requires-2 Inv-loop μ-loop
+char-at-requires-2 c κs =
+    let start = c .before .before .before .before .before .before in
+    start .pre .reads (start .args .high - 1) (omega arith) (omega arith)
+
+cast-if3 : tie.Need-cast-if3 Inv-loop μ-loop
+cast-if3 c = omega arith
+
+returns-3 : tie.Need-returns-3 Inv-loop μ-loop
+returns-3 c =
+    let start = c .before .before .before .before .before .before .before .before in
+    bound-last (start .pre .rising) (start .args .least) (omega arith) (omega arith)
+
+loop-holds : tie.Need-loop-holds Inv-loop μ-loop
+loop-holds c =
+    let start = c .before .before .before .before .before .before .before .before in
+    bisected-start (start .pre .rising) (start .args .least)
+
+sub-middle : tie.Need-sub-middle Inv-loop μ-loop
+sub-middle c = omega arith
+
+add-middle : tie.Need-add-middle Inv-loop μ-loop
+add-middle c = omega arith
+
+char-at-requires-3 : tie.Need-char-at-requires-3 Inv-loop μ-loop
+char-at-requires-3 c κs =
+    let start = c .before .before .before .before .before .before .before .before .before .before in
+    start .pre .reads (middle (c .before)) (omega arith) (omega arith)
+
+cast-if4 : tie.Need-cast-if4 Inv-loop μ-loop
+cast-if4 c = omega arith
 
 add-a : tie.Need-add-a Inv-loop μ-loop
-add-a c =
-    let i = c .before .before in
-    omega (arith, c .before .before .before .before .before .before .before .pre .line (middle i) (after-low i) (before-high i))
+add-a c = omega arith
 
 loop-less : tie.Need-loop-less Inv-loop μ-loop
-loop-less c = search needs
+loop-less c = omega arith
 
 loop-again : tie.Need-loop-again Inv-loop μ-loop
 loop-again c =
-    let s = c .before .before .before .before .before .before .before in
-    let a = s .args in
-    let l = c .before .before .before .loop in
-    bisected-up (s .pre .rising) (a .least) (l .inv) (middle (c .before .before)) (omega arith) (omega arith)
-    (omega arith)
+    let turn = c .before .before .before in
+    let start = turn .before .before .before .before .before .before .before .before .before in
+    bisected-up (start .pre .rising) (start .args .least) (turn .loop .inv) (middle turn) (omega arith) (omega arith) (omega arith)
 
 loop-less-2 : tie.Need-loop-less-2 Inv-loop μ-loop
-loop-less-2 c = search needs
+loop-less-2 c = omega arith
 
 loop-again-2 : tie.Need-loop-again-2 Inv-loop μ-loop
 loop-again-2 c =
-    let s = c .before .before .before .before .before .before .before in
-    let a = s .args in
-    let l = c .before .before .before .loop in
-    bisected-down (s .pre .rising) (a .least) (l .inv) (middle (c .before .before)) (omega arith) (omega arith)
-    (omega arith)
+    let turn = c .before .before .before in
+    let start = turn .before .before .before .before .before .before .before .before .before in
+    bisected-down (start .pre .rising) (start .args .least) (turn .loop .inv) (middle turn) (omega arith) (omega arith) (omega arith)
 
-returns : tie.Need-returns Inv-loop μ-loop
-returns c =
-    let s = c .before .before .before .before .before in
-    let a = s .args in
-    bisected-end (s .pre .rising) (a .least) (c .before .loop .inv) (c .loop-test .left)
+returns-4 : tie.Need-returns-4 Inv-loop μ-loop
+returns-4 c =
+    let start = c .before .before .before .before .before .before .before .before .before .before in
+    bisected-end (start .pre .rising) (start .args .least) (c .before .loop .inv) (c .loop-test .left)
 
 pub word-lower-bound-spec : {M : Type 1} → statement M
 word-lower-bound-spec =
@@ -83,14 +100,22 @@ word-lower-bound-spec =
     (tie.spec
     Inv-loop
     μ-loop
+    returns
+    char-at-requires
+    cast-if2
+    returns-2
+    sub-char-at
+    char-at-requires-2
+    cast-if3
+    returns-3
     loop-holds
     sub-middle
     add-middle
-    char-at-requires
-    cast-if1
+    char-at-requires-3
+    cast-if4
     add-a
     loop-less
     loop-again
     loop-less-2
     loop-again-2
-    returns)
+    returns-4)

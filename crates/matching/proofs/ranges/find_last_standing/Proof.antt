@@ -12,13 +12,16 @@ use Rattle.matching.proofs.ranges.find_last_standing.Statement.{stateme
 use Rattle.matching.proofs.ranges.find_last_standing.Tie as tie
 
 abbrev Inv-loop : tie.InvT-loop
-Inv-loop chars lengths word-starts text at count best₀ low₀ high₀ depth₀ best low high depth = Narrowed (lexicon chars lengths .words) text (at + 1) count low high depth best
+Inv-loop chars lengths word-starts text at count best₀ low₀ high₀ depth₀ best low high depth =
+    Narrowed (lexicon chars lengths .words) text (at + 1) count low high depth best
 
 abbrev μ-loop : tie.MeasureT-loop
 μ-loop chars lengths word-starts text at count best₀ low₀ high₀ depth₀ best low high depth = (high - low) + (32 - depth)
 
 -- the first word of the range is a word
-known : (c : tie.In-loop Inv-loop μ-loop) → c .before .loop .low < length (c .before .before .before .before .before .before .args .lengths .now)
+known :
+    (c : tie.In-loop Inv-loop μ-loop) →
+    c .before .loop .low < length (c .before .before .before .before .before .before .args .lengths .now)
 known c =
     let start = c .before .before .before .before .before .before in
     let turn = c .before .loop in
@@ -32,7 +35,11 @@ deep c =
     run-deep (start .pre .0) (turn .inv) (c .before .before .loop-test .taken) (c .if1 .left)
 
 -- all words of the range have a next character, and these are in order
-column : (c : tie.Else1 Inv-loop μ-loop) → Column (c .before .before .before .before .before .before .before .before .args .chars .now) (c .before .before .before .before .before .before .before .before .args .word-starts .now) (c .before .before .before .loop .low) (c .before .before .before .loop .high) (c .before .before .before .loop .depth)
+column :
+    (c : tie.Else1 Inv-loop μ-loop) →
+    let turn = c .before .before .before in
+    let start = turn .before .before .before .before .before in
+    Column (start .args .chars .now) (start .args .word-starts .now) (turn .loop .low) (turn .loop .high) (turn .loop .depth)
 column c =
     let start = c .before .before .before .before .before .before .before .before in
     let turn = c .before .before .before .loop in
@@ -41,7 +48,10 @@ column c =
 loop-holds : tie.Need-loop-holds Inv-loop μ-loop
 loop-holds c =
     let start = c .before .before .before .before in
-    narrow-start (lexicon (start .args .chars .now) (start .args .lengths .now) .words) (start .args .text .now) (start .args .at + 1) (start .args .count) (omega (arith, many-words (start .args .chars .now) (start .args .lengths .now) (start .pre .0 .dictionary))) (omega arith) (omega arith)
+    let chars = start .args .chars .now in
+    let lengths = start .args .lengths .now in
+    narrow-start (lexicon chars lengths .words) (start .args .text .now) (start .args .at + 1) (start .args .count)
+    (omega (arith, many-words chars lengths (start .pre .0 .dictionary))) (omega arith) (omega arith)
 
 mul-if1 : tie.Need-mul-if1 Inv-loop μ-loop
 mul-if1 c = omega (arith, known c)
@@ -83,16 +93,21 @@ shared-slice-read-c : tie.Need-shared-slice-read-c Inv-loop μ-loop
 shared-slice-read-c c = omega arith
 
 cast-c : tie.Need-cast-c Inv-loop μ-loop
-cast-c c = omega (arith, c .shared-slice-known6 .given (c .before .before .before .before .before .before .before .before .before .before .args .at + c .before .before .before .before .before .loop .depth))
+cast-c c =
+    let start = c .before .before .before .before .before .before .before .before .before .before in
+    omega (arith, c .shared-slice-known6 .given (start .args .at + c .before .before .before .before .before .loop .depth))
 
-cut-low-requires : tie.Need-cut-low-requires Inv-loop μ-loop
-cut-low-requires c κs = column (c .before .before)
+lower-bound-requires : tie.Need-lower-bound-requires Inv-loop μ-loop
+lower-bound-requires c κs = column (c .before .before)
 
-add-cut-high : tie.Need-add-cut-high Inv-loop μ-loop
-add-cut-high c = omega (arith, c .before .shared-slice-known6 .given (c .before .before .before .before .before .before .before .before .before .before .before .args .at + c .before .before .before .before .before .before .loop .depth))
+add-lower-bound : tie.Need-add-lower-bound Inv-loop μ-loop
+add-lower-bound c =
+    let start = c .before .before .before .before .before .before .before .before .before .before .before in
+    omega (arith, c .before .shared-slice-known6 .given (start .args .at + c .before .before .before .before .before .before .loop .depth))
 
-cut-high-requires : tie.Need-cut-high-requires Inv-loop μ-loop
-cut-high-requires c κs = column-part (c .cut-low .result) (column (c .before .before .before)) (c .cut-low .ensures .from) (c .cut-low .ensures .to)
+lower-bound-requires-2 : tie.Need-lower-bound-requires-2 Inv-loop μ-loop
+lower-bound-requires-2 c κs =
+    column-part (column (c .before .before .before)) (c .lower-bound .ensures .from) (c .lower-bound .ensures .to)
 
 add-depth : tie.Need-add-depth Inv-loop μ-loop
 add-depth c = omega (arith, deep (c .before .before .before .before))
@@ -105,15 +120,16 @@ loop-again-2 c =
     let start = c .before .before .before .before .before .before .before .before .before .before .before .before in
     let turn = c .before .before .before .before .before .before .before .loop in
     let position : start .args .at + turn .depth ≡ start .args .at + 1 + turn .depth - 1 = omega arith in
-    run-step (start .pre .0) (turn .inv) (c .before .before .before .before .before .before .loop-test .taken) (c .before .before .before .before .if1 .left)
-    (getD (start .args .text .now) (start .args .at + turn .depth) 0) (c .before .cut-low .result) (c .cut-high .result)
-    (ap (λ (i : ℕ). getD (start .args .text .now) i 0) position) (omega arith) (c .before .cut-low .ensures) (c .cut-high .ensures)
+    let longer = c .before .before .before .before in
+    run-step (start .pre .0) (turn .inv) (longer .before .before .loop-test .taken) (longer .if1 .left)
+    (ap (λ (i : ℕ). getD (start .args .text .now) i 0) position) (omega arith) (c .before .lower-bound .ensures) (c .lower-bound2 .ensures)
 
 returns-2 : tie.Need-returns-2 Inv-loop μ-loop
 returns-2 c =
     let start = c .before .before .before .before .before .before in
     let turn = c .before .loop in
-    narrow-end (lexicon (start .args .chars .now) (start .args .lengths .now) .words) (start .args .text .now) (start .args .at + 1) (start .args .count) (turn .inv) (c .loop-test .left)
+    narrow-end (lexicon (start .args .chars .now) (start .args .lengths .now) .words) (start .args .text .now) (start .args .at + 1)
+    (start .args .count) (turn .inv) (c .loop-test .left)
 
 pub find-last-standing-spec : {M : Type 1} → statement M
 find-last-standing-spec =
@@ -134,9 +150,9 @@ find-last-standing-spec =
     mul-c
     shared-slice-read-c
     cast-c
-    cut-low-requires
-    add-cut-high
-    cut-high-requires
+    lower-bound-requires
+    add-lower-bound
+    lower-bound-requires-2
     add-depth
     loop-less-2
     loop-again-2

@@ -1,81 +1,98 @@
--- `lower_bound` meets its contract. The invariant: the lower bound is not before a and not after b. The measure is b - a. Assumes nothing.
-use Prim.Native.Nat.{_/_, _+_, _-_, _<_}
+-- `lower_bound` meets its contract: the first or the last word decides, or the search does. The invariant: the lower bound is not before a
+-- and not after b. The measure is b - a. Assumes nothing.
+use Prim.Native.Nat.{ℕ, _/_, _+_, _-_}
 use native.Mathlib.Omega.{arith}
-use lib.ListN.{length, getD}
 use borrow.Author.Needs.{needs}
-use Rattle.laws.specs.Match.Columns.{Bisected, bisected-start, bisected-up, bisected-down, bisected-end}
+use Rattle.basics.specs.LowerBound.{Bisected, bound-first, bound-last, bisected-start, bisected-up, bisected-down, bisected-end}
+use Rattle.laws.specs.Match.Columns.{column}
 use Rattle.matching.proofs.ranges.lower_bound.Statement.{statement}
 use Rattle.matching.proofs.ranges.lower_bound.Tie as tie
 
 abbrev Inv-loop : tie.InvT-loop
-Inv-loop chars word-starts low high depth least a₀ b₀ a b = Bisected chars word-starts low high depth least a b
+Inv-loop chars word-starts low high depth least a₀ b₀ a b = Bisected (column chars word-starts depth) low high least a b
 
 abbrev μ-loop : tie.MeasureT-loop
 μ-loop chars word-starts low high depth least a₀ b₀ a b = b - a
 
--- the word in the middle has a character at that depth
-room :
-    (c : tie.After-shared-slice-known Inv-loop μ-loop) →
-    getD (c .before .before .before .args .word-starts .now) (c .before .before .loop .a + (c .before .before .loop .b - c .before .before .loop .a) / 2) 0 + c .before .before .before .args .depth
-    < length (c .before .before .before .args .chars .now)
-room c = c .before .before .before .pre .room (c .before .before .loop .a + (c .before .before .loop .b - c .before .before .loop .a) / 2) (omega arith) (omega arith)
+abbrev middle : tie.At-loop Inv-loop μ-loop → ℕ
+middle turn = turn .loop .a + (turn .loop .b - turn .loop .a) / 2
+
+returns : tie.Need-returns Inv-loop μ-loop
+returns c = search needs
+
+char-at-requires : tie.Need-char-at-requires Inv-loop μ-loop
+char-at-requires c κs =
+    let start = c .before .before .before in
+    (omega arith, start .pre .room (start .args .low) (omega arith) (omega arith))
+
+cast-if2 : tie.Need-cast-if2 Inv-loop μ-loop
+cast-if2 c = omega arith
+
+returns-2 : tie.Need-returns-2 Inv-loop μ-loop
+returns-2 c =
+    let start = c .before .before .before .before .before in
+    bound-first (start .pre .rising) (start .args .least) (omega arith) (omega arith)
+
+sub-char-at : tie.Need-sub-char-at Inv-loop μ-loop
+sub-char-at c = omega arith
+
+char-at-requires-2 : tie.Need-char-at-requires-2 Inv-loop μ-loop
+char-at-requires-2 c κs =
+    let start = c .before .before .before .before .before in
+    (omega arith, start .pre .room (start .args .high - 1) (omega arith) (omega arith))
+
+cast-if3 : tie.Need-cast-if3 Inv-loop μ-loop
+cast-if3 c = omega arith
+
+returns-3 : tie.Need-returns-3 Inv-loop μ-loop
+returns-3 c =
+    let start = c .before .before .before .before .before .before .before in
+    bound-last (start .pre .rising) (start .args .least) (omega arith) (omega arith)
 
 loop-holds : tie.Need-loop-holds Inv-loop μ-loop
-loop-holds c = bisected-start (c .args .least) (c .pre)
+loop-holds c =
+    let start = c .before .before .before .before .before .before .before in
+    bisected-start (start .pre .rising) (start .args .least)
 
 sub-middle : tie.Need-sub-middle Inv-loop μ-loop
-sub-middle c = search needs
+sub-middle c = omega arith
 
 add-middle : tie.Need-add-middle Inv-loop μ-loop
-add-middle c = search needs
+add-middle c = omega arith
 
-mul-at : tie.Need-mul-at Inv-loop μ-loop
-mul-at c = search needs
+char-at-requires-3 : tie.Need-char-at-requires-3 Inv-loop μ-loop
+char-at-requires-3 c κs =
+    let start = c .before .before .before .before .before .before .before .before .before in
+    (omega arith, start .pre .room (middle (c .before)) (omega arith) (omega arith))
 
-shared-slice-read-at : tie.Need-shared-slice-read-at Inv-loop μ-loop
-shared-slice-read-at c = search needs
-
-cast-at : tie.Need-cast-at Inv-loop μ-loop
-cast-at c = omega (arith, c .shared-slice-known .given (c .before .before .loop .a + (c .before .before .loop .b - c .before .before .loop .a) / 2))
-
-add-at : tie.Need-add-at Inv-loop μ-loop
-add-at c = omega (arith, room c)
-
-mul-if1 : tie.Need-mul-if1 Inv-loop μ-loop
-mul-if1 c = omega (arith, room c)
-
-shared-slice-read-if1 : tie.Need-shared-slice-read-if1 Inv-loop μ-loop
-shared-slice-read-if1 c = omega (arith, room (c .before))
-
-cast-if1 : tie.Need-cast-if1 Inv-loop μ-loop
-cast-if1 c = omega (arith, c .shared-slice-known2 .given (getD (c .before .before .before .before .args .word-starts .now) (c .before .before .before .loop .a + (c .before .before .before .loop .b - c .before .before .before .loop .a) / 2) 0 + c .before .before .before .before .args .depth))
+cast-if4 : tie.Need-cast-if4 Inv-loop μ-loop
+cast-if4 c = omega arith
 
 add-a : tie.Need-add-a Inv-loop μ-loop
-add-a c = search needs
+add-a c = omega arith
 
 loop-less : tie.Need-loop-less Inv-loop μ-loop
 loop-less c = omega arith
 
 loop-again : tie.Need-loop-again Inv-loop μ-loop
 loop-again c =
-    let start = c .before .before .before .before .before in
-    bisected-up (start .args .least) (start .pre)
-    (c .before .before .before .before .loop .a) (c .before .before .before .before .loop .b) (c .before .before .before .before .loop .inv) (c .before .before .before .before .loop .a + (c .before .before .before .before .loop .b - c .before .before .before .before .loop .a) / 2) (omega arith) (omega arith) (c .if1 .taken)
+    let turn = c .before .before .before in
+    let start = turn .before .before .before .before .before .before .before .before in
+    bisected-up (start .pre .rising) (start .args .least) (turn .loop .inv) (middle turn) (omega arith) (omega arith) (omega arith)
 
 loop-less-2 : tie.Need-loop-less-2 Inv-loop μ-loop
 loop-less-2 c = omega arith
 
 loop-again-2 : tie.Need-loop-again-2 Inv-loop μ-loop
 loop-again-2 c =
-    let start = c .before .before .before .before .before in
-    bisected-down (start .args .least) (start .pre)
-    (c .before .before .before .before .loop .a) (c .before .before .before .before .loop .b) (c .before .before .before .before .loop .inv) (c .before .before .before .before .loop .a + (c .before .before .before .before .loop .b - c .before .before .before .before .loop .a) / 2) (omega arith) (omega arith) (c .if1 .left)
+    let turn = c .before .before .before in
+    let start = turn .before .before .before .before .before .before .before .before in
+    bisected-down (start .pre .rising) (start .args .least) (turn .loop .inv) (middle turn) (omega arith) (omega arith) (omega arith)
 
-returns : tie.Need-returns Inv-loop μ-loop
-returns c =
-    let start = c .before .before in
-    bisected-end (start .args .least) (start .pre)
-    (c .before .loop .a) (c .before .loop .b) (c .before .loop .inv) (c .loop-test .left)
+returns-4 : tie.Need-returns-4 Inv-loop μ-loop
+returns-4 c =
+    let start = c .before .before .before .before .before .before .before .before .before in
+    bisected-end (start .pre .rising) (start .args .least) (c .before .loop .inv) (c .loop-test .left)
 
 pub lower-bound-spec : {M : Type 1} → statement M
 lower-bound-spec =
@@ -83,19 +100,22 @@ lower-bound-spec =
     (tie.spec
     Inv-loop
     μ-loop
+    returns
+    char-at-requires
+    cast-if2
+    returns-2
+    sub-char-at
+    char-at-requires-2
+    cast-if3
+    returns-3
     loop-holds
     sub-middle
     add-middle
-    mul-at
-    shared-slice-read-at
-    cast-at
-    add-at
-    mul-if1
-    shared-slice-read-if1
-    cast-if1
+    char-at-requires-3
+    cast-if4
     add-a
     loop-less
     loop-again
     loop-less-2
     loop-again-2
-    returns)
+    returns-4)
