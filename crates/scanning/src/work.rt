@@ -2,17 +2,14 @@
 ghost use mathlib.Core.Path.{_≡_};
 ghost use Rattle.spec.specs.Calls.{zeros};
 ghost use Rattle.laws.specs.Dictionary.Answering.{Refuses};
+use copying::slices::fill;
 use spec::Answer;
 
 // Sets the whole slice to zeros.
 pub fn clear(work: &mut [u16])
     ensures { λ _. ⌜ now (work .exit) ≡ zeros (now (work .entry)) ⌝ }
 {
-    let mut i = 0;
-    while i < work.len() {
-        work[i] = 0;
-        i += 1;
-    }
+    fill(work, 0);
 }
 
 // Clears the work slice, and answers a refusal.
