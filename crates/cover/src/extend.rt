@@ -4,30 +4,17 @@
 // extends the reach to its end. Of a long list only the positions that fall into the window are walked, between two lower bounds; a
 // short list is walked whole, which costs less than a search. Range tests take a wrapping difference: below the range it is very large,
 // so one comparison tests both ends.
-ghost use mathlib.Core.Path.{_≡_};
-ghost use Prim.Native.Nat.{_-_, _≤_, _<_, max};
+ghost use Prim.Native.Nat.{_≤_, _<_};
 ghost use lib.ListN.{length};
 ghost use Rattle.models.specs.Window.{positions-all, key-all};
 ghost use Rattle.laws.specs.Window.Window.{Within, Reaches};
 ghost use Rattle.laws.specs.Window.ListRange.{Ascending, Window-range};
 ghost use Rattle.laws.specs.Window.ExtendAtPositions.{Offset-fits, Extends};
 use crate::lower_bound::lower_bound;
+use copying::numbers::max;
+use copying::numbers::saturating_sub;
 use postings::agreement::agrees_at;
 use std::num::wrapping_sub_usize;
-
-// The greater of two numbers.
-fn greater(a: usize, b: usize) -> usize
-    ensures { λ r. ⌜ r ≡ max a b ⌝ }
-{
-    if a < b { b } else { a }
-}
-
-// `a` - `b`, or 0 where `b` is greater.
-fn saturating_sub(a: usize, b: usize) -> usize
-    ensures { λ r. ⌜ r ≡ a - b ⌝ }
-{
-    if a < b { 0 } else { a - b }
-}
 
 // Extends the reach at index `p` to `end` if it is from `key_start` to `end` - 1. Answers whether it did.
 fn extend_start(reach: &mut [u16], p: usize, key_start: usize, end: usize) -> bool
@@ -57,8 +44,8 @@ fn extend_at_all(
     requires { ⌜ Offset-fits len «string_start» «key_start» first × Within «max_reach» (now reach) ⌝ }
     ensures { λ r. ⌜ Reaches (positions-all «string_start» «key_start» len first (now (positions .entry)) (now (reach .entry))) (now (reach .exit)) r ⌝ }
 {
-    let end = greater(key_start, key_start + len - string_start);
-    let peak = greater(max_reach, end);
+    let end = max(key_start, key_start + len - string_start);
+    let peak = max(max_reach, end);
     let from = first + key_start;
     let mut highest = max_reach;
     let mut i = 0;
@@ -91,8 +78,8 @@ fn extend_at_range(
     requires { ⌜ Offset-fits len «string_start» «key_start» first × Within «max_reach» (now reach) × Window-range (now positions) «string_start» «key_start» first (length (now reach)) from to ⌝ }
     ensures { λ r. ⌜ Reaches (positions-all «string_start» «key_start» len first (now (positions .entry)) (now (reach .entry))) (now (reach .exit)) r ⌝ }
 {
-    let end = greater(key_start, key_start + len - string_start);
-    let peak = greater(max_reach, end);
+    let end = max(key_start, key_start + len - string_start);
+    let peak = max(max_reach, end);
     let base = first + key_start;
     let mut highest = max_reach;
     let mut i = from;

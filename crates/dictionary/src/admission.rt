@@ -13,7 +13,7 @@ ghost use Rattle.spec.specs.Dictionary.{lengths-good, total, words-from, word-b
 ghost use Rattle.spec.specs.Calls.{Admit-says};
 ghost use Rattle.laws.specs.Dictionary.WordCode.{Equal-front, part, code, Reads-three, Neighbours};
 ghost use Rattle.laws.specs.Dictionary.Admission.{Fitting};
-use crate::numbers::lesser;
+use copying::numbers::min;
 use folding::forms::holds_full_width;
 use spec::Answer;
 
@@ -119,7 +119,7 @@ fn equal_fours(left: &[u16], right: &[u16], shared: usize) -> usize
 fn comes_before(left: &[u16], right: &[u16]) -> bool
     ensures { λ r. ⌜ r ≡ word-before (now (left .entry)) (now (right .entry)) ⌝ }
 {
-    let shared = lesser(left.len(), right.len());
+    let shared = min(left.len(), right.len());
     let mut i = equal_fours(left, right, shared);
     while i < shared {
         let x = left[i];

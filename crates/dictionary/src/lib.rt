@@ -1,3 +1,2 @@
 // The dictionary as it is lent: all characters run together, and a list of lengths.
 pub mod admission;
-pub mod numbers;

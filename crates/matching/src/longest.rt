@@ -4,16 +4,17 @@
 // position are prefixes of each other, so the first one met is the longest. Most chains have a word or two; a chain of many words is left
 // after a few of them, and binary search takes over among the words before. A word that would end no later than the last registered one is
 // not compared at all. A word of one character is looked up only where the position is not covered.
-ghost use Prim.Native.Nat.{_+_, _≤_, _<_};
+ghost use Prim.Native.Nat.{_+_, _<_};
 ghost use lib.ListN.{length};
 ghost use Rattle.spec.specs.Dictionary.{lexicon};
 ghost use Rattle.models.specs.MatchTable.{word};
 ghost use Rattle.laws.specs.Match.MatchTable.{Started, Tables};
-ghost use Rattle.laws.specs.Match.WordChains.{Same-run, Stands-after, Pair-found, Single-found};
+ghost use Rattle.laws.specs.Match.WordChains.{Stands-after, Pair-found, Single-found};
 ghost use Rattle.laws.specs.Match.LongestWord.{Found as Found-at, Pair-longest};
 use crate::ranges::find_last_standing;
 use crate::table::bucket_of_char;
 use crate::table::bucket_of_pair;
+use copying::compare::same_run;
 
 // A word by its number plus 1, and its length. Number 0 means none.
 pub struct Found {
@@ -23,21 +24,6 @@ pub struct Found {
 
 // How many words of a chain are compared before binary search takes over.
 const BUDGET: usize = 4;
-
-// Whether `count` characters from `at` equal those of the text from `from`. The last one is compared first: words of one chain begin alike.
-fn same_run(chars: &[u16], at: usize, text: &[u16], from: usize, count: usize) -> bool
-    requires { ⌜ (at + count ≤ length (now chars)) × (from + count ≤ length (now text)) ⌝ }
-    ensures { λ r. ⌜ Same-run (now (chars .entry)) at (now (text .entry)) from count r ⌝ }
-{
-    let mut i = count;
-    while 0 < i {
-        i -= 1;
-        if chars[at + i] != text[from + i] {
-            return false;
-        }
-    }
-    true
-}
 
 // Whether the word stands in the text at index `at` and ends after `end`.
 fn stands_after(

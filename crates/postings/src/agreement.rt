@@ -4,7 +4,8 @@
 // or after it, and the characters that both have are compared from the last one: callers come where the first are equal.
 ghost use mathlib.Core.Path.{_≡_};
 ghost use Rattle.spec.specs.Search.{agrees, agrees-at, string-start, key-start};
-use dictionary::numbers::lesser;
+use copying::compare::same_run;
+use copying::numbers::min;
 
 // Whether two strings agree, the first laid at 0 and the second at `at`.
 fn agrees_after(first: &[u16], second: &[u16], at: usize) -> bool
@@ -16,14 +17,7 @@ fn agrees_after(first: &[u16], second: &[u16], at: usize) -> bool
     if second.len() == 0 {
         return false;
     }
-    let mut i = lesser(first.len() - at, second.len());
-    while 0 < i {
-        i -= 1;
-        if first[at + i] != second[i] {
-            return false;
-        }
-    }
-    true
+    same_run(first, at, second, 0, min(first.len() - at, second.len()))
 }
 
 // Where the string starts at an offset, counted from the first of string and key to begin.

@@ -5,27 +5,16 @@
 ghost use mathlib.Core.Path.{_≡_};
 ghost use Prim.Native.Nat.{_≤_};
 ghost use lib.ListN.{length};
-ghost use Rattle.spec.specs.Calls.{index-refusal, in-front, Recover-says};
+ghost use Rattle.spec.specs.Calls.{index-refusal, Recover-says};
 ghost use Rattle.laws.specs.Receive.Receiving.{Gives};
 use crate::receive::delivery_refusal;
 use crate::receive::no_text;
 use crate::text::text_of;
+use copying::slices::write_list;
 use opening::opened::open_index;
 use scanning::work::clear;
 use scanning::work::refuse;
 use spec::Answer;
-
-// Copies a text to the start of the output.
-fn put_text(text: &[u16], output: &mut [u16])
-    requires { ⌜ length (now text) ≤ length (now output) ⌝ }
-    ensures { λ _. ⌜ now (output .exit) ≡ in-front (now (text .entry)) (now (output .entry)) ⌝ }
-{
-    let mut i = 0;
-    while i < text.len() {
-        output[i] = text[i];
-        i += 1;
-    }
-}
 
 // Copies the first `n` numbers of the work slice to the output, or answers 8; and clears the work slice.
 fn give_text(n: usize, output: &mut [u16], work: &mut [u16]) -> Answer
@@ -35,7 +24,7 @@ fn give_text(n: usize, output: &mut [u16], work: &mut [u16]) -> Answer
     if output.len() < n {
         return refuse(work, 8);
     }
-    put_text(&work[..n], output);
+    write_list(&work[..n], 0, output);
     clear(work);
     Answer {
         refusal: 0,

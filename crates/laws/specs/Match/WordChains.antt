@@ -7,10 +7,10 @@ use mathlib.Core.List.{List, []}
 use Prim.Native.Nat.{ℕ, suc, _+_, _-_, _≤_, _<_}
 use native.Mathlib.Omega.{arith}
 use lib.ListN.{length, getD}
-use Rattle.basics.specs.Bools.{clash}
+use Rattle.basics.specs.Bools.{clash, Reflects}
 use Rattle.spec.specs.Dictionary.{lexicon}
 use Rattle.models.specs.MatchTable.{word, start-of, pair-bucket, char-bucket, bucket-of}
-use Rattle.laws.specs.Text.Strings.{Stand}
+use Rattle.laws.specs.Text.Strings.{Same-run, Stand}
 use Rattle.laws.specs.Text.Overlaps.{stand-at, stand-put}
 use Rattle.laws.specs.Match.HashChains.{Walk, Stop, walk-start, walk-stop, walk-end}
 use Rattle.laws.specs.Match.MatchTable.{char-large, char-small, pair-small, bucket-pair, bucket-char, bucket-single, Started, Tables}
@@ -18,11 +18,6 @@ use Rattle.laws.specs.Match.MatchTable.{many-words, word-long, word-some
 use Rattle.laws.specs.Match.PrefixRanges.{Last-standing}
 
 -- ONE WORD
-
--- two runs of n characters, one from `at` and one from q, are equal
-pub record Same-run (cs : List ℕ) (at : ℕ) (ts : List ℕ) (q n : ℕ) (r : Bool) : Type 0 where
-  pub yes : r ≡ true → (j : ℕ) → j < n → getD cs (at + j) 0 ≡ getD ts (q + j) 0
-  pub no : r ≡ false → ((j : ℕ) → j < n → getD cs (at + j) 0 ≡ getD ts (q + j) 0) → ⊥
 
 -- whether a word stands at p and ends after `last`
 pub record Stands-after (w ts : List ℕ) (p last : ℕ) (r : Bool) : Type 0 where
@@ -50,19 +45,19 @@ module _ {cs ls ss : List ℕ} (t : Started cs ls ss) (ts : List ℕ) (q e i : �
       ap (λ (x : ℕ). getD ts x 0) at
 
   pub compared :
-      {r : Bool} → e < q + getD ls i 0 → q + getD ls i 0 ≤ length ts → Same-run cs (getD ss i 0) ts q (getD ls i 0) r →
+      {r : Bool} → e < q + getD ls i 0 → q + getD ls i 0 ≤ length ts → Reflects r (Same-run cs (getD ss i 0) ts q (getD ls i 0)) →
       Stands-after (word cs ls i) ts (q + 1) (e + 1) r
   compared after room h =
       record {
         yes =
             λ b. (
               stand-put (word cs ls i) ts (q + 1) (omega arith) (omega (arith, len))
-                  (λ j l. sym (read j (omega (arith, len))) ∙ h .yes b j (omega (arith, len)) ∙ position j),
+                  (λ j l. sym (read j (omega (arith, len))) ∙ h .holds b j (omega (arith, len)) ∙ position j),
               omega (arith, len),
             );
         no =
             λ b s.
-            absurd (h .no b (λ j l. read j l ∙ stand-at j s (omega (arith, len)) ∙ sym (position j)));
+            absurd (h .fails b (λ j l. read j l ∙ stand-at j s (omega (arith, len)) ∙ sym (position j)));
       }
 
 -- THE CHAIN OF TWO CHARACTERS

@@ -10,6 +10,7 @@ use lib.ListN.{length, take}
 use lib.Seq.{length-take-le}
 use borrow.Author.Tests.{lt-ltb, le-ltb, eq-eqb, ne-eqb, eqb-true, eqb-false}
 use Rattle.basics.specs.Bools.{true-or-false, le-or-lt}
+use Rattle.basics.specs.Writing.{over}
 use Rattle.basics.specs.Placed.{placed, Wrote}
 use Rattle.spec.specs.declared.Answer.{Answer}
 use Rattle.spec.specs.Dictionary.{longest-text, lexicon, dictionary-refusal}
@@ -139,7 +140,7 @@ module _ (n : ℕ) (r : Answer) (o w v : List ℕ) where
       }
 
   pub gives-text :
-      n ≤ length o → n ≤ length w → r .refusal ≡ 0 → r .count ≡ n → (z : List ℕ) → z ≡ in-front (take n w) o → v ≡ zeros w →
+      n ≤ length o → n ≤ length w → r .refusal ≡ 0 → r .count ≡ n → (z : List ℕ) → z ≡ over (take n w) o → v ≡ zeros w →
       Gives n r o z w v
   unfolding in-front
   gives-text room len zero count z put cleared =

@@ -1,14 +1,15 @@
 -- The model of the agreement test: one string starts at 0, the other at an index in or after it, and the shared positions are compared in
 -- order. Assumes nothing.
 use mathlib.Core.Path.{_≡_, refl, sym, ap, _∙_}
-use mathlib.Core.Bool.{true, false}
+use mathlib.Core.Bool.{Bool, true, false}
 use mathlib.Core.List.{List}
 use Prim.Native.Nat.{ℕ, _+_, _-_, _≤_, _<_, min}
 use native.Mathlib.Omega.{arith}
 use lib.ListN.{length, getD}
 use lib.IntN.{ℤ}
-use Rattle.basics.specs.Bools.{false-put, iff-eq}
+use Rattle.basics.specs.Bools.{Reflects, false-put, iff-eq}
 use Rattle.spec.specs.Search.{agrees, string-start, key-start, agrees-at}
+use Rattle.laws.specs.Text.Strings.{Same-run}
 use Rattle.laws.specs.Search.Agree.{agrees-get, agrees-put, agree-sym}
 
 -- WHICH OF THE TWO STARTS FIRST
@@ -38,18 +39,6 @@ module _ (s e : List ℕ) (at : ℕ) where
   pub apart-empty : length e ≡ 0 → false ≡ agrees s 0 e at
   apart-empty h = sym (false-put (agrees s 0 e at) (λ t. let m = agrees-get s 0 e at t in omega arith))
 
-  -- a shared position at which they differ
-  pub apart-at :
-      (j : ℕ) → at + j < length s → j < length e → (getD s (at + j) 0 ≡ getD e j 0 → ⊥) → false ≡ agrees s 0 e at
-  apart-at j left right differ = sym (false-put (agrees s 0 e at) wrong)
-    where
-      wrong : agrees s 0 e at ≡ true → ⊥
-      wrong t =
-          let m = agrees-get s 0 e at t in
-          let first : at + j - 0 ≡ at + j = omega arith in
-          let second : at + j - at ≡ j = omega arith in
-          differ (rw (first, second) at (m .equal (at + j) (omega arith) (omega arith) (omega arith) (omega arith)))
-
   -- all shared positions are equal
   pub together :
       (i : ℕ) → at < length s → (length e ≡ 0 → ⊥) → min (length s - at) (length e) ≤ i →
@@ -70,6 +59,21 @@ module _ (s e : List ℕ) (at : ℕ) where
       each x p q r u =
           let first : x - 0 ≡ at + (x - at) = omega arith in
           rw first (equal (x - at) (omega arith))
+
+  -- the shared positions compared
+  pub agrees-compared :
+      {n : ℕ} (r : Bool) → at < length s → (length e ≡ 0 → ⊥) → n ≡ min (length s - at) (length e) →
+      Reflects r (Same-run s at e 0 n) → r ≡ agrees s 0 e at
+  agrees-compared {n} true some other whole h =
+      together n some other (omega arith) (λ k b. let z : 0 + k ≡ k = omega arith in rw z at (h .holds refl k b))
+  agrees-compared {n} false some other whole h = sym (false-put (agrees s 0 e at) (λ t. h .fails refl (λ j b. equal j b t)))
+    where
+      equal : (j : ℕ) → j < n → agrees s 0 e at ≡ true → getD s (at + j) 0 ≡ getD e (0 + j) 0
+      equal j b t =
+          let m = agrees-get s 0 e at t in
+          let first : at + j - 0 ≡ at + j = omega arith in
+          let second : at + j - at ≡ 0 + j = omega arith in
+          rw (first, second) at (m .equal (at + j) (omega arith) (omega arith) (omega arith) (omega arith))
 
 -- THE OFFSET
 

@@ -29,6 +29,10 @@ same-self (x ∷ xs) = and-put (eq-eqb x x refl) (same-self xs)
 pub same-put : (a b : List ℕ) → a ≡ b → same a b ≡ true
 same-put a b e = rw e (same-self b)
 
+-- two runs of n characters are equal, that of s from index a and that of t from index b
+abbrev pub Same-run : (s : List ℕ) (a : ℕ) (t : List ℕ) (b n : ℕ) → Type 0
+Same-run s a t b n = (j : ℕ) → j < n → getD s (a + j) 0 ≡ getD t (b + j) 0
+
 -- s stands in ts at p: each position p to p + |s| − 1 of ts carries the character of s there
 pub record Stand (s ts : List ℕ) (p : ℕ) : Type 0 where
   pub from : 1 ≤ p

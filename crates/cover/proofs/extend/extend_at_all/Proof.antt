@@ -32,17 +32,17 @@ own c =
     wrap-below (w .result) (getD (a .positions .now) (l .i) 0 + a .string-start) (a .first + a .key-start) (length (l .reach)) (w .ensures)
     (omega arith) (c .if1 .taken)
 
-add-greater : tie.Need-add-greater Inv-loop μ-loop
-add-greater c = search needs
+add-max : tie.Need-add-max Inv-loop μ-loop
+add-max c = search needs
 
-sub-greater : tie.Need-sub-greater Inv-loop μ-loop
-sub-greater c = search needs
+sub-max : tie.Need-sub-max Inv-loop μ-loop
+sub-max c = search needs
 
-greater-requires : tie.Need-greater-requires Inv-loop μ-loop
-greater-requires c κs = search needs
+max-requires : tie.Need-max-requires Inv-loop μ-loop
+max-requires c κs = search needs
 
-greater-requires-2 : tie.Need-greater-requires-2 Inv-loop μ-loop
-greater-requires-2 c κs = search needs
+max-requires-2 : tie.Need-max-requires-2 Inv-loop μ-loop
+max-requires-2 c κs = search needs
 
 add-from : tie.Need-add-from Inv-loop μ-loop
 add-from c = search needs
@@ -74,7 +74,7 @@ wrapping-sub-usize-requires c κs = search needs
 extend-start-requires : tie.Need-extend-start-requires Inv-loop μ-loop
 extend-start-requires c κs =
     let s = c .before .before .before .before .before .before .before .before .before .before in
-    let end = c .before .before .before .before .before .before .before .greater .ensures in
+    let end = c .before .before .before .before .before .before .before .max .ensures in
     (c .before .if1 .taken, omega (arith, end), omega (arith, end))
 
 loop-less : tie.Need-loop-less Inv-loop μ-loop
@@ -86,10 +86,10 @@ loop-again c =
     let a = s .args in
     let l = c .before .before .before .before .before .before .before .before .before .loop in
     let p = c .before .before .before .before .before .before .wrapping-sub-usize .result in
-    let end = c .before .before .before .before .before .before .before .before .before .before .before .greater in
+    let end = c .before .before .before .before .before .before .before .before .before .before .before .max in
     let done = c .before .before .before .extend-start in
     extending-extended (l .inv) (c .before .before .before .before .before .before .before .before .loop-test .taken)
-    (own (c .before .before .before .before .before)) (c .before .before .before .before .before .if1 .taken) (end .ensures) (done .ensures) (c .if2 .taken) (c .before .before .before .before .before .before .before .before .before .before .greater2 .result) (c .before .before .before .before .before .before .before .before .before .before .greater2 .ensures)
+    (own (c .before .before .before .before .before)) (c .before .before .before .before .before .if1 .taken) (end .ensures) (done .ensures) (c .if2 .taken) (c .before .before .before .before .before .before .before .before .before .before .max2 .result) (c .before .before .before .before .before .before .before .before .before .before .max2 .ensures)
 
 loop-less-2 : tie.Need-loop-less-2 Inv-loop μ-loop
 loop-less-2 c = search needs
@@ -100,7 +100,7 @@ loop-again-2 c =
     let a = s .args in
     let l = c .before .before .before .before .before .before .before .before .before .loop in
     let p = c .before .before .before .before .before .before .wrapping-sub-usize .result in
-    let end = c .before .before .before .before .before .before .before .before .before .before .before .greater in
+    let end = c .before .before .before .before .before .before .before .before .before .before .before .max in
     let done = c .before .before .before .extend-start in
     extending-passed (l .inv) (c .before .before .before .before .before .before .before .before .loop-test .taken)
     (own (c .before .before .before .before .before)) (c .before .before .before .before .before .if1 .taken) (end .ensures) (done .ensures) (c .if2 .left)
@@ -133,10 +133,10 @@ extend-at-all-spec =
     (tie.spec
     Inv-loop
     μ-loop
-    add-greater
-    sub-greater
-    greater-requires
-    greater-requires-2
+    add-max
+    sub-max
+    max-requires
+    max-requires-2
     add-from
     loop-holds
     mul-at

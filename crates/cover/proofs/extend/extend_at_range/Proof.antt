@@ -33,17 +33,17 @@ inside : (c : tie.In-loop Inv-loop μ-loop) → start (c .before) < length (c .b
 inside c =
     omega (arith, range-inside (c .before .before .before .before .before .before .pre .2) (c .before .loop .i) (c .before .loop .inv .0) (c .loop-test .taken))
 
-add-greater : tie.Need-add-greater Inv-loop μ-loop
-add-greater c = search needs
+add-max : tie.Need-add-max Inv-loop μ-loop
+add-max c = search needs
 
-sub-greater : tie.Need-sub-greater Inv-loop μ-loop
-sub-greater c = search needs
+sub-max : tie.Need-sub-max Inv-loop μ-loop
+sub-max c = search needs
 
-greater-requires : tie.Need-greater-requires Inv-loop μ-loop
-greater-requires c κs = search needs
+max-requires : tie.Need-max-requires Inv-loop μ-loop
+max-requires c κs = search needs
 
-greater-requires-2 : tie.Need-greater-requires-2 Inv-loop μ-loop
-greater-requires-2 c κs = search needs
+max-requires-2 : tie.Need-max-requires-2 Inv-loop μ-loop
+max-requires-2 c κs = search needs
 
 add-base : tie.Need-add-base Inv-loop μ-loop
 add-base c = search needs
@@ -75,7 +75,7 @@ add-i c = search needs
 extend-start-requires : tie.Need-extend-start-requires Inv-loop μ-loop
 extend-start-requires c κs =
     let s = c .before .before .before .before .before .before .before .before in
-    let end = c .before .before .before .before .before .greater .ensures in
+    let end = c .before .before .before .before .before .max .ensures in
     (inside (c .before .before), omega (arith, end), omega (arith, end))
 
 loop-less : tie.Need-loop-less Inv-loop μ-loop
@@ -86,13 +86,13 @@ loop-again c =
     let s = c .before .before .before .before .before .before .before .before .before .before .before .before in
     let a = s .args in
     let l = c .before .before .before .before .before .before .before .loop in
-    let end = c .before .before .before .before .before .before .before .before .before .greater in
+    let end = c .before .before .before .before .before .before .before .before .before .max in
     let done = c .before .before .before .extend-start in (
       omega arith,
       extending-extended (l .inv .1)
           (omega arith) (own (c .before .before .before .before .before .before))
           (inside (c .before .before .before .before .before .before)) (end .ensures) (done .ensures) (c .if1 .taken)
-          (c .before .before .before .before .before .before .before .before .greater2 .result) (c .before .before .before .before .before .before .before .before .greater2 .ensures),
+          (c .before .before .before .before .before .before .before .before .max2 .result) (c .before .before .before .before .before .before .before .before .max2 .ensures),
     )
 
 loop-less-2 : tie.Need-loop-less-2 Inv-loop μ-loop
@@ -103,7 +103,7 @@ loop-again-2 c =
     let s = c .before .before .before .before .before .before .before .before .before .before .before .before in
     let a = s .args in
     let l = c .before .before .before .before .before .before .before .loop in
-    let end = c .before .before .before .before .before .before .before .before .before .greater in
+    let end = c .before .before .before .before .before .before .before .before .before .max in
     let done = c .before .before .before .extend-start in (
       omega arith,
       extending-passed (l .inv .1)
@@ -127,10 +127,10 @@ extend-at-range-spec =
     (tie.spec
     Inv-loop
     μ-loop
-    add-greater
-    sub-greater
-    greater-requires
-    greater-requires-2
+    add-max
+    sub-max
+    max-requires
+    max-requires-2
     add-base
     loop-holds
     mul-p

@@ -14,8 +14,8 @@ Inv-loop left right shared i₀ i = Equal-front left right i
 abbrev μ-loop : tie.MeasureT-loop
 μ-loop left right shared i₀ i = shared - i
 
-lesser-requires : tie.Need-lesser-requires Inv-loop μ-loop
-lesser-requires c κs = search needs
+min-requires : tie.Need-min-requires Inv-loop μ-loop
+min-requires c κs = search needs
 
 equal-fours-requires : tie.Need-equal-fours-requires Inv-loop μ-loop
 equal-fours-requires c κs = (omega arith, omega arith)
@@ -68,7 +68,7 @@ comes-before-spec =
     (tie.spec
     Inv-loop
     μ-loop
-    lesser-requires
+    min-requires
     equal-fours-requires
     loop-holds
     mul-x

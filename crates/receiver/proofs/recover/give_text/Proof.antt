@@ -16,19 +16,21 @@ same-length c = search needs
 returns : tie.Need-returns
 returns c =
     let start = c .before .before .before .before .before .before .before in
+    let a = start .args in
     let answer = c .before .before .refuse in
-    gives-short (start .args .n) (answer .result) (start .args .output .now) (start .args .work .now) (answer .last .0) (c .before .before .before .before .if1 .taken) (answer .ensures)
+    let short = c .before .before .before .before .if1 .taken in
+    gives-short (a .n) (answer .result) (a .output .now) (a .work .now) (answer .last .0) short (answer .ensures)
 
-slice-reshare-prefix-put-text : tie.Need-slice-reshare-prefix-put-text
-slice-reshare-prefix-put-text c = search needs
+slice-reshare-prefix-write-list : tie.Need-slice-reshare-prefix-write-list
+slice-reshare-prefix-write-list c = search needs
 
-slice-aggregate-put-text : tie.Need-slice-aggregate-put-text
-slice-aggregate-put-text c =
+slice-aggregate-write-list : tie.Need-slice-aggregate-write-list
+slice-aggregate-write-list c =
     let start = c .before .before .before .before in
     sym (length-take-le (start .args .n) (start .args .work .now) (start .pre))
 
-put-text-requires : tie.Need-put-text-requires
-put-text-requires c κs =
+write-list-requires : tie.Need-write-list-requires
+write-list-requires c κs =
     let start = c .before .before .before .before .before in
     omega (arith, length-take-le (start .args .n) (start .args .work .now) (start .pre))
 
@@ -43,9 +45,13 @@ same-length-3 c = search needs
 
 returns-2 : tie.Need-returns-2
 returns-2 c =
-    let start = c .before .before .before .before .before .before .before .before .before .before .before .before in
-    let n = start .args .n in
-    gives-text n (record { refusal = 0; count = n }) (start .args .output .now) (start .args .work .now) (c .before .before .clear .last .0) (c .before .before .before .before .before .before .before .before .before .if1 .left) (start .pre) refl refl (c .before .before .before .before .before .before .put-text .last .1 .0) (c .before .before .before .before .before .before .put-text .ensures) (c .before .before .clear .ensures)
+    let written = c .before .before .before .before .before .before in
+    let start = written .before .before .before .before .before .before in
+    let a = start .args in
+    let cleared = c .before .before .clear in
+    let copied = written .write-list in
+    gives-text (a .n) (record { refusal = 0; count = a .n }) (a .output .now) (a .work .now) (cleared .last .0)
+    (written .before .before .before .if1 .left) (start .pre) refl refl (copied .last .1 .1 .0) (copied .ensures) (cleared .ensures)
 
 pub give-text-spec : {M : Type 1} → statement M
 give-text-spec =
@@ -54,9 +60,9 @@ give-text-spec =
     refuse-requires
     same-length
     returns
-    slice-reshare-prefix-put-text
-    slice-aggregate-put-text
-    put-text-requires
+    slice-reshare-prefix-write-list
+    slice-aggregate-write-list
+    write-list-requires
     clear-requires
     same-length-2
     same-length-3

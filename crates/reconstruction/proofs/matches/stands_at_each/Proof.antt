@@ -6,12 +6,9 @@ use borrow.Author.Tests.{not-true, not-false}
 use borrow.Author.Needs.{needs}
 use lib.ListN.{length, getD}
 use Rattle.basics.specs.Bools.{reflects-yes, reflects-no}
-use Rattle.laws.specs.Receive.EntriesMatch.{Period, period-whole, stand-all, stand-part, stand-back, Stand-first, stand-first-none, stand-first-next, stand-first-end, rise-after}
+use Rattle.laws.specs.Receive.EntriesMatch.{Period, period-whole, stand-all, stand-whole, stand-back, Stand-first, stand-first-none, stand-first-next, stand-first-end, rise-after}
 use Rattle.reconstruction.proofs.matches.stands_at_each.Statement.{statement}
 use Rattle.reconstruction.proofs.matches.stands_at_each.Tie as tie
-use Rattle.reconstruction.proofs.matches.equal_from.Reads as equal-from-reads
-use Rattle.reconstruction.proofs.matches.period_of.Reads as period-of-reads
-use Rattle.reconstruction.proofs.matches.stands_again.Reads as stands-again-reads
 
 abbrev Inv-loop : tie.InvT-loop
 Inv-loop string positions text period₀ i₀ period i = (1 ≤ i) × Period string period × Stand-first string text positions i
@@ -19,17 +16,17 @@ Inv-loop string positions text period₀ i₀ period i = (1 ≤ i) × Period str
 abbrev μ-loop : tie.MeasureT-loop
 μ-loop string positions text period₀ i₀ period i = length positions - i
 
-shared-slice-read-equal-from : tie.Need-shared-slice-read-equal-from Inv-loop μ-loop
-shared-slice-read-equal-from c = c .before .before .before .before .pre .1
+shared-slice-read-same-run : tie.Need-shared-slice-read-same-run Inv-loop μ-loop
+shared-slice-read-same-run c = c .before .before .before .before .pre .1
 
-cast-equal-from : tie.Need-cast-equal-from Inv-loop μ-loop
-cast-equal-from c = omega (arith, c .shared-slice-known4 .given 0)
+cast-same-run : tie.Need-cast-same-run Inv-loop μ-loop
+cast-same-run c = omega (arith, c .shared-slice-known4 .given 0)
 
-sub-equal-from : tie.Need-sub-equal-from Inv-loop μ-loop
-sub-equal-from c = c .before .before .before .before .pre .0 .from 0 (c .before .before .before .before .pre .1)
+sub-same-run : tie.Need-sub-same-run Inv-loop μ-loop
+sub-same-run c = c .before .before .before .before .pre .0 .from 0 (c .before .before .before .before .pre .1)
 
-equal-from-requires : tie.Need-equal-from-requires Inv-loop μ-loop
-equal-from-requires c κs =
+same-run-requires : tie.Need-same-run-requires Inv-loop μ-loop
+same-run-requires c κs =
     let s = c .before .before .before .before in
     omega (arith, s .pre .0 .from 0 (s .pre .1), s .pre .0 .to 0 (s .pre .1))
 
@@ -39,8 +36,8 @@ returns c =
     let a = s .args in
     reflects-no
     (λ each.
-    c .before .equal-from .ensures .fails (not-true (c .before .equal-from .result) (c .if1 .taken))
-    (stand-part (each 0 (s .pre .1)) 0))
+    c .before .same-run .ensures .fails (not-true (c .before .same-run .result) (c .if1 .taken))
+    (stand-whole (each 0 (s .pre .1))))
 
 loop-holds : tie.Need-loop-holds Inv-loop μ-loop
 loop-holds c =
@@ -49,7 +46,7 @@ loop-holds c =
       omega arith,
       period-whole (a .string .now),
       stand-first-next (a .string .now) (a .text .now) (a .positions .now) 0 (stand-first-none (a .string .now) (a .text .now) (a .positions .now))
-          (stand-all (a .string .now) (a .text .now) (getD (a .positions .now) 0 0) (s .pre .0 .from 0 (s .pre .1)) (s .pre .0 .to 0 (s .pre .1)) (c .before .equal-from .ensures .holds (not-false (c .before .equal-from .result) (c .if1 .left)))),
+          (stand-all (a .string .now) (a .text .now) (getD (a .positions .now) 0 0) (s .pre .0 .from 0 (s .pre .1)) (s .pre .0 .to 0 (s .pre .1)) (c .before .same-run .ensures .holds (not-false (c .before .same-run .result) (c .if1 .left)))),
     )
 
 mul-position : tie.Need-mul-position Inv-loop μ-loop
@@ -129,10 +126,10 @@ stands-at-each-spec =
     (tie.spec
     Inv-loop
     μ-loop
-    shared-slice-read-equal-from
-    cast-equal-from
-    sub-equal-from
-    equal-from-requires
+    shared-slice-read-same-run
+    cast-same-run
+    sub-same-run
+    same-run-requires
     returns
     loop-holds
     mul-position

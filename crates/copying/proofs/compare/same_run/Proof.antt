@@ -1,13 +1,13 @@
 -- `same_run` meets its contract. The invariant: the characters from i on are equal. The measure is i. Assumes nothing.
-use mathlib.Core.Path.{_≡_, refl}
+use mathlib.Core.Path.{_≡_}
 use Prim.Native.Nat.{ℕ, _+_, _-_, _≤_, _<_}
 use native.Mathlib.Omega.{arith}
 use lib.ListN.{getD}
 use borrow.Author.Needs.{needs}
-use Rattle.basics.specs.Bools.{clash}
+use Rattle.basics.specs.Bools.{reflects-yes, reflects-no}
 use Rattle.basics.specs.Steps.{from-less}
-use Rattle.matching.proofs.longest.same_run.Statement.{statement}
-use Rattle.matching.proofs.longest.same_run.Tie as tie
+use Rattle.copying.proofs.compare.same_run.Statement.{statement}
+use Rattle.copying.proofs.compare.same_run.Tie as tie
 
 abbrev Inv-loop : tie.InvT-loop
 Inv-loop chars at text from count i₀ i = (i ≤ count) × ((j : ℕ) → j < count → i ≤ j → getD chars (at + j) 0 ≡ getD text (from + j) 0)
@@ -41,13 +41,8 @@ shared-slice-read-if1-2 c = search needs
 
 returns : tie.Need-returns Inv-loop μ-loop
 returns c =
-    record {
-      yes = λ t. clash t refl;
-      no =
-          λ f same.
-          c .if1 .taken
-          (same (c .before .before .before .before .loop .i - 1) (omega arith));
-    }
+    let turn = c .before .before .before .before .loop in
+    reflects-no (λ same. c .if1 .taken (same (turn .i - 1) (omega arith)))
 
 loop-less : tie.Need-loop-less Inv-loop μ-loop
 loop-less c = omega arith
@@ -56,11 +51,7 @@ loop-again : tie.Need-loop-again Inv-loop μ-loop
 loop-again c = (omega arith, from-less _ _ _ (c .before .before .before .before .loop .inv .1) (c .if1 .left))
 
 returns-2 : tie.Need-returns-2 Inv-loop μ-loop
-returns-2 c =
-    record {
-      yes = λ t j l. c .before .loop .inv .1 j l (omega arith);
-      no = λ f. clash refl f;
-    }
+returns-2 c = reflects-yes (λ j l. c .before .loop .inv .1 j l (omega arith))
 
 pub same-run-spec : {M : Type 1} → statement M
 same-run-spec =
