@@ -42,7 +42,8 @@ fn extend_at_all(
     max_reach: usize,
 ) -> usize
     requires { ⌜ Offset-fits len «string_start» «key_start» first × Within «max_reach» (now reach) ⌝ }
-    ensures { λ r. ⌜ Reaches (positions-all «string_start» «key_start» len first (now (positions .entry)) (now (reach .entry))) (now (reach .exit)) r ⌝ }
+    ensures { λ r. ⌜
+        Reaches (positions-all «string_start» «key_start» len first (now (positions .entry)) (now (reach .entry))) (now (reach .exit)) r ⌝ }
 {
     let end = max(key_start, key_start + len - string_start);
     let peak = max(max_reach, end);
@@ -75,8 +76,11 @@ fn extend_at_range(
     reach: &mut [u16],
     max_reach: usize,
 ) -> usize
-    requires { ⌜ Offset-fits len «string_start» «key_start» first × Within «max_reach» (now reach) × Window-range (now positions) «string_start» «key_start» first (length (now reach)) from to ⌝ }
-    ensures { λ r. ⌜ Reaches (positions-all «string_start» «key_start» len first (now (positions .entry)) (now (reach .entry))) (now (reach .exit)) r ⌝ }
+    requires { ⌜
+        Offset-fits len «string_start» «key_start» first × Within «max_reach» (now reach) ×
+        Window-range (now positions) «string_start» «key_start» first (length (now reach)) from to ⌝ }
+    ensures { λ r. ⌜
+        Reaches (positions-all «string_start» «key_start» len first (now (positions .entry)) (now (reach .entry))) (now (reach .exit)) r ⌝ }
 {
     let end = max(key_start, key_start + len - string_start);
     let peak = max(max_reach, end);
@@ -105,7 +109,8 @@ pub(crate) fn extend_at_positions(
     max_reach: usize,
 ) -> usize
     requires { ⌜ Offset-fits len «string_start» «key_start» first × Within «max_reach» (now reach) × Ascending (now positions) ⌝ }
-    ensures { λ r. ⌜ Reaches (positions-all «string_start» «key_start» len first (now (positions .entry)) (now (reach .entry))) (now (reach .exit)) r ⌝ }
+    ensures { λ r. ⌜
+        Reaches (positions-all «string_start» «key_start» len first (now (positions .entry)) (now (reach .entry))) (now (reach .exit)) r ⌝ }
 {
     if positions.len() <= 16 {
         return extend_at_all(
@@ -145,8 +150,11 @@ pub(crate) fn extend_key(
     reach: &mut [u16],
     max_reach: usize,
 ) -> usize
-    requires { ⌜ Offset-fits (length (now key)) «string_start» «key_start» first × Within «max_reach» (now reach) × Ascending (now positions) ⌝ }
-    ensures { λ r. ⌜ Reaches (key-all «string_start» «key_start» (now (string .entry)) (now (key .entry)) first (now (positions .entry)) (now (reach .entry))) (now (reach .exit)) r ⌝ }
+    requires { ⌜
+        Offset-fits (length (now key)) «string_start» «key_start» first × Within «max_reach» (now reach) × Ascending (now positions) ⌝ }
+    ensures { λ r. ⌜
+        Reaches (key-all «string_start» «key_start» (now (string .entry)) (now (key .entry)) first (now (positions .entry))
+        (now (reach .entry))) (now (reach .exit)) r ⌝ }
 {
     if agrees_at(key, string, key_start as i32 - string_start as i32) {
         extend_at_positions(

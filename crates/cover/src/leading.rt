@@ -27,8 +27,12 @@ fn extend_back(
     reach: &mut [u16],
     max_reach: usize,
 ) -> usize
-    requires { ⌜ (length (now key) ≤ 32) × (1 ≤ length (now string)) × (first ≤ 65536) × Within «max_reach» (now reach) × Ascending (now positions) ⌝ }
-    ensures { λ r. ⌜ Reaches (back-all (length (now (key .entry))) 0 (now (string .entry)) (now (key .entry)) first (now (positions .entry)) (now (reach .entry))) (now (reach .exit)) r ⌝ }
+    requires { ⌜
+        (length (now key) ≤ 32) × (1 ≤ length (now string)) × (first ≤ 65536) × Within «max_reach» (now reach) ×
+        Ascending (now positions) ⌝ }
+    ensures { λ r. ⌜
+        Reaches (back-all (length (now (key .entry))) 0 (now (string .entry)) (now (key .entry)) first (now (positions .entry))
+        (now (reach .entry))) (now (reach .exit)) r ⌝ }
 {
     let mut highest = max_reach;
     let mut i = 0;
@@ -55,8 +59,12 @@ fn extend_words_back<'a>(
     reach: &mut [u16],
     max_reach: usize,
 ) -> usize
-    requires { ⌜ Opened (now chars) (now lengths) (now index) (now «word_starts») (now «list_starts») × Has-lines (now index) (now lines) × (1 ≤ length (now string)) × (first ≤ 65536) × Within «max_reach» (now reach) ⌝ }
-    ensures { λ r. ⌜ Reaches (run-list (leading-at (lexicon (now (chars .entry)) (now (lengths .entry))) (now (index .entry)) (now (string .entry)) first) (now (lines .entry)) (now (reach .entry))) (now (reach .exit)) r ⌝ }
+    requires { ⌜
+        Opened (now chars) (now lengths) (now index) (now «word_starts») (now «list_starts») × Has-lines (now index) (now lines) ×
+        (1 ≤ length (now string)) × (first ≤ 65536) × Within «max_reach» (now reach) ⌝ }
+    ensures { λ r. ⌜
+        Reaches (run-list (leading-at (lexicon (now (chars .entry)) (now (lengths .entry))) (now (index .entry))
+        (now (string .entry)) first) (now (lines .entry)) (now (reach .entry))) (now (reach .exit)) r ⌝ }
 {
     let mut highest = max_reach;
     let mut i = 0;
@@ -84,8 +92,13 @@ pub(crate) fn extend_leading<'a>(
     reach: &mut [u16],
     max_reach: usize,
 ) -> usize
-    requires { ⌜ Opened (now chars) (now lengths) (now index) (now «word_starts») (now «list_starts») × Split (now index) «word_lines» × (now lines ≡ leading-lines (lexicon (now chars) (now lengths)) (now index) (now string) «word_lines») × (1 ≤ length (now string)) × (length (now string) ≤ 256) × (first ≤ 65536) × Within «max_reach» (now reach) ⌝ }
-    ensures { λ r. ⌜ Reaches (leading-all (lexicon (now (chars .entry)) (now (lengths .entry))) (lines-in (now (index .entry))) (now (string .entry)) first (now (reach .entry))) (now (reach .exit)) r ⌝ }
+    requires { ⌜
+        Opened (now chars) (now lengths) (now index) (now «word_starts») (now «list_starts») × Split (now index) «word_lines» ×
+        (now lines ≡ leading-lines (lexicon (now chars) (now lengths)) (now index) (now string) «word_lines») × (1 ≤ length (now string)) ×
+        (length (now string) ≤ 256) × (first ≤ 65536) × Within «max_reach» (now reach) ⌝ }
+    ensures { λ r. ⌜
+        Reaches (leading-all (lexicon (now (chars .entry)) (now (lengths .entry))) (lines-in (now (index .entry)))
+        (now (string .entry)) first (now (reach .entry))) (now (reach .exit)) r ⌝ }
 {
     let highest = extend_words_back(
         chars,

@@ -44,8 +44,14 @@ fn fill_leading<'a>(
     word_lines: usize,
     lines: &mut [u16],
 ) -> usize
-    requires { ⌜ Can-read (now chars) (now lengths) (now index) × Word-starts (now lengths) (length (now lengths)) (now «word_starts») × (1 ≤ length (now string)) × («word_lines» ≤ keys-of (now index)) × («word_lines» ≤ length (now lines)) ⌝ }
-    ensures { λ r. ⌜ (r ≡ length (leading-lines (lexicon (now (chars .entry)) (now (lengths .entry))) (now (index .entry)) (now (string .entry)) «word_lines»)) × (now (lines .exit) ≡ in-front (leading-lines (lexicon (now (chars .entry)) (now (lengths .entry))) (now (index .entry)) (now (string .entry)) «word_lines») (now (lines .entry))) ⌝ }
+    requires { ⌜
+        Can-read (now chars) (now lengths) (now index) × Word-starts (now lengths) (length (now lengths)) (now «word_starts») ×
+        (1 ≤ length (now string)) × («word_lines» ≤ keys-of (now index)) × («word_lines» ≤ length (now lines)) ⌝ }
+    ensures { λ r. ⌜
+        (r ≡ length (leading-lines (lexicon (now (chars .entry)) (now (lengths .entry))) (now (index .entry))
+        (now (string .entry)) «word_lines»)) ×
+        (now (lines .exit) ≡ in-front (leading-lines (lexicon (now (chars .entry)) (now (lengths .entry))) (now (index .entry))
+        (now (string .entry)) «word_lines») (now (lines .entry))) ⌝ }
 {
     let mut count = 0;
     let mut line = 0;
@@ -76,8 +82,13 @@ pub fn list_leading<'a>(
     string: &[u16],
     lines: &mut [u16],
 ) -> Leading
-    requires { ⌜ Can-read (now chars) (now lengths) (now index) × Word-starts (now lengths) (length (now lengths)) (now «word_starts») × (1 ≤ length (now string)) × (4096 ≤ length (now lines)) ⌝ }
-    ensures { λ r. ⌜ Split (now (index .entry)) (r .words) × (r .count ≤ length (now (lines .exit))) × (take (r .count) (now (lines .exit)) ≡ leading-lines (lexicon (now (chars .entry)) (now (lengths .entry))) (now (index .entry)) (now (string .entry)) (r .words)) ⌝ }
+    requires { ⌜
+        Can-read (now chars) (now lengths) (now index) × Word-starts (now lengths) (length (now lengths)) (now «word_starts») ×
+        (1 ≤ length (now string)) × (4096 ≤ length (now lines)) ⌝ }
+    ensures { λ r. ⌜
+        Split (now (index .entry)) (r .words) × (r .count ≤ length (now (lines .exit))) ×
+        (take (r .count) (now (lines .exit)) ≡ leading-lines (lexicon (now (chars .entry)) (now (lengths .entry))) (now (index .entry))
+        (now (string .entry)) (r .words)) ⌝ }
 {
     let word_lines = count_word_lines(index);
     let count = fill_leading(

@@ -36,8 +36,12 @@ fn extend_line<'a>(
     reach: &mut [u16],
     max_reach: usize,
 ) -> usize
-    requires { ⌜ Opened (now chars) (now lengths) (now index) (now «word_starts») (now «list_starts») × («key_start» ≤ 256) × (line < keys-of (now index)) × (first ≤ 65536) × Within «max_reach» (now reach) ⌝ }
-    ensures { λ r. ⌜ Reaches (offset-at «key_start» (lexicon (now (chars .entry)) (now (lengths .entry))) (now (index .entry)) (now (string .entry)) first line (now (reach .entry))) (now (reach .exit)) r ⌝ }
+    requires { ⌜
+        Opened (now chars) (now lengths) (now index) (now «word_starts») (now «list_starts») × («key_start» ≤ 256) ×
+        (line < keys-of (now index)) × (first ≤ 65536) × Within «max_reach» (now reach) ⌝ }
+    ensures { λ r. ⌜
+        Reaches (offset-at «key_start» (lexicon (now (chars .entry)) (now (lengths .entry))) (now (index .entry))
+        (now (string .entry)) first line (now (reach .entry))) (now (reach .exit)) r ⌝ }
 {
     let key = key_of(chars, lengths, index, word_starts, line);
     let positions = positions_of(index, list_starts, line);
@@ -68,8 +72,12 @@ fn extend_lines<'a>(
     reach: &mut [u16],
     max_reach: usize,
 ) -> usize
-    requires { ⌜ Opened (now chars) (now lengths) (now index) (now «word_starts») (now «list_starts») × («key_start» ≤ 256) × (to ≤ keys-of (now index)) × (first ≤ 65536) × Within «max_reach» (now reach) ⌝ }
-    ensures { λ r. ⌜ Reaches (run (offset-at «key_start» (lexicon (now (chars .entry)) (now (lengths .entry))) (now (index .entry)) (now (string .entry)) first) from to (now (reach .entry))) (now (reach .exit)) r ⌝ }
+    requires { ⌜
+        Opened (now chars) (now lengths) (now index) (now «word_starts») (now «list_starts») × («key_start» ≤ 256) ×
+        (to ≤ keys-of (now index)) × (first ≤ 65536) × Within «max_reach» (now reach) ⌝ }
+    ensures { λ r. ⌜
+        Reaches (run (offset-at «key_start» (lexicon (now (chars .entry)) (now (lengths .entry))) (now (index .entry))
+        (now (string .entry)) first) from to (now (reach .entry))) (now (reach .exit)) r ⌝ }
 {
     let mut highest = max_reach;
     let mut line = from;
@@ -114,8 +122,12 @@ pub(crate) fn extend_words<'a>(
     reach: &mut [u16],
     max_reach: usize,
 ) -> usize
-    requires { ⌜ Opened (now chars) (now lengths) (now index) (now «word_starts») (now «list_starts») × Split (now index) «word_lines» × («key_start» < length (now string)) × (length (now string) ≤ 256) × (first ≤ 65536) × Within «max_reach» (now reach) ⌝ }
-    ensures { λ r. ⌜ Reaches (run (offset-at «key_start» (lexicon (now (chars .entry)) (now (lengths .entry))) (now (index .entry)) (now (string .entry)) first) 0 «word_lines» (now (reach .entry))) (now (reach .exit)) r ⌝ }
+    requires { ⌜
+        Opened (now chars) (now lengths) (now index) (now «word_starts») (now «list_starts») × Split (now index) «word_lines» ×
+        («key_start» < length (now string)) × (length (now string) ≤ 256) × (first ≤ 65536) × Within «max_reach» (now reach) ⌝ }
+    ensures { λ r. ⌜
+        Reaches (run (offset-at «key_start» (lexicon (now (chars .entry)) (now (lengths .entry))) (now (index .entry))
+        (now (string .entry)) first) 0 «word_lines» (now (reach .entry))) (now (reach .exit)) r ⌝ }
 {
     let left = string.len() - key_start;
     let mut highest = max_reach;
@@ -184,8 +196,12 @@ pub(crate) fn extend_lone<'a>(
     reach: &mut [u16],
     max_reach: usize,
 ) -> usize
-    requires { ⌜ Opened (now chars) (now lengths) (now index) (now «word_starts») (now «list_starts») × Split (now index) «word_lines» × («key_start» < length (now string)) × (length (now string) ≤ 256) × (first ≤ 65536) × Within «max_reach» (now reach) ⌝ }
-    ensures { λ r. ⌜ Reaches (run (offset-at «key_start» (lexicon (now (chars .entry)) (now (lengths .entry))) (now (index .entry)) (now (string .entry)) first) «word_lines» (keys-of (now (index .entry))) (now (reach .entry))) (now (reach .exit)) r ⌝ }
+    requires { ⌜
+        Opened (now chars) (now lengths) (now index) (now «word_starts») (now «list_starts») × Split (now index) «word_lines» ×
+        («key_start» < length (now string)) × (length (now string) ≤ 256) × (first ≤ 65536) × Within «max_reach» (now reach) ⌝ }
+    ensures { λ r. ⌜
+        Reaches (run (offset-at «key_start» (lexicon (now (chars .entry)) (now (lengths .entry))) (now (index .entry))
+        (now (string .entry)) first) «word_lines» (keys-of (now (index .entry))) (now (reach .entry))) (now (reach .exit)) r ⌝ }
 {
     let keys = index[1] as usize;
     let character = string[key_start];

@@ -27,8 +27,12 @@ fn extend_offset<'a>(
     reach: &mut [u16],
     max_reach: usize,
 ) -> usize
-    requires { ⌜ Opened (now chars) (now lengths) (now index) (now «word_starts») (now «list_starts») × Split (now index) «word_lines» × («key_start» < length (now string)) × (length (now string) ≤ 256) × (first ≤ 65536) × Within «max_reach» (now reach) ⌝ }
-    ensures { λ r. ⌜ Reaches (offset-all «key_start» (lexicon (now (chars .entry)) (now (lengths .entry))) (lines-in (now (index .entry))) (now (string .entry)) first (now (reach .entry))) (now (reach .exit)) r ⌝ }
+    requires { ⌜
+        Opened (now chars) (now lengths) (now index) (now «word_starts») (now «list_starts») × Split (now index) «word_lines» ×
+        («key_start» < length (now string)) × (length (now string) ≤ 256) × (first ≤ 65536) × Within «max_reach» (now reach) ⌝ }
+    ensures { λ r. ⌜
+        Reaches (offset-all «key_start» (lexicon (now (chars .entry)) (now (lengths .entry))) (lines-in (now (index .entry)))
+        (now (string .entry)) first (now (reach .entry))) (now (reach .exit)) r ⌝ }
 {
     let highest = extend_words(
         chars,
@@ -72,8 +76,12 @@ pub(crate) fn extend_offsets<'a>(
     reach: &mut [u16],
     max_reach: usize,
 ) -> usize
-    requires { ⌜ Opened (now chars) (now lengths) (now index) (now «word_starts») (now «list_starts») × Split (now index) «word_lines» × (1 ≤ length (now string)) × (length (now string) ≤ 256) × (first ≤ 65536) × Within «max_reach» (now reach) ⌝ }
-    ensures { λ r. ⌜ Reaches (offsets-all (length (now (string .entry)) - 1) 1 (lexicon (now (chars .entry)) (now (lengths .entry))) (lines-in (now (index .entry))) (now (string .entry)) first (now (reach .entry))) (now (reach .exit)) r ⌝ }
+    requires { ⌜
+        Opened (now chars) (now lengths) (now index) (now «word_starts») (now «list_starts») × Split (now index) «word_lines» ×
+        (1 ≤ length (now string)) × (length (now string) ≤ 256) × (first ≤ 65536) × Within «max_reach» (now reach) ⌝ }
+    ensures { λ r. ⌜
+        Reaches (offsets-all (length (now (string .entry)) - 1) 1 (lexicon (now (chars .entry)) (now (lengths .entry)))
+        (lines-in (now (index .entry))) (now (string .entry)) first (now (reach .entry))) (now (reach .exit)) r ⌝ }
 {
     let mut highest = max_reach;
     let mut key_start = 1;

@@ -26,8 +26,15 @@ pub fn extend_window<'a>(
     first: usize,
     reach: &mut [u16],
 ) -> usize
-    requires { ⌜ Opened (now chars) (now lengths) (now index) (now «word_starts») (now «list_starts») × Split (now index) «word_lines» × (now lines ≡ leading-lines (lexicon (now chars) (now lengths)) (now index) (now string) «word_lines») × (1 ≤ length (now string)) × (length (now string) ≤ 256) × (first ≤ 65536) × Within 0 (now reach) ⌝ }
-    ensures { λ r. ⌜ Reaches (offsets-all (length (now (string .entry)) - 1) 1 (lexicon (now (chars .entry)) (now (lengths .entry))) (lines-in (now (index .entry))) (now (string .entry)) first (leading-all (lexicon (now (chars .entry)) (now (lengths .entry))) (lines-in (now (index .entry))) (now (string .entry)) first (now (reach .entry)))) (now (reach .exit)) r ⌝ }
+    requires { ⌜
+        Opened (now chars) (now lengths) (now index) (now «word_starts») (now «list_starts») × Split (now index) «word_lines» ×
+        (now lines ≡ leading-lines (lexicon (now chars) (now lengths)) (now index) (now string) «word_lines») × (1 ≤ length (now string)) ×
+        (length (now string) ≤ 256) × (first ≤ 65536) × Within 0 (now reach) ⌝ }
+    ensures { λ r. ⌜
+        Reaches (offsets-all (length (now (string .entry)) - 1) 1 (lexicon (now (chars .entry)) (now (lengths .entry)))
+        (lines-in (now (index .entry))) (now (string .entry)) first
+        (leading-all (lexicon (now (chars .entry)) (now (lengths .entry))) (lines-in (now (index .entry))) (now (string .entry)) first
+        (now (reach .entry)))) (now (reach .exit)) r ⌝ }
 {
     let begun = extend_leading(
         chars,

@@ -19,7 +19,9 @@ pub fn key_of<'a>(
     word_starts: &[u16],
     line: usize,
 ) -> &'a [u16]
-    requires { ⌜ Can-read (now chars) (now lengths) (now index) × Word-starts (now lengths) (length (now lengths)) (now «word_starts») × (line < keys-of (now index)) ⌝ }
+    requires { ⌜
+        Can-read (now chars) (now lengths) (now index) × Word-starts (now lengths) (length (now lengths)) (now «word_starts») ×
+        (line < keys-of (now index)) ⌝ }
     ensures { λ r. ⌜ now r ≡ spells (lexicon (now (chars .entry)) (now (lengths .entry))) (key-at (now (index .entry)) line) ⌝ }
 {
     if index[2 + 3 * line] == 0 {
@@ -46,7 +48,8 @@ pub fn word_length(lengths: &[u16], index: &[u16], line: usize) -> usize
 // The positions of a line.
 pub fn positions_of<'a>(index: &'a [u16], list_starts: &[u32], line: usize) -> &'a [u16]
     requires { ⌜ Fits (now index) × List-starts (now index) (keys-of (now index)) (now «list_starts») × (line < keys-of (now index)) ⌝ }
-    ensures { λ r. ⌜ now r ≡ take (count-at (now (index .entry)) line) (drop (list-start (now (index .entry)) line) (now (index .entry))) ⌝ }
+    ensures { λ r. ⌜
+        now r ≡ take (count-at (now (index .entry)) line) (drop (list-start (now (index .entry)) line) (now (index .entry))) ⌝ }
 {
     let start = 2 + 3 * index[1] as usize + list_starts[line] as usize;
     let end = start + index[2 + 3 * line + 2] as usize;

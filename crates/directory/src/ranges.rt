@@ -46,7 +46,9 @@ pub fn count_word_lines(index: &[u16]) -> usize
 
 // The character at `depth` of the word of a line.
 fn char_at(chars: &[u16], index: &[u16], word_starts: &[u16], line: usize, depth: usize) -> u16
-    requires { ⌜ (2 + 3 * line + 2 < length (now index)) × (value-at (now index) line < length (now «word_starts»)) × (getD (now «word_starts») (value-at (now index) line) 0 + depth < length (now chars)) ⌝ }
+    requires { ⌜
+        (2 + 3 * line + 2 < length (now index)) × (value-at (now index) line < length (now «word_starts»)) ×
+        (getD (now «word_starts») (value-at (now index) line) 0 + depth < length (now chars)) ⌝ }
     ensures { λ r. ⌜ r ≡ word-char (now (chars .entry)) (now (index .entry)) (now («word_starts» .entry)) depth line ⌝ }
 {
     let word = index[2 + 3 * line + 1] as usize;
@@ -65,7 +67,8 @@ fn word_lower_bound(
     least: usize,
 ) -> usize
     requires { ⌜ Word-column (now chars) (now index) (now «word_starts») low high depth ⌝ }
-    ensures { λ r. ⌜ Lower-bound (word-char (now (chars .entry)) (now (index .entry)) (now («word_starts» .entry)) depth) low high least r ⌝ }
+    ensures { λ r. ⌜
+        Lower-bound (word-char (now (chars .entry)) (now (index .entry)) (now («word_starts» .entry)) depth) low high least r ⌝ }
 {
     if high <= low {
         return low;
@@ -100,7 +103,10 @@ pub fn equal_range(
     character: u16,
 ) -> Range
     requires { ⌜ Word-column (now chars) (now index) (now «word_starts») low high depth ⌝ }
-    ensures { λ r. ⌜ Lower-bound (word-char (now (chars .entry)) (now (index .entry)) (now («word_starts» .entry)) depth) low high character (r .from) × Lower-bound (word-char (now (chars .entry)) (now (index .entry)) (now («word_starts» .entry)) depth) (r .from) high (character + 1) (r .to) ⌝ }
+    ensures { λ r. ⌜
+        Lower-bound (word-char (now (chars .entry)) (now (index .entry)) (now («word_starts» .entry)) depth) low high character (r .from) ×
+        Lower-bound (word-char (now (chars .entry)) (now (index .entry)) (now («word_starts» .entry)) depth) (r .from) high (character + 1)
+        (r .to) ⌝ }
 {
     let least = character as usize;
     let from = word_lower_bound(chars, index, word_starts, low, high, depth, least);

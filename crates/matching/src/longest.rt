@@ -94,7 +94,8 @@ fn find_pair(
     end: usize,
 ) -> Found
     requires { ⌜ Tables (now chars) (now lengths) (now heads) (now links) (now «word_starts») × (at < length (now text)) ⌝ }
-    ensures { λ r. ⌜ Pair-longest (lexicon (now (chars .entry)) (now (lengths .entry))) (now (text .entry)) (at + 1) (end + 1) (r .number) (r .len) ⌝ }
+    ensures { λ r. ⌜
+        Pair-longest (lexicon (now (chars .entry)) (now (lengths .entry))) (now (text .entry)) (at + 1) (end + 1) (r .number) (r .len) ⌝ }
 {
     if text.len() <= at + 1 {
         return Found { number: 0, len: 0 };
@@ -149,7 +150,8 @@ pub fn find_longest(
     end: usize,
 ) -> Found
     requires { ⌜ Tables (now chars) (now lengths) (now heads) (now links) (now «word_starts») × (at < length (now text)) ⌝ }
-    ensures { λ r. ⌜ Found-at (lexicon (now (chars .entry)) (now (lengths .entry))) (now (text .entry)) (at + 1) (end + 1) (r .number) (r .len) ⌝ }
+    ensures { λ r. ⌜
+        Found-at (lexicon (now (chars .entry)) (now (lengths .entry))) (now (text .entry)) (at + 1) (end + 1) (r .number) (r .len) ⌝ }
 {
     let pair = find_pair(chars, lengths, heads, links, word_starts, text, at, end);
     if pair.number != 0 {

@@ -46,7 +46,8 @@ pub fn fill_match_table(
     word_starts: &mut [u16],
 )
     requires { ⌜ Room (now chars) (now lengths) (now heads) (now links) (now «word_starts») ⌝ }
-    ensures { λ r. ⌜ Tables (now (chars .entry)) (now (lengths .entry)) (now (heads .exit)) (now (links .exit)) (now («word_starts» .exit)) ⌝ }
+    ensures { λ r. ⌜
+        Tables (now (chars .entry)) (now (lengths .entry)) (now (heads .exit)) (now (links .exit)) (now («word_starts» .exit)) ⌝ }
 {
     let mut at: usize = 0;
     let mut i = 0;

@@ -37,7 +37,9 @@ fn raised(
     keys: usize,
     counts: [u64; 32],
 ) -> [u64; 32]
-    requires { ⌜ Is-admitted (now chars) (now lengths) × (readable longest-text (lexicon (now chars) (now lengths)) (now index) ≡ true) × (keys ≡ keys-of (now index)) × (header + 3 * keys ≤ length (now index)) × ((j : ℕ) → getD counts j 0 ≤ 2 ^ 62) ⌝ }
+    requires { ⌜
+        Is-admitted (now chars) (now lengths) × (readable longest-text (lexicon (now chars) (now lengths)) (now index) ≡ true) ×
+        (keys ≡ keys-of (now index)) × (header + 3 * keys ≤ length (now index)) × ((j : ℕ) → getD counts j 0 ≤ 2 ^ 62) ⌝ }
     ensures { λ r. ⌜ r ≡ added counts (tally (lexicon (now (chars .entry)) (now (lengths .entry))) (now (index .entry))) ⌝ }
 {
     let mut counts = counts;

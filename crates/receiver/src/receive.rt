@@ -44,7 +44,8 @@ fn receive_opened<'a>(
     work: &mut [u16],
 ) -> Answer
     requires { ⌜ refusal ≡ index-refusal (now chars) (now lengths) (now index) ⌝ }
-    ensures { λ r. ⌜ Receive-says (now (chars .entry)) (now (lengths .entry)) (now (index .entry)) r (now (work .entry)) (now (work .exit)) ⌝ }
+    ensures { λ r. ⌜
+        Receive-says (now (chars .entry)) (now (lengths .entry)) (now (index .entry)) r (now (work .entry)) (now (work .exit)) ⌝ }
 {
     let early = delivery_refusal(index, refusal, work.len());
     if early != 0 {
@@ -67,7 +68,8 @@ pub fn receive<'a>(
     index: &'a [u16],
     work: &mut [u16],
 ) -> Answer
-    ensures { λ r. ⌜ Receive-says (now (chars .entry)) (now (lengths .entry)) (now (index .entry)) r (now (work .entry)) (now (work .exit)) ⌝ }
+    ensures { λ r. ⌜
+        Receive-says (now (chars .entry)) (now (lengths .entry)) (now (index .entry)) r (now (work .entry)) (now (work .exit)) ⌝ }
 {
     let opened = open_index(chars, lengths, index);
     receive_opened(chars, lengths, opened.numbers, opened.refusal, work)

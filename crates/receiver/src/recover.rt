@@ -42,7 +42,9 @@ fn recover_opened<'a>(
     work: &mut [u16],
 ) -> Answer
     requires { ⌜ refusal ≡ index-refusal (now chars) (now lengths) (now index) ⌝ }
-    ensures { λ r. ⌜ Recover-says (now (chars .entry)) (now (lengths .entry)) (now (index .entry)) r (now (output .entry)) (now (output .exit)) (now (work .entry)) (now (work .exit)) ⌝ }
+    ensures { λ r. ⌜
+        Recover-says (now (chars .entry)) (now (lengths .entry)) (now (index .entry)) r (now (output .entry)) (now (output .exit))
+        (now (work .entry)) (now (work .exit)) ⌝ }
 {
     let early = delivery_refusal(index, refusal, work.len());
     if early != 0 {
@@ -62,7 +64,9 @@ pub fn recover<'a>(
     output: &mut [u16],
     work: &mut [u16],
 ) -> Answer
-    ensures { λ r. ⌜ Recover-says (now (chars .entry)) (now (lengths .entry)) (now (index .entry)) r (now (output .entry)) (now (output .exit)) (now (work .entry)) (now (work .exit)) ⌝ }
+    ensures { λ r. ⌜
+        Recover-says (now (chars .entry)) (now (lengths .entry)) (now (index .entry)) r (now (output .entry)) (now (output .exit))
+        (now (work .entry)) (now (work .exit)) ⌝ }
 {
     let opened = open_index(chars, lengths, index);
     recover_opened(chars, lengths, opened.numbers, opened.refusal, output, work)

@@ -35,8 +35,13 @@ fn reconstruct_front(
     n: usize,
     work: &mut [u16],
 )
-    requires { ⌜ Started (now chars) (now lengths) (now «word_starts») × (readable longest-text (lexicon (now chars) (now lengths)) (now index) ≡ true) × (n ≡ n-of (now index)) × (n ≤ length (now work)) ⌝ }
-    ensures { λ _. ⌜ take n (now (work .exit)) ≡ reconstruct (lexicon (now (chars .entry)) (now (lengths .entry))) (flat (lexicon (now (chars .entry)) (now (lengths .entry))) (lines-in (now (index .entry)))) (take n (now (work .entry))) ⌝ }
+    requires { ⌜
+        Started (now chars) (now lengths) (now «word_starts») ×
+        (readable longest-text (lexicon (now chars) (now lengths)) (now index) ≡ true) × (n ≡ n-of (now index)) ×
+        (n ≤ length (now work)) ⌝ }
+    ensures { λ _. ⌜
+        take n (now (work .exit)) ≡ reconstruct (lexicon (now (chars .entry)) (now (lengths .entry)))
+        (flat (lexicon (now (chars .entry)) (now (lengths .entry))) (lines-in (now (index .entry)))) (take n (now (work .entry))) ⌝ }
 {
     reconstruct_entries(chars, lengths, word_starts, index, &mut work[..n]);
 }
@@ -71,8 +76,12 @@ fn test_parts(
     n: usize,
     work: &[u16],
 ) -> bool
-    requires { ⌜ Tables (now chars) (now lengths) (now heads) (now links) (now «word_starts») × Fits (now index) × Line-map (now index) (mapped-at (take n (drop n (now work)))) × (2 * n ≤ length (now work)) ⌝ }
-    ensures { λ r. ⌜ r ≡ verify (lexicon (now (chars .entry)) (now (lengths .entry))) (mapped-at (take n (drop n (now (work .entry))))) (now (index .entry)) (take n (now (work .entry))) ⌝ }
+    requires { ⌜
+        Tables (now chars) (now lengths) (now heads) (now links) (now «word_starts») × Fits (now index) ×
+        Line-map (now index) (mapped-at (take n (drop n (now work)))) × (2 * n ≤ length (now work)) ⌝ }
+    ensures { λ r. ⌜
+        r ≡ verify (lexicon (now (chars .entry)) (now (lengths .entry))) (mapped-at (take n (drop n (now (work .entry)))))
+        (now (index .entry)) (take n (now (work .entry))) ⌝ }
 {
     let end = 2 * n;
     verify(

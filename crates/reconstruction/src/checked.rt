@@ -22,8 +22,13 @@ pub fn reconstruct_checked(
     sentinel: u16,
     text: &mut [u16],
 ) -> bool
-    requires { ⌜ Can-read (now chars) (now lengths) (now index) × Word-starts (now lengths) (length (now lengths)) (now «word_starts») × (length (now text) ≡ n-of (now index)) ⌝ }
-    ensures { λ r. ⌜ (now (text .exit) ≡ reconstructed-over (lexicon (now (chars .entry)) (now (lengths .entry))) (lines-in (now (index .entry))) (n-of (now (index .entry))) sentinel) × Reflects r (All-stand (lexicon (now (chars .entry)) (now (lengths .entry))) (lines-in (now (index .entry))) (now (text .exit))) ⌝ }
+    requires { ⌜
+        Can-read (now chars) (now lengths) (now index) × Word-starts (now lengths) (length (now lengths)) (now «word_starts») ×
+        (length (now text) ≡ n-of (now index)) ⌝ }
+    ensures { λ r. ⌜
+        (now (text .exit) ≡ reconstructed-over (lexicon (now (chars .entry)) (now (lengths .entry))) (lines-in (now (index .entry)))
+        (n-of (now (index .entry))) sentinel) ×
+        Reflects r (All-stand (lexicon (now (chars .entry)) (now (lengths .entry))) (lines-in (now (index .entry))) (now (text .exit))) ⌝ }
 {
     fill(text, sentinel);
     reconstruct_entries(chars, lengths, word_starts, index, text);

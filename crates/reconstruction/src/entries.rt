@@ -52,8 +52,12 @@ fn reconstruct_line(
     end: usize,
     text: &mut [u16],
 )
-    requires { ⌜ Can-read (now chars) (now lengths) (now index) × Word-starts (now lengths) (length (now lengths)) (now «word_starts») × Line-lies (now index) line begin end × (length (now text) ≡ n-of (now index)) ⌝ }
-    ensures { λ r. ⌜ now (text .exit) ≡ reconstruct-positions (spells (lexicon (now (chars .entry)) (now (lengths .entry))) (key-at (now (index .entry)) line)) (take (end - begin) (drop begin (now (index .entry)))) (now (text .entry)) ⌝ }
+    requires { ⌜
+        Can-read (now chars) (now lengths) (now index) × Word-starts (now lengths) (length (now lengths)) (now «word_starts») ×
+        Line-lies (now index) line begin end × (length (now text) ≡ n-of (now index)) ⌝ }
+    ensures { λ r. ⌜
+        now (text .exit) ≡ reconstruct-positions (spells (lexicon (now (chars .entry)) (now (lengths .entry)))
+        (key-at (now (index .entry)) line)) (take (end - begin) (drop begin (now (index .entry)))) (now (text .entry)) ⌝ }
 {
     let value = index[2 + 3 * line + 1];
     if index[2 + 3 * line] != 0 {
@@ -74,8 +78,12 @@ pub fn reconstruct_entries(
     index: &[u16],
     text: &mut [u16],
 )
-    requires { ⌜ Can-read (now chars) (now lengths) (now index) × Word-starts (now lengths) (length (now lengths)) (now «word_starts») × (length (now text) ≡ n-of (now index)) ⌝ }
-    ensures { λ r. ⌜ now (text .exit) ≡ reconstruct (lexicon (now (chars .entry)) (now (lengths .entry))) (flat (lexicon (now (chars .entry)) (now (lengths .entry))) (lines-in (now (index .entry)))) (now (text .entry)) ⌝ }
+    requires { ⌜
+        Can-read (now chars) (now lengths) (now index) × Word-starts (now lengths) (length (now lengths)) (now «word_starts») ×
+        (length (now text) ≡ n-of (now index)) ⌝ }
+    ensures { λ r. ⌜
+        now (text .exit) ≡ reconstruct (lexicon (now (chars .entry)) (now (lengths .entry)))
+        (flat (lexicon (now (chars .entry)) (now (lengths .entry))) (lines-in (now (index .entry)))) (now (text .entry)) ⌝ }
 {
     let keys = index[1] as usize;
     let mut begin = 2 + 3 * keys;

@@ -39,7 +39,9 @@ fn period_of(string: &[u16], known: usize, step: usize) -> usize
 
 // Whether a string stands at `position`, which lies `step` after a position where it stands.
 fn stands_again(string: &[u16], period: usize, step: usize, position: usize, text: &[u16]) -> bool
-    requires { ⌜ Period (now string) period × (step ≤ position) × Stand (now string) (now text) (position - step) × (position + length (now string) ≤ suc (length (now text))) ⌝ }
+    requires { ⌜
+        Period (now string) period × (step ≤ position) × Stand (now string) (now text) (position - step) ×
+        (position + length (now string) ≤ suc (length (now text))) ⌝ }
     ensures { λ r. ⌜ Reflects r (Stand (now (string .entry)) (now (text .entry)) position) ⌝ }
 {
     if step == period {
@@ -51,7 +53,8 @@ fn stands_again(string: &[u16], period: usize, step: usize, position: usize, tex
 
 // Whether a string stands at each of these positions.
 fn stands_at_each(string: &[u16], positions: &[u16], text: &[u16]) -> bool
-    requires { ⌜ Lie-within (length (now string)) (length (now text)) (now positions) × (1 ≤ length (now positions)) × Rise 1 (now positions) ⌝ }
+    requires { ⌜
+        Lie-within (length (now string)) (length (now text)) (now positions) × (1 ≤ length (now positions)) × Rise 1 (now positions) ⌝ }
     ensures { λ r. ⌜ Reflects r (Stand-each (now (string .entry)) (now (text .entry)) (now (positions .entry))) ⌝ }
 {
     if !same_run(string, 0, text, positions[0] as usize - 1, string.len()) {
@@ -97,8 +100,12 @@ fn line_stands(
     end: usize,
     text: &[u16],
 ) -> bool
-    requires { ⌜ Can-read (now chars) (now lengths) (now index) × Word-starts (now lengths) (length (now lengths)) (now «word_starts») × Line-lies (now index) line begin end × (length (now text) ≡ n-of (now index)) ⌝ }
-    ensures { λ r. ⌜ Reflects r (Stand-each (spells (lexicon (now (chars .entry)) (now (lengths .entry))) (key-at (now (index .entry)) line)) (now (text .entry)) (take (end - begin) (drop begin (now (index .entry))))) ⌝ }
+    requires { ⌜
+        Can-read (now chars) (now lengths) (now index) × Word-starts (now lengths) (length (now lengths)) (now «word_starts») ×
+        Line-lies (now index) line begin end × (length (now text) ≡ n-of (now index)) ⌝ }
+    ensures { λ r. ⌜
+        Reflects r (Stand-each (spells (lexicon (now (chars .entry)) (now (lengths .entry))) (key-at (now (index .entry)) line))
+        (now (text .entry)) (take (end - begin) (drop begin (now (index .entry))))) ⌝ }
 {
     let value = index[2 + 3 * line + 1];
     if index[2 + 3 * line] != 0 {
@@ -118,8 +125,11 @@ pub(crate) fn entries_match(
     index: &[u16],
     text: &[u16],
 ) -> bool
-    requires { ⌜ Can-read (now chars) (now lengths) (now index) × Word-starts (now lengths) (length (now lengths)) (now «word_starts») × (length (now text) ≡ n-of (now index)) ⌝ }
-    ensures { λ r. ⌜ Reflects r (All-stand (lexicon (now (chars .entry)) (now (lengths .entry))) (lines-in (now (index .entry))) (now (text .entry))) ⌝ }
+    requires { ⌜
+        Can-read (now chars) (now lengths) (now index) × Word-starts (now lengths) (length (now lengths)) (now «word_starts») ×
+        (length (now text) ≡ n-of (now index)) ⌝ }
+    ensures { λ r. ⌜
+        Reflects r (All-stand (lexicon (now (chars .entry)) (now (lengths .entry))) (lines-in (now (index .entry))) (now (text .entry))) ⌝ }
 {
     let keys = index[1] as usize;
     let mut begin = 2 + 3 * keys;

@@ -29,8 +29,11 @@ pub fn step(
     at: usize,
     end: usize,
 ) -> Stepped
-    requires { ⌜ Tables (now chars) (now lengths) (now heads) (now links) (now «word_starts») × (at < length (now text)) × (end ≤ length (now text)) ⌝ }
-    ensures { λ r. ⌜ Stepped-at (lexicon (now (chars .entry)) (now (lengths .entry))) (now (text .entry)) (at + 1) (end + 1) (r .token) (r .end + 1) ⌝ }
+    requires { ⌜
+        Tables (now chars) (now lengths) (now heads) (now links) (now «word_starts») × (at < length (now text)) ×
+        (end ≤ length (now text)) ⌝ }
+    ensures { λ r. ⌜
+        Stepped-at (lexicon (now (chars .entry)) (now (lengths .entry))) (now (text .entry)) (at + 1) (end + 1) (r .token) (r .end + 1) ⌝ }
 {
     let found = find_longest(chars, lengths, heads, links, word_starts, text, at, end);
     let number = found.number;

@@ -18,31 +18,16 @@ abbrev μ-loop : tie.MeasureT-loop
 loop-holds : tie.Need-loop-holds Inv-loop μ-loop
 loop-holds c = copying-start (c .args .list .now) (c .args .from) (c .args .output .now) (c .pre)
 
-mul-output : tie.Need-mul-output Inv-loop μ-loop
-mul-output c = search needs
-
-shared-slice-read-output : tie.Need-shared-slice-read-output Inv-loop μ-loop
-shared-slice-read-output c = search needs
-
 add-output : tie.Need-add-output Inv-loop μ-loop
 add-output c =
     let s = c .before .before .before in
     omega arith
-
-mul-output-2 : tie.Need-mul-output-2 Inv-loop μ-loop
-mul-output-2 c = search needs
 
 slice-write-output : tie.Need-slice-write-output Inv-loop μ-loop
 slice-write-output c =
     let a = c .before .before .before .args in
     let l = c .before .before .loop in
     copying-room (a .list .now) (a .from) (a .output .now) (l .output) (l .i) (l .inv) (c .before .loop-test .taken)
-
-add-i : tie.Need-add-i Inv-loop μ-loop
-add-i c = search needs
-
-loop-less : tie.Need-loop-less Inv-loop μ-loop
-loop-less c = search needs
 
 loop-again : tie.Need-loop-again Inv-loop μ-loop
 loop-again c =
@@ -63,16 +48,5 @@ pub write-list-spec : {M : Type 1} → statement M
 write-list-spec =
     tie.close
     (tie.spec
-    Inv-loop
-    μ-loop
-    loop-holds
-    mul-output
-    shared-slice-read-output
-    add-output
-    mul-output-2
-    slice-write-output
-    add-i
-    loop-less
-    loop-again
-    same-length
-    returns)
+    Inv-loop μ-loop loop-holds (λ c. search needs) (λ c. search needs) add-output (λ c. search needs) slice-write-output (λ c. search needs)
+    (λ c. search needs) loop-again same-length returns)

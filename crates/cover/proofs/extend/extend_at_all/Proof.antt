@@ -32,32 +32,11 @@ own c =
     wrap-below (w .result) (getD (a .positions .now) (l .i) 0 + a .string-start) (a .first + a .key-start) (length (l .reach)) (w .ensures)
     (omega arith) (c .if1 .taken)
 
-add-max : tie.Need-add-max Inv-loop μ-loop
-add-max c = search needs
-
-sub-max : tie.Need-sub-max Inv-loop μ-loop
-sub-max c = search needs
-
-max-requires : tie.Need-max-requires Inv-loop μ-loop
-max-requires c κs = search needs
-
-max-requires-2 : tie.Need-max-requires-2 Inv-loop μ-loop
-max-requires-2 c κs = search needs
-
-add-from : tie.Need-add-from Inv-loop μ-loop
-add-from c = search needs
-
 loop-holds : tie.Need-loop-holds Inv-loop μ-loop
 loop-holds c =
     let s = c .before .before .before .before in
     let a = s .args in
     extending-start (a .positions .now) (a .len) (a .string-start) (a .key-start) (a .first) (a .reach .now) (a .max-reach) (s .pre .1)
-
-mul-at : tie.Need-mul-at Inv-loop μ-loop
-mul-at c = search needs
-
-shared-slice-read-at : tie.Need-shared-slice-read-at Inv-loop μ-loop
-shared-slice-read-at c = search needs
 
 cast-at : tie.Need-cast-at Inv-loop μ-loop
 cast-at c = omega (arith, c .shared-slice-known2 .given (c .before .before .loop .i))
@@ -65,20 +44,11 @@ cast-at c = omega (arith, c .shared-slice-known2 .given (c .before .before .loop
 add-at : tie.Need-add-at Inv-loop μ-loop
 add-at c = omega (arith, c .shared-slice-known2 .given (c .before .before .loop .i))
 
-add-i : tie.Need-add-i Inv-loop μ-loop
-add-i c = search needs
-
-wrapping-sub-usize-requires : tie.Need-wrapping-sub-usize-requires Inv-loop μ-loop
-wrapping-sub-usize-requires c κs = search needs
-
 extend-start-requires : tie.Need-extend-start-requires Inv-loop μ-loop
 extend-start-requires c κs =
     let s = c .before .before .before .before .before .before .before .before .before .before in
     let end = c .before .before .before .before .before .before .before .max .ensures in
     (c .before .if1 .taken, omega (arith, end), omega (arith, end))
-
-loop-less : tie.Need-loop-less Inv-loop μ-loop
-loop-less c = search needs
 
 loop-again : tie.Need-loop-again Inv-loop μ-loop
 loop-again c =
@@ -91,9 +61,6 @@ loop-again c =
     extending-extended (l .inv) (c .before .before .before .before .before .before .before .before .loop-test .taken)
     (own (c .before .before .before .before .before)) (c .before .before .before .before .before .if1 .taken) (end .ensures) (done .ensures) (c .if2 .taken) (c .before .before .before .before .before .before .before .before .before .before .max2 .result) (c .before .before .before .before .before .before .before .before .before .before .max2 .ensures)
 
-loop-less-2 : tie.Need-loop-less-2 Inv-loop μ-loop
-loop-less-2 c = search needs
-
 loop-again-2 : tie.Need-loop-again-2 Inv-loop μ-loop
 loop-again-2 c =
     let s = c .before .before .before .before .before .before .before .before .before .before .before .before .before .before in
@@ -104,9 +71,6 @@ loop-again-2 c =
     let done = c .before .before .before .extend-start in
     extending-passed (l .inv) (c .before .before .before .before .before .before .before .before .loop-test .taken)
     (own (c .before .before .before .before .before)) (c .before .before .before .before .before .if1 .taken) (end .ensures) (done .ensures) (c .if2 .left)
-
-loop-less-3 : tie.Need-loop-less-3 Inv-loop μ-loop
-loop-less-3 c = search needs
 
 loop-again-3 : tie.Need-loop-again-3 Inv-loop μ-loop
 loop-again-3 c =
@@ -131,26 +95,6 @@ pub extend-at-all-spec : {M : Type 1} → statement M
 extend-at-all-spec =
     tie.close
     (tie.spec
-    Inv-loop
-    μ-loop
-    add-max
-    sub-max
-    max-requires
-    max-requires-2
-    add-from
-    loop-holds
-    mul-at
-    shared-slice-read-at
-    cast-at
-    add-at
-    add-i
-    wrapping-sub-usize-requires
-    extend-start-requires
-    loop-less
-    loop-again
-    loop-less-2
-    loop-again-2
-    loop-less-3
-    loop-again-3
-    same-length
-    returns)
+    Inv-loop μ-loop (λ c. search needs) (λ c. search needs) (λ c κs. search needs) (λ c κs. search needs) (λ c. search needs) loop-holds
+    (λ c. search needs) (λ c. search needs) cast-at add-at (λ c. search needs) (λ c κs. search needs) extend-start-requires
+    (λ c. search needs) loop-again (λ c. search needs) loop-again-2 (λ c. search needs) loop-again-3 same-length returns)

@@ -5,33 +5,6 @@ use borrow.Author.Needs.{needs}
 use Rattle.cover.proofs.extend.extend_at_positions.Statement.{statement}
 use Rattle.cover.proofs.extend.extend_at_positions.Tie as tie
 
-extend-at-all-requires : tie.Need-extend-at-all-requires
-extend-at-all-requires c κs = search needs
-
-same-length : tie.Need-same-length
-same-length c = search needs
-
-returns : tie.Need-returns
-returns c = search needs
-
-add-base : tie.Need-add-base
-add-base c = search needs
-
-saturating-sub-requires : tie.Need-saturating-sub-requires
-saturating-sub-requires c κs = search needs
-
-lower-bound-requires : tie.Need-lower-bound-requires
-lower-bound-requires c κs = search needs
-
-add-saturating-sub : tie.Need-add-saturating-sub
-add-saturating-sub c = search needs
-
-saturating-sub-requires-2 : tie.Need-saturating-sub-requires-2
-saturating-sub-requires-2 c κs = search needs
-
-lower-bound-requires-2 : tie.Need-lower-bound-requires-2
-lower-bound-requires-2 c κs = search needs
-
 extend-at-range-requires : tie.Need-extend-at-range-requires
 extend-at-range-requires c κs =
     let s = c .before .before .before .before .before .before .before .before in
@@ -46,25 +19,9 @@ extend-at-range-requires c κs =
           (low .result) (high .result) (low .ensures) (high .ensures) (from .ensures) (to .ensures),
     )
 
-same-length-2 : tie.Need-same-length-2
-same-length-2 c = search needs
-
-returns-2 : tie.Need-returns-2
-returns-2 c = search needs
-
 pub extend-at-positions-spec : {M : Type 1} → statement M
 extend-at-positions-spec =
     tie.close
     (tie.spec
-    extend-at-all-requires
-    same-length
-    returns
-    add-base
-    saturating-sub-requires
-    lower-bound-requires
-    add-saturating-sub
-    saturating-sub-requires-2
-    lower-bound-requires-2
-    extend-at-range-requires
-    same-length-2
-    returns-2)
+    (λ c κs. search needs) (λ c. search needs) (λ c. search needs) (λ c. search needs) (λ c κs. search needs) (λ c κs. search needs)
+    (λ c. search needs) (λ c κs. search needs) (λ c κs. search needs) extend-at-range-requires (λ c. search needs) (λ c. search needs))

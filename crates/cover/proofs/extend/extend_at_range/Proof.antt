@@ -33,32 +33,11 @@ inside : (c : tie.In-loop Inv-loop μ-loop) → start (c .before) < length (c .b
 inside c =
     omega (arith, range-inside (c .before .before .before .before .before .before .pre .2) (c .before .loop .i) (c .before .loop .inv .0) (c .loop-test .taken))
 
-add-max : tie.Need-add-max Inv-loop μ-loop
-add-max c = search needs
-
-sub-max : tie.Need-sub-max Inv-loop μ-loop
-sub-max c = search needs
-
-max-requires : tie.Need-max-requires Inv-loop μ-loop
-max-requires c κs = search needs
-
-max-requires-2 : tie.Need-max-requires-2 Inv-loop μ-loop
-max-requires-2 c κs = search needs
-
-add-base : tie.Need-add-base Inv-loop μ-loop
-add-base c = search needs
-
 loop-holds : tie.Need-loop-holds Inv-loop μ-loop
 loop-holds c =
     let s = c .before .before .before .before in
     let a = s .args in
     (omega arith, range-start (a .len) (a .reach .now) (a .max-reach) (s .pre .2) (s .pre .1))
-
-mul-p : tie.Need-mul-p Inv-loop μ-loop
-mul-p c = search needs
-
-shared-slice-read-p : tie.Need-shared-slice-read-p Inv-loop μ-loop
-shared-slice-read-p c = omega arith
 
 cast-p : tie.Need-cast-p Inv-loop μ-loop
 cast-p c = omega (arith, c .shared-slice-known2 .given (c .before .before .loop .i))
@@ -69,17 +48,11 @@ add-p c = omega (arith, c .shared-slice-known2 .given (c .before .before .loop .
 sub-p : tie.Need-sub-p Inv-loop μ-loop
 sub-p c = omega (arith, own (c .before))
 
-add-i : tie.Need-add-i Inv-loop μ-loop
-add-i c = search needs
-
 extend-start-requires : tie.Need-extend-start-requires Inv-loop μ-loop
 extend-start-requires c κs =
     let s = c .before .before .before .before .before .before .before .before in
     let end = c .before .before .before .before .before .max .ensures in
     (inside (c .before .before), omega (arith, end), omega (arith, end))
-
-loop-less : tie.Need-loop-less Inv-loop μ-loop
-loop-less c = search needs
 
 loop-again : tie.Need-loop-again Inv-loop μ-loop
 loop-again c =
@@ -94,9 +67,6 @@ loop-again c =
           (inside (c .before .before .before .before .before .before)) (end .ensures) (done .ensures) (c .if1 .taken)
           (c .before .before .before .before .before .before .before .before .max2 .result) (c .before .before .before .before .before .before .before .before .max2 .ensures),
     )
-
-loop-less-2 : tie.Need-loop-less-2 Inv-loop μ-loop
-loop-less-2 c = search needs
 
 loop-again-2 : tie.Need-loop-again-2 Inv-loop μ-loop
 loop-again-2 c =
@@ -125,24 +95,6 @@ pub extend-at-range-spec : {M : Type 1} → statement M
 extend-at-range-spec =
     tie.close
     (tie.spec
-    Inv-loop
-    μ-loop
-    add-max
-    sub-max
-    max-requires
-    max-requires-2
-    add-base
-    loop-holds
-    mul-p
-    shared-slice-read-p
-    cast-p
-    add-p
-    sub-p
-    add-i
-    extend-start-requires
-    loop-less
-    loop-again
-    loop-less-2
-    loop-again-2
-    same-length
-    returns)
+    Inv-loop μ-loop (λ c. search needs) (λ c. search needs) (λ c κs. search needs) (λ c κs. search needs) (λ c. search needs) loop-holds
+    (λ c. search needs) (λ c. omega arith) cast-p add-p sub-p (λ c. search needs) extend-start-requires (λ c. search needs) loop-again
+    (λ c. search needs) loop-again-2 same-length returns)

@@ -30,15 +30,6 @@ cast-agrees-at-2 c = start-fits (c .before .before .before .before .args .string
 sub-agrees-at : tie.Need-sub-agrees-at
 sub-agrees-at c = offset-fits32 (c .before .before .before .before .args .key-start) (c .before .before .before .before .args .string-start) (omega arith) (omega arith)
 
-agrees-at-requires : tie.Need-agrees-at-requires
-agrees-at-requires c κs = search needs
-
-extend-at-positions-requires : tie.Need-extend-at-positions-requires
-extend-at-positions-requires c κs = search needs
-
-same-length : tie.Need-same-length
-same-length c = search needs
-
 returns : tie.Need-returns
 returns c =
     let a = c .before .before .before .before .before .before .before .before .before .before .args in
@@ -56,11 +47,4 @@ pub extend-key-spec : {M : Type 1} → statement M
 extend-key-spec =
     tie.close
     (tie.spec
-    cast-agrees-at
-    cast-agrees-at-2
-    sub-agrees-at
-    agrees-at-requires
-    extend-at-positions-requires
-    same-length
-    returns
-    returns-2)
+    cast-agrees-at cast-agrees-at-2 sub-agrees-at (λ c κs. search needs) (λ c κs. search needs) (λ c. search needs) returns returns-2)

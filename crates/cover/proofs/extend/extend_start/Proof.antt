@@ -8,32 +8,8 @@ use borrow.Author.Needs.{needs}
 use Rattle.cover.proofs.extend.extend_start.Statement.{statement}
 use Rattle.cover.proofs.extend.extend_start.Tie as tie
 
-sub-gain : tie.Need-sub-gain
-sub-gain c = search needs
-
-mul-wrapping-sub-usize : tie.Need-mul-wrapping-sub-usize
-mul-wrapping-sub-usize c = search needs
-
-slice-read-wrapping-sub-usize : tie.Need-slice-read-wrapping-sub-usize
-slice-read-wrapping-sub-usize c = search needs
-
 cast-wrapping-sub-usize : tie.Need-cast-wrapping-sub-usize
 cast-wrapping-sub-usize c = omega (arith, c .slice-known2 .given (c .before .before .args .p))
-
-wrapping-sub-usize-requires : tie.Need-wrapping-sub-usize-requires
-wrapping-sub-usize-requires c κs = search needs
-
-cast-reach : tie.Need-cast-reach
-cast-reach c = search needs
-
-mul-reach : tie.Need-mul-reach
-mul-reach c = search needs
-
-slice-write-reach : tie.Need-slice-write-reach
-slice-write-reach c = search needs
-
-same-length : tie.Need-same-length
-same-length c = search needs
 
 returns : tie.Need-returns
 returns c =
@@ -57,14 +33,5 @@ pub extend-start-spec : {M : Type 1} → statement M
 extend-start-spec =
     tie.close
     (tie.spec
-    sub-gain
-    mul-wrapping-sub-usize
-    slice-read-wrapping-sub-usize
-    cast-wrapping-sub-usize
-    wrapping-sub-usize-requires
-    cast-reach
-    mul-reach
-    slice-write-reach
-    same-length
-    returns
-    returns-2)
+    (λ c. search needs) (λ c. search needs) (λ c. search needs) cast-wrapping-sub-usize (λ c κs. search needs) (λ c. search needs)
+    (λ c. search needs) (λ c. search needs) (λ c. search needs) returns returns-2)

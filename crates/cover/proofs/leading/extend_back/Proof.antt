@@ -21,12 +21,6 @@ loop-holds c =
     backing-start (s .args .string .now) (s .args .key .now) (s .args .first) (s .args .positions .now) (s .args .reach .now) (s .args .max-reach)
     (s .pre .3)
 
-add-i : tie.Need-add-i Inv-loop μ-loop
-add-i c = search needs
-
-mul-if1 : tie.Need-mul-if1 Inv-loop μ-loop
-mul-if1 c = search needs
-
 shared-slice-read-if1 : tie.Need-shared-slice-read-if1 Inv-loop μ-loop
 shared-slice-read-if1 c = c .before .loop-test .taken
 
@@ -38,9 +32,6 @@ extend-key-requires c κs =
     let s = c .before .before .before .before .before .before .before .before .before .before in
     (record { shared = omega arith; end-small = omega arith; first-small = s .pre .2 }, c .before .before .before .before .before .loop .inv .way .bounded, s .pre .4)
 
-loop-less : tie.Need-loop-less Inv-loop μ-loop
-loop-less c = omega arith
-
 loop-again : tie.Need-loop-again Inv-loop μ-loop
 loop-again c =
     let a = c .before .before .before .before .before .before .before .before .before .before .before .before .before .args in
@@ -48,9 +39,6 @@ loop-again c =
     backing-step (a .string .now) (a .key .now) (a .first) (a .positions .now) (a .reach .now) (l .inv)
     (c .before .before .before .before .before .before .before .loop-test .taken)
     (c .before .before .extend-key .kept .1 .1 .1 .1 .1 .1 .0) (c .before .before .extend-key .ensures)
-
-loop-less-2 : tie.Need-loop-less-2 Inv-loop μ-loop
-loop-less-2 c = omega arith
 
 loop-again-2 : tie.Need-loop-again-2 Inv-loop μ-loop
 loop-again-2 c =
@@ -73,17 +61,5 @@ pub extend-back-spec : {M : Type 1} → statement M
 extend-back-spec =
     tie.close
     (tie.spec
-    Inv-loop
-    μ-loop
-    loop-holds
-    add-i
-    mul-if1
-    shared-slice-read-if1
-    shared-slice-read-if1-2
-    extend-key-requires
-    loop-less
-    loop-again
-    loop-less-2
-    loop-again-2
-    same-length
-    returns)
+    Inv-loop μ-loop loop-holds (λ c. search needs) (λ c. search needs) shared-slice-read-if1 shared-slice-read-if1-2 extend-key-requires
+    (λ c. omega arith) loop-again (λ c. omega arith) loop-again-2 same-length returns)

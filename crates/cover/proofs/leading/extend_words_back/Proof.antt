@@ -26,9 +26,6 @@ loop-holds c =
     let a = s .args in
     listed-start (leading-at (lexicon (a .chars .now) (a .lengths .now)) (a .index .now) (a .string .now) (a .first)) (a .lines .now) (a .reach .now) (a .max-reach) (s .pre .4)
 
-mul-line : tie.Need-mul-line Inv-loop μ-loop
-mul-line c = search needs
-
 shared-slice-read-line : tie.Need-shared-slice-read-line Inv-loop μ-loop
 shared-slice-read-line c = c .before .loop-test .taken
 
@@ -62,9 +59,6 @@ extend-back-requires c κs =
 add-i : tie.Need-add-i Inv-loop μ-loop
 add-i c = omega (arith, c .before .before .before .before .before .before .before .loop-test .taken, c .before .before .before .before .before .before .before .before .before .before .before .before .before .before .before .before .before .good)
 
-loop-less : tie.Need-loop-less Inv-loop μ-loop
-loop-less c = search needs
-
 loop-again : tie.Need-loop-again Inv-loop μ-loop
 loop-again c =
     let s = c .before .before .before .before .before .before .before .before .before .before .before .before .before .before .before .before .before in
@@ -90,17 +84,5 @@ pub extend-words-back-spec : {M : Type 1} → statement M
 extend-words-back-spec =
     tie.close
     (tie.spec
-    Inv-loop
-    μ-loop
-    loop-holds
-    mul-line
-    shared-slice-read-line
-    cast-line
-    key-of-requires
-    positions-of-requires
-    extend-back-requires
-    add-i
-    loop-less
-    loop-again
-    same-length
-    returns)
+    Inv-loop μ-loop loop-holds (λ c. search needs) shared-slice-read-line cast-line key-of-requires positions-of-requires
+    extend-back-requires add-i (λ c. search needs) loop-again same-length returns)

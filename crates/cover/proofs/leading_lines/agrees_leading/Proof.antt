@@ -33,20 +33,8 @@ agreed c =
     ∙ ap (agrees-at (a .key .now) (a .string .now)) (offset-held 0 i (omega arith) (small (c .before .before .before)))
     ∙ sym (c .agrees-at .ensures)
 
-shared-slice-read-character : tie.Need-shared-slice-read-character Inv-loop μ-loop
-shared-slice-read-character c = search needs
-
 loop-holds : tie.Need-loop-holds Inv-loop μ-loop
 loop-holds c = apart-start (c .before .before .before .args .string .now) (c .before .before .before .args .key .now)
-
-add-i : tie.Need-add-i Inv-loop μ-loop
-add-i c = search needs
-
-mul-if1 : tie.Need-mul-if1 Inv-loop μ-loop
-mul-if1 c = search needs
-
-shared-slice-read-if1 : tie.Need-shared-slice-read-if1 Inv-loop μ-loop
-shared-slice-read-if1 c = search needs
 
 cast-agrees-at : tie.Need-cast-agrees-at Inv-loop μ-loop
 cast-agrees-at c = start-fits (c .before .before .before .loop .i) (small (c .before .before))
@@ -63,17 +51,11 @@ returns c =
     leading-found (a .string .now) (a .key .now) (c .before .before .before .before .before .loop .i)
     (c .before .before .before .before .loop-test .taken) (agreed (c .before) ∙ c .if2 .taken)
 
-loop-less : tie.Need-loop-less Inv-loop μ-loop
-loop-less c = search needs
-
 loop-again : tie.Need-loop-again Inv-loop μ-loop
 loop-again c =
     let a = c .before .before .before .before .before .before .before .before .before .args in
     let l = c .before .before .before .before .before .loop in
     apart-next (a .string .now) (a .key .now) (l .i) (l .inv) (agreed (c .before) ∙ c .if2 .left)
-
-loop-less-2 : tie.Need-loop-less-2 Inv-loop μ-loop
-loop-less-2 c = search needs
 
 loop-again-2 : tie.Need-loop-again-2 Inv-loop μ-loop
 loop-again-2 c =
@@ -91,19 +73,5 @@ pub agrees-leading-spec : {M : Type 1} → statement M
 agrees-leading-spec =
     tie.close
     (tie.spec
-    Inv-loop
-    μ-loop
-    shared-slice-read-character
-    loop-holds
-    add-i
-    mul-if1
-    shared-slice-read-if1
-    cast-agrees-at
-    sub-agrees-at
-    agrees-at-requires
-    returns
-    loop-less
-    loop-again
-    loop-less-2
-    loop-again-2
-    returns-2)
+    Inv-loop μ-loop (λ c. search needs) loop-holds (λ c. search needs) (λ c. search needs) (λ c. search needs) cast-agrees-at sub-agrees-at
+    agrees-at-requires returns (λ c. search needs) loop-again (λ c. search needs) loop-again-2 returns-2)

@@ -40,9 +40,6 @@ loop-holds c =
     let a = s .args in
     leading-start (lexicon (a .chars .now) (a .lengths .now)) (a .index .now) (a .string .now) (a .word-lines) (a .lines .now) (s .pre .4)
 
-add-line : tie.Need-add-line Inv-loop μ-loop
-add-line c = search needs
-
 key-of-requires : tie.Need-key-of-requires Inv-loop μ-loop
 key-of-requires c κs =
     let s = c .before .before .before .before .before .before .before .before in
@@ -57,9 +54,6 @@ agrees-leading-requires c κs =
       s .pre .2,
     )
 
-cast-lines : tie.Need-cast-lines Inv-loop μ-loop
-cast-lines c = omega arith
-
 mul-lines : tie.Need-mul-lines Inv-loop μ-loop
 mul-lines c = omega (arith, room c)
 
@@ -69,17 +63,11 @@ slice-write-lines c = room c
 add-count : tie.Need-add-count Inv-loop μ-loop
 add-count c = omega (arith, room c)
 
-loop-less : tie.Need-loop-less Inv-loop μ-loop
-loop-less c = search needs
-
 loop-again : tie.Need-loop-again Inv-loop μ-loop
 loop-again c =
     let a = c .before .before .before .before .before .before .before .before .before .before .before .args in
     let l = c .before .before .before .before .loop in
     leading-listed (lexicon (a .chars .now) (a .lengths .now)) (a .index .now) (a .string .now) (a .word-lines) (a .lines .now) (l .lines) (l .count) (l .line) (l .inv) (c .before .before .before .loop-test .taken) (told c)
-
-loop-less-2 : tie.Need-loop-less-2 Inv-loop μ-loop
-loop-less-2 c = search needs
 
 loop-again-2 : tie.Need-loop-again-2 Inv-loop μ-loop
 loop-again-2 c =
@@ -103,19 +91,5 @@ pub fill-leading-spec : {M : Type 1} → statement M
 fill-leading-spec =
     tie.close
     (tie.spec
-    Inv-loop
-    μ-loop
-    loop-holds
-    add-line
-    key-of-requires
-    agrees-leading-requires
-    cast-lines
-    mul-lines
-    slice-write-lines
-    add-count
-    loop-less
-    loop-again
-    loop-less-2
-    loop-again-2
-    same-length
-    returns)
+    Inv-loop μ-loop loop-holds (λ c. search needs) key-of-requires agrees-leading-requires (λ c. omega arith) mul-lines slice-write-lines
+    add-count (λ c. search needs) loop-again (λ c. search needs) loop-again-2 same-length returns)

@@ -32,9 +32,6 @@ add-line c =
     let s = c .before .before .before .before .before .before .before .before .before .before .before .before .before in
     omega arith
 
-loop-less : tie.Need-loop-less Inv-loop μ-loop
-loop-less c = search needs
-
 loop-again : tie.Need-loop-again Inv-loop μ-loop
 loop-again c =
     let a = c .before .before .before .before .before .before .before .before .before .before .before .before .before .args in
@@ -55,12 +52,4 @@ pub extend-lines-spec : {M : Type 1} → statement M
 extend-lines-spec =
     tie.close
     (tie.spec
-    Inv-loop
-    μ-loop
-    loop-holds
-    extend-line-requires
-    add-line
-    loop-less
-    loop-again
-    same-length
-    returns)
+    Inv-loop μ-loop loop-holds extend-line-requires add-line (λ c. search needs) loop-again same-length returns)

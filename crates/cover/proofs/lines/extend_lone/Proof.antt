@@ -9,18 +9,6 @@ use borrow.Author.Needs.{needs}
 use Rattle.cover.proofs.lines.extend_lone.Statement.{statement}
 use Rattle.cover.proofs.lines.extend_lone.Tie as tie
 
-shared-slice-read-keys : tie.Need-shared-slice-read-keys
-shared-slice-read-keys c = search needs
-
-cast-keys : tie.Need-cast-keys
-cast-keys c = search needs
-
-mul-character : tie.Need-mul-character
-mul-character c = search needs
-
-shared-slice-read-character : tie.Need-shared-slice-read-character
-shared-slice-read-character c = search needs
-
 cast-line-lower-bound : tie.Need-cast-line-lower-bound
 cast-line-lower-bound c = omega (arith, c .shared-slice-known8 .given (c .before .before .before .before .before .before .before .before .before .args .key-start))
 
@@ -28,24 +16,6 @@ line-lower-bound-requires : tie.Need-line-lower-bound-requires
 line-lower-bound-requires c κs =
     let s = c .before .before .before .before .before .before .before .before .before in
     (s .pre .0 .can .fits .has-directory, omega arith, lone-rise (s .pre .0 .can) (s .pre .1))
-
-mul-if2 : tie.Need-mul-if2
-mul-if2 c = search needs
-
-add-if2 : tie.Need-add-if2
-add-if2 c = search needs
-
-add-if2-2 : tie.Need-add-if2-2
-add-if2-2 c = search needs
-
-mul-if2-2 : tie.Need-mul-if2-2
-mul-if2-2 c = search needs
-
-shared-slice-read-if2 : tie.Need-shared-slice-read-if2
-shared-slice-read-if2 c = search needs
-
-positions-of-requires : tie.Need-positions-of-requires
-positions-of-requires c κs = search needs
 
 extend-at-positions-requires : tie.Need-extend-at-positions-requires
 extend-at-positions-requires c κs =
@@ -56,9 +26,6 @@ extend-at-positions-requires c κs =
       listed-rise (s .pre .0 .can) (c .before .before .before .before .before .line-lower-bound .result)
           (c .before .before .before .before .if1 .taken) (c .before .positions-of .result .now) (c .before .positions-of .ensures),
     )
-
-same-length : tie.Need-same-length
-same-length c = search needs
 
 returns : tie.Need-returns
 returns c =
@@ -94,20 +61,6 @@ pub extend-lone-spec : {M : Type 1} → statement M
 extend-lone-spec =
     tie.close
     (tie.spec
-    shared-slice-read-keys
-    cast-keys
-    mul-character
-    shared-slice-read-character
-    cast-line-lower-bound
-    line-lower-bound-requires
-    mul-if2
-    add-if2
-    add-if2-2
-    mul-if2-2
-    shared-slice-read-if2
-    positions-of-requires
-    extend-at-positions-requires
-    same-length
-    returns
-    returns-2
-    returns-3)
+    (λ c. search needs) (λ c. search needs) (λ c. search needs) (λ c. search needs) cast-line-lower-bound line-lower-bound-requires
+    (λ c. search needs) (λ c. search needs) (λ c. search needs) (λ c. search needs) (λ c. search needs) (λ c κs. search needs)
+    extend-at-positions-requires (λ c. search needs) returns returns-2 returns-3)

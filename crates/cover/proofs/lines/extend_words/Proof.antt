@@ -40,9 +40,6 @@ below c =
     let l = c .before .before .loop in
     omega (arith, ltb-true (l .depth) (length (a .string .now) - a .key-start) (and-left (ltb (l .depth) (length (a .string .now) - a .key-start)) (ltb (l .low + 4) (l .high)) (goes c)))
 
-sub-left : tie.Need-sub-left Inv-loop μ-loop
-sub-left c = omega arith
-
 loop-holds : tie.Need-loop-holds Inv-loop μ-loop
 loop-holds c =
     let s = c .before .before .before .before .before .before .before in
@@ -167,23 +164,6 @@ pub extend-words-spec : {M : Type 1} → statement M
 extend-words-spec =
     tie.close
     (tie.spec
-    Inv-loop
-    μ-loop
-    sub-left
-    loop-holds
-    goes-on-requires
-    word-length-requires
-    extend-line-requires
-    add-low
-    loop-less
-    loop-again
-    add-equal-range
-    mul-equal-range
-    shared-slice-read-equal-range
-    equal-range-requires
-    add-depth
-    loop-less-2
-    loop-again-2
-    extend-lines-requires
-    same-length
-    returns)
+    Inv-loop μ-loop (λ c. omega arith) loop-holds goes-on-requires word-length-requires extend-line-requires add-low loop-less loop-again
+    add-equal-range mul-equal-range shared-slice-read-equal-range equal-range-requires add-depth loop-less-2 loop-again-2
+    extend-lines-requires same-length returns)

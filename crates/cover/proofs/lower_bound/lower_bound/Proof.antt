@@ -17,12 +17,6 @@ abbrev μ-loop : tie.MeasureT-loop
 abbrev middle : tie.At-loop Inv-loop μ-loop → ℕ
 middle turn = turn .loop .a + (turn .loop .b - turn .loop .a) / 2
 
-returns : tie.Need-returns Inv-loop μ-loop
-returns c = search needs
-
-shared-slice-read-if2 : tie.Need-shared-slice-read-if2 Inv-loop μ-loop
-shared-slice-read-if2 c = search needs
-
 cast-if2 : tie.Need-cast-if2 Inv-loop μ-loop
 cast-if2 c = omega (arith, c .shared-slice-known .given 0)
 
@@ -30,15 +24,6 @@ returns-2 : tie.Need-returns-2 Inv-loop μ-loop
 returns-2 c =
     let start = c .before .before .before in
     bound-first (start .pre) (start .args .least) (omega arith) (c .if2 .taken)
-
-sub-if3 : tie.Need-sub-if3 Inv-loop μ-loop
-sub-if3 c = search needs
-
-mul-if3 : tie.Need-mul-if3 Inv-loop μ-loop
-mul-if3 c = search needs
-
-shared-slice-read-if3 : tie.Need-shared-slice-read-if3 Inv-loop μ-loop
-shared-slice-read-if3 c = search needs
 
 cast-if3 : tie.Need-cast-if3 Inv-loop μ-loop
 cast-if3 c =
@@ -54,35 +39,14 @@ loop-holds c =
     let start = c .before .before .before .before .before in
     bisected-start (start .pre) (start .args .least)
 
-sub-middle : tie.Need-sub-middle Inv-loop μ-loop
-sub-middle c = search needs
-
-add-middle : tie.Need-add-middle Inv-loop μ-loop
-add-middle c = search needs
-
-mul-if4 : tie.Need-mul-if4 Inv-loop μ-loop
-mul-if4 c = omega arith
-
-shared-slice-read-if4 : tie.Need-shared-slice-read-if4 Inv-loop μ-loop
-shared-slice-read-if4 c = omega arith
-
 cast-if4 : tie.Need-cast-if4 Inv-loop μ-loop
 cast-if4 c = omega (arith, c .shared-slice-known3 .given (middle (c .before .before)))
-
-add-a : tie.Need-add-a Inv-loop μ-loop
-add-a c = search needs
-
-loop-less : tie.Need-loop-less Inv-loop μ-loop
-loop-less c = omega arith
 
 loop-again : tie.Need-loop-again Inv-loop μ-loop
 loop-again c =
     let turn = c .before .before .before in
     let start = turn .before .before .before .before .before .before in
     bisected-up (start .pre) (start .args .least) (turn .loop .inv) (middle turn) (omega arith) (omega arith) (c .if4 .taken)
-
-loop-less-2 : tie.Need-loop-less-2 Inv-loop μ-loop
-loop-less-2 c = omega arith
 
 loop-again-2 : tie.Need-loop-again-2 Inv-loop μ-loop
 loop-again-2 c =
@@ -99,26 +63,6 @@ pub lower-bound-spec : {M : Type 1} → statement M
 lower-bound-spec =
     tie.close
     (tie.spec
-    Inv-loop
-    μ-loop
-    returns
-    shared-slice-read-if2
-    cast-if2
-    returns-2
-    sub-if3
-    mul-if3
-    shared-slice-read-if3
-    cast-if3
-    returns-3
-    loop-holds
-    sub-middle
-    add-middle
-    mul-if4
-    shared-slice-read-if4
-    cast-if4
-    add-a
-    loop-less
-    loop-again
-    loop-less-2
-    loop-again-2
-    returns-4)
+    Inv-loop μ-loop (λ c. search needs) (λ c. search needs) cast-if2 returns-2 (λ c. search needs) (λ c. search needs) (λ c. search needs)
+    cast-if3 returns-3 loop-holds (λ c. search needs) (λ c. search needs) (λ c. omega arith) (λ c. omega arith) cast-if4 (λ c. search needs)
+    (λ c. omega arith) loop-again (λ c. omega arith) loop-again-2 returns-4)

@@ -36,12 +36,6 @@ extend-offset-requires c κs =
     let s = c .before .before .before .before .before .before .before .before .before .before .before in
     (s .pre .0, s .pre .1, c .before .before .loop-test .taken, s .pre .3, s .pre .4, c .before .before .before .loop .inv .way .bounded)
 
-add-key-start : tie.Need-add-key-start Inv-loop μ-loop
-add-key-start c = search needs
-
-loop-less : tie.Need-loop-less Inv-loop μ-loop
-loop-less c = search needs
-
 loop-again : tie.Need-loop-again Inv-loop μ-loop
 loop-again c =
     let a = c .before .before .before .before .before .before .before .before .before .before .before .before .before .before .args in
@@ -63,14 +57,5 @@ pub extend-offsets-spec : {M : Type 1} → statement M
 extend-offsets-spec =
     tie.close
     (tie.spec
-    Inv-loop
-    μ-loop
-    loop-holds
-    same-length
-    returns
-    extend-offset-requires
-    add-key-start
-    loop-less
-    loop-again
-    same-length-2
+    Inv-loop μ-loop loop-holds same-length returns extend-offset-requires (λ c. search needs) (λ c. search needs) loop-again same-length-2
     returns-2)

@@ -14,38 +14,17 @@ Inv-loop left right shared i₀ i = Equal-front left right i
 abbrev μ-loop : tie.MeasureT-loop
 μ-loop left right shared i₀ i = shared - i
 
-min-requires : tie.Need-min-requires Inv-loop μ-loop
-min-requires c κs = search needs
-
 equal-fours-requires : tie.Need-equal-fours-requires Inv-loop μ-loop
 equal-fours-requires c κs = (omega arith, omega arith)
 
 loop-holds : tie.Need-loop-holds Inv-loop μ-loop
 loop-holds c = c .equal-fours .ensures
 
-mul-x : tie.Need-mul-x Inv-loop μ-loop
-mul-x c = search needs
-
-shared-slice-read-x : tie.Need-shared-slice-read-x Inv-loop μ-loop
-shared-slice-read-x c = search needs
-
-mul-y : tie.Need-mul-y Inv-loop μ-loop
-mul-y c = search needs
-
-shared-slice-read-y : tie.Need-shared-slice-read-y Inv-loop μ-loop
-shared-slice-read-y c = search needs
-
 returns : tie.Need-returns Inv-loop μ-loop
 returns c =
     let start = c .before .before .before .before .before .before .before .before .before in
     let walk = c .before .before .before .before .loop in
     sym (before-differ (start .args .left .now) (start .args .right .now) (walk .i) (omega arith) (omega arith) (c .if1 .taken)) ∙ walk .inv .2
-
-add-i : tie.Need-add-i Inv-loop μ-loop
-add-i c = search needs
-
-loop-less : tie.Need-loop-less Inv-loop μ-loop
-loop-less c = search needs
 
 loop-again : tie.Need-loop-again Inv-loop μ-loop
 loop-again c =
@@ -66,17 +45,5 @@ pub comes-before-spec : {M : Type 1} → statement M
 comes-before-spec =
     tie.close
     (tie.spec
-    Inv-loop
-    μ-loop
-    min-requires
-    equal-fours-requires
-    loop-holds
-    mul-x
-    shared-slice-read-x
-    mul-y
-    shared-slice-read-y
-    returns
-    add-i
-    loop-less
-    loop-again
-    returns-2)
+    Inv-loop μ-loop (λ c κs. search needs) equal-fours-requires loop-holds (λ c. search needs) (λ c. search needs) (λ c. search needs)
+    (λ c. search needs) returns (λ c. search needs) (λ c. search needs) loop-again returns-2)

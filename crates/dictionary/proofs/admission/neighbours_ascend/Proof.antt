@@ -26,49 +26,9 @@ returns-2 c =
     (start .pre)
     (c .if2 .taken))
 
-mul-comes-before : tie.Need-mul-comes-before
-mul-comes-before c = search needs
-
-sub-comes-before : tie.Need-sub-comes-before
-sub-comes-before c = search needs
-
-part-comes-before-start : tie.Need-part-comes-before-start
-part-comes-before-start c = search needs
-
-part-comes-before-end : tie.Need-part-comes-before-end
-part-comes-before-end c = search needs
-
-mul-comes-before-2 : tie.Need-mul-comes-before-2
-mul-comes-before-2 c = search needs
-
-sub-comes-before-2 : tie.Need-sub-comes-before-2
-sub-comes-before-2 c = search needs
-
-part-comes-before-start-2 : tie.Need-part-comes-before-start-2
-part-comes-before-start-2 c = search needs
-
-part-comes-before-end-2 : tie.Need-part-comes-before-end-2
-part-comes-before-end-2 c = search needs
-
-comes-before-requires : tie.Need-comes-before-requires
-comes-before-requires c κs = search needs
-
-returns-3 : tie.Need-returns-3
-returns-3 c = search needs
-
 pub neighbours-ascend-spec : {M : Type 1} → statement M
 neighbours-ascend-spec =
     tie.close
     (tie.spec
-    returns
-    returns-2
-    mul-comes-before
-    sub-comes-before
-    part-comes-before-start
-    part-comes-before-end
-    mul-comes-before-2
-    sub-comes-before-2
-    part-comes-before-start-2
-    part-comes-before-end-2
-    comes-before-requires
-    returns-3)
+    returns returns-2 (λ c. search needs) (λ c. search needs) (λ c. search needs) (λ c. search needs) (λ c. search needs)
+    (λ c. search needs) (λ c. search needs) (λ c. search needs) (λ c κs. search needs) (λ c. search needs))

@@ -12,9 +12,6 @@ returns c = sym (refuses-words (c .before .before .before .args .chars .now) (c 
 returns-2 : tie.Need-returns-2
 returns-2 c = sym (refuses-chars (c .before .before .before .before .args .chars .now) (c .before .before .before .before .args .lengths .now) (c .before .if1 .left) (c .if2 .taken))
 
-lengths-fit-requires : tie.Need-lengths-fit-requires
-lengths-fit-requires c κs = search needs
-
 returns-3 : tie.Need-returns-3
 returns-3 c =
     sym
@@ -32,9 +29,6 @@ returns-4 c =
     (refuses-order (c .before .before .before .before .before .before .before .before .args .chars .now) (c .before .before .before .before .before .before .before .before .args .lengths .now) (c .before .before .before .before .before .if1 .left) (c .before .before .before .before .if2 .left)
     (sym (c .before .before .before .lengths-fit .ensures) ∙ not-false (c .before .before .before .lengths-fit .result) (c .before .before .if3 .left))
     (sym (c .before .words-ascend .ensures) ∙ not-true (c .before .words-ascend .result) (c .if4 .taken)))
-
-holds-full-width-requires : tie.Need-holds-full-width-requires
-holds-full-width-requires c κs = search needs
 
 returns-5 : tie.Need-returns-5
 returns-5 c =
@@ -64,12 +58,4 @@ pub refusal-of-spec : {M : Type 1} → statement M
 refusal-of-spec =
     tie.close
     (tie.spec
-    returns
-    returns-2
-    lengths-fit-requires
-    returns-3
-    words-ascend-requires
-    returns-4
-    holds-full-width-requires
-    returns-5
-    returns-6)
+    returns returns-2 (λ c κs. search needs) returns-3 words-ascend-requires returns-4 (λ c κs. search needs) returns-5 returns-6)

@@ -20,9 +20,6 @@ abbrev μ-loop : tie.MeasureT-loop
 returns : tie.Need-returns Inv-loop μ-loop
 returns c = no-words (c .before .before .before .args .chars .now) (c .before .before .before .args .lengths .now) (c .if1 .taken)
 
-shared-slice-read-next : tie.Need-shared-slice-read-next Inv-loop μ-loop
-shared-slice-read-next c = search needs
-
 cast-next : tie.Need-cast-next Inv-loop μ-loop
 cast-next c = omega (arith, c .shared-slice-known3 .given 0)
 
@@ -36,12 +33,6 @@ loop-holds c = (
   words-start (c .before .before .before .before .before .args .chars .now) (c .before .before .before .before .before .args .lengths .now) (c .before .before .before .before .before .pre) (omega arith),
   c .prefix-code .ensures,
 )
-
-mul-end : tie.Need-mul-end Inv-loop μ-loop
-mul-end c = search needs
-
-shared-slice-read-end : tie.Need-shared-slice-read-end Inv-loop μ-loop
-shared-slice-read-end c = search needs
 
 cast-end : tie.Need-cast-end Inv-loop μ-loop
 cast-end c = omega (arith, c .shared-slice-known4 .given (c .before .before .loop .i))
@@ -68,12 +59,6 @@ neighbours-ascend-requires c κs =
 returns-2 : tie.Need-returns-2 Inv-loop μ-loop
 returns-2 c = words-stop (c .before .before .before .before .before .before .before .before .before .before .before .args .chars .now) (c .before .before .before .before .before .before .before .before .before .before .before .args .lengths .now) (c .before .before .before .before .before .loop .at) (c .before .before .before .before .before .loop .next) (c .before .before .before .before .before .loop .i) (c .before .before .before .before .before .loop .inv .0) (c .before .before .before .before .loop-test .taken) (sym (c .before .neighbours-ascend .ensures) ∙ not-true (c .before .neighbours-ascend .result) (c .if2 .taken))
 
-add-i : tie.Need-add-i Inv-loop μ-loop
-add-i c = search needs
-
-loop-less : tie.Need-loop-less Inv-loop μ-loop
-loop-less c = search needs
-
 loop-again : tie.Need-loop-again Inv-loop μ-loop
 loop-again c = (
   words-step (c .before .before .before .before .before .before .before .before .before .before .before .args .chars .now) (c .before .before .before .before .before .before .before .before .before .before .before .args .lengths .now) (c .before .before .before .before .before .loop .at) (c .before .before .before .before .before .loop .next) (c .before .before .before .before .before .loop .i) (c .before .before .before .before .before .loop .inv .0) (c .before .before .before .before .loop-test .taken) (sym (c .before .neighbours-ascend .ensures) ∙ not-false (c .before .neighbours-ascend .result) (c .if2 .left)),
@@ -87,21 +72,5 @@ pub words-ascend-spec : {M : Type 1} → statement M
 words-ascend-spec =
     tie.close
     (tie.spec
-    Inv-loop
-    μ-loop
-    returns
-    shared-slice-read-next
-    cast-next
-    prefix-code-requires
-    loop-holds
-    mul-end
-    shared-slice-read-end
-    cast-end
-    add-end
-    prefix-code-requires-2
-    neighbours-ascend-requires
-    returns-2
-    add-i
-    loop-less
-    loop-again
-    returns-3)
+    Inv-loop μ-loop returns (λ c. search needs) cast-next prefix-code-requires loop-holds (λ c. search needs) (λ c. search needs) cast-end
+    add-end prefix-code-requires-2 neighbours-ascend-requires returns-2 (λ c. search needs) (λ c. search needs) loop-again returns-3)

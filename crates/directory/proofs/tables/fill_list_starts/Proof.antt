@@ -31,41 +31,11 @@ loop-holds c =
       c .pre .0,
     )
 
-cast-list-starts : tie.Need-cast-list-starts Inv-loop μ-loop
-cast-list-starts c = omega arith
-
-mul-list-starts : tie.Need-mul-list-starts Inv-loop μ-loop
-mul-list-starts c = search needs
-
-slice-write-list-starts : tie.Need-slice-write-list-starts Inv-loop μ-loop
-slice-write-list-starts c = search needs
-
-mul-at : tie.Need-mul-at Inv-loop μ-loop
-mul-at c = search needs
-
-add-at : tie.Need-add-at Inv-loop μ-loop
-add-at c = search needs
-
-add-at-2 : tie.Need-add-at-2 Inv-loop μ-loop
-add-at-2 c = search needs
-
-mul-at-2 : tie.Need-mul-at-2 Inv-loop μ-loop
-mul-at-2 c = search needs
-
-shared-slice-read-at : tie.Need-shared-slice-read-at Inv-loop μ-loop
-shared-slice-read-at c = search needs
-
 cast-at : tie.Need-cast-at Inv-loop μ-loop
 cast-at c = omega (arith, c .shared-slice-known .given (2 + 3 * c .before .before .loop .i + 2))
 
 add-at-3 : tie.Need-add-at-3 Inv-loop μ-loop
 add-at-3 c = omega (arith, c .shared-slice-known .given (2 + 3 * c .before .before .loop .i + 2))
-
-add-i : tie.Need-add-i Inv-loop μ-loop
-add-i c = search needs
-
-loop-less : tie.Need-loop-less Inv-loop μ-loop
-loop-less c = search needs
 
 loop-again : tie.Need-loop-again Inv-loop μ-loop
 loop-again c =
@@ -93,21 +63,6 @@ pub fill-list-starts-spec : {M : Type 1} → statement M
 fill-list-starts-spec =
     tie.close
     (tie.spec
-    Inv-loop
-    μ-loop
-    loop-holds
-    cast-list-starts
-    mul-list-starts
-    slice-write-list-starts
-    mul-at
-    add-at
-    add-at-2
-    mul-at-2
-    shared-slice-read-at
-    cast-at
-    add-at-3
-    add-i
-    loop-less
-    loop-again
-    same-length
-    returns)
+    Inv-loop μ-loop loop-holds (λ c. omega arith) (λ c. search needs) (λ c. search needs) (λ c. search needs) (λ c. search needs)
+    (λ c. search needs) (λ c. search needs) (λ c. search needs) cast-at add-at-3 (λ c. search needs) (λ c. search needs) loop-again
+    same-length returns)

@@ -25,18 +25,6 @@ cast-word-starts c =
     let l = c .before .loop in
     omega (arith, word-start-room (c .before .before .args .lengths .now) (l .i) (c .loop-test .taken))
 
-mul-word-starts : tie.Need-mul-word-starts Inv-loop μ-loop
-mul-word-starts c = search needs
-
-slice-write-word-starts : tie.Need-slice-write-word-starts Inv-loop μ-loop
-slice-write-word-starts c = search needs
-
-mul-at : tie.Need-mul-at Inv-loop μ-loop
-mul-at c = search needs
-
-shared-slice-read-at : tie.Need-shared-slice-read-at Inv-loop μ-loop
-shared-slice-read-at c = search needs
-
 cast-at : tie.Need-cast-at Inv-loop μ-loop
 cast-at c = omega (arith, c .shared-slice-known .given (c .before .before .loop .i))
 
@@ -44,12 +32,6 @@ add-at : tie.Need-add-at Inv-loop μ-loop
 add-at c =
     let l = c .before .before .loop in
     omega (arith, word-start-room (c .before .before .before .args .lengths .now) (l .i) (c .before .loop-test .taken))
-
-add-i : tie.Need-add-i Inv-loop μ-loop
-add-i c = search needs
-
-loop-less : tie.Need-loop-less Inv-loop μ-loop
-loop-less c = search needs
 
 loop-again : tie.Need-loop-again Inv-loop μ-loop
 loop-again c =
@@ -73,18 +55,5 @@ pub fill-word-starts-spec : {M : Type 1} → statement M
 fill-word-starts-spec =
     tie.close
     (tie.spec
-    Inv-loop
-    μ-loop
-    loop-holds
-    cast-word-starts
-    mul-word-starts
-    slice-write-word-starts
-    mul-at
-    shared-slice-read-at
-    cast-at
-    add-at
-    add-i
-    loop-less
-    loop-again
-    same-length
-    returns)
+    Inv-loop μ-loop loop-holds cast-word-starts (λ c. search needs) (λ c. search needs) (λ c. search needs) (λ c. search needs) cast-at
+    add-at (λ c. search needs) (λ c. search needs) loop-again same-length returns)

@@ -13,24 +13,15 @@ known c =
     let start = c .before .before .before .before .before .before .before .before .before in
     pair-in (start .args .chars .now) (start .args .lengths .now) (start .pre .0 .words .dictionary) (start .args .text .now) (start .args .at) (start .args .end) (c .before .walk-pair .ensures) (c .if2 .left)
 
-add-if1 : tie.Need-add-if1
-add-if1 c = search needs
-
 returns : tie.Need-returns
 returns c =
     let start = c .before .before .before .before .before .before .before in
     pair-past (start .args .chars .now) (start .args .lengths .now) (start .pre .0 .words .dictionary) (start .args .text .now) (start .args .at) (start .args .end) 0 (c .if1 .taken)
 
-walk-pair-requires : tie.Need-walk-pair-requires
-walk-pair-requires c κs = search needs
-
 returns-2 : tie.Need-returns-2
 returns-2 c =
     let start = c .before .before .before .before .before .before .before .before .before in
     pair-missing (start .args .chars .now) (start .args .lengths .now) (start .pre .0 .words .dictionary) (start .args .text .now) (start .args .at) (start .args .end) (c .before .walk-pair .ensures) 0 (c .if2 .taken)
-
-sub-len : tie.Need-sub-len
-sub-len c = search needs
 
 mul-len : tie.Need-mul-len
 mul-len c = omega (arith, known c)
@@ -58,14 +49,5 @@ pub find-pair-spec : {M : Type 1} → statement M
 find-pair-spec =
     tie.close
     (tie.spec
-    add-if1
-    returns
-    walk-pair-requires
-    returns-2
-    sub-len
-    mul-len
-    shared-slice-read-len
-    cast-len
-    add-if3
-    returns-3
-    returns-4)
+    (λ c. search needs) returns (λ c κs. search needs) returns-2 (λ c. search needs) mul-len shared-slice-read-len cast-len add-if3
+    returns-3 returns-4)

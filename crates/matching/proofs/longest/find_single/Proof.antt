@@ -22,21 +22,6 @@ known c =
     single-known (start .pre .0) (start .args .text .now) (start .args .at)
     (c .before .loop .next) (c .before .loop .inv) (c .loop-test .taken)
 
-mul-c : tie.Need-mul-c Inv-loop μ-loop
-mul-c c = search needs
-
-shared-slice-read-c : tie.Need-shared-slice-read-c Inv-loop μ-loop
-shared-slice-read-c c = search needs
-
-bucket-of-char-requires : tie.Need-bucket-of-char-requires Inv-loop μ-loop
-bucket-of-char-requires c κs = search needs
-
-mul-next : tie.Need-mul-next Inv-loop μ-loop
-mul-next c = omega arith
-
-shared-slice-read-next : tie.Need-shared-slice-read-next Inv-loop μ-loop
-shared-slice-read-next c = omega arith
-
 cast-next : tie.Need-cast-next Inv-loop μ-loop
 cast-next c = omega (arith, c .shared-slice-known8 .given (c .before .bucket-of-char .result))
 
@@ -45,9 +30,6 @@ loop-holds c =
     let start = c .before .before .before .before .before .before .before .before .before in
     rw (c .before .bucket-of-char .ensures .0)
     (single-start (start .pre .0) (start .args .text .now) (start .args .at))
-
-sub-number : tie.Need-sub-number Inv-loop μ-loop
-sub-number c = omega arith
 
 mul-start : tie.Need-mul-start Inv-loop μ-loop
 mul-start c = omega (arith, known c)
@@ -103,25 +85,6 @@ pub find-single-spec : {M : Type 1} → statement M
 find-single-spec =
     tie.close
     (tie.spec
-    Inv-loop
-    μ-loop
-    mul-c
-    shared-slice-read-c
-    bucket-of-char-requires
-    mul-next
-    shared-slice-read-next
-    cast-next
-    loop-holds
-    sub-number
-    mul-start
-    shared-slice-read-start
-    cast-start
-    mul-if1
-    shared-slice-read-if1
-    returns
-    mul-next-2
-    shared-slice-read-next-2
-    cast-next-2
-    loop-less
-    loop-again
-    returns-2)
+    Inv-loop μ-loop (λ c. search needs) (λ c. search needs) (λ c κs. search needs) (λ c. omega arith) (λ c. omega arith) cast-next
+    loop-holds (λ c. omega arith) mul-start shared-slice-read-start cast-start mul-if1 shared-slice-read-if1 returns mul-next-2
+    shared-slice-read-next-2 cast-next-2 loop-less loop-again returns-2)

@@ -6,12 +6,6 @@ use Rattle.laws.specs.Match.WordChains.{ends-early, runs-out, compared}
 use Rattle.matching.proofs.longest.stands_after.Statement.{statement}
 use Rattle.matching.proofs.longest.stands_after.Tie as tie
 
-mul-count : tie.Need-mul-count
-mul-count c = search needs
-
-shared-slice-read-count : tie.Need-shared-slice-read-count
-shared-slice-read-count c = search needs
-
 cast-count : tie.Need-cast-count
 cast-count c = omega (arith, c .shared-slice-known5 .given (c .before .before .before .before .before .args .number))
 
@@ -31,12 +25,6 @@ returns-2 c =
     let start = c .before .before .before .before .before .before .before in
     runs-out (start .pre .0) (start .args .text .now) (start .args .at) (start .args .end) (start .args .number) (start .pre .2) (c .if2 .taken)
 
-mul-same-run : tie.Need-mul-same-run
-mul-same-run c = search needs
-
-shared-slice-read-same-run : tie.Need-shared-slice-read-same-run
-shared-slice-read-same-run c = search needs
-
 cast-same-run : tie.Need-cast-same-run
 cast-same-run c = omega (arith, c .shared-slice-known6 .given (c .before .before .before .before .before .before .before .before .args .number))
 
@@ -54,15 +42,5 @@ pub stands-after-spec : {M : Type 1} → statement M
 stands-after-spec =
     tie.close
     (tie.spec
-    mul-count
-    shared-slice-read-count
-    cast-count
-    add-if1
-    returns
-    add-if2
-    returns-2
-    mul-same-run
-    shared-slice-read-same-run
-    cast-same-run
-    same-run-requires
-    returns-3)
+    (λ c. search needs) (λ c. search needs) cast-count add-if1 returns add-if2 returns-2 (λ c. search needs) (λ c. search needs)
+    cast-same-run same-run-requires returns-3)

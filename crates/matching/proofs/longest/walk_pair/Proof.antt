@@ -33,29 +33,11 @@ stop c =
     let start = c .before .before .before .before .before .before .before .before .before .before .before .before in
     pair-stop (start .pre .0) (start .args .text .now) (start .args .at) (start .args .end) (c .before .loop .next) (c .before .loop .inv) (c .loop-test .taken)
 
-mul-x : tie.Need-mul-x Inv-loop μ-loop
-mul-x c = omega arith
-
-shared-slice-read-x : tie.Need-shared-slice-read-x Inv-loop μ-loop
-shared-slice-read-x c = omega arith
-
-add-y : tie.Need-add-y Inv-loop μ-loop
-add-y c = omega arith
-
-mul-y : tie.Need-mul-y Inv-loop μ-loop
-mul-y c = omega arith
-
 shared-slice-read-y : tie.Need-shared-slice-read-y Inv-loop μ-loop
 shared-slice-read-y c = c .before .before .before .before .before .before .before .before .pre .1
 
 bucket-of-pair-requires : tie.Need-bucket-of-pair-requires Inv-loop μ-loop
 bucket-of-pair-requires c κs = tt
-
-mul-next : tie.Need-mul-next Inv-loop μ-loop
-mul-next c = omega arith
-
-shared-slice-read-next : tie.Need-shared-slice-read-next Inv-loop μ-loop
-shared-slice-read-next c = omega arith
 
 cast-next : tie.Need-cast-next Inv-loop μ-loop
 cast-next c = omega (arith, c .shared-slice-known9 .given (c .before .bucket-of-pair .result))
@@ -72,12 +54,6 @@ returns : tie.Need-returns Inv-loop μ-loop
 returns c =
     let start = c .before .before .before .before .before .before .before .before .before .before .before .before .before .before in
     pair-narrowed (start .pre .0) (start .args .text .now) (start .args .at) (start .args .end) (c .before .before .before .loop .next) (c .before .before .before .loop .inv) (c .before .before .loop-test .taken) (c .find-last-standing .ensures)
-
-sub-left : tie.Need-sub-left Inv-loop μ-loop
-sub-left c = omega arith
-
-sub-number : tie.Need-sub-number Inv-loop μ-loop
-sub-number c = omega arith
 
 stands-after-requires : tie.Need-stands-after-requires Inv-loop μ-loop
 stands-after-requires c κs = (c .before .before .before .before .before .before .before .before .before .before .before .before .before .pre .0 .words, omega arith, known (c .before))
@@ -113,27 +89,6 @@ pub walk-pair-spec : {M : Type 1} → statement M
 walk-pair-spec =
     tie.close
     (tie.spec
-    Inv-loop
-    μ-loop
-    mul-x
-    shared-slice-read-x
-    add-y
-    mul-y
-    shared-slice-read-y
-    bucket-of-pair-requires
-    mul-next
-    shared-slice-read-next
-    cast-next
-    loop-holds
-    find-last-standing-requires
-    returns
-    sub-left
-    sub-number
-    stands-after-requires
-    returns-2
-    mul-next-2
-    shared-slice-read-next-2
-    cast-next-2
-    loop-less
-    loop-again
-    returns-3)
+    Inv-loop μ-loop (λ c. omega arith) (λ c. omega arith) (λ c. omega arith) (λ c. omega arith) shared-slice-read-y bucket-of-pair-requires
+    (λ c. omega arith) (λ c. omega arith) cast-next loop-holds find-last-standing-requires returns (λ c. omega arith) (λ c. omega arith)
+    stands-after-requires returns-2 mul-next-2 shared-slice-read-next-2 cast-next-2 loop-less loop-again returns-3)

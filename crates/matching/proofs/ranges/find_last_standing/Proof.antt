@@ -65,9 +65,6 @@ cast-if1 c = omega (arith, c .shared-slice-known5 .given (c .before .before .loo
 add-low : tie.Need-add-low Inv-loop μ-loop
 add-low c = omega (arith, known (c .before .before))
 
-loop-less : tie.Need-loop-less Inv-loop μ-loop
-loop-less c = omega arith
-
 loop-again : tie.Need-loop-again Inv-loop μ-loop
 loop-again c =
     let start = c .before .before .before .before .before .before .before .before in
@@ -85,12 +82,6 @@ returns c =
 
 add-c : tie.Need-add-c Inv-loop μ-loop
 add-c c = omega (arith, deep (c .before))
-
-mul-c : tie.Need-mul-c Inv-loop μ-loop
-mul-c c = omega arith
-
-shared-slice-read-c : tie.Need-shared-slice-read-c Inv-loop μ-loop
-shared-slice-read-c c = omega arith
 
 cast-c : tie.Need-cast-c Inv-loop μ-loop
 cast-c c =
@@ -135,25 +126,6 @@ pub find-last-standing-spec : {M : Type 1} → statement M
 find-last-standing-spec =
     tie.close
     (tie.spec
-    Inv-loop
-    μ-loop
-    loop-holds
-    mul-if1
-    shared-slice-read-if1
-    cast-if1
-    add-low
-    loop-less
-    loop-again
-    add-if2
-    returns
-    add-c
-    mul-c
-    shared-slice-read-c
-    cast-c
-    lower-bound-requires
-    add-lower-bound
-    lower-bound-requires-2
-    add-depth
-    loop-less-2
-    loop-again-2
-    returns-2)
+    Inv-loop μ-loop loop-holds mul-if1 shared-slice-read-if1 cast-if1 add-low (λ c. omega arith) loop-again add-if2 returns add-c
+    (λ c. omega arith) (λ c. omega arith) cast-c lower-bound-requires add-lower-bound lower-bound-requires-2 add-depth loop-less-2
+    loop-again-2 returns-2)

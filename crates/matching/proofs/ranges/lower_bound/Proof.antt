@@ -17,32 +17,20 @@ abbrev μ-loop : tie.MeasureT-loop
 abbrev middle : tie.At-loop Inv-loop μ-loop → ℕ
 middle turn = turn .loop .a + (turn .loop .b - turn .loop .a) / 2
 
-returns : tie.Need-returns Inv-loop μ-loop
-returns c = search needs
-
 char-at-requires : tie.Need-char-at-requires Inv-loop μ-loop
 char-at-requires c κs =
     let start = c .before .before .before in
     (omega arith, start .pre .room (start .args .low) (omega arith) (omega arith))
-
-cast-if2 : tie.Need-cast-if2 Inv-loop μ-loop
-cast-if2 c = omega arith
 
 returns-2 : tie.Need-returns-2 Inv-loop μ-loop
 returns-2 c =
     let start = c .before .before .before .before .before in
     bound-first (start .pre .rising) (start .args .least) (omega arith) (omega arith)
 
-sub-char-at : tie.Need-sub-char-at Inv-loop μ-loop
-sub-char-at c = omega arith
-
 char-at-requires-2 : tie.Need-char-at-requires-2 Inv-loop μ-loop
 char-at-requires-2 c κs =
     let start = c .before .before .before .before .before in
     (omega arith, start .pre .room (start .args .high - 1) (omega arith) (omega arith))
-
-cast-if3 : tie.Need-cast-if3 Inv-loop μ-loop
-cast-if3 c = omega arith
 
 returns-3 : tie.Need-returns-3 Inv-loop μ-loop
 returns-3 c =
@@ -54,34 +42,16 @@ loop-holds c =
     let start = c .before .before .before .before .before .before .before in
     bisected-start (start .pre .rising) (start .args .least)
 
-sub-middle : tie.Need-sub-middle Inv-loop μ-loop
-sub-middle c = omega arith
-
-add-middle : tie.Need-add-middle Inv-loop μ-loop
-add-middle c = omega arith
-
 char-at-requires-3 : tie.Need-char-at-requires-3 Inv-loop μ-loop
 char-at-requires-3 c κs =
     let start = c .before .before .before .before .before .before .before .before .before in
     (omega arith, start .pre .room (middle (c .before)) (omega arith) (omega arith))
-
-cast-if4 : tie.Need-cast-if4 Inv-loop μ-loop
-cast-if4 c = omega arith
-
-add-a : tie.Need-add-a Inv-loop μ-loop
-add-a c = omega arith
-
-loop-less : tie.Need-loop-less Inv-loop μ-loop
-loop-less c = omega arith
 
 loop-again : tie.Need-loop-again Inv-loop μ-loop
 loop-again c =
     let turn = c .before .before .before in
     let start = turn .before .before .before .before .before .before .before .before in
     bisected-up (start .pre .rising) (start .args .least) (turn .loop .inv) (middle turn) (omega arith) (omega arith) (omega arith)
-
-loop-less-2 : tie.Need-loop-less-2 Inv-loop μ-loop
-loop-less-2 c = omega arith
 
 loop-again-2 : tie.Need-loop-again-2 Inv-loop μ-loop
 loop-again-2 c =
@@ -98,24 +68,6 @@ pub lower-bound-spec : {M : Type 1} → statement M
 lower-bound-spec =
     tie.close
     (tie.spec
-    Inv-loop
-    μ-loop
-    returns
-    char-at-requires
-    cast-if2
-    returns-2
-    sub-char-at
-    char-at-requires-2
-    cast-if3
-    returns-3
-    loop-holds
-    sub-middle
-    add-middle
-    char-at-requires-3
-    cast-if4
-    add-a
-    loop-less
-    loop-again
-    loop-less-2
-    loop-again-2
-    returns-4)
+    Inv-loop μ-loop (λ c. search needs) char-at-requires (λ c. omega arith) returns-2 (λ c. omega arith) char-at-requires-2
+    (λ c. omega arith) returns-3 loop-holds (λ c. omega arith) (λ c. omega arith) char-at-requires-3 (λ c. omega arith) (λ c. omega arith)
+    (λ c. omega arith) loop-again (λ c. omega arith) loop-again-2 returns-4)

@@ -24,12 +24,6 @@ loop-holds c =
     let start = c .before .before .before .before .before in
     (chained-start (start .args .chars .now) (start .args .lengths .now) (start .args .heads .now) (start .args .links .now) (start .args .word-starts .now) (start .pre), refl, refl, refl)
 
-mul-len : tie.Need-mul-len Inv-loop μ-loop
-mul-len c = search needs
-
-shared-slice-read-len : tie.Need-shared-slice-read-len Inv-loop μ-loop
-shared-slice-read-len c = search needs
-
 cast-len : tie.Need-cast-len Inv-loop μ-loop
 cast-len c = omega (arith, c .shared-slice-known3 .given (c .before .before .loop .i))
 
@@ -47,49 +41,16 @@ cast-word-starts c =
     let turn = c .before .before .before in
     omega (arith, chained-small (start .args .chars .now) (start .args .lengths .now) (turn .loop .heads) (turn .loop .links) (turn .loop .word-starts) (turn .loop .inv .0) (start .pre .dictionary))
 
-mul-word-starts : tie.Need-mul-word-starts Inv-loop μ-loop
-mul-word-starts c = search needs
-
-slice-write-word-starts : tie.Need-slice-write-word-starts Inv-loop μ-loop
-slice-write-word-starts c = omega arith
-
-mul-links : tie.Need-mul-links Inv-loop μ-loop
-mul-links c = omega arith
-
-slice-read-links : tie.Need-slice-read-links Inv-loop μ-loop
-slice-read-links c = omega arith
-
-mul-links-2 : tie.Need-mul-links-2 Inv-loop μ-loop
-mul-links-2 c = search needs
-
-slice-write-links : tie.Need-slice-write-links Inv-loop μ-loop
-slice-write-links c = omega arith
-
-add-heads : tie.Need-add-heads Inv-loop μ-loop
-add-heads c = search needs
-
 cast-heads : tie.Need-cast-heads Inv-loop μ-loop
 cast-heads c =
     let start = c .before .before .before .before .before .before .before .before .before .before in
     omega (arith, few-words (start .args .chars .now) (start .args .lengths .now) (start .pre .dictionary))
-
-mul-heads : tie.Need-mul-heads Inv-loop μ-loop
-mul-heads c = omega arith
-
-slice-write-heads : tie.Need-slice-write-heads Inv-loop μ-loop
-slice-write-heads c = omega arith
 
 add-at : tie.Need-add-at Inv-loop μ-loop
 add-at c =
     let start = c .before .before .before .before .before .before .before .before .before .before in
     let turn = c .before .before .before .before in
     omega (arith, chained-small (start .args .chars .now) (start .args .lengths .now) (turn .loop .heads) (turn .loop .links) (turn .loop .word-starts) (turn .loop .inv .0) (start .pre .dictionary), c .before .before .shared-slice-known3 .given (turn .loop .i))
-
-add-i : tie.Need-add-i Inv-loop μ-loop
-add-i c = search needs
-
-loop-less : tie.Need-loop-less Inv-loop μ-loop
-loop-less c = search needs
 
 loop-again : tie.Need-loop-again Inv-loop μ-loop
 loop-again c =
@@ -111,12 +72,6 @@ cast-word-starts-2 c =
     let turn = c .before in
     omega (arith, chained-small (start .args .chars .now) (start .args .lengths .now) (turn .loop .heads) (turn .loop .links) (turn .loop .word-starts) (turn .loop .inv .0) (start .pre .dictionary))
 
-mul-word-starts-2 : tie.Need-mul-word-starts-2 Inv-loop μ-loop
-mul-word-starts-2 c = search needs
-
-slice-write-word-starts-2 : tie.Need-slice-write-word-starts-2 Inv-loop μ-loop
-slice-write-word-starts-2 c = omega arith
-
 same-length : tie.Need-same-length Inv-loop μ-loop
 same-length c = c .before .loop .inv .1
 
@@ -136,32 +91,7 @@ pub fill-match-table-spec : {M : Type 1} → statement M
 fill-match-table-spec =
     tie.close
     (tie.spec
-    Inv-loop
-    μ-loop
-    loop-holds
-    mul-len
-    shared-slice-read-len
-    cast-len
-    bucket-of-word-requires
-    cast-word-starts
-    mul-word-starts
-    slice-write-word-starts
-    mul-links
-    slice-read-links
-    mul-links-2
-    slice-write-links
-    add-heads
-    cast-heads
-    mul-heads
-    slice-write-heads
-    add-at
-    add-i
-    loop-less
-    loop-again
-    cast-word-starts-2
-    mul-word-starts-2
-    slice-write-word-starts-2
-    same-length
-    same-length-2
-    same-length-3
-    returns)
+    Inv-loop μ-loop loop-holds (λ c. search needs) (λ c. search needs) cast-len bucket-of-word-requires cast-word-starts (λ c. search needs)
+    (λ c. omega arith) (λ c. omega arith) (λ c. omega arith) (λ c. search needs) (λ c. omega arith) (λ c. search needs) cast-heads
+    (λ c. omega arith) (λ c. omega arith) add-at (λ c. search needs) (λ c. search needs) loop-again cast-word-starts-2 (λ c. search needs)
+    (λ c. omega arith) same-length same-length-2 same-length-3 returns)

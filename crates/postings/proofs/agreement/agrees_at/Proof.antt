@@ -10,18 +10,6 @@ use Rattle.laws.specs.Search.AgreeWalk.{agrees-string-first, agrees-key-first}
 use Rattle.postings.proofs.agreement.agrees_at.Statement.{statement}
 use Rattle.postings.proofs.agreement.agrees_at.Tie as tie
 
-key-start-requires : tie.Need-key-start-requires
-key-start-requires c κs = search needs
-
-agrees-after-requires : tie.Need-agrees-after-requires
-agrees-after-requires c κs = search needs
-
-string-start-requires : tie.Need-string-start-requires
-string-start-requires c κs = search needs
-
-agrees-after-requires-2 : tie.Need-agrees-after-requires-2
-agrees-after-requires-2 c κs = search needs
-
 returns : tie.Need-returns
 returns c =
     let s = c .before .before .before .before .before in
@@ -42,9 +30,4 @@ pub agrees-at-spec : {M : Type 1} → statement M
 agrees-at-spec =
     tie.close
     (tie.spec
-    key-start-requires
-    agrees-after-requires
-    string-start-requires
-    agrees-after-requires-2
-    returns
-    returns-2)
+    (λ c κs. search needs) (λ c κs. search needs) (λ c κs. search needs) (λ c κs. search needs) returns returns-2)

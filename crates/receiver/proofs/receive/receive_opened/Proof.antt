@@ -14,12 +14,6 @@ delivery-refusal-requires c κs =
     let start = c .before .before .before .before in
     λ (none : start .args .refusal ≡ 0). delivery-header (start .args .chars .now) (start .args .lengths .now) (start .args .index .now) (sym (start .pre) ∙ none)
 
-refuse-requires : tie.Need-refuse-requires
-refuse-requires c κs = search needs
-
-same-length : tie.Need-same-length
-same-length c = search needs
-
 returns : tie.Need-returns
 returns c =
     let start = c .before .before .before .before .before .before .before .before .before .before in
@@ -37,12 +31,6 @@ text-of-requires c κs =
     let early = c .before .before .delivery-refusal in
     sym (opened-delivery (start .args .chars .now) (start .args .lengths .now) (start .args .index .now) (length (start .args .work .now)) (start .args .refusal) (early .result) (start .pre) (early .ensures)) ∙ c .before .if1 .left
 
-no-text-requires : tie.Need-no-text-requires
-no-text-requires c κs = search needs
-
-same-length-2 : tie.Need-same-length-2
-same-length-2 c = search needs
-
 returns-2 : tie.Need-returns-2
 returns-2 c =
     let start = c .before .before .before .before .before .before .before .before .before .before .before .before .before .before .before in
@@ -55,9 +43,6 @@ returns-2 c =
     receive-unreceived cs ls xs (answer .result) w (tried .last .1 .1 .1 .0) (answer .last .0) (tried .kept .1 .1 .1 .0) (sym (opened-delivery cs ls xs (length w) (start .args .refusal) (c .before .before .before .before .before .before .before .before .before .before .delivery-refusal .result) (start .pre) (c .before .before .before .before .before .before .before .before .before .before .delivery-refusal .ensures)) ∙ c .before .before .before .before .before .before .before .before .before .if1 .left)
     (sym (tried .ensures .exact) ∙ not-true (tried .result) (c .before .before .before .before .if2 .taken)) (answer .ensures)
 
-clear-requires : tie.Need-clear-requires
-clear-requires c κs = search needs
-
 shared-slice-read-t20 : tie.Need-shared-slice-read-t20
 shared-slice-read-t20 c =
     let start = c .before .before .before .before .before .before .before .before .before .before .before .before .before .before .before .before in
@@ -69,9 +54,6 @@ shared-slice-read-t20 c =
 
 cast-t7 : tie.Need-cast-t7
 cast-t7 c = omega (arith, c .shared-slice-known4 .given 0)
-
-same-length-3 : tie.Need-same-length-3
-same-length-3 c = search needs
 
 returns-3 : tie.Need-returns-3
 returns-3 c =
@@ -88,16 +70,5 @@ pub receive-opened-spec : {M : Type 1} → statement M
 receive-opened-spec =
     tie.close
     (tie.spec
-    delivery-refusal-requires
-    refuse-requires
-    same-length
-    returns
-    text-of-requires
-    no-text-requires
-    same-length-2
-    returns-2
-    clear-requires
-    shared-slice-read-t20
-    cast-t7
-    same-length-3
-    returns-3)
+    delivery-refusal-requires (λ c κs. search needs) (λ c. search needs) returns text-of-requires (λ c κs. search needs) (λ c. search needs)
+    returns-2 (λ c κs. search needs) shared-slice-read-t20 cast-t7 (λ c. search needs) returns-3)

@@ -7,12 +7,6 @@ use Rattle.laws.specs.Receive.Receiving.{gives-short, gives-text}
 use Rattle.receiver.proofs.recover.give_text.Statement.{statement}
 use Rattle.receiver.proofs.recover.give_text.Tie as tie
 
-refuse-requires : tie.Need-refuse-requires
-refuse-requires c κs = search needs
-
-same-length : tie.Need-same-length
-same-length c = search needs
-
 returns : tie.Need-returns
 returns c =
     let start = c .before .before .before .before .before .before .before in
@@ -20,9 +14,6 @@ returns c =
     let answer = c .before .before .refuse in
     let short = c .before .before .before .before .if1 .taken in
     gives-short (a .n) (answer .result) (a .output .now) (a .work .now) (answer .last .0) short (answer .ensures)
-
-slice-reshare-prefix-write-list : tie.Need-slice-reshare-prefix-write-list
-slice-reshare-prefix-write-list c = search needs
 
 slice-aggregate-write-list : tie.Need-slice-aggregate-write-list
 slice-aggregate-write-list c =
@@ -33,15 +24,6 @@ write-list-requires : tie.Need-write-list-requires
 write-list-requires c κs =
     let start = c .before .before .before .before .before in
     omega (arith, length-take-le (start .args .n) (start .args .work .now) (start .pre))
-
-clear-requires : tie.Need-clear-requires
-clear-requires c κs = search needs
-
-same-length-2 : tie.Need-same-length-2
-same-length-2 c = search needs
-
-same-length-3 : tie.Need-same-length-3
-same-length-3 c = search needs
 
 returns-2 : tie.Need-returns-2
 returns-2 c =
@@ -57,13 +39,5 @@ pub give-text-spec : {M : Type 1} → statement M
 give-text-spec =
     tie.close
     (tie.spec
-    refuse-requires
-    same-length
-    returns
-    slice-reshare-prefix-write-list
-    slice-aggregate-write-list
-    write-list-requires
-    clear-requires
-    same-length-2
-    same-length-3
-    returns-2)
+    (λ c κs. search needs) (λ c. search needs) returns (λ c. search needs) slice-aggregate-write-list write-list-requires
+    (λ c κs. search needs) (λ c. search needs) (λ c. search needs) returns-2)

@@ -13,12 +13,6 @@ delivery-refusal-requires c κs =
     let start = c .before .before .before .before .before in
     λ (none : start .args .refusal ≡ 0). delivery-header (start .args .chars .now) (start .args .lengths .now) (start .args .index .now) (sym (start .pre) ∙ none)
 
-refuse-requires : tie.Need-refuse-requires
-refuse-requires c κs = search needs
-
-same-length : tie.Need-same-length
-same-length c = search needs
-
 returns : tie.Need-returns
 returns c =
     let start = c .before .before .before .before .before .before .before .before .before .before .before in
@@ -36,12 +30,6 @@ text-of-requires c κs =
     let start = c .before .before .before .before .before .before .before .before in
     let early = c .before .before .delivery-refusal in
     sym (opened-delivery (start .args .chars .now) (start .args .lengths .now) (start .args .index .now) (length (start .args .work .now)) (start .args .refusal) (early .result) (start .pre) (early .ensures)) ∙ c .before .if1 .left
-
-no-text-requires : tie.Need-no-text-requires
-no-text-requires c κs = search needs
-
-same-length-2 : tie.Need-same-length-2
-same-length-2 c = search needs
 
 returns-2 : tie.Need-returns-2
 returns-2 c =
@@ -77,12 +65,6 @@ give-text-requires c κs =
     let w = start .args .work .now in
     omega (arith, delivered cs ls xs (length w) (sym (opened-delivery cs ls xs (length w) (start .args .refusal) (c .before .before .before .before .before .before .before .before .before .delivery-refusal .result) (start .pre) (c .before .before .before .before .before .before .before .before .before .delivery-refusal .ensures)) ∙ c .before .before .before .before .before .before .before .before .if1 .left) .room)
 
-same-length-3 : tie.Need-same-length-3
-same-length-3 c = search needs
-
-same-length-4 : tie.Need-same-length-4
-same-length-4 c = search needs
-
 returns-3 : tie.Need-returns-3
 returns-3 c =
     let start = c .before .before .before .before .before .before .before .before .before .before .before .before .before .before .before .before .before .before .before .before in
@@ -101,17 +83,5 @@ pub recover-opened-spec : {M : Type 1} → statement M
 recover-opened-spec =
     tie.close
     (tie.spec
-    delivery-refusal-requires
-    refuse-requires
-    same-length
-    returns
-    text-of-requires
-    no-text-requires
-    same-length-2
-    returns-2
-    shared-slice-read-give-text
-    cast-give-text
-    give-text-requires
-    same-length-3
-    same-length-4
-    returns-3)
+    delivery-refusal-requires (λ c κs. search needs) (λ c. search needs) returns text-of-requires (λ c κs. search needs) (λ c. search needs)
+    returns-2 shared-slice-read-give-text cast-give-text give-text-requires (λ c. search needs) (λ c. search needs) returns-3)

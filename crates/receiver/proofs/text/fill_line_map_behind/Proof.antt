@@ -9,28 +9,10 @@ use borrow.Author.Needs.{needs}
 use Rattle.receiver.proofs.text.fill_line_map_behind.Statement.{statement}
 use Rattle.receiver.proofs.text.fill_line_map_behind.Tie as tie
 
-mul-end : tie.Need-mul-end
-mul-end c = search needs
-
-mul-fill-line-map-afresh : tie.Need-mul-fill-line-map-afresh
-mul-fill-line-map-afresh c = search needs
-
-sub-fill-line-map-afresh : tie.Need-sub-fill-line-map-afresh
-sub-fill-line-map-afresh c = search needs
-
-part-fill-line-map-afresh-start : tie.Need-part-fill-line-map-afresh-start
-part-fill-line-map-afresh-start c = search needs
-
-part-fill-line-map-afresh-end : tie.Need-part-fill-line-map-afresh-end
-part-fill-line-map-afresh-end c = search needs
-
 fill-line-map-afresh-requires : tie.Need-fill-line-map-afresh-requires
 fill-line-map-afresh-requires c κs =
     let start = c .before .before .before in
     rw (behind-long (start .args .n) (start .args .work .now) (start .pre .1)) (start .pre .0)
-
-same-length : tie.Need-same-length
-same-length c = search needs
 
 returns : tie.Need-returns
 returns c =
@@ -47,11 +29,5 @@ pub fill-line-map-behind-spec : {M : Type 1} → statement M
 fill-line-map-behind-spec =
     tie.close
     (tie.spec
-    mul-end
-    mul-fill-line-map-afresh
-    sub-fill-line-map-afresh
-    part-fill-line-map-afresh-start
-    part-fill-line-map-afresh-end
-    fill-line-map-afresh-requires
-    same-length
-    returns)
+    (λ c. search needs) (λ c. search needs) (λ c. search needs) (λ c. search needs) (λ c. search needs) fill-line-map-afresh-requires
+    (λ c. search needs) returns)

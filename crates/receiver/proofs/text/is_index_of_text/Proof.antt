@@ -67,9 +67,6 @@ test-parts-requires c κs =
       omega arith,
     )
 
-same-length : tie.Need-same-length
-same-length c = search needs
-
 returns : tie.Need-returns
 returns c =
     let mapped = c .before .before .before .before in
@@ -91,10 +88,4 @@ pub is-index-of-text-spec : {M : Type 1} → statement M
 is-index-of-text-spec =
     tie.close
     (tie.spec
-    shared-slice-read-n
-    cast-n
-    reconstruct-front-requires
-    fill-line-map-behind-requires
-    test-parts-requires
-    same-length
-    returns)
+    shared-slice-read-n cast-n reconstruct-front-requires fill-line-map-behind-requires test-parts-requires (λ c. search needs) returns)

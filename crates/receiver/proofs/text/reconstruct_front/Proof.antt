@@ -9,9 +9,6 @@ use borrow.Author.Needs.{needs}
 use Rattle.receiver.proofs.text.reconstruct_front.Statement.{statement}
 use Rattle.receiver.proofs.text.reconstruct_front.Tie as tie
 
-slice-relend-prefix-reconstruct-entries : tie.Need-slice-relend-prefix-reconstruct-entries
-slice-relend-prefix-reconstruct-entries c = search needs
-
 slice-aggregate-reconstruct-entries : tie.Need-slice-aggregate-reconstruct-entries
 slice-aggregate-reconstruct-entries c =
     let start = c .before .before .before .before .before .before in
@@ -26,9 +23,6 @@ reconstruct-entries-requires c κs =
       length-take-le (a .n) (a .work .now) (start .pre .3) ∙ start .pre .2,
     )
 
-same-length : tie.Need-same-length
-same-length c = search needs
-
 returns : tie.Need-returns
 returns c =
     let start = c .before .before .before .before .before .before .before .before .before in
@@ -40,8 +34,4 @@ pub reconstruct-front-spec : {M : Type 1} → statement M
 reconstruct-front-spec =
     tie.close
     (tie.spec
-    slice-relend-prefix-reconstruct-entries
-    slice-aggregate-reconstruct-entries
-    reconstruct-entries-requires
-    same-length
-    returns)
+    (λ c. search needs) slice-aggregate-reconstruct-entries reconstruct-entries-requires (λ c. search needs) returns)

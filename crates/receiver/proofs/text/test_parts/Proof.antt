@@ -8,25 +8,10 @@ use borrow.Author.Needs.{needs}
 use Rattle.receiver.proofs.text.test_parts.Statement.{statement}
 use Rattle.receiver.proofs.text.test_parts.Tie as tie
 
-mul-end : tie.Need-mul-end
-mul-end c = search needs
-
 slice-aggregate-verify : tie.Need-slice-aggregate-verify
 slice-aggregate-verify c =
     let start = c .before .before .before .before .before .before .before .before in
     sym (length-take-le (start .args .n) (start .args .work .now) (omega arith))
-
-mul-verify : tie.Need-mul-verify
-mul-verify c = search needs
-
-sub-verify : tie.Need-sub-verify
-sub-verify c = search needs
-
-part-verify-start : tie.Need-part-verify-start
-part-verify-start c = search needs
-
-part-verify-end : tie.Need-part-verify-end
-part-verify-end c = search needs
 
 verify-requires : tie.Need-verify-requires
 verify-requires c κs =
@@ -48,11 +33,5 @@ pub test-parts-spec : {M : Type 1} → statement M
 test-parts-spec =
     tie.close
     (tie.spec
-    mul-end
-    slice-aggregate-verify
-    mul-verify
-    sub-verify
-    part-verify-start
-    part-verify-end
-    verify-requires
-    returns)
+    (λ c. search needs) slice-aggregate-verify (λ c. search needs) (λ c. search needs) (λ c. search needs) (λ c. search needs)
+    verify-requires returns)

@@ -14,12 +14,6 @@ use Rattle.laws.specs.Receive.ReceivedText.{not-tried, tried}
 use Rattle.receiver.proofs.text.text_by.Statement.{statement}
 use Rattle.receiver.proofs.text.text_by.Tie as tie
 
-is-index-of-text-requires : tie.Need-is-index-of-text-requires
-is-index-of-text-requires c κs = search needs
-
-same-length : tie.Need-same-length
-same-length c = search needs
-
 returns : tie.Need-returns
 returns c =
     let start = c .before .before .before .before .before .before .before .before .before .before .before .before in
@@ -62,12 +56,6 @@ slice-aggregate-holds-full-width c =
     (length-take-le (n-of (start .args .index .now)) (c .before .before .before .before .before .is-index-of-text .last .1 .1 .1 .1 .1 .1 .0)
     (room (c .before)))
 
-holds-full-width-requires : tie.Need-holds-full-width-requires
-holds-full-width-requires c κs = search needs
-
-same-length-2 : tie.Need-same-length-2
-same-length-2 c = search needs
-
 returns-2 : tie.Need-returns-2
 returns-2 c =
     let start = c .before .before .before .before .before .before .before .before .before .before .before .before .before .before .before in
@@ -80,13 +68,5 @@ pub text-by-spec : {M : Type 1} → statement M
 text-by-spec =
     tie.close
     (tie.spec
-    is-index-of-text-requires
-    same-length
-    returns
-    shared-slice-read-n
-    cast-n
-    slice-reshare-prefix-holds-full-width
-    slice-aggregate-holds-full-width
-    holds-full-width-requires
-    same-length-2
-    returns-2)
+    (λ c κs. search needs) (λ c. search needs) returns shared-slice-read-n cast-n slice-reshare-prefix-holds-full-width
+    slice-aggregate-holds-full-width (λ c κs. search needs) (λ c. search needs) returns-2)

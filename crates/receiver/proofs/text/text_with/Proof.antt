@@ -15,32 +15,9 @@ fill-match-table-requires c κs =
     let w = start .args .work .now in
     delivered-room cs ls xs (length w) (λ i h. omega (arith, c .before .before .before .before .before .before .before .before .before .shared-slice-known .given i)) (start .pre .0) (start .pre .1)
 
-text-by-requires : tie.Need-text-by-requires
-text-by-requires c κs = search needs
-
-same-length : tie.Need-same-length
-same-length c = search needs
-
-same-length-2 : tie.Need-same-length-2
-same-length-2 c = search needs
-
-same-length-3 : tie.Need-same-length-3
-same-length-3 c = search needs
-
-same-length-4 : tie.Need-same-length-4
-same-length-4 c = search needs
-
-returns : tie.Need-returns
-returns c = search needs
-
 pub text-with-spec : {M : Type 1} → statement M
 text-with-spec =
     tie.close
     (tie.spec
-    fill-match-table-requires
-    text-by-requires
-    same-length
-    same-length-2
-    same-length-3
-    same-length-4
-    returns)
+    fill-match-table-requires (λ c κs. search needs) (λ c. search needs) (λ c. search needs) (λ c. search needs) (λ c. search needs)
+    (λ c. search needs))

@@ -38,18 +38,6 @@ loop-holds c =
       reconstructing-start (lexicon (s .args .chars .now) (s .args .lengths .now)) (s .args .index .now) (s .args .text .now),
     )
 
-mul-end : tie.Need-mul-end Inv-loop μ-loop
-mul-end c = omega arith
-
-add-end : tie.Need-add-end Inv-loop μ-loop
-add-end c = omega arith
-
-add-end-2 : tie.Need-add-end-2 Inv-loop μ-loop
-add-end-2 c = omega arith
-
-mul-end-2 : tie.Need-mul-end-2 Inv-loop μ-loop
-mul-end-2 c = omega arith
-
 shared-slice-read-end : tie.Need-shared-slice-read-end Inv-loop μ-loop
 shared-slice-read-end c =
     let l = c .before .before .loop in
@@ -79,9 +67,6 @@ add-line c =
     let l = c .before .before .before .before .before .before .loop in
     omega arith
 
-loop-less : tie.Need-loop-less Inv-loop μ-loop
-loop-less c = omega arith
-
 loop-again : tie.Need-loop-again Inv-loop μ-loop
 loop-again c =
     let s = c .before .before .before .before .before .before .before .before .before .before .before .before .before in
@@ -105,23 +90,6 @@ pub reconstruct-entries-spec : {M : Type 1} → statement M
 reconstruct-entries-spec =
     tie.close
     (tie.spec
-    Inv-loop
-    μ-loop
-    shared-slice-read-keys
-    cast-keys
-    mul-begin
-    add-begin
-    loop-holds
-    mul-end
-    add-end
-    add-end-2
-    mul-end-2
-    shared-slice-read-end
-    cast-end
-    add-end-3
-    reconstruct-line-requires
-    add-line
-    loop-less
-    loop-again
-    same-length
+    Inv-loop μ-loop shared-slice-read-keys cast-keys mul-begin add-begin loop-holds (λ c. omega arith) (λ c. omega arith) (λ c. omega arith)
+    (λ c. omega arith) shared-slice-read-end cast-end add-end-3 reconstruct-line-requires add-line (λ c. omega arith) loop-again same-length
     returns)

@@ -9,43 +9,10 @@ use Rattle.laws.specs.Receive.ReconstructionWalk.{word-reconstructs, word-recon
 use Rattle.reconstruction.proofs.entries.reconstruct_line.Statement.{statement}
 use Rattle.reconstruction.proofs.entries.reconstruct_line.Tie as tie
 
-mul-value : tie.Need-mul-value
-mul-value c = search needs
-
-add-value : tie.Need-add-value
-add-value c = search needs
-
-add-value-2 : tie.Need-add-value-2
-add-value-2 c = search needs
-
-mul-value-2 : tie.Need-mul-value-2
-mul-value-2 c = search needs
-
-shared-slice-read-value : tie.Need-shared-slice-read-value
-shared-slice-read-value c = search needs
-
-mul-if1 : tie.Need-mul-if1
-mul-if1 c = search needs
-
-add-if1 : tie.Need-add-if1
-add-if1 c = search needs
-
-mul-if1-2 : tie.Need-mul-if1-2
-mul-if1-2 c = search needs
-
-shared-slice-read-if1 : tie.Need-shared-slice-read-if1
-shared-slice-read-if1 c = search needs
-
 mul-fill-at : tie.Need-mul-fill-at
 mul-fill-at c =
     let s = c .before .before .before .before .before .before .before .before in
     omega (arith, lies-room (s .pre .2) (s .pre .0 .fits))
-
-sub-fill-at : tie.Need-sub-fill-at
-sub-fill-at c = search needs
-
-part-fill-at-start : tie.Need-part-fill-at-start
-part-fill-at-start c = search needs
 
 part-fill-at-end : tie.Need-part-fill-at-end
 part-fill-at-end c =
@@ -56,9 +23,6 @@ fill-at-requires : tie.Need-fill-at-requires
 fill-at-requires c κs =
     let s = c .before .before .before .before .before .before .before .before .before .before in
     lone-reconstructs (s .pre .0) (s .pre .2) (s .args .text .now) (s .pre .3) (c .before .before .if1 .taken)
-
-same-length : tie.Need-same-length
-same-length c = search needs
 
 returns : tie.Need-returns
 returns c =
@@ -105,12 +69,6 @@ mul-reconstruct-positions c =
     let s = c .before .before .before .before .before .before .before .before .before .before in
     omega (arith, word-room (s .pre .0) (s .args .line) (s .pre .2 .below) (c .before .before .if1 .left) (s .pre .1))
 
-sub-reconstruct-positions : tie.Need-sub-reconstruct-positions
-sub-reconstruct-positions c = search needs
-
-part-reconstruct-positions-start : tie.Need-part-reconstruct-positions-start
-part-reconstruct-positions-start c = search needs
-
 part-reconstruct-positions-end : tie.Need-part-reconstruct-positions-end
 part-reconstruct-positions-end c =
     let s = c .before .before .before .before .before .before .before .before .before .before in
@@ -120,12 +78,6 @@ mul-reconstruct-positions-2 : tie.Need-mul-reconstruct-positions-2
 mul-reconstruct-positions-2 c =
     let s = c .before .before .before .before .before .before .before .before .before .before .before in
     omega (arith, lies-room (s .pre .2) (s .pre .0 .fits))
-
-sub-reconstruct-positions-2 : tie.Need-sub-reconstruct-positions-2
-sub-reconstruct-positions-2 c = search needs
-
-part-reconstruct-positions-start-2 : tie.Need-part-reconstruct-positions-start-2
-part-reconstruct-positions-start-2 c = search needs
 
 part-reconstruct-positions-end-2 : tie.Need-part-reconstruct-positions-end-2
 part-reconstruct-positions-end-2 c =
@@ -137,9 +89,6 @@ reconstruct-positions-requires c κs =
     let s = c .before .before .before .before .before .before .before .before .before .before .before .before .before in
     word-reconstructs (s .pre .0) (s .pre .2) (s .args .text .now) (s .pre .3) (c .before .before .before .before .before .if1 .left) (s .pre .1)
 
-same-length-2 : tie.Need-same-length-2
-same-length-2 c = search needs
-
 returns-2 : tie.Need-returns-2
 returns-2 c =
     let s = c .before .before .before .before .before .before .before .before .before .before .before .before .before .before .before .before in
@@ -150,38 +99,9 @@ pub reconstruct-line-spec : {M : Type 1} → statement M
 reconstruct-line-spec =
     tie.close
     (tie.spec
-    mul-value
-    add-value
-    add-value-2
-    mul-value-2
-    shared-slice-read-value
-    mul-if1
-    add-if1
-    mul-if1-2
-    shared-slice-read-if1
-    mul-fill-at
-    sub-fill-at
-    part-fill-at-start
-    part-fill-at-end
-    fill-at-requires
-    same-length
-    returns
-    cast-word
-    mul-start
-    shared-slice-read-start
-    cast-start
-    mul-stop
-    shared-slice-read-stop
-    cast-stop
-    add-stop
-    mul-reconstruct-positions
-    sub-reconstruct-positions
-    part-reconstruct-positions-start
-    part-reconstruct-positions-end
-    mul-reconstruct-positions-2
-    sub-reconstruct-positions-2
-    part-reconstruct-positions-start-2
-    part-reconstruct-positions-end-2
-    reconstruct-positions-requires
-    same-length-2
-    returns-2)
+    (λ c. search needs) (λ c. search needs) (λ c. search needs) (λ c. search needs) (λ c. search needs) (λ c. search needs)
+    (λ c. search needs) (λ c. search needs) (λ c. search needs) mul-fill-at (λ c. search needs) (λ c. search needs) part-fill-at-end
+    fill-at-requires (λ c. search needs) returns cast-word mul-start shared-slice-read-start cast-start mul-stop shared-slice-read-stop
+    cast-stop add-stop mul-reconstruct-positions (λ c. search needs) (λ c. search needs) part-reconstruct-positions-end
+    mul-reconstruct-positions-2 (λ c. search needs) (λ c. search needs) part-reconstruct-positions-end-2 reconstruct-positions-requires
+    (λ c. search needs) returns-2)

@@ -19,12 +19,6 @@ loop-holds c =
     let a = c .before .before .before .args in
     reconstructed-start (a .string .now) (a .positions .now) (a .text .now)
 
-mul-reconstruct-string : tie.Need-mul-reconstruct-string Inv-loop μ-loop
-mul-reconstruct-string c = search needs
-
-shared-slice-read-reconstruct-string : tie.Need-shared-slice-read-reconstruct-string Inv-loop μ-loop
-shared-slice-read-reconstruct-string c = search needs
-
 cast-reconstruct-string : tie.Need-cast-reconstruct-string Inv-loop μ-loop
 cast-reconstruct-string c = omega (arith, c .shared-slice-known3 .given (c .before .before .loop .i))
 
@@ -37,12 +31,6 @@ reconstruct-string-requires c κs =
     let l = c .before .before .before .loop in
     let below = c .before .before .loop-test .taken in
     omega (arith, s .pre .from (l .i) below, s .pre .to (l .i) below)
-
-add-i : tie.Need-add-i Inv-loop μ-loop
-add-i c = search needs
-
-loop-less : tie.Need-loop-less Inv-loop μ-loop
-loop-less c = search needs
 
 loop-again : tie.Need-loop-again Inv-loop μ-loop
 loop-again c =
@@ -64,16 +52,5 @@ pub reconstruct-positions-spec : {M : Type 1} → statement M
 reconstruct-positions-spec =
     tie.close
     (tie.spec
-    Inv-loop
-    μ-loop
-    loop-holds
-    mul-reconstruct-string
-    shared-slice-read-reconstruct-string
-    cast-reconstruct-string
-    sub-reconstruct-string
-    reconstruct-string-requires
-    add-i
-    loop-less
-    loop-again
-    same-length
-    returns)
+    Inv-loop μ-loop loop-holds (λ c. search needs) (λ c. search needs) cast-reconstruct-string sub-reconstruct-string
+    reconstruct-string-requires (λ c. search needs) (λ c. search needs) loop-again same-length returns)

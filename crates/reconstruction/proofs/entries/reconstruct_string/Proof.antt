@@ -17,30 +17,15 @@ abbrev μ-loop : tie.MeasureT-loop
 loop-holds : tie.Need-loop-holds Inv-loop μ-loop
 loop-holds c = setting-start (c .args .string .now) (c .args .at) (c .args .text .now)
 
-mul-text : tie.Need-mul-text Inv-loop μ-loop
-mul-text c = search needs
-
-shared-slice-read-text : tie.Need-shared-slice-read-text Inv-loop μ-loop
-shared-slice-read-text c = search needs
-
 add-text : tie.Need-add-text Inv-loop μ-loop
 add-text c =
     let s = c .before .before .before in
     omega arith
 
-mul-text-2 : tie.Need-mul-text-2 Inv-loop μ-loop
-mul-text-2 c = search needs
-
 slice-write-text : tie.Need-slice-write-text Inv-loop μ-loop
 slice-write-text c =
     let l = c .before .before .loop in
     omega arith
-
-add-i : tie.Need-add-i Inv-loop μ-loop
-add-i c = search needs
-
-loop-less : tie.Need-loop-less Inv-loop μ-loop
-loop-less c = search needs
 
 loop-again : tie.Need-loop-again Inv-loop μ-loop
 loop-again c =
@@ -61,16 +46,5 @@ pub reconstruct-string-spec : {M : Type 1} → statement M
 reconstruct-string-spec =
     tie.close
     (tie.spec
-    Inv-loop
-    μ-loop
-    loop-holds
-    mul-text
-    shared-slice-read-text
-    add-text
-    mul-text-2
-    slice-write-text
-    add-i
-    loop-less
-    loop-again
-    same-length
-    returns)
+    Inv-loop μ-loop loop-holds (λ c. search needs) (λ c. search needs) add-text (λ c. search needs) slice-write-text (λ c. search needs)
+    (λ c. search needs) loop-again same-length returns)

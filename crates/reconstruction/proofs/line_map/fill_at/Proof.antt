@@ -18,12 +18,6 @@ abbrev μ-loop : tie.MeasureT-loop
 loop-holds : tie.Need-loop-holds Inv-loop μ-loop
 loop-holds c = reconstructed-start (c .args .value ∷ []) (c .args .positions .now) (c .args .slots .now)
 
-mul-slots : tie.Need-mul-slots Inv-loop μ-loop
-mul-slots c = search needs
-
-shared-slice-read-slots : tie.Need-shared-slice-read-slots Inv-loop μ-loop
-shared-slice-read-slots c = search needs
-
 cast-slots : tie.Need-cast-slots Inv-loop μ-loop
 cast-slots c = omega (arith, c .shared-slice-known .given (c .before .before .loop .i))
 
@@ -40,12 +34,6 @@ slice-write-slots c =
     let s = c .before .before .before in
     let l = c .before .before .loop in
     omega (arith, s .pre .from (l .i) (c .before .loop-test .taken), s .pre .to (l .i) (c .before .loop-test .taken))
-
-add-i : tie.Need-add-i Inv-loop μ-loop
-add-i c = search needs
-
-loop-less : tie.Need-loop-less Inv-loop μ-loop
-loop-less c = search needs
 
 loop-again : tie.Need-loop-again Inv-loop μ-loop
 loop-again c =
@@ -66,17 +54,5 @@ pub fill-at-spec : {M : Type 1} → statement M
 fill-at-spec =
     tie.close
     (tie.spec
-    Inv-loop
-    μ-loop
-    loop-holds
-    mul-slots
-    shared-slice-read-slots
-    cast-slots
-    sub-slots
-    mul-slots-2
-    slice-write-slots
-    add-i
-    loop-less
-    loop-again
-    same-length
-    returns)
+    Inv-loop μ-loop loop-holds (λ c. search needs) (λ c. search needs) cast-slots sub-slots mul-slots-2 slice-write-slots
+    (λ c. search needs) (λ c. search needs) loop-again same-length returns)

@@ -16,9 +16,6 @@ Inv-loop index line-map₀ keys begin₀ line₀ line-map begin line = Filling-l
 abbrev μ-loop : tie.MeasureT-loop
 μ-loop index line-map₀ keys begin₀ line₀ line-map begin line = keys - line
 
-shared-slice-read-keys : tie.Need-shared-slice-read-keys Inv-loop μ-loop
-shared-slice-read-keys c = omega arith
-
 cast-keys : tie.Need-cast-keys Inv-loop μ-loop
 cast-keys c = omega (arith, c .shared-slice-known2 .given 1)
 
@@ -70,12 +67,6 @@ mul-fill-at c =
     let l = c .before .before .loop in
     omega (arith, lies-room (passing-lies fill-line-map (s .args .index .now) (s .args .line-map .now) (l .inv) (c .before .loop-test .taken)) (s .pre .fits))
 
-sub-fill-at : tie.Need-sub-fill-at Inv-loop μ-loop
-sub-fill-at c = omega arith
-
-part-fill-at-start : tie.Need-part-fill-at-start Inv-loop μ-loop
-part-fill-at-start c = search needs
-
 part-fill-at-end : tie.Need-part-fill-at-end Inv-loop μ-loop
 part-fill-at-end c =
     let s = c .before .before .before .before .before .before in
@@ -88,9 +79,6 @@ fill-at-requires c κs =
     let l = c .before .before .before .before .loop in
     mapping-room (s .args .index .now) (s .args .line-map .now) (l .line-map) (l .begin) (l .line) (l .inv) (s .pre)
     (passing-lies fill-line-map (s .args .index .now) (s .args .line-map .now) (l .inv) (c .before .before .before .loop-test .taken))
-
-loop-less : tie.Need-loop-less Inv-loop μ-loop
-loop-less c = omega arith
 
 loop-again : tie.Need-loop-again Inv-loop μ-loop
 loop-again c =
@@ -113,28 +101,6 @@ pub fill-line-map-spec : {M : Type 1} → statement M
 fill-line-map-spec =
     tie.close
     (tie.spec
-    Inv-loop
-    μ-loop
-    shared-slice-read-keys
-    cast-keys
-    mul-begin
-    add-begin
-    loop-holds
-    mul-end
-    add-end
-    add-end-2
-    mul-end-2
-    shared-slice-read-end
-    cast-end
-    add-end-3
-    add-number
-    cast-fill-at
-    mul-fill-at
-    sub-fill-at
-    part-fill-at-start
-    part-fill-at-end
-    fill-at-requires
-    loop-less
-    loop-again
-    same-length
-    returns)
+    Inv-loop μ-loop (λ c. omega arith) cast-keys mul-begin add-begin loop-holds mul-end add-end add-end-2 mul-end-2 shared-slice-read-end
+    cast-end add-end-3 add-number cast-fill-at mul-fill-at (λ c. omega arith) (λ c. search needs) part-fill-at-end fill-at-requires
+    (λ c. omega arith) loop-again same-length returns)

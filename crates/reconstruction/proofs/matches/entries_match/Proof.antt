@@ -19,9 +19,6 @@ Inv-loop chars lengths word-starts index text keys begin₀ line₀ begin line =
 abbrev μ-loop : tie.MeasureT-loop
 μ-loop chars lengths word-starts index text keys begin₀ line₀ begin line = keys - line
 
-shared-slice-read-keys : tie.Need-shared-slice-read-keys Inv-loop μ-loop
-shared-slice-read-keys c = omega arith
-
 cast-keys : tie.Need-cast-keys Inv-loop μ-loop
 cast-keys c = omega (arith, c .shared-slice-known6 .given 1)
 
@@ -33,21 +30,6 @@ add-begin c = omega (arith, c .shared-slice-known6 .given 1)
 
 loop-holds : tie.Need-loop-holds Inv-loop μ-loop
 loop-holds c = let a = c .before .before .before .before .before .before .args in matching-start (lexicon (a .chars .now) (a .lengths .now)) (a .index .now) (a .text .now)
-
-mul-end : tie.Need-mul-end Inv-loop μ-loop
-mul-end c = search needs
-
-add-end : tie.Need-add-end Inv-loop μ-loop
-add-end c = search needs
-
-add-end-2 : tie.Need-add-end-2 Inv-loop μ-loop
-add-end-2 c = search needs
-
-mul-end-2 : tie.Need-mul-end-2 Inv-loop μ-loop
-mul-end-2 c = search needs
-
-shared-slice-read-end : tie.Need-shared-slice-read-end Inv-loop μ-loop
-shared-slice-read-end c = search needs
 
 cast-end : tie.Need-cast-end Inv-loop μ-loop
 cast-end c = omega (arith, c .shared-slice-known7 .given (2 + 3 * c .before .before .loop .line + 2))
@@ -76,12 +58,6 @@ returns c =
     c .before .line-stands .ensures .fails (not-true (c .before .line-stands .result) (c .if1 .taken))
     (line-matches (lexicon (a .chars .now) (a .lengths .now)) (a .text .now) lies all))
 
-add-line : tie.Need-add-line Inv-loop μ-loop
-add-line c = search needs
-
-loop-less : tie.Need-loop-less Inv-loop μ-loop
-loop-less c = search needs
-
 loop-again : tie.Need-loop-again Inv-loop μ-loop
 loop-again c =
     let a = c .before .before .before .before .before .before .before .before .before .before .before .args in
@@ -99,23 +75,6 @@ pub entries-match-spec : {M : Type 1} → statement M
 entries-match-spec =
     tie.close
     (tie.spec
-    Inv-loop
-    μ-loop
-    shared-slice-read-keys
-    cast-keys
-    mul-begin
-    add-begin
-    loop-holds
-    mul-end
-    add-end
-    add-end-2
-    mul-end-2
-    shared-slice-read-end
-    cast-end
-    add-end-3
-    line-stands-requires
-    returns
-    add-line
-    loop-less
-    loop-again
-    returns-2)
+    Inv-loop μ-loop (λ c. omega arith) cast-keys mul-begin add-begin loop-holds (λ c. search needs) (λ c. search needs) (λ c. search needs)
+    (λ c. search needs) (λ c. search needs) cast-end add-end-3 line-stands-requires returns (λ c. search needs) (λ c. search needs)
+    loop-again returns-2)

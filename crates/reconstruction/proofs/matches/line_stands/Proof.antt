@@ -10,43 +10,10 @@ use Rattle.laws.specs.Receive.ReconstructionWalk.{positions-some, positions-ris
 use Rattle.reconstruction.proofs.matches.line_stands.Statement.{statement}
 use Rattle.reconstruction.proofs.matches.line_stands.Tie as tie
 
-mul-value : tie.Need-mul-value
-mul-value c = search needs
-
-add-value : tie.Need-add-value
-add-value c = search needs
-
-add-value-2 : tie.Need-add-value-2
-add-value-2 c = search needs
-
-mul-value-2 : tie.Need-mul-value-2
-mul-value-2 c = search needs
-
-shared-slice-read-value : tie.Need-shared-slice-read-value
-shared-slice-read-value c = search needs
-
-mul-if1 : tie.Need-mul-if1
-mul-if1 c = search needs
-
-add-if1 : tie.Need-add-if1
-add-if1 c = search needs
-
-mul-if1-2 : tie.Need-mul-if1-2
-mul-if1-2 c = search needs
-
-shared-slice-read-if1 : tie.Need-shared-slice-read-if1
-shared-slice-read-if1 c = search needs
-
 mul-holds-at-each : tie.Need-mul-holds-at-each
 mul-holds-at-each c =
     let s = c .before .before .before .before .before .before .before .before in
     omega (arith, lies-room (s .pre .2) (s .pre .0 .fits))
-
-sub-holds-at-each : tie.Need-sub-holds-at-each
-sub-holds-at-each c = search needs
-
-part-holds-at-each-start : tie.Need-part-holds-at-each-start
-part-holds-at-each-start c = search needs
 
 part-holds-at-each-end : tie.Need-part-holds-at-each-end
 part-holds-at-each-end c =
@@ -104,12 +71,6 @@ mul-stands-at-each c =
     let s = c .before .before .before .before .before .before .before .before .before .before in
     omega (arith, word-room (s .pre .0) (s .args .line) (s .pre .2 .below) (c .before .before .if1 .left) (s .pre .1))
 
-sub-stands-at-each : tie.Need-sub-stands-at-each
-sub-stands-at-each c = search needs
-
-part-stands-at-each-start : tie.Need-part-stands-at-each-start
-part-stands-at-each-start c = search needs
-
 part-stands-at-each-end : tie.Need-part-stands-at-each-end
 part-stands-at-each-end c =
     let s = c .before .before .before .before .before .before .before .before .before .before in
@@ -119,12 +80,6 @@ mul-stands-at-each-2 : tie.Need-mul-stands-at-each-2
 mul-stands-at-each-2 c =
     let s = c .before .before .before .before .before .before .before .before .before .before .before in
     omega (arith, lies-room (s .pre .2) (s .pre .0 .fits))
-
-sub-stands-at-each-2 : tie.Need-sub-stands-at-each-2
-sub-stands-at-each-2 c = search needs
-
-part-stands-at-each-start-2 : tie.Need-part-stands-at-each-start-2
-part-stands-at-each-start-2 c = search needs
 
 part-stands-at-each-end-2 : tie.Need-part-stands-at-each-end-2
 part-stands-at-each-end-2 c =
@@ -150,36 +105,8 @@ pub line-stands-spec : {M : Type 1} → statement M
 line-stands-spec =
     tie.close
     (tie.spec
-    mul-value
-    add-value
-    add-value-2
-    mul-value-2
-    shared-slice-read-value
-    mul-if1
-    add-if1
-    mul-if1-2
-    shared-slice-read-if1
-    mul-holds-at-each
-    sub-holds-at-each
-    part-holds-at-each-start
-    part-holds-at-each-end
-    holds-at-each-requires
-    returns
-    cast-word
-    mul-start
-    shared-slice-read-start
-    cast-start
-    mul-stop
-    shared-slice-read-stop
-    cast-stop
-    add-stop
-    mul-stands-at-each
-    sub-stands-at-each
-    part-stands-at-each-start
-    part-stands-at-each-end
-    mul-stands-at-each-2
-    sub-stands-at-each-2
-    part-stands-at-each-start-2
-    part-stands-at-each-end-2
-    stands-at-each-requires
-    returns-2)
+    (λ c. search needs) (λ c. search needs) (λ c. search needs) (λ c. search needs) (λ c. search needs) (λ c. search needs)
+    (λ c. search needs) (λ c. search needs) (λ c. search needs) mul-holds-at-each (λ c. search needs) (λ c. search needs)
+    part-holds-at-each-end holds-at-each-requires returns cast-word mul-start shared-slice-read-start cast-start mul-stop
+    shared-slice-read-stop cast-stop add-stop mul-stands-at-each (λ c. search needs) (λ c. search needs) part-stands-at-each-end
+    mul-stands-at-each-2 (λ c. search needs) (λ c. search needs) part-stands-at-each-end-2 stands-at-each-requires returns-2)

@@ -11,18 +11,6 @@ use borrow.Author.Needs.{needs}
 use Rattle.reconstruction.proofs.matches.stands_again.Statement.{statement}
 use Rattle.reconstruction.proofs.matches.stands_again.Tie as tie
 
-sub-from : tie.Need-sub-from
-sub-from c = search needs
-
-sub-same-run : tie.Need-sub-same-run
-sub-same-run c = search needs
-
-add-same-run : tie.Need-add-same-run
-add-same-run c = search needs
-
-same-run-requires : tie.Need-same-run-requires
-same-run-requires c κs = search needs
-
 returns : tie.Need-returns
 returns c =
     let s = c .before .before .before .before in
@@ -32,12 +20,6 @@ returns c =
     (stand-again (a .string .now) (a .text .now) (a .position) (omega arith) (s .pre .3) (s .pre .0) (omega arith)
     (subst (λ (d : ℕ). Stand (a .string .now) (a .text .now) (a .position - d)) apart (s .pre .2)))
     (λ st. stand-part st (length (a .string .now) - a .period) (a .period) (omega arith)) (c .same-run .ensures)
-
-sub-same-run-2 : tie.Need-sub-same-run-2
-sub-same-run-2 c = search needs
-
-same-run-requires-2 : tie.Need-same-run-requires-2
-same-run-requires-2 c κs = search needs
 
 returns-2 : tie.Need-returns-2
 returns-2 c =
@@ -50,11 +32,5 @@ pub stands-again-spec : {M : Type 1} → statement M
 stands-again-spec =
     tie.close
     (tie.spec
-    sub-from
-    sub-same-run
-    add-same-run
-    same-run-requires
-    returns
-    sub-same-run-2
-    same-run-requires-2
+    (λ c. search needs) (λ c. search needs) (λ c. search needs) (λ c κs. search needs) returns (λ c. search needs) (λ c κs. search needs)
     returns-2)

@@ -49,23 +49,8 @@ loop-holds c =
           (stand-all (a .string .now) (a .text .now) (getD (a .positions .now) 0 0) (s .pre .0 .from 0 (s .pre .1)) (s .pre .0 .to 0 (s .pre .1)) (c .before .same-run .ensures .holds (not-false (c .before .same-run .result) (c .if1 .left)))),
     )
 
-mul-position : tie.Need-mul-position Inv-loop μ-loop
-mul-position c = search needs
-
-shared-slice-read-position : tie.Need-shared-slice-read-position Inv-loop μ-loop
-shared-slice-read-position c = search needs
-
 cast-position : tie.Need-cast-position Inv-loop μ-loop
 cast-position c = omega (arith, c .shared-slice-known5 .given (c .before .before .loop .i))
-
-sub-step : tie.Need-sub-step Inv-loop μ-loop
-sub-step c = search needs
-
-mul-step : tie.Need-mul-step Inv-loop μ-loop
-mul-step c = search needs
-
-shared-slice-read-step : tie.Need-shared-slice-read-step Inv-loop μ-loop
-shared-slice-read-step c = search needs
 
 cast-step : tie.Need-cast-step Inv-loop μ-loop
 cast-step c = omega (arith, c .shared-slice-known6 .given (c .before .before .before .loop .i - 1))
@@ -100,12 +85,6 @@ returns-2 c =
     c .before .stands-again .ensures .fails (not-true (c .before .stands-again .result) (c .if2 .taken))
     (each (l .i) (c .before .before .before .before .before .loop-test .taken)))
 
-add-i : tie.Need-add-i Inv-loop μ-loop
-add-i c = search needs
-
-loop-less : tie.Need-loop-less Inv-loop μ-loop
-loop-less c = search needs
-
 loop-again : tie.Need-loop-again Inv-loop μ-loop
 loop-again c =
     let a = c .before .before .before .before .before .before .before .before .before .before .before .before .before .args in
@@ -124,26 +103,6 @@ pub stands-at-each-spec : {M : Type 1} → statement M
 stands-at-each-spec =
     tie.close
     (tie.spec
-    Inv-loop
-    μ-loop
-    shared-slice-read-same-run
-    cast-same-run
-    sub-same-run
-    same-run-requires
-    returns
-    loop-holds
-    mul-position
-    shared-slice-read-position
-    cast-position
-    sub-step
-    mul-step
-    shared-slice-read-step
-    cast-step
-    sub-step-2
-    period-of-requires
-    stands-again-requires
-    returns-2
-    add-i
-    loop-less
-    loop-again
-    returns-3)
+    Inv-loop μ-loop shared-slice-read-same-run cast-same-run sub-same-run same-run-requires returns loop-holds (λ c. search needs)
+    (λ c. search needs) cast-position (λ c. search needs) (λ c. search needs) (λ c. search needs) cast-step sub-step-2 period-of-requires
+    stands-again-requires returns-2 (λ c. search needs) (λ c. search needs) loop-again returns-3)

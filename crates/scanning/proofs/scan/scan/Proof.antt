@@ -17,22 +17,10 @@ Inv-loop chars lengths heads links word-starts n work₀ behind end₀ at₀ wor
 abbrev μ-loop : tie.MeasureT-loop
 μ-loop chars lengths heads links word-starts n work₀ behind end₀ at₀ work end at = n - at
 
-mul-behind : tie.Need-mul-behind Inv-loop μ-loop
-mul-behind c = search needs
-
 loop-holds : tie.Need-loop-holds Inv-loop μ-loop
 loop-holds c =
     let start = c .before .before .before .before .before .before in
     behind-start (lexicon (start .args .chars .now) (start .args .lengths .now)) (start .args .work .now) (start .args .n) (start .pre .1)
-
-mul-step : tie.Need-mul-step Inv-loop μ-loop
-mul-step c = search needs
-
-sub-step : tie.Need-sub-step Inv-loop μ-loop
-sub-step c = search needs
-
-part-step-start : tie.Need-part-step-start Inv-loop μ-loop
-part-step-start c = search needs
 
 part-step-end : tie.Need-part-step-end Inv-loop μ-loop
 part-step-end c =
@@ -49,21 +37,12 @@ step-requires c κs =
       behind-end-within lex (start .args .work .now) (start .args .n) (start .pre .1) (turn .inv),
     )
 
-mul-work : tie.Need-mul-work Inv-loop μ-loop
-mul-work c = search needs
-
 slice-write-work : tie.Need-slice-write-work Inv-loop μ-loop
 slice-write-work c =
     let turn = c .before .before .before .before .loop in
     let start = c .before .before .before .before .before .before .before .before .before .before .before in
     behind-room (lexicon (start .args .chars .now) (start .args .lengths .now)) (start .args .work .now) (start .args .n) (start .pre .1)
     (turn .inv) (c .before .before .before .loop-test .taken)
-
-add-at : tie.Need-add-at Inv-loop μ-loop
-add-at c = search needs
-
-loop-less : tie.Need-loop-less Inv-loop μ-loop
-loop-less c = search needs
 
 loop-again : tie.Need-loop-again Inv-loop μ-loop
 loop-again c =
@@ -92,19 +71,5 @@ pub scan-spec : {M : Type 1} → statement M
 scan-spec =
     tie.close
     (tie.spec
-    Inv-loop
-    μ-loop
-    mul-behind
-    loop-holds
-    mul-step
-    sub-step
-    part-step-start
-    part-step-end
-    step-requires
-    mul-work
-    slice-write-work
-    add-at
-    loop-less
-    loop-again
-    same-length
-    returns)
+    Inv-loop μ-loop (λ c. search needs) loop-holds (λ c. search needs) (λ c. search needs) (λ c. search needs) part-step-end step-requires
+    (λ c. search needs) slice-write-work (λ c. search needs) (λ c. search needs) loop-again same-length returns)
