@@ -70,15 +70,6 @@ fn word_lower_bound(
     ensures { λ r. ⌜
         Lower-bound (word-char (now (chars .entry)) (now (index .entry)) (now («word_starts» .entry)) depth) low high least r ⌝ }
 {
-    if high <= low {
-        return low;
-    }
-    if least <= char_at(chars, index, word_starts, low, depth) as usize {
-        return low;
-    }
-    if (char_at(chars, index, word_starts, high - 1, depth) as usize) < least {
-        return high;
-    }
     let mut a = low;
     let mut b = high;
     while a < b {
@@ -108,6 +99,16 @@ pub fn equal_range(
         Lower-bound (word-char (now (chars .entry)) (now (index .entry)) (now («word_starts» .entry)) depth) (r .from) high (character + 1)
         (r .to) ⌝ }
 {
+    if low < high {
+        if char_at(chars, index, word_starts, low, depth) == character {
+            if char_at(chars, index, word_starts, high - 1, depth) == character {
+                return Range {
+                    from: low,
+                    to: high,
+                };
+            }
+        }
+    }
     let least = character as usize;
     let from = word_lower_bound(chars, index, word_starts, low, high, depth, least);
     let to = word_lower_bound(chars, index, word_starts, from, high, depth, least + 1);
