@@ -42,7 +42,7 @@ fn form_end(sheet: &[u8], at: usize, head: &[u8]) -> usize
 }
 
 // Where reading goes on: the index of the next byte, and how many characters and forms are read so far.
-pub struct Place {
+pub struct Cursor {
     pub at: usize,
     pub used: usize,
     pub count: usize,
@@ -57,7 +57,7 @@ fn read_forms(
     used: usize,
     lengths: &mut [u16],
     count: usize,
-) -> Place
+) -> Cursor
     requires { ⌜ Room (now head) (now sheet) at used count (now chars) (now lengths) × (length (now head) ≡ 5) ⌝ }
     ensures { λ r. ⌜
         Forms-got (now (head .entry)) (now (sheet .entry)) at used count (now (chars .entry)) (now (lengths .entry)) (r .at) (r .used)
@@ -75,7 +75,7 @@ fn read_forms(
         from = end + 1;
         end = form_end(sheet, from, head);
     }
-    Place {
+    Cursor {
         at: from,
         used: filled,
         count: i,

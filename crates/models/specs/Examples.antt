@@ -24,6 +24,7 @@ pub record Model-examples : Type 0 where
   pub reach-stops : reach A (lines-in lone-a-c) (a ∷ b ∷ c ∷ []) 1 ≡ 1
 
 pub model-examples : Model-examples
-unfolding scan extend reach-positions reach-key reach-back reach-leading reach-offset reach-offsets reach words-from lexicon key entry spells
+unfolding scan extend reach-positions reach-key reach-back reach-leading reach-offset reach-offsets reach words-from lexicon key entry
+    spells
     line lines-from lines-in lies-on overlaps equal-from agrees
 model-examples = record { scan-is-strict = refl; reach-stops = refl }

@@ -1,4 +1,5 @@
--- The one-pass scan of a text: the longest entry at each position, registered if it ends after the last one; and what is claimed of it. Assumes nothing.
+-- The one-pass scan of a text: the longest entry at each position, registered if it ends after the last one; and what is claimed of
+-- it. Assumes nothing.
 use mathlib.Core.Bool.{cond, true}
 use mathlib.Core.List.{List, [], _∷_}
 use mathlib.Core.Path.{_≡_}

@@ -20,7 +20,8 @@ use prog.Routine.{Routine}
 use prog.Wp.{Heap, Env, Calls, Loops}
 use ghost.Atoms.{Atoms, sem}
 use contract.Monad.{Fun, fact}
-use types.Kit.{Given, Item, Post, Seq, runs, lands, ‵, raw, _⊛_, ⋆, some, later, _$_, _∵_, !, qed, move, use1, split, join, pick, rewrite, fsplit, fjoin, frame, await, done}
+use types.Kit.{Given, Item, Post, Seq, runs, lands, ‵, raw, _⊛_, ⋆, some, later, _$_, _∵_, !, qed, move, use1, split, join, pick, rewrite}
+use types.Kit.{fsplit, fjoin, frame, await, done}
 use types.Run.{Opds}
 use sound.WpLaws.{FmC}
 use denote.RattleType.{RattleType, owns}
@@ -72,11 +73,14 @@ module _ {M : Type 1} (𝓤 : URA M) (H : Heap 𝓤) (A : Atoms 𝓤) where
 
     pub twice : ent 𝓤 (sem 𝓤 H A (Lent κ x y z)) (sep 𝓤 (sem 𝓤 H A (Lent κ x y z)) (sem 𝓤 H A (Lent κ x y z)))
     twice =
-        qed W (‵ (Lent κ x y z) ∷ []) ∵ fsplit ! $ use1 W (‵ (own x) ⊛ ‵ (own x)) (shr-slice-copy 𝓤 H A W (named 0) κ u16 .twice x (val x ∷ [])) $ split ! $
+        qed W (‵ (Lent κ x y z) ∷ []) ∵ fsplit ! $ use1 W (‵ (own x) ⊛ ‵ (own x))
+        (shr-slice-copy 𝓤 H A W (named 0) κ u16 .twice x (val x ∷ [])) $ split ! $
         -- [x; x; y and z]
-        move ! (2 ∷ []) $ fsplit ! $ use1 W (‵ (own y) ⊛ ‵ (own y)) (shr-slice-copy 𝓤 H A W (named 0) κ u16 .twice y (val y ∷ [])) $ split ! $
+        move ! (2 ∷ []) $ fsplit ! $ use1 W (‵ (own y) ⊛ ‵ (own y))
+        (shr-slice-copy 𝓤 H A W (named 0) κ u16 .twice y (val y ∷ [])) $ split ! $
         -- [y; y; z; x; x]
-        move ! (2 ∷ []) $ fsplit ! $ use1 W (‵ (own z) ⊛ ‵ (own z)) (shr-slice-copy 𝓤 H A W (named 0) κ u16 .twice z (val z ∷ [])) $ split ! $
+        move ! (2 ∷ []) $ fsplit ! $ use1 W (‵ (own z) ⊛ ‵ (own z))
+        (shr-slice-copy 𝓤 H A W (named 0) κ u16 .twice z (val z ∷ [])) $ split ! $
         -- [z; z; true; y; y; x; x]
         move ! (0 ∷ 2 ∷ []) $ fjoin ! $ move ! (2 ∷ 0 ∷ []) $ fjoin ! $ move ! (3 ∷ 0 ∷ []) $ fjoin ! $ frame ! $
         -- [z; y; x]
@@ -92,29 +96,54 @@ module _ {M : Type 1} (𝓤 : URA M) (H : Heap 𝓤) (A : Atoms 𝓤) where
       abbrev Told : Opened → Type 0
       Told r = (r .numbers ≡ z) × Bounded (now x) (now y) (now z) (r .refusal) (r .keys) (r .first)
 
-      told : (r : Opened) → ent 𝓤 (ensured 𝓤 H A opener.ended (opener.clauses 𝓤 H A mem run) (κ, tt) (x, (y, (z, tt))) tt r) (fact 𝓤 (Told r))
+      told : (r : Opened) → ent 𝓤 (ensured 𝓤 H A opener.ended (opener.clauses 𝓤 H A mem run) (κ, tt) (x, (y, (z, tt))) tt r)
+          (fact 𝓤 (Told r))
       told r = exE 𝓤 _ (λ ws. snd∗ 𝓤 (sem 𝓤 H A (lasts opener.ended (κ, tt) (x, (y, (z, tt))) ws)) (fact 𝓤 (Told r)))
 
 -- a record of the slice at the machine value u: u is its lowered form, which has the type of a local
-held : {M : Type 1} (𝓤 : URA M) (H : Heap 𝓤) (A : Atoms 𝓤) (W : Given 𝓤 H A) (κ : Lft) (x y z : RefT (List ℕ)) (a k f : ℕ) (u : Val) → Is (T.the-row (namedLft 1 0 tt (κ, tt))) (of z a k f) (u ∷ []) → Bounded (now x) (now y) (now z) a k f → (T′.lowered (of z a k f) ≡ u) × Held x y z a k f
+held : {M : Type 1} (𝓤 : URA M) (H : Heap 𝓤) (A : Atoms 𝓤) (W : Given 𝓤 H A) (κ : Lft) (x y z : RefT (List ℕ)) (a k f : ℕ) (u : Val) →
+    Is (T.the-row (namedLft 1 0 tt (κ, tt))) (of z a k f) (u ∷ []) → Bounded (now x) (now y) (now z) a k f →
+    (T′.lowered (of z a k f) ≡ u) × Held x y z a k f
 held 𝓤 H A W κ x y z a k f u is b =
     let α : NamedLft = record { mir = erased; lft = κ } in
     let same : u ∷ [] ≡ T′.lowered (of z a k f) ∷ [] = LL.tells (T.the-type α) (T′.the-laws α) (of z a k f) _ is in
-    let wt = LL.lawful (T.the-type α) (T′.the-laws α) 𝓤 H A W .typed (of z a k f) _ (subst (Is (T.the-row (namedLft 1 0 tt (κ, tt))) (of z a k f)) same is) .0 in
-    (sym (ap only same), record { bounded = b; typed = wt; refusal-fits = wt .1 .1 .0 .fits; keys-fit = wt .1 .1 .1 .0 .fits; first-fits = wt .1 .1 .1 .1 .0 .fits })
+    let wt = LL.lawful (T.the-type α) (T′.the-laws α) 𝓤 H A W .typed (of z a k f) _
+    (subst (Is (T.the-row (namedLft 1 0 tt (κ, tt))) (of z a k f)) same is) .0 in (
+      sym (ap only same),
+      record {
+        bounded = b;
+        typed = wt;
+        refusal-fits = wt .1 .1 .0 .fits;
+        keys-fit = wt .1 .1 .1 .0 .fits;
+        first-fits =
+            wt .1 .1 .1 .1 .0 .fits;
+      },
+    )
 
-module _ {M : Type 1} {𝓤 : URA M} {H : Heap 𝓤} {A : Atoms 𝓤} {K : Type 0} {W : Given 𝓤 H A} {Γ : List (Item 𝓤)} {E : Env 𝓤 H} {C : Calls 𝓤 H} {Λ : Loops 𝓤 H} {q : Post 𝓤 H} {d : Place} {os : List Operand} {rest : Body} where
-  pub opens : K → FmC 𝓤 H (W .laws) C → (mem : Memory → SProp 𝓤) (run : Routine → Fun 𝓤) → Triple 𝓤 (C #open-index) (Open 𝓤 H A mem run) → (κ : Lft) (s : Share) (x y z : RefT (List ℕ))
+module _ {M : Type 1} {𝓤 : URA M} {H : Heap 𝓤} {A : Atoms 𝓤} {K : Type 0} {W : Given 𝓤 H A} {Γ : List
+    (Item 𝓤)} {E : Env 𝓤 H} {C : Calls 𝓤 H} {Λ : Loops 𝓤 H} {q : Post 𝓤 H} {d : Place} {os : List Operand} {rest : Body} where
+  pub opens : K → FmC 𝓤 H (W .laws) C → (mem : Memory → SProp 𝓤) (run : Routine → Fun 𝓤) → Triple 𝓤 (C #open-index) (Open 𝓤 H A mem run) →
+      (κ : Lft) (s : Share) (x y z : RefT (List ℕ))
       → Opds K W (raw (Open 𝓤 H A mem run .pre (to-open 𝓤 H A W κ x y z s mem run)) ∷ Γ) E os (val x ∷ val y ∷ val z ∷ [])
       → ((a k f : ℕ) → Held x y z a k f → Seq K W ((‵ (flft κ s) ⊛ ‵ ftrue) ∷ Γ) (lands C Λ E d (T′.lowered (of z a k f)) rest q))
       → Seq K W (raw (Open 𝓤 H A mem run .pre (to-open 𝓤 H A W κ x y z s mem run)) ∷ Γ) (runs C Λ E (seq (call #open-index os d) rest) q)
   opens t fm mem run known κ s x y z reads next =
       let B : RattleType = T.the-row (namedLft 1 0 tt (κ, tt)) in
       calls-at t fm (Open 𝓤 H A mem run) known (to-open 𝓤 H A W κ x y z s mem run) reads (λ u.
-      use1 W (later (some (λ (r : Opened). ((‵ (flft κ s) ⊛ ‵ ftrue) ⊛ ‵ (B .own r (u ∷ []))) ⊛ raw (ensured 𝓤 H A opener.ended (opener.clauses 𝓤 H A mem run) (κ, tt) (x, (y, (z, tt))) tt r)))) (id⊢ 𝓤 _) $ await t tt $ pick t (λ r.
-      split t $ move t (1 ∷ []) $ use1 W (raw (fact 𝓤 (Told 𝓤 H A W κ x y z s mem run r))) (told 𝓤 H A W κ x y z s mem run r) $ heard t (Told 𝓤 H A W κ x y z s mem run r) (λ m. split t $ move t (1 ∷ []) $
+      use1 W (later (some (λ (r : Opened). ((‵ (flft κ s) ⊛ ‵ ftrue) ⊛ ‵ (B .own r (u ∷ []))) ⊛ raw
+      (ensured 𝓤 H A opener.ended (opener.clauses 𝓤 H A mem run) (κ, tt) (x, (y, (z, tt))) tt r)))) (id⊢ 𝓤 _) $ await t tt $ pick t
+      (λ r.
+      split t $ move t (1 ∷ []) $ use1 W (raw (fact 𝓤 (Told 𝓤 H A W κ x y z s mem run r))) (told 𝓤 H A W κ x y z s mem run r) $ heard t
+      (Told 𝓤 H A W κ x y z s mem run r) (λ m. split t $ move t (1 ∷ []) $
       -- [what the record owns; the token; …]
-      rewrite t 0 (λ (h : Opened). ‵ (B .own h (u ∷ []))) (λ i. record { numbers = m .0 i; refusal = r .refusal; keys = r .keys; first = r .first }) refl $
+      rewrite t 0 (λ (h : Opened). ‵ (B .own h (u ∷ []))) (λ i. record {
+        numbers = m .0 i;
+        refusal = r .refusal;
+        keys = r .keys;
+        first =
+            r .first;
+      }) refl $
       facts t B (Is B) (shows 𝓤 H A B) (of z (r .refusal) (r .keys) (r .first)) (u ∷ []) (λ is.
       let h = held 𝓤 H A W κ x y z (r .refusal) (r .keys) (r .first) u is (m .1) in
-      subst (λ (v : Val). Seq K W ((‵ (flft κ s) ⊛ ‵ ftrue) ∷ Γ) (lands C Λ E d v rest q)) (h .0) (next (r .refusal) (r .keys) (r .first) (h .1))))))
+      subst (λ (v : Val). Seq K W ((‵ (flft κ s) ⊛ ‵ ftrue) ∷ Γ) (lands C Λ E d v rest q)) (h .0)
+      (next (r .refusal) (r .keys) (r .first) (h .1))))))

@@ -125,13 +125,13 @@ fn word_line_good(
 }
 
 // A word's number and where its characters start.
-struct Position {
+struct Cursor {
     word: usize,
     at: usize,
 }
 
 // The first word from `from` on that does not start with a character below `value`.
-fn skip_below(chars: &[u16], lengths: &[u16], from: Position, value: u16) -> Position
+fn skip_below(chars: &[u16], lengths: &[u16], from: Cursor, value: u16) -> Cursor
     requires { ⌜ Passed (now chars) (now lengths) (from .word) (from .at) value ⌝ }
     ensures { λ r. ⌜ Reached (now (chars .entry)) (now (lengths .entry)) (r .word) (r .at) value ⌝ }
 {
@@ -139,21 +139,21 @@ fn skip_below(chars: &[u16], lengths: &[u16], from: Position, value: u16) -> Pos
     let mut at = from.at;
     while word < lengths.len() {
         if value <= chars[at] {
-            return Position { word, at };
+            return Cursor { word, at };
         }
         at += lengths[word] as usize;
         word += 1;
     }
-    Position { word, at }
+    Cursor { word, at }
 }
 
 // Whether the one character `value` is a word, which could only be the word reached.
-fn is_reached(chars: &[u16], lengths: &[u16], position: Position, value: u16) -> bool
-    requires { ⌜ Reached (now chars) (now lengths) (position .word) (position .at) value ⌝ }
+fn is_reached(chars: &[u16], lengths: &[u16], cursor: Cursor, value: u16) -> bool
+    requires { ⌜ Reached (now chars) (now lengths) (cursor .word) (cursor .at) value ⌝ }
     ensures { λ r. ⌜ r ≡ is-word (lexicon (now (chars .entry)) (now (lengths .entry))) (value ∷ []) ⌝ }
 {
-    let word = position.word;
-    let at = position.at;
+    let word = cursor.word;
+    let at = cursor.at;
     if lengths.len() <= word {
         return false;
     }
@@ -181,7 +181,7 @@ fn lone_lines(
     let keys = index[1] as usize;
     let mut at = start;
     let mut least = 0;
-    let mut words = Position { word: 0, at: 0 };
+    let mut words = Cursor { word: 0, at: 0 };
     let mut i = from;
     while i < keys {
         let kind = index[2 + 3 * i];

@@ -24,8 +24,8 @@ use Rattle.spec.specs.Published.{Item, item, maximal-items}
 use Rattle.spec.specs.JobAnswer.{Job-says}
 use Rattle.spec.specs.Calls.{Admit-says, Build-says, Receive-says, Recover-says, Search-says, Cut-says, First-says, Tally-says}
 use Rattle.spec.specs.Calls.{To-gaps-says, From-gaps-says}
-use Rattle.spec.specs.RefusalTable.{Written, Untouched, Cleared, Has-text, dictionary-rows, build-rows, index-rows, reception-rows, recovery-rows, string-rows, find-rows, Decides}
-use Rattle.spec.specs.RefusalTable.{gaps-rows}
+use Rattle.spec.specs.RefusalTable.{Written, Untouched, Cleared, Has-text, dictionary-rows, build-rows, index-rows, reception-rows}
+use Rattle.spec.specs.RefusalTable.{recovery-rows, string-rows, find-rows, Decides, gaps-rows}
 use Rattle.spec.specs.ProgramDemand.{Answered}
 use Rattle.spec.specs.declared.Answer.{Answer}
 use Rattle.spec.specs.declared.FirstAnswer.{FirstAnswer}

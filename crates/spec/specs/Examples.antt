@@ -1,26 +1,31 @@
 -- Document 01's starred examples as one table, and a second table of further tries, each row proved by computation. Assumes nothing.
 use mathlib.Core.Path.{_≡_, refl}
-use mathlib.Core.Bool.{true, false, cond}
+use mathlib.Core.Bool.{true, false}
 use mathlib.Core.List.{List, [], _∷_, _++_}
 use Prim.Native.Nat.{ℕ, suc, _-_}
 use native.Mathlib.Omega.{arith}
-use lib.Dec.{eqb}
 use lib.IntN.{pos, negsuc}
 use lib.ListN.{length, replicate}
 use Rattle.spec.specs.Replaced.{is-full-width, replaced-char, replaced, holds-full-width}
 use Rattle.spec.specs.Dictionary.{longest-text, Lexicon, lexicon, dictionary-refusal, is-char, words-from, total, too-large}
 use Rattle.spec.specs.Dictionary.{length-good, lengths-good, lengths-wrong, word-before, ascend, disordered, some-full-width}
 use Rattle.spec.specs.Dictionary.{unreplaced}
-use Rattle.spec.specs.Words.{Entry, key, same, listed, is-word, spells, stands, entry, contains, same-key, same-entry, key-entries, word-entries, lone-entries, complete, in-another, maximal, entries}
-use Rattle.spec.specs.Numbers.{index-of, key-before, entry-before, into, sorted, line, with-entry, lines-of, directory, all-positions, numbers}
-use Rattle.spec.specs.Index.{entries-of, readable, counts-from, lines-from, lines-in, kinds-good, key-good, keys-ascend, rise-from, last-of, line-good, lines-good, lengths-fit}
+use Rattle.spec.specs.Words.{key, same, listed, is-word, spells, stands, entry, contains, same-key, same-entry, key-entries}
+use Rattle.spec.specs.Words.{word-entries, lone-entries, complete, in-another, maximal, entries}
+use Rattle.spec.specs.Numbers.{index-of, key-before, entry-before, into, sorted, line, with-entry, lines-of, directory, all-positions}
+use Rattle.spec.specs.Numbers.{numbers}
+use Rattle.spec.specs.Index.{entries-of, readable, counts-from, lines-from, lines-in, kinds-good, key-good, keys-ascend, rise-from}
+use Rattle.spec.specs.Index.{last-of, line-good, lines-good, lengths-fit}
 use Rattle.spec.specs.Reception.{recovered, lies-on, shown-by, or-shown, shown, char-or, recovered-from, is-index, received}
-use Rattle.spec.specs.Search.{find, offset, in-offsets, agrees-at, overlaps, equal-from, agrees, string-start, key-start, covers, covered, all-covered, found-from}
+use Rattle.spec.specs.Search.{find, offset, in-offsets, agrees-at, overlaps, equal-from, agrees, string-start, key-start, covers}
+use Rattle.spec.specs.Search.{covered, all-covered, found-from}
 use Rattle.spec.specs.Cut.{bears, cut-down, lies-from, lies-in, joins-from, joins, bearing}
 use Rattle.spec.specs.Tally.{tally, shorter, of-length, tally-from}
 use Rattle.spec.specs.Theorems.{positions, positions-from}
-use Rattle.spec.specs.Calls.{index-refusal, reception-refusal, recovery-refusal, unreadable, work-short, output-short, no-text, or-else}
-use Rattle.spec.specs.JobAnswer.{decimal-within, decimal, digit-byte, hexadecimal, spaced, index-line, key-name, key-line, key-lines, index-lines}
+use Rattle.spec.specs.Calls.{index-refusal, reception-refusal, recovery-refusal, unreadable, work-short, output-short, no-text}
+use Rattle.spec.specs.Calls.{or-else}
+use Rattle.spec.specs.JobAnswer.{decimal-within, decimal, digit-byte, hexadecimal, spaced, index-line, key-name, key-line, key-lines}
+use Rattle.spec.specs.JobAnswer.{index-lines}
 use Rattle.spec.specs.Bytes.{bytes}
 
 -- the characters a, b, c, d, x
@@ -89,7 +94,7 @@ pub record Starred : Type 0 where
   pub each-once : find B (index-of B (replicate 4 a)) (a ∷ a ∷ []) ≡ 1 ∷ 2 ∷ 3 ∷ []
   pub word-missed :
       (readable longest-text A two-lone ≡ true) × (reception-refusal A-chars A-lengths two-lone 16 ≡ 9)
-  pub place-uncovered :
+  pub position-uncovered :
       (readable longest-text A one-lone ≡ true) × (reception-refusal A-chars A-lengths one-lone 16 ≡ 9)
   pub lone-word : index-refusal B-chars B-lengths (1 ∷ 1 ∷ 1 ∷ a ∷ 1 ∷ 1 ∷ []) ≡ 5
   pub one-bears :
@@ -130,8 +135,10 @@ pub record Tried : Type 0 where
   pub shorter-second : shorter 3 2 a b ≡ b
   pub shorter-tie : shorter 2 2 a b ≡ a
   pub offset-before : offset 2 5 ≡ negsuc 2
-  pub offset-least : (in-offsets (a ∷ b ∷ c ∷ []) (c ∷ d ∷ []) (negsuc 1) ≡ true) × (agrees-at (a ∷ b ∷ c ∷ []) (c ∷ d ∷ []) (negsuc 1) ≡ true)
-  pub offset-below : (in-offsets (a ∷ b ∷ c ∷ []) (c ∷ d ∷ []) (negsuc 2) ≡ false) × (agrees-at (a ∷ b ∷ c ∷ []) (c ∷ d ∷ []) (negsuc 2) ≡ false)
+  pub offset-least : (in-offsets (a ∷ b ∷ c ∷ []) (c ∷ d ∷ []) (negsuc 1) ≡ true) ×
+      (agrees-at (a ∷ b ∷ c ∷ []) (c ∷ d ∷ []) (negsuc 1) ≡ true)
+  pub offset-below : (in-offsets (a ∷ b ∷ c ∷ []) (c ∷ d ∷ []) (negsuc 2) ≡ false) ×
+      (agrees-at (a ∷ b ∷ c ∷ []) (c ∷ d ∷ []) (negsuc 2) ≡ false)
   pub offset-greatest : (in-offsets (d ∷ a ∷ []) (c ∷ d ∷ []) (pos 1) ≡ true) × (agrees-at (d ∷ a ∷ []) (c ∷ d ∷ []) (pos 1) ≡ true)
   pub offset-above : (in-offsets (d ∷ a ∷ []) (c ∷ d ∷ []) (pos 2) ≡ false) × (agrees-at (d ∷ a ∷ []) (c ∷ d ∷ []) (pos 2) ≡ false)
 
@@ -140,15 +147,17 @@ pub record Examples : Type 0 where
   pub tried : Tried
 
 -- an empty text has no position at which a string of one or more characters fits
-pub no-place : (m : ℕ) → 1 - suc m ≡ 0
-no-place m = omega arith
+pub no-position : (m : ℕ) → 1 - suc m ≡ 0
+no-position m = omega arith
 
 pub examples : Examples
-unfolding is-char words-from lexicon total too-large length-good lengths-good lengths-wrong word-before ascend disordered is-full-width replaced-char replaced holds-full-width
+unfolding is-char words-from lexicon total too-large length-good lengths-good lengths-wrong word-before ascend disordered is-full-width
+    replaced-char replaced holds-full-width
     some-full-width unreplaced dictionary-refusal key same listed is-word spells stands entry contains same-key same-entry key-entries
     word-entries lone-entries complete in-another maximal entries key-before entry-before into sorted line with-entry lines-of directory
     all-positions numbers index-of counts-from entries-of lines-from lines-in kinds-good key-good keys-ascend rise-from last-of line-good
-    lines-good lengths-fit readable lies-on shown-by or-shown shown char-or recovered-from recovered is-index received positions-from positions
+    lines-good lengths-fit readable lies-on shown-by or-shown shown char-or recovered-from recovered is-index received positions-from
+    positions
     overlaps equal-from agrees offset in-offsets string-start key-start agrees-at covers covered all-covered found-from find lies-from
     lies-in joins-from joins bears bearing cut-down of-length tally-from tally shorter unreadable work-short output-short no-text or-else
     index-refusal reception-refusal recovery-refusal bytes decimal-within decimal digit-byte hexadecimal spaced index-line key-name
@@ -159,11 +168,11 @@ examples =
           record {
             overlapping-words = refl;
             lone-characters = (refl, refl);
-            empty-text = (refl, λ h s. rw (no-place (length s)));
+            empty-text = (refl, λ h s. rw (no-position (length s)));
             longest-only = refl;
             each-once = refl;
             word-missed = (refl, refl);
-            place-uncovered = (refl, refl);
+            position-uncovered = (refl, refl);
             lone-word = refl;
             one-bears = (refl, refl, refl);
             longer-string = refl;

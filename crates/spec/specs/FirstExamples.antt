@@ -22,15 +22,18 @@ use Rattle.spec.specs.Dictionary.{
   some-full-width,
   unreplaced,
 }
-use Rattle.spec.specs.Words.{key, same, listed, is-word, spells, stands, entry, contains, same-key, same-entry, key-entries, word-entries, lone-entries, complete, in-another, maximal, entries}
-use Rattle.spec.specs.Numbers.{index-of, key-before, entry-before, into, sorted, line, with-entry, lines-of, directory, all-positions, numbers}
-use Rattle.spec.specs.Index.{entries-of, readable, counts-from, lines-from, lines-in, kinds-good, key-good, keys-ascend, rise-from, last-of, line-good, lines-good, lengths-fit}
+use Rattle.spec.specs.Words.{key, same, listed, is-word, spells, stands, entry, contains, same-key, same-entry, key-entries}
+use Rattle.spec.specs.Words.{word-entries, lone-entries, complete, in-another, maximal, entries}
+use Rattle.spec.specs.Numbers.{index-of, key-before, entry-before, into, sorted, line, with-entry, lines-of, directory, all-positions}
+use Rattle.spec.specs.Numbers.{numbers}
+use Rattle.spec.specs.Index.{entries-of, readable, counts-from, lines-from, lines-in, kinds-good, key-good, keys-ascend, rise-from}
+use Rattle.spec.specs.Index.{last-of, line-good, lines-good, lengths-fit}
 use Rattle.spec.specs.Reception.{lies-on, shown-by, or-shown, shown, char-or, recovered-from, recovered, is-index, received}
 use Rattle.spec.specs.Search.{find, overlaps, equal-from, agrees, covers, covered, all-covered, found-from}
 use Rattle.spec.specs.First.{first-of, first-position, positions-to, with-line, lines-to, index-to}
 use Rattle.spec.specs.Cut.{bears, cut-down, lies-from, lies-in, joins-from, joins, bearing}
 use Rattle.spec.specs.Calls.{string-wrong, index-refusal, string-refusal, unreadable, or-else}
-use Rattle.spec.specs.Examples.{a, b, c, d, x, A-chars, A-lengths, A, B, abcdab, axa, two-lone, no-place}
+use Rattle.spec.specs.Examples.{a, b, c, d, x, A-chars, A-lengths, A, B, abcdab, axa, two-lone, no-position}
 
 -- word bcd and lone c at 1, lone d at 2 of three characters: no text has it
 abbrev pub bcd-and-lone : List ℕ
@@ -89,7 +92,7 @@ first-tried =
       at-the-end = refl;
       none = refl;
       longer-string = refl;
-      empty-text = λ h s. rw (no-place (length s));
+      empty-text = λ h s. rw (no-position (length s));
       no-text = refl;
       no-text-later = refl;
       cut-down-end = refl;

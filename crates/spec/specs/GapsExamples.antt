@@ -22,12 +22,12 @@ use Rattle.spec.specs.Dictionary.{
   some-full-width,
   unreplaced,
 }
-use Rattle.spec.specs.Words.{key, same, listed, is-word, spells, stands, entry, contains, same-key, same-entry}
-use Rattle.spec.specs.Words.{key-entries, word-entries, lone-entries, complete, in-another, maximal, entries}
-use Rattle.spec.specs.Numbers.{index-of, key-before, entry-before, into, sorted, line}
-use Rattle.spec.specs.Numbers.{with-entry, lines-of, directory, all-positions, numbers}
-use Rattle.spec.specs.Index.{entries-of, readable, counts-from, lines-from, lines-in, kinds-good, key-good, keys-ascend}
-use Rattle.spec.specs.Index.{rise-from, last-of, line-good, lines-good, lengths-fit}
+use Rattle.spec.specs.Words.{key, same, listed, is-word, spells, stands, entry, contains, same-key, same-entry, key-entries}
+use Rattle.spec.specs.Words.{word-entries, lone-entries, complete, in-another, maximal, entries}
+use Rattle.spec.specs.Numbers.{index-of, key-before, entry-before, into, sorted, line, with-entry, lines-of, directory, all-positions}
+use Rattle.spec.specs.Numbers.{numbers}
+use Rattle.spec.specs.Index.{entries-of, readable, counts-from, lines-from, lines-in, kinds-good, key-good, keys-ascend, rise-from}
+use Rattle.spec.specs.Index.{last-of, line-good, lines-good, lengths-fit}
 use Rattle.spec.specs.Gaps.{gaps-after, sums-after, gaps, prefix-sums, lists-from, with-lists, gap-form, restored}
 use Rattle.spec.specs.Calls.{unreadable, output-short, or-else, index-refusal, gaps-refusal}
 use Rattle.spec.specs.Examples.{a, x, A-chars, A-lengths, A}

@@ -1,6 +1,6 @@
 -- What the program prints: numbers, lists of positions, the lines of the answer, and the answer to a job sheet. Assumes nothing:
 -- these are definitions.
-use mathlib.Core.Bool.{Bool, _&&_, cond}
+use mathlib.Core.Bool.{cond}
 use mathlib.Core.List.{List, [], _∷_, _++_}
 use Prim.Native.Nat.{ℕ, zero, suc, _+_, _/_, _%_}
 use lib.Dec.{ltb, eqb}

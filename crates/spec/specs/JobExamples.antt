@@ -1,22 +1,27 @@
 -- Job sheets and their answers, each row proved by computation on literal bytes: document 01's example, its lone keys, and refused
 -- sheets. Assumes nothing.
 use mathlib.Core.Path.{_≡_, refl}
-use mathlib.Core.Bool.{Bool, true, false}
 use mathlib.Core.List.{List, [], _∷_, _++_}
 use Prim.Native.Nat.{ℕ, zero, suc}
 use Prim.Native.String.{String}
-use lib.ListN.{length, replicate}
+use lib.ListN.{replicate}
 use Rattle.spec.specs.Replaced.{is-full-width, replaced-char, replaced, holds-full-width}
-use Rattle.spec.specs.Dictionary.{lexicon, dictionary-refusal, words-from, total, too-large, length-good, lengths-good}
-use Rattle.spec.specs.Dictionary.{lengths-wrong, word-before, ascend, disordered, some-full-width, unreplaced}
-use Rattle.spec.specs.Words.{key, same, listed, is-word, spells, stands, entry, contains, same-key, same-entry, key-entries, word-entries, lone-entries, complete, in-another, maximal, entries}
-use Rattle.spec.specs.Numbers.{index-of, key-before, entry-before, into, sorted, line, with-entry, lines-of, directory, all-positions, numbers}
+use Rattle.spec.specs.Dictionary.{lexicon, dictionary-refusal, words-from, total, too-large, length-good, lengths-good, lengths-wrong}
+use Rattle.spec.specs.Dictionary.{word-before, ascend, disordered, some-full-width, unreplaced}
+use Rattle.spec.specs.Words.{key, same, listed, is-word, spells, stands, entry, contains, same-key, same-entry, key-entries}
+use Rattle.spec.specs.Words.{word-entries, lone-entries, complete, in-another, maximal, entries}
+use Rattle.spec.specs.Numbers.{index-of, key-before, entry-before, into, sorted, line, with-entry, lines-of, directory, all-positions}
+use Rattle.spec.specs.Numbers.{numbers}
 use Rattle.spec.specs.Index.{entries-of, counts-from, lines-from, lines-in}
 use Rattle.spec.specs.Reception.{lies-on}
 use Rattle.spec.specs.Search.{find, overlaps, equal-from, agrees, covers, covered, all-covered, found-from}
 use Rattle.spec.specs.Calls.{string-wrong, or-else, accepted}
-use Rattle.spec.specs.JobSheet.{digit, is-digit, character, is-spaced, ends-well, characters, is-form, string-in, onto-first, lines, forms, after, nothing-left, words-on, texts-on, finds-on, left-on, text-on, in-form, in-counts, sheet-too-long, sheet-wrong, run-together, lengths-of, some-string-wrong, contents-refusal, sheet-refusal}
-use Rattle.spec.specs.JobAnswer.{decimal-within, decimal, digit-byte, hexadecimal, spaced, index-line, key-name, key-line, key-lines, index-lines, found-line, found-lines, refused-line, lexicon-on, printed, job-answer}
+use Rattle.spec.specs.JobSheet.{digit, is-digit, character, is-spaced, ends-well, characters, is-form, string-in, onto-first, lines}
+use Rattle.spec.specs.JobSheet.{forms, after, nothing-left, words-on, texts-on, finds-on, left-on, text-on, in-form, in-counts}
+use Rattle.spec.specs.JobSheet.{sheet-too-long, sheet-wrong, run-together, lengths-of, some-string-wrong, contents-refusal}
+use Rattle.spec.specs.JobSheet.{sheet-refusal}
+use Rattle.spec.specs.JobAnswer.{decimal-within, decimal, digit-byte, hexadecimal, spaced, index-line, key-name, key-line, key-lines}
+use Rattle.spec.specs.JobAnswer.{index-lines, found-line, found-lines, refused-line, lexicon-on, printed, job-answer}
 use Rattle.spec.specs.Bytes.{bytes}
 
 -- SHEETS

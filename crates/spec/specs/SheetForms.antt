@@ -8,7 +8,9 @@ use lib.ListN.{length}
 use Rattle.basics.specs.Member.{In}
 use Rattle.spec.specs.Dictionary.{lexicon}
 use Rattle.spec.specs.Words.{same}
-use Rattle.spec.specs.JobSheet.{space, word-head, text-head, find-head, digit, is-digit, character, is-spaced, ends-well, characters, is-form, string-in, onto-first, lines, forms, after, nothing-left, words-on, texts-on, finds-on, left-on, text-on, in-form, run-together, lengths-of}
+use Rattle.spec.specs.JobSheet.{space, word-head, text-head, find-head, digit, is-digit, character, is-spaced, ends-well, characters}
+use Rattle.spec.specs.JobSheet.{is-form, string-in, onto-first, lines, forms, after, nothing-left, words-on, texts-on, finds-on}
+use Rattle.spec.specs.JobSheet.{left-on, text-on, in-form, run-together, lengths-of}
 use Rattle.spec.specs.JobAnswer.{digit-byte, hexadecimal, ending}
 use Rattle.spec.specs.Bytes.{bytes}
 
@@ -88,6 +90,7 @@ pub record Form-examples : Type 0 where
   pub word-after-text : in-form (text-line ++ word-line) ≡ false
 
 pub form-examples : Form-examples
-unfolding bytes same digit is-digit character is-spaced ends-well characters is-form string-in onto-first lines forms after nothing-left texts-on left-on in-form digit-byte hexadecimal spelled form form-lines rendered
+unfolding bytes same digit is-digit character is-spaced ends-well characters is-form string-in onto-first lines forms after nothing-left
+    texts-on left-on in-form digit-byte hexadecimal spelled form form-lines rendered
 form-examples =
     record { three-forms = refl; one-form = refl; text-alone = refl; two-texts = refl; find-before-text = refl; word-after-text = refl }

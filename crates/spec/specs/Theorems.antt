@@ -71,15 +71,15 @@ Recovers g =
     × (recovered (lexicon cs ls) (index-of (lexicon cs ls) ts) ≡ ts)
 
 -- p lies on an entry of the list
-unfoldable pub covers-place : (p : ℕ) → List Entry → Bool
-covers-place p [] = false
-covers-place p (e ∷ es) = lies-on (e .at) (e .len) p || covers-place p es
+unfoldable pub covers-position : (p : ℕ) → List Entry → Bool
+covers-position p [] = false
+covers-position p (e ∷ es) = lies-on (e .at) (e .len) p || covers-position p es
 
 -- Every position of a text lies in some entry of its index.
 unfoldable pub All-covered : (g : ℕ) → Type 0
 All-covered g =
     (cs ls ts : List ℕ) (p : ℕ) → admitted cs ls ≡ true → is-text g ts ≡ true → 1 ≤ p → p ≤ length ts →
-    covers-place p (entries (lexicon cs ls) ts) ≡ true
+    covers-position p (entries (lexicon cs ls) ts) ≡ true
 
 -- THE TALLY: "Their sum is M."
 unfoldable pub Tally-sums : (g : ℕ) → Type 0

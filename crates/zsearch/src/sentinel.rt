@@ -27,9 +27,9 @@ pub fn sentinel_of(string: &[u16]) -> u16
     requires { ⌜ length (now string) ≤ 256 ⌝ }
     ensures { λ r. ⌜ Least-absent (now (string .entry)) r ⌝ }
 {
-    let mut ground = 0u16;
-    while has_char(string, ground) {
-        ground += 1;
+    let mut sentinel = 0u16;
+    while has_char(string, sentinel) {
+        sentinel += 1;
     }
-    ground
+    sentinel
 }

@@ -61,15 +61,15 @@ below-cons b x xs h p y (inr m) = p y m
 
 -- n is below the bound
 module _ {lex : Lexicon} (good : Good-lexicon lex) (bound : ℕ) (n : ℕ) (short : n < bound) where
-  pub place-below : {l : Line} → Good-line lex n l → Below bound (l .positions)
-  place-below {l} h p m =
+  pub position-below : {l : Line} → Good-line lex n l → Below bound (l .positions)
+  position-below {l} h p m =
       omega (arith, h .fits p m, spells-some good (l .key-of) (h .is-key))
 
   pub positions-below : (ls : List Line) → ((l : Line) → In l ls → Good-line lex n l) → Below bound (all-positions ls)
   unfolding all-positions
   positions-below [] each = λ x m. absurd m
   positions-below (l ∷ ls) each =
-      below-append bound (l .positions) (all-positions ls) (place-below (each l (inl refl))) (positions-below ls (λ m i. each m (inr i)))
+      below-append bound (l .positions) (all-positions ls) (position-below (each l (inl refl))) (positions-below ls (λ m i. each m (inr i)))
 
   -- and so are characters
   module _ (wide : 65536 ≤ bound) where

@@ -142,10 +142,10 @@ module _ (lex : Lexicon) (xs s : List ℕ) where
 
   module _ {o w : ℕ} {old fs : List ℕ} {lo hi : ℕ} (h : Left o w old fs lo hi) where
     -- lines at both ends that do not agree are left out
-    pub left-narrow :
+    pub left-range :
         (from to : ℕ) → ((i : ℕ) → lo ≤ i → i < from → agrees s 0 (spells lex (key-at xs i)) o ≡ false) →
         ((i : ℕ) → to ≤ i → i < hi → agrees s 0 (spells lex (key-at xs i)) o ≡ false) → Left o w old fs from to
-    left-narrow from to before after =
+    left-range from to before after =
         record {
           way = h .way;
           within = h .within;

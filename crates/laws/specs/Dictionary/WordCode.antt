@@ -161,7 +161,8 @@ module _ (w v : List ℕ) (hw : Small w) (hv : Small v) where
       (⊎-elim
       (λ (p : (first-digit w ≡ first-digit v) × (first-digit (drop 1 w) < first-digit (drop 1 v))).
       digit-same w v (p .0) ∙ digit-less (drop 1 w) (drop 1 v) (p .1))
-      (λ (p : (first-digit w ≡ first-digit v) × (first-digit (drop 1 w) ≡ first-digit (drop 1 v)) × (first-digit (drop 2 w) < first-digit (drop 2 v))).
+      (λ (p : (first-digit w ≡ first-digit v) × (first-digit (drop 1 w) ≡ first-digit (drop 1 v)) ×
+      (first-digit (drop 2 w) < first-digit (drop 2 v))).
       below-first w v (p .0) (p .1) ∙ digit-less (drop 2 w) (drop 2 v) (p .2)))
       (differ w v hw hv h)
 
@@ -173,7 +174,8 @@ module _ (w v : List ℕ) (hw : Small w) (hv : Small v) where
       (⊎-elim
       (λ (p : (first-digit v ≡ first-digit w) × (first-digit (drop 1 v) < first-digit (drop 1 w))).
       digit-same w v (sym (p .0)) ∙ digit-more (drop 1 w) (drop 1 v) (p .1))
-      (λ (p : (first-digit v ≡ first-digit w) × (first-digit (drop 1 v) ≡ first-digit (drop 1 w)) × (first-digit (drop 2 v) < first-digit (drop 2 w))).
+      (λ (p : (first-digit v ≡ first-digit w) × (first-digit (drop 1 v) ≡ first-digit (drop 1 w)) ×
+      (first-digit (drop 2 v) < first-digit (drop 2 w))).
       below-first w v (sym (p .0)) (sym (p .1)) ∙ digit-more (drop 2 w) (drop 2 v) (p .2)))
       (differ v w hv hw h)
 

@@ -20,7 +20,7 @@ use Rattle.laws.specs.Dictionary.Lexicon.{admitted-lexicon}
 use Rattle.laws.specs.Numbers.Slices.{Fits, keys-of-numbers, positions-start}
 use Rattle.laws.specs.Numbers.LineNumbers.{line-of-is, line-of-in}
 use Rattle.laws.specs.Readable.Readable.{Readable, readable-get, last-in}
-use Rattle.laws.specs.Build.Bounds.{Below, place-below, positions-below}
+use Rattle.laws.specs.Build.Bounds.{Below, position-below, positions-below}
 use Rattle.laws.specs.Readable.LineWalk.{readable-fits}
 use Rattle.laws.specs.Gaps.GapLists.{length-gaps, length-sums, gaps-of-sums, sums-of-gaps, gaps-later, last-sums}
 use Rattle.laws.specs.Gaps.WithLists.{length-with, keys-with, directory-with, positions-with, same-with, lines-in-with, in-lines-with}
@@ -161,7 +161,7 @@ module _ (e : ℕ) (cs ls ds : List ℕ) (good : admitted cs ls ≡ true) (can :
 
       below : Below (suc e) (prefix-sums (l .positions))
       below =
-          place-below (admitted-lexicon cs ls good) (suc e) (n-of (restored ds)) (omega (arith, r .length-allowed))
+          position-below (admitted-lexicon cs ls good) (suc e) (n-of (restored ds)) (omega (arith, r .length-allowed))
           (r .lines .each (line (l .key-of) (prefix-sums (l .positions)))
           (rw (lines-in-with prefix-sums (length-sums 0) ds (restored-fits .has-directory)) (in-lines-with prefix-sums l (lines-in ds) m)))
 

@@ -11,8 +11,9 @@ use Rattle.basics.specs.LowerBound.{Rising, Lower-bound, rising-part}
 use Rattle.models.specs.MatchTable.{word, start-of}
 use Rattle.laws.specs.Dictionary.Lexicon.{admitted-ascend}
 use Rattle.laws.specs.Match.MatchTable.{Started, many-words, word-long, word-short, word-room, word-char}
-use Rattle.laws.specs.Match.PrefixRanges.{Last-standing, Narrowed, Lower-bound-at, narrow-hit, narrow-longer, narrow-rises}
-use Rattle.laws.specs.Match.PrefixRanges.{narrow-stop, narrow-step}
+use Rattle.laws.specs.Match.PrefixRanges.{Last-standing, Prefix-range, Lower-bound-at, prefix-range-hit, prefix-range-longer}
+use Rattle.laws.specs.Match.PrefixRanges.{prefix-range-rises}
+use Rattle.laws.specs.Match.PrefixRanges.{prefix-range-stop, prefix-range-step}
 
 -- the d-th character of word i
 abbrev pub column : (cs ss : List ℕ) (d i : ℕ) → ℕ
@@ -37,16 +38,16 @@ column-part h from to =
 
 module _
     {cs ls ss : List ℕ} (t : Started cs ls ss) {ts : List ℕ} {p k lo hi d best : ℕ}
-    (h : Narrowed (lexicon cs ls .words) ts p k lo hi d best) where
+    (h : Prefix-range (lexicon cs ls .words) ts p k lo hi d best) where
   known : (i : ℕ) → i < hi → i < length ls
   known i b = omega (arith, many-words cs ls (t .dictionary))
 
   pub run-known : lo < hi → lo < length ls
   run-known some = known lo some
 
-  pub run-hit : lo < hi → getD ls lo 0 ≡ d → Narrowed (lexicon cs ls .words) ts p k (lo + 1) hi d (lo + 1)
+  pub run-hit : lo < hi → getD ls lo 0 ≡ d → Prefix-range (lexicon cs ls .words) ts p k (lo + 1) hi d (lo + 1)
   run-hit some e =
-      narrow-hit (lexicon cs ls .words) ts p k h some (word-long cs ls (t .dictionary) lo (known lo some) ∙ e)
+      prefix-range-hit (lexicon cs ls .words) ts p k h some (word-long cs ls (t .dictionary) lo (known lo some) ∙ e)
 
   module _ (some : lo < hi) (more : getD ls lo 0 ≡ d → ⊥) where
     sorted : ascend (lexicon cs ls .words) ≡ true
@@ -60,7 +61,7 @@ module _
         omega (
           arith,
           word-long cs ls (t .dictionary) i (known i b),
-          narrow-longer (lexicon cs ls .words) ts p k h some sorted other i a b,
+          prefix-range-longer (lexicon cs ls .words) ts p k h some sorted other i a b,
         )
 
     -- a word has at most 32 characters, so the refinement ends
@@ -85,7 +86,7 @@ module _
                       arith,
                       column-word i a (omega arith),
                       column-word j (omega arith) c,
-                      narrow-rises (lexicon cs ls .words) ts p k h some sorted other i j a b c,
+                      prefix-range-rises (lexicon cs ls .words) ts p k h some sorted other i j a b c,
                     );
               };
           known = omega (arith, known (hi - 1) (omega arith));
@@ -102,11 +103,11 @@ module _
         }
 
     pub run-stop : suc (length ts) ≤ p + d → Last-standing (lexicon cs ls .words) ts p k best
-    run-stop past = narrow-stop (lexicon cs ls .words) ts p k h some sorted other past
+    run-stop past = prefix-range-stop (lexicon cs ls .words) ts p k h some sorted other past
 
     pub run-step :
         {c from to : ℕ} → c ≡ getD ts (p + d - 1) 0 → p + d ≤ length ts → Lower-bound (column cs ss d) lo hi c from →
-        Lower-bound (column cs ss d) from hi (c + 1) to → Narrowed (lexicon cs ls .words) ts p k from to (d + 1) best
+        Lower-bound (column cs ss d) from hi (c + 1) to → Prefix-range (lexicon cs ls .words) ts p k from to (d + 1) best
     run-step e room l r =
-        narrow-step (lexicon cs ls .words) ts p k h some sorted other e room
+        prefix-range-step (lexicon cs ls .words) ts p k h some sorted other e room
         (cut-words (omega arith) l) (cut-words (l .from) r)

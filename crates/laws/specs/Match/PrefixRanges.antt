@@ -54,7 +54,7 @@ pub record Last-standing (ws : List (List ℕ)) (ts : List ℕ) (p k number : �
 
 -- Words lo to hi − 1 have at least d characters and share these with the text at p; `best` is the last of the other words that stand
 -- there, as a number plus 1.
-pub record Narrowed (ws : List (List ℕ)) (ts : List ℕ) (p k lo hi d best : ℕ) : Type 0 where
+pub record Prefix-range (ws : List (List ℕ)) (ts : List ℕ) (p k lo hi d best : ℕ) : Type 0 where
   pub order : lo ≤ hi
   pub within : hi ≤ k
   pub known : k ≤ length ws
@@ -74,8 +74,8 @@ pub record Lower-bound-at (ws : List (List ℕ)) (lo hi d c r : ℕ) : Type 0 wh
   pub above : (i : ℕ) → r ≤ i → i < hi → c ≤ getD (getD ws i []) d 0
 
 module _ (ws : List (List ℕ)) (ts : List ℕ) (p k : ℕ) where
-  pub narrow-start : k ≤ length ws → 1 ≤ p → p ≤ suc (length ts) → Narrowed ws ts p k 0 k 0 0
-  narrow-start known from reach =
+  pub prefix-range-start : k ≤ length ws → 1 ≤ p → p ≤ suc (length ts) → Prefix-range ws ts p k 0 k 0 0
+  prefix-range-start known from reach =
       record {
         order = omega arith;
         within = omega arith;
@@ -89,9 +89,9 @@ module _ (ws : List (List ℕ)) (ts : List ℕ) (p k : ℕ) where
         rest = λ i b s. inr (omega arith, b);
       }
 
-  module _ {lo hi d best : ℕ} (h : Narrowed ws ts p k lo hi d best) where
-    pub narrow-end : hi ≤ lo → Last-standing ws ts p k best
-    narrow-end done =
+  module _ {lo hi d best : ℕ} (h : Prefix-range ws ts p k lo hi d best) where
+    pub prefix-range-end : hi ≤ lo → Last-standing ws ts p k best
+    prefix-range-end done =
         record {
           below = omega arith;
           stand = h .stand;
@@ -100,8 +100,8 @@ module _ (ws : List (List ℕ)) (ts : List ℕ) (p k : ℕ) where
 
     module _ (some : lo < hi) where
       -- a word of d characters stands, and takes the place of `best`
-      pub narrow-hit : length (getD ws lo []) ≡ d → Narrowed ws ts p k (lo + 1) hi d (lo + 1)
-      narrow-hit e =
+      pub prefix-range-hit : length (getD ws lo []) ≡ d → Prefix-range ws ts p k (lo + 1) hi d (lo + 1)
+      prefix-range-hit e =
           record {
             order = omega arith;
             within = h .within;
@@ -126,8 +126,8 @@ module _ (ws : List (List ℕ)) (ts : List ℕ) (p k : ℕ) where
 
       module _ (sorted : ascend ws ≡ true) (more : length (getD ws lo []) ≡ d → ⊥) where
         -- if the first has more than d characters, all have
-        pub narrow-longer : (i : ℕ) → lo ≤ i → i < hi → d < length (getD ws i [])
-        narrow-longer i a b =
+        pub prefix-range-longer : (i : ℕ) → lo ≤ i → i < hi → d < length (getD ws i [])
+        prefix-range-longer i a b =
             ⊎-elim (λ (l : length (getD ws i []) ≤ d). absurd (no l)) (λ (l : d < length (getD ws i [])). l)
             (le-or-lt (length (getD ws i [])) d)
           where
@@ -143,33 +143,33 @@ module _ (ws : List (List ℕ)) (ts : List ℕ) (p k : ℕ) where
                 (le-or-lt i lo)
 
         -- the d-th characters are nondecreasing
-        pub narrow-rises : (i j : ℕ) → lo ≤ i → i ≤ j → j < hi → getD (getD ws i []) d 0 ≤ getD (getD ws j []) d 0
-        narrow-rises i j a b c =
+        pub prefix-range-rises : (i j : ℕ) → lo ≤ i → i ≤ j → j < hi → getD (getD ws i []) d 0 ≤ getD (getD ws j []) d 0
+        prefix-range-rises i j a b c =
             ⊎-elim (λ (q : j ≤ i). let here : i ≡ j = omega arith in omega (arith, ap (λ (x : ℕ). getD (getD ws x []) d 0) here))
             (λ (q : i < j).
             next-rises (getD ws i []) (getD ws j []) d (ascend-get ws sorted i j q (omega arith))
-            (narrow-longer i a (omega arith)) (narrow-longer j (omega arith) c)
+            (prefix-range-longer i a (omega arith)) (prefix-range-longer j (omega arith) c)
             (λ x l. h .agree i x a (omega arith) l ∙ sym (h .agree j x (omega arith) c l)))
             (le-or-lt j i)
 
         -- if the text ends there, none of them stands
-        pub narrow-stop : suc (length ts) ≤ p + d → Last-standing ws ts p k best
-        narrow-stop past =
+        pub prefix-range-stop : suc (length ts) ≤ p + d → Last-standing ws ts p k best
+        prefix-range-stop past =
             record {
               below = omega arith;
               stand = h .stand;
               last =
                   λ i b s.
                   ⊎-elim (λ (l : i < best). l)
-                  (λ (q : (lo ≤ i) × (i < hi)). absurd (omega (arith, narrow-longer i (q .0) (q .1)))) (h .rest i b s);
+                  (λ (q : (lo ≤ i) × (i < hi)). absurd (omega (arith, prefix-range-longer i (q .0) (q .1)))) (h .rest i b s);
             }
 
         -- the equal range of the text's next character is left
-        pub narrow-step :
+        pub prefix-range-step :
             {c from to : ℕ} → c ≡ getD ts (p + d - 1) 0 → p + d ≤ length ts → Lower-bound-at ws lo hi d c from →
             Lower-bound-at ws from hi d (c + 1) to →
-            Narrowed ws ts p k from to (d + 1) best
-        narrow-step {c} {from} {to} e room l r =
+            Prefix-range ws ts p k from to (d + 1) best
+        prefix-range-step {c} {from} {to} e room l r =
             record {
               order = r .from;
               within = omega arith;
@@ -178,7 +178,7 @@ module _ (ws : List (List ℕ)) (ts : List ℕ) (p k : ℕ) where
               reach = omega arith;
               low = omega arith;
               stand = h .stand;
-              len = λ i a b. omega (arith, narrow-longer i (omega arith) (omega arith));
+              len = λ i a b. omega (arith, prefix-range-longer i (omega arith) (omega arith));
               agree = agree;
               rest = λ i b s. ⊎-elim (λ (q : i < best). inl q) (λ (q : (lo ≤ i) × (i < hi)). inr (left i s q)) (h .rest i b s);
             }
@@ -193,7 +193,7 @@ module _ (ws : List (List ℕ)) (ts : List ℕ) (p k : ℕ) where
 
             left : (i : ℕ) → Stand (getD ws i []) ts p → (lo ≤ i) × (i < hi) → (from ≤ i) × (i < to)
             left i s q =
-                let here : getD (getD ws i []) d 0 ≡ c = stand-at d s (narrow-longer i (q .0) (q .1)) ∙ sym e in
+                let here : getD (getD ws i []) d 0 ≡ c = stand-at d s (prefix-range-longer i (q .0) (q .1)) ∙ sym e in
                 let low : from ≤ i =
                 ⊎-elim (λ (z : from ≤ i). z) (λ (z : i < from). absurd (omega (arith, l .below i (q .0) z))) (le-or-lt from i) in
                 let high : i < to =

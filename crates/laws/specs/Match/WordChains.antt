@@ -149,10 +149,10 @@ module _ {cs ls heads links ss : List ℕ} (t : Tables cs ls heads links ss) (ts
         Pair-walk cs ls links ts q e (getD links (next - 1) 0)
     pair-miss h b = pair-stop .onward (h .no b)
 
-    pub pair-narrowed :
+    pub pair-ranged :
         {number : ℕ} → Last-standing (lexicon cs ls .words) ts (q + 1) next number →
         Pair-found (lexicon cs ls .words) ts (q + 1) (e + 1) number
-    pair-narrowed {number} h =
+    pair-ranged {number} h =
         record {
           below = omega (arith, pair-below);
           stand = h .stand;

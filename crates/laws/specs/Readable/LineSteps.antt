@@ -69,9 +69,9 @@ module _ (read : List ℕ → List ℕ) (lex : Lexicon) (xs : List ℕ) (i at le
         }
 
     -- if the line has no word key, the least number may be that of a lone key
-    pub lines-raise : 1 ≤ kind-at xs i → least ≤ 65536 → Lines-read read lex xs i at 65536
+    pub lines-extend : 1 ≤ kind-at xs i → least ≤ 65536 → Lines-read read lex xs i at 65536
     unfolding rest-good line-fits key-fits key
-    lines-raise lone small =
+    lines-extend lone small =
         let z : keys-of xs - i ≡ suc (keys-of xs - (i + 1)) = omega arith in
         record {
           within = h .within;

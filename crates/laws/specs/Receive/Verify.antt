@@ -88,10 +88,10 @@ token-entry-mapped lex mapped xs p (suc i) c x e = by-kind (true-or-false (eqb i
         rw (← here, ne-eqb (suc i) 4097 word, back)
 
 -- the token 0 has no entry
-unmarked : (lex : Lexicon) (p token c : ℕ) (x : Entry) → token-entry lex p token c ≡ x ∷ [] → token ≡ 0 → ⊥
+no-token : (lex : Lexicon) (p token c : ℕ) (x : Entry) → token-entry lex p token c ≡ x ∷ [] → token ≡ 0 → ⊥
 unfolding token-entry
-unmarked lex p zero c x e none = let z : _≡_ {A = ℕ} 0 1 = cc in omega arith
-unmarked lex p (suc i) c x e none = omega arith
+no-token lex p zero c x e none = let z : _≡_ {A = ℕ} 0 1 = cc in omega arith
+no-token lex p (suc i) c x e none = omega arith
 
 -- THE SCAN, TOKEN BY TOKEN
 
@@ -125,7 +125,7 @@ module _ (lex : Lexicon) (xs us ns : List ℕ) where
     passed none =
         ⊎-elim (λ (h : q + 1 + longest-at lex us (q + 1) .len ≤ e + 1). h)
         (λ (h : e + 1 < q + 1 + longest-at lex us (q + 1) .len).
-        absurd (unmarked lex (q + 1) token (getD us (q + 1 - 1) 0) (longest-at lex us (q + 1)) (s .registered h .0) none))
+        absurd (no-token lex (q + 1) token (getD us (q + 1 - 1) 0) (longest-at lex us (q + 1)) (s .registered h .0) none))
         (le-or-lt (q + 1 + longest-at lex us (q + 1) .len) (e + 1))
 
     registered : (token ≡ 0 → ⊥) → e + 1 < q + 1 + longest-at lex us (q + 1) .len

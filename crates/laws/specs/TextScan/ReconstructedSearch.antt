@@ -38,16 +38,16 @@ module _ (lex : Lexicon) (ls : List Line) (n g : ℕ) (all : All-stand lex ls (r
   reconstructed-covers :
       (p : ℕ) → Stand s (reconstructed-over lex ls n g) p → (x : ℕ) → p ≤ x → x < p + length s →
       (e : Entry) × In e (flat lex ls) × (e .at ≤ x) × (x < e .at + e .len)
-  reconstructed-covers p st x lo hi = by-place (reconstruct-either lex (flat lex ls) (replicate {A = ℕ} n g) (x - 1))
+  reconstructed-covers p st x lo hi = by-position (reconstruct-either lex (flat lex ls) (replicate {A = ℕ} n g) (x - 1))
     where
-      by-place :
+      by-position :
           (getD (reconstructed-over lex ls n g) (x - 1) 0 ≡ getD (replicate {A = ℕ} n g) (x - 1) 0)
           ⊎ ((e : Entry) × In e (flat lex ls) × (e .at - 1 ≤ x - 1) × (x - 1 < e .at - 1 + length (spells lex (e .key-of)))) →
           (e : Entry) × In e (flat lex ls) × (e .at ≤ x) × (x < e .at + e .len)
-      by-place (inl bare) =
+      by-position (inl bare) =
           let within : x - 1 < n = omega (arith, length-reconstructed lex ls n g) in
           absurd (other (x - p) (omega arith) (st .equal x lo hi ∙ bare ∙ getD-replicate {A = ℕ} n (x - 1) g 0 within))
-      by-place (inr on) =
+      by-position (inr on) =
           let from : 1 ≤ on .0 .at = all (on .0) (on .1) .from in (
             on .0,
             on .1,

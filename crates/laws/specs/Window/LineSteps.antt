@@ -103,8 +103,8 @@ module _ (f : ℕ → List ℕ → List ℕ) (a b : ℕ) (old : List ℕ) where
         progress-step (run f (lo + 1) hi) h (run-next f lo hi some rs) kept r
 
     -- those at both ends are skipped
-    pub left-narrow : (r t : ℕ) → lo ≤ r → r ≤ t → t ≤ hi → Unchanged f lo r → Unchanged f t hi → Left f a b old rs highest r t
-    left-narrow r t p q s front back =
+    pub left-range : (r t : ℕ) → lo ≤ r → r ≤ t → t ≤ hi → Unchanged f lo r → Unchanged f t hi → Left f a b old rs highest r t
+    left-range r t p q s front back =
         progress-pass (run f r t) h (run-skip f lo r t hi p q s front back rs)
 
     pub left-end : hi ≤ lo → Reaches (run f a b old) rs highest

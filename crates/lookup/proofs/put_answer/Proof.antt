@@ -4,12 +4,6 @@ use Rattle.laws.specs.JobSheet.AnswerLength.{answered}
 use Rattle.lookup.proofs.put_answer.Statement.{statement}
 use Rattle.lookup.proofs.put_answer.Tie as tie
 
-answer-requires : tie.Need-answer-requires
-answer-requires c κs = search needs
-
-same-length : tie.Need-same-length
-same-length c = search needs
-
 returns : tie.Need-returns
 returns c =
     let s = c .before .before .before .before .before .before in
@@ -17,4 +11,7 @@ returns c =
     answered (s .args .sheet .now) (call .result) (s .args .output .now) (call .last .1 .0) (s .pre) (call .ensures)
 
 pub put-answer-spec : {M : Type 1} → statement M
-put-answer-spec = tie.close (tie.spec answer-requires same-length returns)
+put-answer-spec =
+    tie.close
+    (tie.spec
+    (λ c κs. search needs) (λ c. search needs) returns)

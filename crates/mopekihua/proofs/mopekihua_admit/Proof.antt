@@ -3,11 +3,11 @@ use borrow.Author.Needs.{needs}
 use Rattle.mopekihua.proofs.mopekihua_admit.Statement.{statement}
 use Rattle.mopekihua.proofs.mopekihua_admit.Tie as tie
 
-admit-requires : tie.Need-admit-requires
-admit-requires c κs = search needs
-
 returns : tie.Need-returns
 returns c = c .admit .ensures
 
 pub mopekihua-admit-spec : {M : Type 1} → statement M
-mopekihua-admit-spec = tie.close (tie.spec admit-requires returns)
+mopekihua-admit-spec =
+    tie.close
+    (tie.spec
+    (λ c κs. search needs) returns)

@@ -4,15 +4,6 @@ use Rattle.laws.specs.Text.Chars.{lent-chars}
 use Rattle.mopekihua.proofs.mopekihua_build.Statement.{statement}
 use Rattle.mopekihua.proofs.mopekihua_build.Tie as tie
 
-build-requires : tie.Need-build-requires
-build-requires c κs = search needs
-
-same-length : tie.Need-same-length
-same-length c = search needs
-
-same-length-2 : tie.Need-same-length-2
-same-length-2 c = search needs
-
 returns : tie.Need-returns
 returns c = (
   c .before .before .before .before .build .ensures,
@@ -25,4 +16,7 @@ returns c = (
 )
 
 pub mopekihua-build-spec : {M : Type 1} → statement M
-mopekihua-build-spec = tie.close (tie.spec build-requires same-length same-length-2 returns)
+mopekihua-build-spec =
+    tie.close
+    (tie.spec
+    (λ c κs. search needs) (λ c. search needs) (λ c. search needs) returns)

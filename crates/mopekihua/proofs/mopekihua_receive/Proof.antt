@@ -4,12 +4,6 @@ use Rattle.laws.specs.Text.Chars.{lent-chars}
 use Rattle.mopekihua.proofs.mopekihua_receive.Statement.{statement}
 use Rattle.mopekihua.proofs.mopekihua_receive.Tie as tie
 
-receive-requires : tie.Need-receive-requires
-receive-requires c κs = search needs
-
-same-length : tie.Need-same-length
-same-length c = search needs
-
 returns : tie.Need-returns
 returns c = (
   c .before .before .receive .ensures,
@@ -18,4 +12,7 @@ returns c = (
 )
 
 pub mopekihua-receive-spec : {M : Type 1} → statement M
-mopekihua-receive-spec = tie.close (tie.spec receive-requires same-length returns)
+mopekihua-receive-spec =
+    tie.close
+    (tie.spec
+    (λ c κs. search needs) (λ c. search needs) returns)

@@ -10,20 +10,28 @@ use Rattle.bearing.proofs.bearing.flag_bearing.Tie as tie
 count-word-lines-requires : tie.Need-count-word-lines-requires
 count-word-lines-requires c κs =
     let s = c .before .before .before .before .before .before in
-    let a = s .args in
     (s .pre .0 .fits, kinds-rise (s .pre .0))
 
 flag-before-requires : tie.Need-flag-before-requires
 flag-before-requires c κs =
     let s = c .before .before .before .before .before .before .before .before in
-    let a = s .args in
-    (s .pre .0, s .pre .1, s .pre .2 .some, c .before .count-word-lines .ensures .to, flags-none (lexicon (a .chars .now) (a .lengths .now)) (a .index .now) (a .string .now) (a .flags .now) (s .pre .4) (s .pre .3))
+    let a = s .args in (
+      s .pre .0,
+      s .pre .1,
+      s .pre .2 .some,
+      c .before .count-word-lines .ensures .to,
+      flags-none (lexicon (a .chars .now) (a .lengths .now)) (a .index .now) (a .string .now) (a .flags .now) (s .pre .4) (s .pre .3),
+    )
 
 flag-within-requires : tie.Need-flag-within-requires
 flag-within-requires c κs =
-    let s = c .before .before .before .before .before .before .before .before .before .before .before .before in
-    let a = s .args in
-    (s .pre .0, s .pre .1, split-found (s .pre .0) (c .before .before .before .before .before .count-word-lines .ensures), s .pre .2, c .before .before .before .flag-before .ensures .way .flags)
+    let s = c .before .before .before .before .before .before .before .before .before .before .before .before in (
+      s .pre .0,
+      s .pre .1,
+      split-found (s .pre .0) (c .before .before .before .before .before .count-word-lines .ensures),
+      s .pre .2,
+      c .before .before .before .flag-before .ensures .way .flags,
+    )
 
 same-length : tie.Need-same-length
 same-length c = search needs
@@ -31,11 +39,11 @@ same-length c = search needs
 returns : tie.Need-returns
 returns c =
     let s = c .before .before .before .before .before .before .before .before .before .before .before .before .before .before .before in
-    let a = s .args in
     let back = c .before .before .before .before .before .before .flag-before in
     let within = c .before .before .flag-within in
     flags-exact-flags (s .pre .0)
-    (split-found (s .pre .0) (c .before .before .before .before .before .before .before .before .count-word-lines .ensures)) (s .pre .2) (back .ensures) (within .ensures)
+    (split-found (s .pre .0) (c .before .before .before .before .before .before .before .before .count-word-lines .ensures)) (s .pre .2)
+    (back .ensures) (within .ensures)
 
 pub flag-bearing-spec : {M : Type 1} → statement M
 flag-bearing-spec =

@@ -28,7 +28,8 @@ small c = omega arith
 -- the answer of `agrees_at`, with the offset as two starts
 agreed :
     (c : tie.After-agrees-at Inv-loop μ-loop) →
-    agrees (c .before .before .before .before .before .before .before .before .args .string .now) (c .before .before .before .before .loop .i) (c .before .before .before .before .before .before .before .before .args .key .now) 0
+    agrees (c .before .before .before .before .before .before .before .before .args .string .now)
+    (c .before .before .before .before .loop .i) (c .before .before .before .before .before .before .before .before .args .key .now) 0
     ≡ c .agrees-at .result
 agreed c =
     let a = c .before .before .before .before .before .before .before .before .args in
@@ -67,7 +68,8 @@ loop-again-2 : tie.Need-loop-again-2 Inv-loop μ-loop
 loop-again-2 c =
     let a = c .before .before .before .before .before .before .before .args in
     let l = c .before .before .before .loop in
-    before-next (a .key .now) (a .string .now) (l .inv) (key-starts-apart (l .i) (a .string .now) (a .key .now) (c .before .before .loop-test .taken) (c .if1 .left))
+    before-next (a .key .now) (a .string .now) (l .inv) (key-starts-apart (l .i) (a .string .now) (a .key .now)
+    (c .before .before .loop-test .taken) (c .if1 .left))
 
 returns-2 : tie.Need-returns-2 Inv-loop μ-loop
 returns-2 c =

@@ -32,18 +32,15 @@ key-of-requires c κs =
 
 add-line : tie.Need-add-line Inv-loop μ-loop
 add-line c =
-    let s = c .before .before .before .before .before .before .before .before .before in
     omega arith
 
 begins-before-requires : tie.Need-begins-before-requires Inv-loop μ-loop
 begins-before-requires c κs =
     let s = c .before .before .before .before .before .before .before .before .before in
-    let a = s .args in
     (spelt-short (s .pre .0) (c .before .before .loop .line) (omega arith) (c .key-of .result .now) (c .key-of .ensures), s .pre .2)
 
 slice-write-flags : tie.Need-slice-write-flags Inv-loop μ-loop
 slice-write-flags c =
-    let s = c .before .before .before .before .before .before .before .before .before .before .before in
     omega arith
 
 loop-again : tie.Need-loop-again Inv-loop μ-loop
@@ -53,7 +50,8 @@ loop-again c =
     let l = c .before .before .before .before .loop in (
       omega arith,
       backs-next (lexicon (a .chars .now) (a .lengths .now)) (a .index .now) (a .string .now) (l .inv .1) (omega arith)
-          (ap (λ (k : List ℕ). bears k (a .string .now)) (sym (c .before .before .key-of .ensures)) ∙ c .before .begins-before .ensures .0 (c .if1 .taken)),
+          (ap (λ (k : List ℕ). bears k (a .string .now)) (sym (c .before .before .key-of .ensures)) ∙
+          c .before .begins-before .ensures .0 (c .if1 .taken)),
     )
 
 loop-again-2 : tie.Need-loop-again-2 Inv-loop μ-loop
@@ -63,7 +61,8 @@ loop-again-2 c =
     let l = c .before .before .before .before .loop in (
       omega arith,
       backs-pass (lexicon (a .chars .now) (a .lengths .now)) (a .index .now) (a .string .now) (l .inv .1)
-          (λ p some. ap (λ (k : List ℕ). agrees (a .string .now) p k 0) (sym (c .before .before .key-of .ensures)) ∙ c .before .begins-before .ensures .1 (c .if1 .left) p some),
+          (λ p some. ap (λ (k : List ℕ). agrees (a .string .now) p k 0) (sym (c .before .before .key-of .ensures)) ∙
+          c .before .begins-before .ensures .1 (c .if1 .left) p some),
     )
 
 same-length : tie.Need-same-length Inv-loop μ-loop

@@ -19,7 +19,6 @@ loop-holds c = (c .pre .0, ones-none (c .args .from) (c .args .flags .now))
 
 loop-again : tie.Need-loop-again Inv-loop μ-loop
 loop-again c =
-    let a = c .before .before .args in
     let l = c .before .loop in
     (omega arith, ones-next (l .inv .1) (omega arith))
 

@@ -5,22 +5,18 @@ use Rattle.laws.specs.Cut.Flagging.{flagged-both}
 use Rattle.bearing.proofs.within.flag_offset.Statement.{statement}
 use Rattle.bearing.proofs.within.flag_offset.Tie as tie
 
-flag-words-requires : tie.Need-flag-words-requires
-flag-words-requires c κs = search needs
-
-flag-lone-requires : tie.Need-flag-lone-requires
-flag-lone-requires c κs = search needs
-
-same-length : tie.Need-same-length
-same-length c = search needs
-
 returns : tie.Need-returns
 returns c =
     let s = c .before .before .before .before .before .before .before .before .before .before .before .before .before .before in
     let a = s .args in
     let word-starts = c .before .before .before .before .before .before .flag-words in
     let lone = c .before .before .flag-lone in
-    flagged-both (lexicon (a .chars .now) (a .lengths .now)) (a .index .now) (a .string .now) (a .key-start) (a .word-lines) (s .pre .2 .within) (a .flags .now) (word-starts .last .1 .1 .1 .1 .1 .1 .1 .0) (lone .last .1 .1 .1 .1 .1 .1 .0) (word-starts .ensures) (lone .ensures)
+    flagged-both (lexicon (a .chars .now) (a .lengths .now)) (a .index .now) (a .string .now) (a .key-start) (a .word-lines)
+    (s .pre .2 .within) (a .flags .now) (word-starts .last .1 .1 .1 .1 .1 .1 .1 .0) (lone .last .1 .1 .1 .1 .1 .1 .0)
+    (word-starts .ensures) (lone .ensures)
 
 pub flag-offset-spec : {M : Type 1} → statement M
-flag-offset-spec = tie.close (tie.spec flag-words-requires flag-lone-requires same-length returns)
+flag-offset-spec =
+    tie.close
+    (tie.spec
+    (λ c κs. search needs) (λ c κs. search needs) (λ c. search needs) returns)

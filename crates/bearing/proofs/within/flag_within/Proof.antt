@@ -33,8 +33,11 @@ loop-again c =
     let s = c .before .before .before .before .before .before .before .before .before .before .before .before in
     let a = s .args in
     let l = c .before .before .before .before .before .loop in
-    let now = c .before .before .flag-offset in
-    (omega arith, offsets-next (lexicon (a .chars .now) (a .lengths .now)) (a .index .now) (a .string .now) (now .last .1 .1 .1 .1 .1 .1 .1 .0) (l .inv .1) (now .ensures))
+    let now = c .before .before .flag-offset in (
+      omega arith,
+      offsets-next (lexicon (a .chars .now) (a .lengths .now)) (a .index .now) (a .string .now)
+          (now .last .1 .1 .1 .1 .1 .1 .1 .0) (l .inv .1) (now .ensures),
+    )
 
 same-length : tie.Need-same-length Inv-loop μ-loop
 same-length c = c .before .loop .inv .1 .way .len

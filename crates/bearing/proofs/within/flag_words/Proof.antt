@@ -4,11 +4,12 @@ use mathlib.Core.Path.{_≡_, refl, sym, ap, _∙_}
 use mathlib.Core.Logic.{inl, inr}
 use Prim.Native.Nat.{ℕ, _+_, _-_, _<_}
 use native.Mathlib.Omega.{arith}
-use lib.ListN.{length, getD, set}
+use lib.ListN.{length, getD}
 use Rattle.spec.specs.Dictionary.{lexicon}
 use Rattle.spec.specs.Index.{value-at}
-use Rattle.laws.specs.Window.WordLines.{Shared-prefix, shared-prefix-start, shared-prefix-next, shared-word, shared-deep, shared-prefix-column, shared-prefix-deeper, shared-prefix-agrees, apart-front, apart-back}
-use Rattle.laws.specs.Cut.Flagging.{Left, ones-one, left-start, left-narrow, left-ones, left-end}
+use Rattle.laws.specs.Window.WordLines.{Shared-prefix, shared-prefix-start, shared-prefix-next, shared-word, shared-deep}
+use Rattle.laws.specs.Window.WordLines.{shared-prefix-column, shared-prefix-deeper, shared-prefix-agrees, apart-front, apart-back}
+use Rattle.laws.specs.Cut.Flagging.{Left, ones-one, left-start, left-range, left-ones, left-end}
 use Rattle.bearing.proofs.within.flag_words.Statement.{statement}
 use Rattle.bearing.proofs.within.flag_words.Tie as tie
 
@@ -22,21 +23,21 @@ abbrev μ-loop : tie.MeasureT-loop
     (high - low) + (32 - depth)
 
 -- the string goes on
-below : (c : tie.Else1 Inv-loop μ-loop) → c .before .before .before .before .before .before .before .before .before .args .key-start + c .before .before .loop .depth < length (c .before .before .before .before .before .before .before .before .before .args .string .now)
+below : (c : tie.Else1 Inv-loop μ-loop) → c .before .before .before .before .before .before .before .before .before .args .key-start +
+    c .before .before .loop .depth < length (c .before .before .before .before .before .before .before .before .before .args .string .now)
 below c = omega arith
 
 loop-holds : tie.Need-loop-holds Inv-loop μ-loop
 loop-holds c =
     let s = c .before .before .before .before .before .before in
     let a = s .args in (
-      left-start (lexicon (a .chars .now) (a .lengths .now)) (a .index .now) (a .string .now) (a .key-start) (a .word-lines) (s .pre .5) (s .pre .2 .within),
+      left-start (lexicon (a .chars .now) (a .lengths .now)) (a .index .now) (a .string .now) (a .key-start) (a .word-lines) (s .pre .5)
+          (s .pre .2 .within),
       shared-prefix-start (a .chars .now) (a .lengths .now) (a .index .now) (a .string .now) (a .key-start) (a .word-lines),
     )
 
 flag-lines-requires : tie.Need-flag-lines-requires Inv-loop μ-loop
 flag-lines-requires c κs =
-    let s = c .before .before .before .before .before .before .before .before .before .before in
-    let a = s .args in
     let l = c .before .before .before .loop in
     (l .inv .1 .order, omega arith)
 
@@ -50,28 +51,22 @@ returns c =
     let l = c .before .before .before .before .before .before .loop in
     let now = c .before .before .flag-lines in
     left-end (lexicon (a .chars .now) (a .lengths .now)) (a .index .now) (a .string .now)
-    (left-ones (lexicon (a .chars .now) (a .lengths .now)) (a .index .now) (a .string .now) (l .inv .0) (omega arith) (l .inv .1 .within) (now .ensures)
+    (left-ones (lexicon (a .chars .now) (a .lengths .now)) (a .index .now) (a .string .now) (l .inv .0) (omega arith) (l .inv .1 .within)
+    (now .ensures)
     (λ i x y. shared-prefix-agrees (s .pre .0) (s .pre .2) (s .pre .1) (l .inv .1) (s .pre .4) i x y (inl (omega arith)))) refl
 
 word-length-requires : tie.Need-word-length-requires Inv-loop μ-loop
 word-length-requires c κs =
     let s = c .before .before .before .before .before .before .before .before .before in
-    let a = s .args in
     let l = c .before .before .loop in
     (omega arith, shared-word (s .pre .0) (s .pre .2) (s .pre .1) (l .inv .1) (l .low) (omega arith) (c .before .loop-test .taken))
 
 slice-write-flags : tie.Need-slice-write-flags Inv-loop μ-loop
 slice-write-flags c =
-    let s = c .before .before .before .before .before .before .before .before .before .before .before in
-    let a = s .args in
-    let l = c .before .before .before .before .loop in
     omega arith
 
 add-low : tie.Need-add-low Inv-loop μ-loop
 add-low c =
-    let s = c .before .before .before .before .before .before .before .before .before .before .before in
-    let a = s .args in
-    let l = c .before .before .before .before .loop in
     omega arith
 
 loop-again : tie.Need-loop-again Inv-loop μ-loop
@@ -81,7 +76,9 @@ loop-again c =
     let l = c .before .before .before .before .loop in (
       left-ones (lexicon (a .chars .now) (a .lengths .now)) (a .index .now) (a .string .now) (l .inv .0) (omega arith) (l .inv .1 .within)
           (ones-one (l .low) (l .flags) (omega arith))
-          (λ i x y. let e : i ≡ l .low = omega arith in shared-prefix-agrees (s .pre .0) (s .pre .2) (s .pre .1) (l .inv .1) (s .pre .4) i x (omega arith) (inr (ap (λ (j : ℕ). getD (a .lengths .now) (value-at (a .index .now) j) 0) e ∙ sym (c .before .word-length .ensures) ∙ c .if2 .taken))),
+          (λ i x y. let e : i ≡ l .low = omega arith in shared-prefix-agrees (s .pre .0) (s .pre .2) (s .pre .1) (l .inv .1)
+          (s .pre .4) i x (omega arith) (inr (ap (λ (j : ℕ). getD (a .lengths .now) (value-at (a .index .now) j) 0) e ∙
+          sym (c .before .word-length .ensures) ∙ c .if2 .taken))),
       shared-prefix-next (s .pre .0) (s .pre .2) (s .pre .1) (l .inv .1) (c .before .before .before .loop-test .taken),
     )
 
@@ -97,9 +94,9 @@ shared-slice-read-character c = below (c .before .before .before)
 equal-range-requires : tie.Need-equal-range-requires Inv-loop μ-loop
 equal-range-requires c κs =
     let s = c .before .before .before .before .before .before .before .before .before .before .before .before in
-    let a = s .args in
     let l = c .before .before .before .before .before .loop in
-    shared-prefix-column (s .pre .0) (s .pre .2) (s .pre .1) (l .inv .1) (c .before .before .before .before .loop-test .taken) (λ e. c .before .if2 .left (c .before .before .word-length .ensures ∙ e))
+    shared-prefix-column (s .pre .0) (s .pre .2) (s .pre .1) (l .inv .1) (c .before .before .before .before .loop-test .taken)
+    (λ e. c .before .if2 .left (c .before .before .word-length .ensures ∙ e))
 
 add-depth : tie.Need-add-depth Inv-loop μ-loop
 add-depth c = omega (arith, below (c .before .before .before .before))
@@ -107,21 +104,28 @@ add-depth c = omega (arith, below (c .before .before .before .before))
 loop-less-2 : tie.Need-loop-less-2 Inv-loop μ-loop
 loop-less-2 c =
     let s = c .before .before .before .before .before .before .before .before .before .before .before .before .before in
-    let a = s .args in
     let l = c .before .before .before .before .before .before .loop in
-    omega (arith, shared-deep (s .pre .0) (s .pre .2) (s .pre .1) (l .inv .1) (c .before .before .before .before .before .loop-test .taken) (λ e. c .before .before .if2 .left (c .before .before .before .word-length .ensures ∙ e)))
+    omega (
+      arith,
+      shared-deep (s .pre .0) (s .pre .2) (s .pre .1) (l .inv .1) (c .before .before .before .before .before .loop-test .taken)
+          (λ e. c .before .before .if2 .left (c .before .before .before .word-length .ensures ∙ e)),
+    )
 
 loop-again-2 : tie.Need-loop-again-2 Inv-loop μ-loop
 loop-again-2 c =
     let s = c .before .before .before .before .before .before .before .before .before .before .before .before .before in
     let a = s .args in
     let l = c .before .before .before .before .before .before .loop in (
-      left-narrow (lexicon (a .chars .now) (a .lengths .now)) (a .index .now) (a .string .now) (l .inv .0) (c .equal-range .result .from) (c .equal-range .result .to)
-          (apart-front (s .pre .0) (s .pre .2) (s .pre .1) (l .inv .1) (c .before .before .before .before .before .loop-test .taken) (λ e. c .before .before .if2 .left (c .before .before .before .word-length .ensures ∙ e))
+      left-range (lexicon (a .chars .now) (a .lengths .now)) (a .index .now) (a .string .now) (l .inv .0) (c .equal-range .result .from)
+          (c .equal-range .result .to)
+          (apart-front (s .pre .0) (s .pre .2) (s .pre .1) (l .inv .1) (c .before .before .before .before .before .loop-test .taken)
+          (λ e. c .before .before .if2 .left (c .before .before .before .word-length .ensures ∙ e))
           refl (below (c .before .before .before .before)) (c .equal-range .ensures .0) (c .equal-range .ensures .1))
-          (apart-back (s .pre .0) (s .pre .2) (s .pre .1) (l .inv .1) (c .before .before .before .before .before .loop-test .taken) (λ e. c .before .before .if2 .left (c .before .before .before .word-length .ensures ∙ e))
+          (apart-back (s .pre .0) (s .pre .2) (s .pre .1) (l .inv .1) (c .before .before .before .before .before .loop-test .taken)
+          (λ e. c .before .before .if2 .left (c .before .before .before .word-length .ensures ∙ e))
           refl (below (c .before .before .before .before)) (c .equal-range .ensures .0) (c .equal-range .ensures .1)),
-      shared-prefix-deeper (s .pre .0) (s .pre .2) (s .pre .1) (l .inv .1) (c .before .before .before .before .before .loop-test .taken) (λ e. c .before .before .if2 .left (c .before .before .before .word-length .ensures ∙ e))
+      shared-prefix-deeper (s .pre .0) (s .pre .2) (s .pre .1) (l .inv .1) (c .before .before .before .before .before .loop-test .taken)
+          (λ e. c .before .before .if2 .left (c .before .before .before .word-length .ensures ∙ e))
           refl (below (c .before .before .before .before)) (c .equal-range .ensures .0) (c .equal-range .ensures .1),
     )
 

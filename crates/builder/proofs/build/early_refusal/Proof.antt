@@ -6,9 +6,6 @@ use borrow.Author.Needs.{needs}
 use Rattle.builder.proofs.build.early_refusal.Statement.{statement}
 use Rattle.builder.proofs.build.early_refusal.Tie as tie
 
-refusal-of-requires : tie.Need-refusal-of-requires
-refusal-of-requires c κs = search needs
-
 returns : tie.Need-returns
 returns c =
     let start = c .before .before .before .before .before in
@@ -23,9 +20,6 @@ returns-2 c =
     let start = c .before .before .before .before .before .before in
     sym (early-text (start .args .chars .now) (start .args .lengths .now) (start .args .text .now) (start .args .work)
     (sym (c .before .before .refusal-of .ensures) ∙ c .before .if1 .left) (c .if2 .taken))
-
-mul-if3 : tie.Need-mul-if3
-mul-if3 c = search needs
 
 returns-3 : tie.Need-returns-3
 returns-3 c =
@@ -43,4 +37,6 @@ returns-4 c =
 
 pub early-refusal-spec : {M : Type 1} → statement M
 early-refusal-spec =
-    tie.close (tie.spec refusal-of-requires returns returns-2 mul-if3 returns-3 returns-4)
+    tie.close
+    (tie.spec
+    (λ c κs. search needs) returns returns-2 (λ c. search needs) returns-3 returns-4)

@@ -6,37 +6,33 @@ use Rattle.builder.proofs.build.index_by.Tie as tie
 
 returns : tie.Need-returns
 returns c =
-    let start =
-    c .before .before .before .before .before .before .before .before .before .before .before .before .before .before .before .before .before in
+    let half = c .before .before .before .before .before .before .before .before in
+    let start = half .before .before .before .before .before .before .before .before .before in
     let k = c .before .before .before .before .before .before .before .before .chain-positions in
     token-entry-refused
     (start .pre .0) (k .ensures) (start .args .output .now) (c .if1 .taken)
 
 write-index-requires : tie.Need-write-index-requires
 write-index-requires c κs =
-    let start =
-    c .before .before .before .before .before .before .before .before .before .before .before .before .before .before .before .before .before .before .before .before .before in
+    let half = c .before .before .before .before .before .before .before .before .before .before in
+    let start = half .before .before .before .before .before .before .before .before .before .before .before in
     let k = c .before .before .before .before .before .before .before .before .before .before .before .before .chain-positions in (
-      linked-listable
-          (start .pre .0) (k .ensures),
+      linked-listable (start .pre .0) (k .ensures),
       (
         (
-          linked-keys
-              (start .pre .0) (k .ensures),
-          few-keys
-              (start .pre .0) (k .ensures),
+          linked-keys (start .pre .0) (k .ensures),
+          few-keys (start .pre .0) (k .ensures),
         ),
-        linked-room
-            (start .pre .0) (k .ensures) (start .args .output .now) (c .before .before .before .before .if1 .left),
+        linked-room (start .pre .0) (k .ensures) (start .args .output .now) (c .before .before .before .before .if1 .left),
       ),
     )
 
 returns-2 : tie.Need-returns-2
 returns-2 c =
-    let start =
-    c .before .before .before .before .before .before .before .before .before .before .before .before .before .before .before .before .before .before .before .before .before .before .before .before in
-    let k =
-    c .before .before .before .before .before .before .before .before .before .before .before .before .before .before .before .chain-positions in
+    let half = c .before .before .before .before .before .before .before .before .before .before .before .before in
+    let start = half .before .before .before .before .before .before .before .before .before .before .before .before in
+    let half = c .before .before .before .before .before .before .before in
+    let k = half .before .before .before .before .before .before .before .before .chain-positions in
     token-entry-put
     (start .pre .0) (k .ensures) (start .args .output .now) (c .before .before .write-index .last .1 .1 .1 .1 .0)
     (c .before .before .before .before .before .before .before .if1 .left) (c .before .before .write-index .ensures)

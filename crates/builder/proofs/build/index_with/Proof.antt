@@ -20,8 +20,8 @@ fill-match-table-requires c κs =
 
 scan-replaced-requires : tie.Need-scan-replaced-requires
 scan-replaced-requires c κs =
-    let start =
-    c .before .before .before .before .before .before .before .before .before .before .before .before .before .before .before .before .before .before .before .before .before .before in
+    let half = c .before .before .before .before .before .before .before .before .before .before .before in
+    let start = half .before .before .before .before .before .before .before .before .before .before .before in
     let cs = start .args .chars .now in
     let ls = start .args .lengths .now in
     let ts = start .args .text .now in
@@ -47,8 +47,9 @@ finish-requires c κs =
 
 returns : tie.Need-returns
 returns c =
-    let start =
-    c .before .before .before .before .before .before .before .before .before .before .before .before .before .before .before .before .before .before .before .before .before .before .before .before .before .before .before .before .before .before .before .before in
+    let far₁ = c .before .before .before .before .before .before .before .before .before .before .before .before in
+    let far₂ = far₁ .before .before .before .before .before .before .before .before .before .before .before .before in
+    let start = far₂ .before .before .before .before .before .before .before .before in
     let cs = start .args .chars .now in
     let ls = start .args .lengths .now in
     let ts = start .args .text .now in
@@ -56,8 +57,16 @@ returns c =
     build-tokens cs ls ts w (start .args .output .now)
     (λ i h. omega (
       arith,
-      c .before .before .before .before .before .before .before .before .before .before .before .before .before .before .before .before .before .before .before .before .before .before .before .before .before .before .before .before .before .before .before .shared-slice-known .given i,
-    )) (λ i h. omega (arith, c .before .before .before .before .before .before .before .before .before .before .before .before .before .before .before .before .before .before .before .before .before .before .before .before .before .before .before .before .before .shared-slice-known3 .given i))
+      c .before .before .before .before .before .before .before .before .before .before .before .before .before .before .before .before
+          .before .before .before .before .before .before .before .before .before .before .before .before .before .before .before
+          .shared-slice-known .given i,
+    ))
+    (λ i h. omega (
+      arith,
+      c .before .before .before .before .before .before .before .before .before .before .before .before .before .before .before .before
+          .before .before .before .before .before .before .before .before .before .before .before .before .before .shared-slice-known3
+          .given i,
+    ))
     (start .pre .0)
     (c .before .before .before .before .before .before .before .before .before .scan-replaced .ensures)
     (c .before .before .before .before .finish .result) (c .before .before .before .before .finish .last .1 .0)

@@ -3,17 +3,11 @@ use borrow.Author.Needs.{needs}
 use Rattle.builder.proofs.text.scan_replaced.Statement.{statement}
 use Rattle.builder.proofs.text.scan_replaced.Tie as tie
 
-replace-behind-requires : tie.Need-replace-behind-requires
-replace-behind-requires c κs = search needs
-
-scan-requires : tie.Need-scan-requires
-scan-requires c κs = search needs
-
-same-length : tie.Need-same-length
-same-length c = search needs
-
 returns : tie.Need-returns
 returns c = rw (c .before .before .before .before .before .before .replace-behind .ensures) at (c .before .before .scan .ensures .0)
 
 pub scan-replaced-spec : {M : Type 1} → statement M
-scan-replaced-spec = tie.close (tie.spec replace-behind-requires scan-requires same-length returns)
+scan-replaced-spec =
+    tie.close
+    (tie.spec
+    (λ c κs. search needs) (λ c κs. search needs) (λ c. search needs) returns)

@@ -20,7 +20,6 @@ loop-holds c = copying-start (c .args .list .now) (c .args .from) (c .args .outp
 
 add-output : tie.Need-add-output Inv-loop μ-loop
 add-output c =
-    let s = c .before .before .before in
     omega arith
 
 slice-write-output : tie.Need-slice-write-output Inv-loop μ-loop

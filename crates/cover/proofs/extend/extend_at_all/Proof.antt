@@ -6,7 +6,8 @@ use Prim.Native.Nat.{_+_, _-_}
 use native.Mathlib.Omega.{arith}
 use lib.ListN.{length, getD}
 use Rattle.basics.specs.Wrapping.{wrap-below, wrap-above}
-use Rattle.laws.specs.Window.ExtendAtPositions.{Extending, extending-start, extending-end, extending-outside, extending-passed, extending-extended}
+use Rattle.laws.specs.Window.ExtendAtPositions.{Extending, extending-start, extending-end, extending-outside, extending-passed}
+use Rattle.laws.specs.Window.ExtendAtPositions.{extending-extended}
 use borrow.Author.Needs.{needs}
 use Rattle.cover.proofs.extend.extend_at_all.Statement.{statement}
 use Rattle.cover.proofs.extend.extend_at_all.Tie as tie
@@ -46,31 +47,27 @@ add-at c = omega (arith, c .shared-slice-known2 .given (c .before .before .loop 
 
 extend-start-requires : tie.Need-extend-start-requires Inv-loop μ-loop
 extend-start-requires c κs =
-    let s = c .before .before .before .before .before .before .before .before .before .before in
     let end = c .before .before .before .before .before .before .before .max .ensures in
     (c .before .if1 .taken, omega (arith, end), omega (arith, end))
 
 loop-again : tie.Need-loop-again Inv-loop μ-loop
 loop-again c =
-    let s = c .before .before .before .before .before .before .before .before .before .before .before .before .before .before in
-    let a = s .args in
     let l = c .before .before .before .before .before .before .before .before .before .loop in
-    let p = c .before .before .before .before .before .before .wrapping-sub-usize .result in
     let end = c .before .before .before .before .before .before .before .before .before .before .before .max in
     let done = c .before .before .before .extend-start in
     extending-extended (l .inv) (c .before .before .before .before .before .before .before .before .loop-test .taken)
-    (own (c .before .before .before .before .before)) (c .before .before .before .before .before .if1 .taken) (end .ensures) (done .ensures) (c .if2 .taken) (c .before .before .before .before .before .before .before .before .before .before .max2 .result) (c .before .before .before .before .before .before .before .before .before .before .max2 .ensures)
+    (own (c .before .before .before .before .before)) (c .before .before .before .before .before .if1 .taken) (end .ensures)
+    (done .ensures) (c .if2 .taken) (c .before .before .before .before .before .before .before .before .before .before .max2 .result)
+    (c .before .before .before .before .before .before .before .before .before .before .max2 .ensures)
 
 loop-again-2 : tie.Need-loop-again-2 Inv-loop μ-loop
 loop-again-2 c =
-    let s = c .before .before .before .before .before .before .before .before .before .before .before .before .before .before in
-    let a = s .args in
     let l = c .before .before .before .before .before .before .before .before .before .loop in
-    let p = c .before .before .before .before .before .before .wrapping-sub-usize .result in
     let end = c .before .before .before .before .before .before .before .before .before .before .before .max in
     let done = c .before .before .before .extend-start in
     extending-passed (l .inv) (c .before .before .before .before .before .before .before .before .loop-test .taken)
-    (own (c .before .before .before .before .before)) (c .before .before .before .before .before .if1 .taken) (end .ensures) (done .ensures) (c .if2 .left)
+    (own (c .before .before .before .before .before)) (c .before .before .before .before .before .if1 .taken) (end .ensures)
+    (done .ensures) (c .if2 .left)
 
 loop-again-3 : tie.Need-loop-again-3 Inv-loop μ-loop
 loop-again-3 c =
@@ -79,7 +76,8 @@ loop-again-3 c =
     let l = c .before .before .before .before .loop in
     let w = c .before .wrapping-sub-usize in
     extending-outside (l .inv) (c .before .before .before .loop-test .taken)
-    (λ from. wrap-above (w .result) (getD (a .positions .now) (l .i) 0 + a .string-start) (a .first + a .key-start) (length (l .reach)) (w .ensures) (w .ok)
+    (λ from. wrap-above (w .result) (getD (a .positions .now) (l .i) 0 + a .string-start) (a .first + a .key-start) (length (l .reach))
+    (w .ensures) (w .ok)
     (omega arith) from (c .if1 .left))
 
 same-length : tie.Need-same-length Inv-loop μ-loop
@@ -87,7 +85,6 @@ same-length c = c .before .loop .inv .way .len
 
 returns : tie.Need-returns Inv-loop μ-loop
 returns c =
-    let a = c .before .before .before .before .before .before .args in
     let l = c .before .loop in
     extending-end (l .inv) (c .loop-test .left)
 

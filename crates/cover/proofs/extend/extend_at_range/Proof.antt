@@ -27,11 +27,16 @@ own :
     (c : tie.In-loop Inv-loop μ-loop) →
     let a = c .before .before .before .before .before .before .args in
     start (c .before) + (a .first + a .key-start) ≡ getD (a .positions .now) (c .before .loop .i) 0 + a .string-start
-own c = range-own (c .before .before .before .before .before .before .pre .2) (c .before .loop .i) (c .before .loop .inv .0) (c .loop-test .taken)
+own c = range-own (c .before .before .before .before .before .before .pre .2) (c .before .loop .i) (c .before .loop .inv .0)
+    (c .loop-test .taken)
 
 inside : (c : tie.In-loop Inv-loop μ-loop) → start (c .before) < length (c .before .loop .reach)
 inside c =
-    omega (arith, range-inside (c .before .before .before .before .before .before .pre .2) (c .before .loop .i) (c .before .loop .inv .0) (c .loop-test .taken))
+    omega (
+      arith,
+      range-inside (c .before .before .before .before .before .before .pre .2) (c .before .loop .i) (c .before .loop .inv .0)
+          (c .loop-test .taken),
+    )
 
 loop-holds : tie.Need-loop-holds Inv-loop μ-loop
 loop-holds c =
@@ -50,34 +55,28 @@ sub-p c = omega (arith, own (c .before))
 
 extend-start-requires : tie.Need-extend-start-requires Inv-loop μ-loop
 extend-start-requires c κs =
-    let s = c .before .before .before .before .before .before .before .before in
     let end = c .before .before .before .before .before .max .ensures in
     (inside (c .before .before), omega (arith, end), omega (arith, end))
 
 loop-again : tie.Need-loop-again Inv-loop μ-loop
 loop-again c =
-    let s = c .before .before .before .before .before .before .before .before .before .before .before .before in
-    let a = s .args in
     let l = c .before .before .before .before .before .before .before .loop in
     let end = c .before .before .before .before .before .before .before .before .before .max in
     let done = c .before .before .before .extend-start in (
       omega arith,
-      extending-extended (l .inv .1)
-          (omega arith) (own (c .before .before .before .before .before .before))
+      extending-extended (l .inv .1) (omega arith) (own (c .before .before .before .before .before .before))
           (inside (c .before .before .before .before .before .before)) (end .ensures) (done .ensures) (c .if1 .taken)
-          (c .before .before .before .before .before .before .before .before .max2 .result) (c .before .before .before .before .before .before .before .before .max2 .ensures),
+          (c .before .before .before .before .before .before .before .before .max2 .result)
+          (c .before .before .before .before .before .before .before .before .max2 .ensures),
     )
 
 loop-again-2 : tie.Need-loop-again-2 Inv-loop μ-loop
 loop-again-2 c =
-    let s = c .before .before .before .before .before .before .before .before .before .before .before .before in
-    let a = s .args in
     let l = c .before .before .before .before .before .before .before .loop in
     let end = c .before .before .before .before .before .before .before .before .before .max in
     let done = c .before .before .before .extend-start in (
       omega arith,
-      extending-passed (l .inv .1)
-          (omega arith) (own (c .before .before .before .before .before .before))
+      extending-passed (l .inv .1) (omega arith) (own (c .before .before .before .before .before .before))
           (inside (c .before .before .before .before .before .before)) (end .ensures) (done .ensures) (c .if1 .left),
     )
 

@@ -12,7 +12,8 @@ use Rattle.cover.proofs.extend.extend_key.Tie as tie
 -- the answer of `agrees_at`, with the offset as two starts
 agreed :
     (c : tie.After-agrees-at) →
-    agrees (c .before .before .before .before .before .args .string .now) (c .before .before .before .before .before .args .string-start) (c .before .before .before .before .before .args .key .now) (c .before .before .before .before .before .args .key-start)
+    agrees (c .before .before .before .before .before .args .string .now) (c .before .before .before .before .before .args .string-start)
+    (c .before .before .before .before .before .args .key .now) (c .before .before .before .before .before .args .key-start)
     ≡ c .agrees-at .result
 agreed c =
     let s = c .before .before .before .before .before in
@@ -28,7 +29,8 @@ cast-agrees-at-2 : tie.Need-cast-agrees-at-2
 cast-agrees-at-2 c = start-fits (c .before .before .before .before .args .string-start) (omega arith)
 
 sub-agrees-at : tie.Need-sub-agrees-at
-sub-agrees-at c = offset-fits32 (c .before .before .before .before .args .key-start) (c .before .before .before .before .args .string-start) (omega arith) (omega arith)
+sub-agrees-at c = offset-fits32 (c .before .before .before .before .args .key-start)
+    (c .before .before .before .before .args .string-start) (omega arith) (omega arith)
 
 returns : tie.Need-returns
 returns c =

@@ -27,7 +27,11 @@ returns-2 c =
     let w = c .before .wrapping-sub-usize in
     let reached = getD (a .reach .now) (a .p) 0 in
     extends-none (a .key-start) (a .end) (a .reach .now) (a .p)
-    (λ near. omega (arith, wrap-above (w .result) reached (a .key-start) (a .end - a .key-start) (w .ensures) (w .ok) (omega arith) near (c .if1 .left)))
+    (λ near. omega (
+      arith,
+      wrap-above (w .result) reached (a .key-start) (a .end - a .key-start) (w .ensures) (w .ok) (omega arith) near
+          (c .if1 .left),
+    ))
 
 pub extend-start-spec : {M : Type 1} → statement M
 extend-start-spec =

@@ -18,7 +18,8 @@ abbrev μ-loop : tie.MeasureT-loop
 loop-holds : tie.Need-loop-holds Inv-loop μ-loop
 loop-holds c =
     let s = c .before .before .before .before in
-    backing-start (s .args .string .now) (s .args .key .now) (s .args .first) (s .args .positions .now) (s .args .reach .now) (s .args .max-reach)
+    backing-start (s .args .string .now) (s .args .key .now) (s .args .first) (s .args .positions .now) (s .args .reach .now)
+    (s .args .max-reach)
     (s .pre .3)
 
 shared-slice-read-if1 : tie.Need-shared-slice-read-if1 Inv-loop μ-loop
@@ -29,8 +30,11 @@ shared-slice-read-if1-2 c = c .before .before .before .before .before .before .b
 
 extend-key-requires : tie.Need-extend-key-requires Inv-loop μ-loop
 extend-key-requires c κs =
-    let s = c .before .before .before .before .before .before .before .before .before .before in
-    (record { shared = omega arith; end-small = omega arith; first-small = s .pre .2 }, c .before .before .before .before .before .loop .inv .way .bounded, s .pre .4)
+    let s = c .before .before .before .before .before .before .before .before .before .before in (
+      record { shared = omega arith; end-small = omega arith; first-small = s .pre .2 },
+      c .before .before .before .before .before .loop .inv .way .bounded,
+      s .pre .4,
+    )
 
 loop-again : tie.Need-loop-again Inv-loop μ-loop
 loop-again c =

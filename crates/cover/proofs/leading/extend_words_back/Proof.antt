@@ -24,7 +24,8 @@ loop-holds : tie.Need-loop-holds Inv-loop μ-loop
 loop-holds c =
     let s = c .before .before .before .before .before .before .before .before in
     let a = s .args in
-    listed-start (leading-at (lexicon (a .chars .now) (a .lengths .now)) (a .index .now) (a .string .now) (a .first)) (a .lines .now) (a .reach .now) (a .max-reach) (s .pre .4)
+    listed-start (leading-at (lexicon (a .chars .now) (a .lengths .now)) (a .index .now) (a .string .now) (a .first)) (a .lines .now)
+    (a .reach .now) (a .max-reach) (s .pre .4)
 
 shared-slice-read-line : tie.Need-shared-slice-read-line Inv-loop μ-loop
 shared-slice-read-line c = c .before .loop-test .taken
@@ -48,27 +49,37 @@ extend-back-requires c κs =
     let a = s .args in
     let l = c .before .before .before .before .before .loop in (
       spelt-short (s .pre .0 .can) (getD (a .lines .now) (l .i) 0)
-          (s .pre .1 (l .i) (c .before .before .before .before .loop-test .taken)) (c .before .before .key-of .result .now) (c .before .before .key-of .ensures),
+          (s .pre .1 (l .i) (c .before .before .before .before .loop-test .taken)) (c .before .before .key-of .result .now)
+          (c .before .before .key-of .ensures),
       s .pre .2,
       s .pre .3,
       l .inv .bounded,
       listed-rise (s .pre .0 .can) (getD (a .lines .now) (l .i) 0)
-          (s .pre .1 (l .i) (c .before .before .before .before .loop-test .taken)) (c .before .positions-of .result .now) (c .before .positions-of .ensures),
+          (s .pre .1 (l .i) (c .before .before .before .before .loop-test .taken)) (c .before .positions-of .result .now)
+          (c .before .positions-of .ensures),
     )
 
 add-i : tie.Need-add-i Inv-loop μ-loop
-add-i c = omega (arith, c .before .before .before .before .before .before .before .loop-test .taken, c .before .before .before .before .before .before .before .before .before .before .before .before .before .before .before .before .before .good)
+add-i c = omega (
+  arith,
+  c .before .before .before .before .before .before .before .loop-test .taken,
+  c .before .before .before .before .before .before .before .before .before .before .before .before .before .before .before .before
+      .before .good,
+)
 
 loop-again : tie.Need-loop-again Inv-loop μ-loop
 loop-again c =
-    let s = c .before .before .before .before .before .before .before .before .before .before .before .before .before .before .before .before .before in
+    let half = c .before .before .before .before .before .before .before .before in
+    let s = half .before .before .before .before .before .before .before .before .before in
     let a = s .args in
     let l = c .before .before .before .before .before .before .before .before .loop in
     let extended = c .before .before .extend-back in
-    listed-step (leading-at (lexicon (a .chars .now) (a .lengths .now)) (a .index .now) (a .string .now) (a .first)) (a .lines .now) (a .reach .now) (l .reach) (l .highest) (l .i) (l .inv)
+    listed-step (leading-at (lexicon (a .chars .now) (a .lengths .now)) (a .index .now) (a .string .now) (a .first)) (a .lines .now)
+    (a .reach .now) (l .reach) (l .highest) (l .i) (l .inv)
     (c .before .before .before .before .before .before .before .loop-test .taken) (extended .kept .1 .1 .1 .1 .0)
     (leading-done (lexicon (a .chars .now) (a .lengths .now)) (a .index .now) (a .string .now) (a .first) (getD (a .lines .now) (l .i) 0)
-    (c .before .before .before .before .before .key-of .result .now) (c .before .before .before .before .positions-of .result .now) (c .before .before .before .before .before .key-of .ensures) (c .before .before .before .before .positions-of .ensures) (l .reach)
+    (c .before .before .before .before .before .key-of .result .now) (c .before .before .before .before .positions-of .result .now)
+    (c .before .before .before .before .before .key-of .ensures) (c .before .before .before .before .positions-of .ensures) (l .reach)
     (extended .last .1 .1 .1 .1 .0) (extended .result) (extended .ensures))
 
 same-length : tie.Need-same-length Inv-loop μ-loop
@@ -78,7 +89,8 @@ returns : tie.Need-returns Inv-loop μ-loop
 returns c =
     let a = c .before .before .before .before .before .before .before .before .before .before .args in
     let l = c .before .loop in
-    listed-end (leading-at (lexicon (a .chars .now) (a .lengths .now)) (a .index .now) (a .string .now) (a .first)) (a .lines .now) (a .reach .now) (l .reach) (l .highest) (l .i) (l .inv) (c .loop-test .left)
+    listed-end (leading-at (lexicon (a .chars .now) (a .lengths .now)) (a .index .now) (a .string .now) (a .first)) (a .lines .now)
+    (a .reach .now) (l .reach) (l .highest) (l .i) (l .inv) (c .loop-test .left)
 
 pub extend-words-back-spec : {M : Type 1} → statement M
 extend-words-back-spec =

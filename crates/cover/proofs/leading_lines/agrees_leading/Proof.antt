@@ -1,6 +1,6 @@
 -- `agrees_leading` meets its contract. The invariant: the key agrees at none of the first i offsets. The measure is how
 -- many are left. Assumes nothing.
-use mathlib.Core.Path.{_≡_, refl, sym, ap, _∙_}
+use mathlib.Core.Path.{_≡_, sym, ap, _∙_}
 use Prim.Native.Nat.{_-_, _<_, _^_}
 use native.Mathlib.Omega.{arith}
 use borrow.Author.Needs.{needs}
@@ -24,7 +24,8 @@ small c = omega arith
 -- the answer of `agrees_at`, with the offset as two starts
 agreed :
     (c : tie.After-agrees-at Inv-loop μ-loop) →
-    agrees (c .before .before .before .before .before .before .before .before .args .string .now) (c .before .before .before .before .loop .i) (c .before .before .before .before .before .before .before .before .args .key .now) 0
+    agrees (c .before .before .before .before .before .before .before .before .args .string .now)
+    (c .before .before .before .before .loop .i) (c .before .before .before .before .before .before .before .before .args .key .now) 0
     ≡ c .agrees-at .result
 agreed c =
     let a = c .before .before .before .before .before .before .before .before .args in

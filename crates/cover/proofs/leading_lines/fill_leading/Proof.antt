@@ -9,7 +9,8 @@ use lib.ListN.{length}
 use Rattle.spec.specs.Dictionary.{lexicon}
 use Rattle.models.specs.Window.{agrees-leading, is-leading}
 use Rattle.laws.specs.Directory.Tables.{spelt-short}
-use Rattle.laws.specs.Window.LeadingLines.{Leading, leading-start, leading-passed, leading-room, leading-listed, leading-count, leading-written}
+use Rattle.laws.specs.Window.LeadingLines.{Leading, leading-start, leading-passed, leading-room, leading-listed, leading-count}
+use Rattle.laws.specs.Window.LeadingLines.{leading-written}
 use Rattle.cover.proofs.leading_lines.fill_leading.Statement.{statement}
 use Rattle.cover.proofs.leading_lines.fill_leading.Tie as tie
 
@@ -24,15 +25,23 @@ abbrev μ-loop : tie.MeasureT-loop
 told :
     (c : tie.Then1 Inv-loop μ-loop) →
     true
-    ≡ is-leading (lexicon (c .before .before .before .before .before .before .before .before .before .before .before .args .chars .now) (c .before .before .before .before .before .before .before .before .before .before .before .args .lengths .now)) (c .before .before .before .before .before .before .before .before .before .before .before .args .index .now) (c .before .before .before .before .before .before .before .before .before .before .before .args .string .now) (c .before .before .before .before .loop .line)
+    ≡ is-leading (lexicon (c .before .before .before .before .before .before .before .before .before .before .before .args .chars .now)
+    (c .before .before .before .before .before .before .before .before .before .before .before .args .lengths .now))
+    (c .before .before .before .before .before .before .before .before .before .before .before .args .index .now)
+    (c .before .before .before .before .before .before .before .before .before .before .before .args .string .now)
+    (c .before .before .before .before .loop .line)
 told c =
-    sym (c .if1 .taken) ∙ c .before .agrees-leading .ensures ∙ ap (agrees-leading (c .before .before .before .before .before .before .before .before .before .before .before .args .string .now)) (c .before .before .key-of .ensures)
+    sym (c .if1 .taken) ∙ c .before .agrees-leading .ensures ∙ ap
+    (agrees-leading (c .before .before .before .before .before .before .before .before .before .before .before .args .string .now))
+    (c .before .before .key-of .ensures)
 
-room : (c : tie.Then1 Inv-loop μ-loop) → c .before .before .before .before .loop .count < length (c .before .before .before .before .loop .lines)
+room : (c : tie.Then1 Inv-loop μ-loop) → c .before .before .before .before .loop .count < length
+    (c .before .before .before .before .loop .lines)
 room c =
     let a = c .before .before .before .before .before .before .before .before .before .before .before .args in
     let l = c .before .before .before .before .loop in
-    leading-room (lexicon (a .chars .now) (a .lengths .now)) (a .index .now) (a .string .now) (a .word-lines) (a .lines .now) (l .lines) (l .count) (l .line) (l .inv) (c .before .before .before .loop-test .taken) (told c)
+    leading-room (lexicon (a .chars .now) (a .lengths .now)) (a .index .now) (a .string .now) (a .word-lines) (a .lines .now) (l .lines)
+    (l .count) (l .line) (l .inv) (c .before .before .before .loop-test .taken) (told c)
 
 loop-holds : tie.Need-loop-holds Inv-loop μ-loop
 loop-holds c =
@@ -49,8 +58,7 @@ agrees-leading-requires : tie.Need-agrees-leading-requires Inv-loop μ-loop
 agrees-leading-requires c κs =
     let s = c .before .before .before .before .before .before .before .before .before in
     let a = s .args in (
-      spelt-short (s .pre .0) (c .before .before .loop .line) (omega arith)
-          (c .key-of .result .now) (c .key-of .ensures),
+      spelt-short (s .pre .0) (c .before .before .loop .line) (omega arith) (c .key-of .result .now) (c .key-of .ensures),
       s .pre .2,
     )
 
@@ -67,13 +75,15 @@ loop-again : tie.Need-loop-again Inv-loop μ-loop
 loop-again c =
     let a = c .before .before .before .before .before .before .before .before .before .before .before .args in
     let l = c .before .before .before .before .loop in
-    leading-listed (lexicon (a .chars .now) (a .lengths .now)) (a .index .now) (a .string .now) (a .word-lines) (a .lines .now) (l .lines) (l .count) (l .line) (l .inv) (c .before .before .before .loop-test .taken) (told c)
+    leading-listed (lexicon (a .chars .now) (a .lengths .now)) (a .index .now) (a .string .now) (a .word-lines) (a .lines .now) (l .lines)
+    (l .count) (l .line) (l .inv) (c .before .before .before .loop-test .taken) (told c)
 
 loop-again-2 : tie.Need-loop-again-2 Inv-loop μ-loop
 loop-again-2 c =
     let a = c .before .before .before .before .before .before .before .before .before .before .before .args in
     let l = c .before .before .before .before .loop in
-    leading-passed (lexicon (a .chars .now) (a .lengths .now)) (a .index .now) (a .string .now) (a .word-lines) (a .lines .now) (l .lines) (l .count) (l .line) (l .inv) (c .before .before .before .loop-test .taken)
+    leading-passed (lexicon (a .chars .now) (a .lengths .now)) (a .index .now) (a .string .now) (a .word-lines) (a .lines .now) (l .lines)
+    (l .count) (l .line) (l .inv) (c .before .before .before .loop-test .taken)
     (sym (c .if1 .left) ∙ c .before .agrees-leading .ensures ∙ ap (agrees-leading (a .string .now)) (c .before .before .key-of .ensures))
 
 same-length : tie.Need-same-length Inv-loop μ-loop
@@ -83,8 +93,10 @@ returns : tie.Need-returns Inv-loop μ-loop
 returns c =
     let a = c .before .before .before .before .before .before .before .before .args in
     let l = c .before .loop in (
-      leading-count (lexicon (a .chars .now) (a .lengths .now)) (a .index .now) (a .string .now) (a .word-lines) (a .lines .now) (l .lines) (l .count) (l .line) (l .inv) (c .loop-test .left),
-      leading-written (lexicon (a .chars .now) (a .lengths .now)) (a .index .now) (a .string .now) (a .word-lines) (a .lines .now) (l .lines) (l .count) (l .line) (l .inv) (c .loop-test .left),
+      leading-count (lexicon (a .chars .now) (a .lengths .now)) (a .index .now) (a .string .now) (a .word-lines) (a .lines .now) (l .lines)
+          (l .count) (l .line) (l .inv) (c .loop-test .left),
+      leading-written (lexicon (a .chars .now) (a .lengths .now)) (a .index .now) (a .string .now) (a .word-lines) (a .lines .now)
+          (l .lines) (l .count) (l .line) (l .inv) (c .loop-test .left),
     )
 
 pub fill-leading-spec : {M : Type 1} → statement M

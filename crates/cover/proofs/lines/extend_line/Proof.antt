@@ -30,16 +30,18 @@ extend-key-requires c κs =
       listed-rise (s .pre .0 .can) (a .line) (s .pre .2) (c .before .positions-of .result .now) (c .before .positions-of .ensures),
     )
 
-same-length : tie.Need-same-length
-same-length c = search needs
-
 returns : tie.Need-returns
 returns c =
     let a = c .before .before .before .before .before .before .before .before .before .before .before .before .before .args in
     offset-done (lexicon (a .chars .now) (a .lengths .now)) (a .index .now) (a .string .now) (a .first) (a .line)
-    (c .before .before .before .before .before .key-of .result .now) (c .before .before .before .before .positions-of .result .now) (c .before .before .before .before .before .key-of .ensures) (c .before .before .before .before .positions-of .ensures) (a .reach .now)
-    (c .before .before .extend-key .last .1 .1 .1 .1 .1 .1 .0) (c .before .before .extend-key .result) (a .key-start) (c .before .before .extend-key .ensures)
+    (c .before .before .before .before .before .key-of .result .now) (c .before .before .before .before .positions-of .result .now)
+    (c .before .before .before .before .before .key-of .ensures) (c .before .before .before .before .positions-of .ensures)
+    (a .reach .now)
+    (c .before .before .extend-key .last .1 .1 .1 .1 .1 .1 .0) (c .before .before .extend-key .result) (a .key-start)
+    (c .before .before .extend-key .ensures)
 
 pub extend-line-spec : {M : Type 1} → statement M
 extend-line-spec =
-    tie.close (tie.spec key-of-requires positions-of-requires extend-key-requires same-length returns)
+    tie.close
+    (tie.spec
+    key-of-requires positions-of-requires extend-key-requires (λ c. search needs) returns)

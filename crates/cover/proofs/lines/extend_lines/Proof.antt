@@ -14,13 +14,15 @@ Inv-loop chars lengths index word-starts list-starts string key-start from to fi
     Left (offset-at key-start (lexicon chars lengths) index string first) from to reach₀ reach highest line to
 
 abbrev μ-loop : tie.MeasureT-loop
-μ-loop chars lengths index word-starts list-starts string key-start from to first reach₀ max-reach highest₀ line₀ reach highest line = to - line
+μ-loop chars lengths index word-starts list-starts string key-start from to first reach₀ max-reach highest₀ line₀ reach highest line =
+    to - line
 
 loop-holds : tie.Need-loop-holds Inv-loop μ-loop
 loop-holds c =
     let s = c .before .before .before .before .before .before .before in
     let a = s .args in
-    left-start (offset-at (a .key-start) (lexicon (a .chars .now) (a .lengths .now)) (a .index .now) (a .string .now) (a .first)) (a .from) (a .to) (a .reach .now) (a .max-reach) (s .pre .4)
+    left-start (offset-at (a .key-start) (lexicon (a .chars .now) (a .lengths .now)) (a .index .now) (a .string .now) (a .first)) (a .from)
+    (a .to) (a .reach .now) (a .max-reach) (s .pre .4)
 
 extend-line-requires : tie.Need-extend-line-requires Inv-loop μ-loop
 extend-line-requires c κs =
@@ -29,14 +31,14 @@ extend-line-requires c κs =
 
 add-line : tie.Need-add-line Inv-loop μ-loop
 add-line c =
-    let s = c .before .before .before .before .before .before .before .before .before .before .before .before .before in
     omega arith
 
 loop-again : tie.Need-loop-again Inv-loop μ-loop
 loop-again c =
     let a = c .before .before .before .before .before .before .before .before .before .before .before .before .before .args in
     let l = c .before .before .before .before .before .loop in
-    left-step (offset-at (a .key-start) (lexicon (a .chars .now) (a .lengths .now)) (a .index .now) (a .string .now) (a .first)) (a .from) (a .to) (a .reach .now) (l .reach) (l .highest) (l .line) (a .to) (l .inv) (c .before .before .before .before .loop-test .taken)
+    left-step (offset-at (a .key-start) (lexicon (a .chars .now) (a .lengths .now)) (a .index .now) (a .string .now) (a .first)) (a .from)
+    (a .to) (a .reach .now) (l .reach) (l .highest) (l .line) (a .to) (l .inv) (c .before .before .before .before .loop-test .taken)
     (c .before .before .extend-line .kept .1 .1 .1 .1 .1 .1 .1 .1 .1 .0) (c .before .before .extend-line .ensures)
 
 same-length : tie.Need-same-length Inv-loop μ-loop
@@ -46,7 +48,8 @@ returns : tie.Need-returns Inv-loop μ-loop
 returns c =
     let a = c .before .before .before .before .before .before .before .before .before .args in
     let l = c .before .loop in
-    left-end (offset-at (a .key-start) (lexicon (a .chars .now) (a .lengths .now)) (a .index .now) (a .string .now) (a .first)) (a .from) (a .to) (a .reach .now) (l .reach) (l .highest) (l .line) (a .to) (l .inv) (c .loop-test .left)
+    left-end (offset-at (a .key-start) (lexicon (a .chars .now) (a .lengths .now)) (a .index .now) (a .string .now) (a .first)) (a .from)
+    (a .to) (a .reach .now) (l .reach) (l .highest) (l .line) (a .to) (l .inv) (c .loop-test .left)
 
 pub extend-lines-spec : {M : Type 1} → statement M
 extend-lines-spec =

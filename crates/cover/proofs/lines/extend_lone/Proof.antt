@@ -10,7 +10,11 @@ use Rattle.cover.proofs.lines.extend_lone.Statement.{statement}
 use Rattle.cover.proofs.lines.extend_lone.Tie as tie
 
 cast-line-lower-bound : tie.Need-cast-line-lower-bound
-cast-line-lower-bound c = omega (arith, c .shared-slice-known8 .given (c .before .before .before .before .before .before .before .before .before .args .key-start))
+cast-line-lower-bound c = omega (
+  arith,
+  c .shared-slice-known8 .given
+      (c .before .before .before .before .before .before .before .before .before .args .key-start),
+)
 
 line-lower-bound-requires : tie.Need-line-lower-bound-requires
 line-lower-bound-requires c κs =
@@ -29,7 +33,8 @@ extend-at-positions-requires c κs =
 
 returns : tie.Need-returns
 returns c =
-    let s = c .before .before .before .before .before .before .before .before .before .before .before .before .before .before .before .before .before .before in
+    let half = c .before .before .before .before .before .before .before .before .before in
+    let s = half .before .before .before .before .before .before .before .before .before in
     let a = s .args in
     let line = c .before .before .before .before .before .before .before .before .line-lower-bound in
     let some = c .before .before .before .before .before .before .before .if1 .taken in
@@ -38,7 +43,8 @@ returns c =
     lone-found (s .pre .0 .can) (s .pre .1) (a .string .now) (a .key-start)
     (getD (a .string .now) (a .key-start) 0) refl (line .ensures) (a .first) some (a .reach .now)
     (lone-done (s .pre .0 .can) (s .pre .1) (a .string .now) (a .key-start)
-    (getD (a .string .now) (a .key-start) 0) refl (line .result) (line .ensures .from) some (c .before .before .before .before .before .if2 .taken) (s .pre .2) (a .first)
+    (getD (a .string .now) (a .key-start) 0) refl (line .result) (line .ensures .from) some
+    (c .before .before .before .before .before .if2 .taken) (s .pre .2) (a .first)
     (positions .result .now) (positions .ensures) (a .reach .now) (done .ensures))
 
 returns-2 : tie.Need-returns-2

@@ -4,9 +4,6 @@ use borrow.Author.Needs.{needs}
 use Rattle.cover.proofs.lines.goes_on.Statement.{statement}
 use Rattle.cover.proofs.lines.goes_on.Tie as tie
 
-add-result : tie.Need-add-result
-add-result c = search needs
-
 returns : tie.Need-returns
 returns c = rw (lt-ltb (c .before .args .depth) (c .before .args .left) (c .if1 .taken))
 
@@ -14,4 +11,7 @@ returns-2 : tie.Need-returns-2
 returns-2 c = rw (le-ltb (c .before .args .depth) (c .before .args .left) (c .if1 .left))
 
 pub goes-on-spec : {M : Type 1} → statement M
-goes-on-spec = tie.close (tie.spec add-result returns returns-2)
+goes-on-spec =
+    tie.close
+    (tie.spec
+    (λ c. search needs) returns returns-2)

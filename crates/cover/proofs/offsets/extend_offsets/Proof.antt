@@ -14,13 +14,15 @@ Inv-loop chars lengths index word-starts list-starts string word-lines first rea
     Offsets (lexicon chars lengths) (lines-in index) string first reach₀ reach highest key-start
 
 abbrev μ-loop : tie.MeasureT-loop
-μ-loop chars lengths index word-starts list-starts string word-lines first reach₀ max-reach highest₀ key-start₀ reach highest key-start = length string - key-start
+μ-loop chars lengths index word-starts list-starts string word-lines first reach₀ max-reach highest₀ key-start₀ reach highest key-start =
+    length string - key-start
 
 loop-holds : tie.Need-loop-holds Inv-loop μ-loop
 loop-holds c =
     let s = c .before .before .before .before .before .before .before in
     let a = s .args in
-    offsets-start (lexicon (a .chars .now) (a .lengths .now)) (lines-in (a .index .now)) (a .string .now) (a .first) (a .reach .now) (a .max-reach) (s .pre .2) (s .pre .5)
+    offsets-start (lexicon (a .chars .now) (a .lengths .now)) (lines-in (a .index .now)) (a .string .now) (a .first) (a .reach .now)
+    (a .max-reach) (s .pre .2) (s .pre .5)
 
 same-length : tie.Need-same-length Inv-loop μ-loop
 same-length c = c .before .before .loop .inv .way .len
@@ -29,7 +31,8 @@ returns : tie.Need-returns Inv-loop μ-loop
 returns c =
     let a = c .before .before .before .before .before .before .before .before .before .before .args in
     let l = c .before .before .loop in
-    offsets-early (lexicon (a .chars .now) (a .lengths .now)) (lines-in (a .index .now)) (a .string .now) (a .first) (a .reach .now) (l .inv) (c .if1 .taken)
+    offsets-early (lexicon (a .chars .now) (a .lengths .now)) (lines-in (a .index .now)) (a .string .now) (a .first) (a .reach .now)
+    (l .inv) (c .if1 .taken)
 
 extend-offset-requires : tie.Need-extend-offset-requires Inv-loop μ-loop
 extend-offset-requires c κs =
@@ -51,7 +54,8 @@ returns-2 : tie.Need-returns-2 Inv-loop μ-loop
 returns-2 c =
     let a = c .before .before .before .before .before .before .before .before .before .args in
     let l = c .before .loop in
-    offsets-end (lexicon (a .chars .now) (a .lengths .now)) (lines-in (a .index .now)) (a .string .now) (a .first) (a .reach .now) (l .inv) (c .loop-test .left)
+    offsets-end (lexicon (a .chars .now) (a .lengths .now)) (lines-in (a .index .now)) (a .string .now) (a .first) (a .reach .now) (l .inv)
+    (c .loop-test .left)
 
 pub extend-offsets-spec : {M : Type 1} → statement M
 extend-offsets-spec =

@@ -17,7 +17,8 @@ same-length c = search needs
 
 returns : tie.Need-returns
 returns c =
-    let a = c .before .before .before .before .before .before .before .before .before .before .before .before .before .before .before .before .args in
+    let half = c .before .before .before .before .before .before .before .before in
+    let a = half .before .before .before .before .before .before .before .before .args in
     let firsts = c .before .before .before .before .before .before .extend-leading in
     let offsets = c .before .before .extend-offsets in
     offsets-after (lexicon (a .chars .now) (a .lengths .now)) (lines-in (a .index .now)) (a .string .now) (a .first) (a .reach .now)

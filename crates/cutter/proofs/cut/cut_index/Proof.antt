@@ -19,9 +19,11 @@ use ghost.Atoms.{Atoms, sem}
 use contract.Lifetimes.{Lfts, Shares}
 use contract.Monad.{Fun, fact}
 use contract.Running.{givenOf, tables, tablesOf}
-use types.Kit.{Given, ‵, raw, _⊛_, ⋆, some, later, _$_, _∵_, !, qed, by, move, keep, drop, use1, use2, split, join, pick, fsplit, fjoin, feqL, suffices, show, frame, await, done}
+use types.Kit.{Given, ‵, raw, _⊛_, ⋆, some, later, _$_, _∵_, !, qed, by, move, keep, drop, use1, use2, split, join, pick, fsplit, fjoin}
+use types.Kit.{feqL, suffices, show, frame, await, done}
 use types.Part.{agg, whole, sub, look-in}
-use types.Run.{look, init, forget, stop, hop, fld, from, load, addr, of-opd, and-then, no-more, assigns, land, returns, enter, alloc1, alloc0, params1, pass1, pass0, free1, free0}
+use types.Run.{look, init, forget, stop, hop, fld, from, load, addr, of-opd, and-then, no-more, assigns, land, returns, enter, alloc1}
+use types.Run.{alloc0, params1, pass1, pass0, free1, free0}
 use sound.WpLaws.{FmC, fmOf, WpFn-mono}
 use denote.RattleType.{owns}
 use denote.Laws.{Is, shows}
@@ -37,7 +39,8 @@ use denote.Triple.Call.{calls-at}
 use denote.Triple.Entry.{Args, Vals, onEntry}
 use denote.Triple.Spec.{Meets, tripleOf}
 use denote.Triple.Table.{entered, cited}
-use denote.Triple.Walked.{says, Stays, stay-none-slice, gave-slice, walkOf, goes-none-slice, goes-gave-slice, Walks, ends-at, walked, walk-meets}
+use denote.Triple.Walked.{says, Stays, stay-none-slice, gave-slice, walkOf, goes-none-slice, goes-gave-slice, Walks, ends-at, walked}
+use denote.Triple.Walked.{walk-meets}
 use denote.Exit.{yes}
 use denote.Triple.Clauses.{ensured, lasts}
 use Rattle.spec.specs.Calls.{Cut-says}
@@ -59,14 +62,27 @@ use Rattle.cutter.proofs.cut.cut_index.Statement as stated
 use Rattle.cutter.proofs.cut.cut_index.Code as code
 
 abbrev stayed : Stays (itself.ended .signature .params) (itself.ended .kept)
-stayed = (stay-none-slice (0 ∷ []) tt (plain (λ _. u16)) yes, (stay-none-slice (0 ∷ []) tt (plain (λ _. u16)) yes, (stay-none-slice (0 ∷ []) tt (plain (λ _. u16)) yes, (stay-none-slice (0 ∷ []) tt (plain (λ _. u16)) yes, (gave-slice (1 ∷ []) tt (plain (λ _. u16)), tt)))))
+stayed = (
+  stay-none-slice (0 ∷ []) tt (plain (λ _. u16)) yes,
+  (
+    stay-none-slice (0 ∷ []) tt (plain (λ _. u16)) yes,
+    (
+      stay-none-slice (0 ∷ []) tt (plain (λ _. u16)) yes,
+      (
+        stay-none-slice (0 ∷ []) tt (plain (λ _. u16)) yes,
+        (gave-slice (1 ∷ []) tt (plain (λ _. u16)), tt),
+      ),
+    ),
+  ),
+)
 
 module _ {M : Type 1} (𝓤 : URA M) (H : Heap 𝓤) (A : Atoms 𝓤) (mem : Memory → SProp 𝓤) (run : Routine → Fun 𝓤) where
   -- the contract of the covered function
   abbrev Callee : Contract 𝓤
   Callee = tripleOf 𝓤 H A callee.signature (callee.spec 𝓤 H A mem run)
 
-module _ {M : Type 1} (𝓤 : URA M) (H : Heap 𝓤) (A : Atoms 𝓤) (W : Given 𝓤 H A) (mem : Memory → SProp 𝓤) (run : Routine → Fun 𝓤) (κ ν : Lft) (q p : Share) (x y z s : RefT (List ℕ)) (b o : ℕ) (γ : GName) (old : List ℕ) where
+module _ {M : Type 1} (𝓤 : URA M) (H : Heap 𝓤) (A : Atoms 𝓤) (W : Given 𝓤 H A) (mem : Memory → SProp 𝓤) (run : Routine → Fun 𝓤) (κ ν : Lft)
+    (q p : Share) (x y z s : RefT (List ℕ)) (b o : ℕ) (γ : GName) (old : List ℕ) where
   abbrev κs : Lfts 2
   κs = (κ, (ν, tt))
 
@@ -99,12 +115,15 @@ module _ {M : Type 1} (𝓤 : URA M) (H : Heap 𝓤) (A : Atoms 𝓤) (W : Given
   abbrev Kept : Fml
   Kept = fsep (Lent κ x y z) (own s)
 
-  goes-open : ent 𝓤 (onEntry 𝓤 H A itself.signature κs qs a at) (sep 𝓤 (Open 𝓤 H A mem run .pre (to-open 𝓤 H A W κ x y z q mem run)) (sep 𝓤 (sem 𝓤 H A Aside) (sem 𝓤 H A Kept)))
+  goes-open : ent 𝓤 (onEntry 𝓤 H A itself.signature κs qs a at) (sep 𝓤 (Open 𝓤 H A mem run .pre (to-open 𝓤 H A W κ x y z q mem run))
+      (sep 𝓤 (sem 𝓤 H A Aside) (sem 𝓤 H A Kept)))
   goes-open =
       qed W ((‵ (flft κ q) ⊛ ‵ (flft ν p) ⊛ ‵ ftrue) ∷ ‵ (owns (Shr κ ∷ Shr κ ∷ Shr κ ∷ Shr κ ∷ MutSlice (named 1) ν u16 ∷ []) a at) ∷ []) ∵
       move ! (1 ∷ []) $ fsplit ! $ move ! (1 ∷ []) $ fsplit ! $ move ! (1 ∷ []) $ fsplit ! $
       -- [z; the others; y; x; the tokens]
-      nothing ! $ move ! (1 ∷ 0 ∷ []) $ fjoin ! $ move ! (2 ∷ 0 ∷ []) $ fjoin ! $ move ! (2 ∷ 0 ∷ []) $ fjoin ! $ use1 W (‵ (Lent κ x y z) ⊛ ‵ (Lent κ x y z)) (twice 𝓤 H A W κ x y z) $ split ! $ use1 W (‵ (Lent κ x y z) ⊛ ‵ (Lent κ x y z)) (twice 𝓤 H A W κ x y z) $ split ! $
+      nothing ! $ move ! (1 ∷ 0 ∷ []) $ fjoin ! $ move ! (2 ∷ 0 ∷ []) $ fjoin ! $ move ! (2 ∷ 0 ∷ []) $ fjoin ! $ use1 W
+      (‵ (Lent κ x y z) ⊛ ‵ (Lent κ x y z)) (twice 𝓤 H A W κ x y z) $ split ! $ use1 W (‵ (Lent κ x y z) ⊛ ‵ (Lent κ x y z))
+      (twice 𝓤 H A W κ x y z) $ split ! $
       -- [the three; the three; the three; the others; the tokens]
       move ! (3 ∷ []) $ fsplit ! $ use1 W (‵ (own s) ⊛ ‵ (own s)) (shr-slice-copy 𝓤 H A W (named 0) κ u16 .twice s (val s ∷ [])) $ split ! $
       -- [s; s; t; the three, thrice; the tokens]
@@ -112,7 +131,8 @@ module _ {M : Type 1} (𝓤 : URA M) (H : Heap 𝓤) (A : Atoms 𝓤) (W : Given
       -- [the three, s and t; kept; the three; the tokens]
       move ! (3 ∷ []) $ split ! $ move ! (1 ∷ []) $ split ! $ move ! (0 ∷ 3 ∷ []) $ fjoin ! $ move ! (2 ∷ 1 ∷ []) $ join ! $
       -- [the first token; aside; kept; the three]
-      move ! (0 ∷ 3 ∷ []) $ use2 W (raw (Open 𝓤 H A mem run .pre (to-open 𝓤 H A W κ x y z q mem run))) (asks-open 𝓤 H A W κ x y z q mem run) $ frame ! $ frame ! $ done !
+      move ! (0 ∷ 3 ∷ []) $ use2 W (raw (Open 𝓤 H A mem run .pre (to-open 𝓤 H A W κ x y z q mem run)))
+      (asks-open 𝓤 H A W κ x y z q mem run) $ frame ! $ frame ! $ done !
 
   -- the call of the covered function, on the record's fields
   module _ (refusal keys first : ℕ) where
@@ -125,77 +145,146 @@ module _ {M : Type 1} (𝓤 : URA M) (H : Heap 𝓤) (A : Atoms 𝓤) (W : Given
     abbrev to-callee : Callee 𝓤 H A mem run .Ghost
     to-callee = ((κs, qs, tt, args, passed), tt)
 
-    goes-callee : Bounded (now x) (now y) (now z) refusal keys first → refusal < 2 ^ 32 → keys < 2 ^ 64 → ent 𝓤 (⋆ 𝓤 H A ((‵ (flft κ q) ⊛ ‵ ftrue) ∷ ‵ Aside ∷ [])) (Callee 𝓤 H A mem run .pre to-callee)
+    goes-callee : Bounded (now x) (now y) (now z) refusal keys first → refusal < 2 ^ 32 → keys < 2 ^ 64 →
+        ent 𝓤 (⋆ 𝓤 H A ((‵ (flft κ q) ⊛ ‵ ftrue) ∷ ‵ Aside ∷ [])) (Callee 𝓤 H A mem run .pre to-callee)
     goes-callee bounded refusal-fits keys-fit =
         qed W ((‵ (flft κ q) ⊛ ‵ ftrue) ∷ ‵ Aside ∷ []) ∵ says ! (bounded .number, bounded .lines) $
         move ! (1 ∷ []) $ fsplit ! $ move ! (2 ∷ []) $ split ! $ move ! (2 ∷ 1 ∷ []) $ join ! $ move ! (1 ∷ 0 ∷ []) $ join ! $ frame ! $
         -- [the three, s and t]
         fsplit ! $ fsplit ! $ move ! (1 ∷ []) $ fsplit ! $ move ! (1 ∷ []) $ fsplit ! $ move ! (1 ∷ []) $ drop ! $ move ! (3 ∷ []) $
         -- [s and t; z; y; x]
-        owned ! usize (Is usize) (uint-makes 𝓤 H A W w64) keys _ (refl, keys-fit) $ fjoin ! $ owned ! u32 (Is u32) (uint-makes 𝓤 H A W w32) refusal _ (refl, refusal-fits) $ fjoin ! $ move ! (1 ∷ 0 ∷ []) $ fjoin ! $ move ! (1 ∷ 0 ∷ []) $ fjoin ! $ move ! (1 ∷ 0 ∷ []) $ fjoin ! $ done !
+        owned ! usize (Is usize) (uint-makes 𝓤 H A W w64) keys _ (refl, keys-fit) $ fjoin ! $ owned ! u32 (Is u32)
+        (uint-makes 𝓤 H A W w32) refusal _ (refl, refusal-fits) $ fjoin ! $ move ! (1 ∷ 0 ∷ []) $ fjoin ! $ move !
+        (1 ∷ 0 ∷ []) $ fjoin ! $ move ! (1 ∷ 0 ∷ []) $ fjoin ! $ done !
 
   abbrev Answered : Answer → List ℕ → Type 0
   Answered c ws = Cut-says (now x) (now y) (now z) (now s) c old ws × (length ws ≡ length old)
 
   -- of the callee's `ensured`: the output's last list, and what is said of it
-  answered : (refusal keys first : ℕ) (c : Answer) → ent 𝓤 (ensured 𝓤 H A callee.ended (callee.clauses 𝓤 H A mem run) κs (args refusal keys first) tt c) (ex 𝓤 (λ (ws : List ℕ). sep 𝓤 (sem 𝓤 H A (finally u16 γ ws)) (fact 𝓤 (Answered c ws))))
+  answered : (refusal keys first : ℕ) (c : Answer) → ent 𝓤 (ensured 𝓤 H A callee.ended (callee.clauses 𝓤 H A mem run) κs
+      (args refusal keys first) tt c) (ex 𝓤 (λ (ws : List ℕ). sep 𝓤 (sem 𝓤 H A (finally u16 γ ws)) (fact 𝓤 (Answered c ws))))
   answered refusal keys first c =
-      exE 𝓤 _ (λ fins. qed W (‵ (lasts callee.ended κs (args refusal keys first) fins) ∷ raw (fact 𝓤 (Cut-says (now x) (now y) (now z) (now s) c old (fins .1 .1 .1 .1 .1 .1 .0))) ∷ []) ∵
+      exE 𝓤 _ (λ fins. qed W (‵ (lasts callee.ended κs (args refusal keys first) fins) ∷ raw
+      (fact 𝓤 (Cut-says (now x) (now y) (now z) (now s) c old (fins .1 .1 .1 .1 .1 .1 .0))) ∷ []) ∵
       show ! (λ (ws : List ℕ). sep 𝓤 (sem 𝓤 H A (finally u16 γ ws)) (fact 𝓤 (Answered c ws))) (fins .1 .1 .1 .1 .1 .1 .0) $
       move ! (1 ∷ []) $ heard ! (Cut-says (now x) (now y) (now z) (now s) c old (fins .1 .1 .1 .1 .1 .1 .0)) (λ e.
-      fsplit ! $ drop ! $ fsplit ! $ drop ! $ fsplit ! $ drop ! $ fsplit ! $ drop ! $ fsplit ! $ drop ! $ fsplit ! $ drop ! $ fsplit ! $ fsplit ! $ move ! (1 ∷ []) $ feqL ! (λ l. says ! (e, l) $ keep ! (0 ∷ []) $ done !)))
+      fsplit ! $ drop ! $ fsplit ! $ drop ! $ fsplit ! $ drop ! $ fsplit ! $ drop ! $ fsplit ! $ drop ! $ fsplit ! $ drop ! $ fsplit ! $
+      fsplit ! $ move ! (1 ∷ []) $ feqL ! (λ l. says ! (e, l) $ keep ! (0 ∷ []) $ done !)))
 
-  exits : (c : Answer) (u : Val) (ws : List ℕ) → Answered c ws → ent 𝓤 (⋆ 𝓤 H A (‵ (R.the-row .own c (u ∷ [])) ∷ (‵ (flft κ q) ⊛ ‵ (flft ν p) ⊛ ‵ ftrue) ∷ ‵ (finally u16 γ ws) ∷ ‵ Kept ∷ [])) (Post u)
+  exits : (c : Answer) (u : Val) (ws : List ℕ) → Answered c ws →
+      ent 𝓤 (⋆ 𝓤 H A (‵ (R.the-row .own c (u ∷ [])) ∷ (‵ (flft κ q) ⊛ ‵ (flft ν p) ⊛ ‵ ftrue) ∷ ‵ (finally u16 γ ws) ∷ ‵ Kept ∷ []))
+      (Post u)
   exits c u ws h =
       qed W (‵ (R.the-row .own c (u ∷ [])) ∷ (‵ (flft κ q) ⊛ ‵ (flft ν p) ⊛ ‵ ftrue) ∷ ‵ (finally u16 γ ws) ∷ ‵ Kept ∷ []) ∵
-      suffices ! _ (ends-at 𝓤 H A itself.ended stayed (itself.clauses 𝓤 H A mem run) W ((κs, qs, tt, a, at), tt) u c (tt, (tt, (tt, (tt, (ws, tt))))) (tt, (tt, (tt, (tt, (h .1, tt)))))) $ says ! (h .0) $
+      suffices ! _ (ends-at 𝓤 H A itself.ended stayed (itself.clauses 𝓤 H A mem run) W ((κs, qs, tt, a, at), tt) u c
+      (tt, (tt, (tt, (tt, (ws, tt))))) (tt, (tt, (tt, (tt, (h .1, tt)))))) $ says ! (h .0) $
       move ! (1 ∷ []) $ frame ! $ move ! (2 ∷ []) $ fsplit ! $ fsplit ! $ move ! (1 ∷ []) $ fsplit ! $ move ! (1 ∷ []) $ fsplit ! $
       -- [z; true; y; x; s; the answer; the last list]
-      move ! (6 ∷ 1 ∷ []) $ fjoin ! $ move ! (4 ∷ 0 ∷ []) $ fjoin ! $ move ! (1 ∷ 0 ∷ []) $ fjoin ! $ move ! (1 ∷ 0 ∷ []) $ fjoin ! $ move ! (1 ∷ 0 ∷ []) $ fjoin ! $ frame ! $ done !
+      move ! (6 ∷ 1 ∷ []) $ fjoin ! $ move ! (4 ∷ 0 ∷ []) $ fjoin ! $ move ! (1 ∷ 0 ∷ []) $ fjoin ! $ move !
+      (1 ∷ 0 ∷ []) $ fjoin ! $ move ! (1 ∷ 0 ∷ []) $ fjoin ! $ frame ! $ done !
 
-  module _ (C : Calls 𝓤 H) (Λ : Loops 𝓤 H) (fm : FmC 𝓤 H (W .laws) C) (known-open : Triple 𝓤 (C #open-index) (Open 𝓤 H A mem run)) (known-callee : Triple 𝓤 (C #callee) (Callee 𝓤 H A mem run)) where
-    walk : Is (Shr κ) x (val x ∷ []) → Is (Shr κ) y (val y ∷ []) → Is (Shr κ) z (val z ∷ []) → Is (Shr κ) s (val s ∷ []) → Room u16 (length old) → ent 𝓤 (onEntry 𝓤 H A itself.signature κs qs a at) (WpFn 𝓤 H C Λ code.function (val x ∷ val y ∷ val z ∷ val s ∷ val t ∷ []) Post)
+  module _ (C : Calls 𝓤 H) (Λ : Loops 𝓤 H) (fm : FmC 𝓤 H (W .laws) C) (known-open : Triple 𝓤 (C #open-index) (Open 𝓤 H A mem run))
+      (known-callee : Triple 𝓤 (C #callee) (Callee 𝓤 H A mem run)) where
+    walk : Is (Shr κ) x (val x ∷ []) → Is (Shr κ) y (val y ∷ []) → Is (Shr κ) z (val z ∷ []) → Is (Shr κ) s (val s ∷ []) →
+        Room u16 (length old) → ent 𝓤 (onEntry 𝓤 H A itself.signature κs qs a at)
+        (WpFn 𝓤 H C Λ code.function (val x ∷ val y ∷ val z ∷ val s ∷ val t ∷ []) Post)
     walk px py pz ps room =
-        qed W (raw (onEntry 𝓤 H A itself.signature κs qs a at) ∷ []) ∵ enter ! C Λ code.function (val x ∷ val y ∷ val z ∷ val s ∷ val t ∷ []) _ $
-        alloc1 ! (λ l₀. alloc1 ! (λ l₁. alloc1 ! (λ l₂. alloc1 ! (λ l₃. alloc1 ! (λ l₄. alloc1 ! (λ l₅. alloc1 ! (λ l₆. alloc1 ! (λ l₇. alloc1 ! (λ l₈. alloc1 ! (λ l₉. alloc1 ! (λ l₁₀. alloc1 ! (λ l₁₁. alloc0 ! $ params1 ! $
-        pass1 ! (init ! 20 refl (shr-slice-lawful 𝓤 H A W (named 0) κ u16 .typed x (val x ∷ []) px .0)) $ pass1 ! (init ! 18 refl (shr-slice-lawful 𝓤 H A W (named 0) κ u16 .typed y (val y ∷ []) py .0)) $ pass1 ! (init ! 16 refl (shr-slice-lawful 𝓤 H A W (named 0) κ u16 .typed z (val z ∷ []) pz .0)) $
-        pass1 ! (init ! 14 refl (shr-slice-lawful 𝓤 H A W (named 0) κ u16 .typed s (val s ∷ []) ps .0)) $ pass1 ! (init ! 12 refl (tt, (tt, (record { fits = room .0 }, tt)))) $ pass0 ! $
-        move ! (24 ∷ []) $ use1 W (raw (Open 𝓤 H A mem run .pre (to-open 𝓤 H A W κ x y z q mem run)) ⊛ (‵ Aside ⊛ ‵ Kept)) goes-open $ split ! $ move ! (1 ∷ []) $ split ! $ move ! (2 ∷ []) $
+        qed W (raw (onEntry 𝓤 H A itself.signature κs qs a at) ∷ []) ∵ enter ! C Λ code.function
+        (val x ∷ val y ∷ val z ∷ val s ∷ val t ∷ []) _ $
+        alloc1 ! (λ l₀. alloc1 ! (λ l₁. alloc1 ! (λ l₂. alloc1 !
+        (λ l₃. alloc1 ! (λ l₄. alloc1 ! (λ l₅. alloc1 ! (λ l₆. alloc1 !
+        (λ l₇. alloc1 ! (λ l₈. alloc1 ! (λ l₉. alloc1 ! (λ l₁₀. alloc1 ! (λ l₁₁. alloc0 ! $ params1 ! $
+        pass1 ! (init ! 20 refl (shr-slice-lawful 𝓤 H A W (named 0) κ u16 .typed x (val x ∷ []) px .0)) $ pass1 !
+        (init ! 18 refl (shr-slice-lawful 𝓤 H A W (named 0) κ u16 .typed y (val y ∷ []) py .0)) $ pass1 !
+        (init ! 16 refl (shr-slice-lawful 𝓤 H A W (named 0) κ u16 .typed z (val z ∷ []) pz .0)) $
+        pass1 ! (init ! 14 refl (shr-slice-lawful 𝓤 H A W (named 0) κ u16 .typed s (val s ∷ []) ps .0)) $ pass1 !
+        (init ! 12 refl (tt, (tt, (record { fits = room .0 }, tt)))) $ pass0 ! $
+        move ! (24 ∷ []) $ use1 W (raw (Open 𝓤 H A mem run .pre (to-open 𝓤 H A W κ x y z q mem run)) ⊛
+        (‵ Aside ⊛ ‵ Kept)) goes-open $ split ! $ move ! (1 ∷ []) $ split ! $ move ! (2 ∷ []) $
         -- [what the call asks; aside; kept; _11; …; _0; …]
-        opens ! fm mem run known-open κ q x y z (and-then ! (load ! (from ! (stop !)) (look ! 23 refl)) (and-then ! (load ! (from ! (stop !)) (look ! 21 refl)) (and-then ! (load ! (from ! (stop !)) (look ! 19 refl)) (no-more !)))) (λ refusal keys first h.
+        opens ! fm mem run known-open κ q x y z (and-then ! (load ! (from ! (stop !)) (look ! 23 refl))
+        (and-then ! (load ! (from ! (stop !)) (look ! 21 refl)) (and-then ! (load ! (from ! (stop !)) (look ! 19 refl)) (no-more !))))
+        (λ refusal keys first h.
         -- [the first token; aside; kept; _11; …; _0; …]
         land ! (from ! (stop !)) (init ! 13 refl (h .typed)) $
-        assigns ! (of-opd ! (load ! (from ! (fld ! refl (stop !))) (look-in ! 13 (sub ! 0 refl (whole !))))) (from ! (stop !)) (init ! 11 refl (tt, h .typed .1 .0)) $
-        assigns ! (of-opd ! (load ! (from ! (fld ! refl (stop !))) (look-in ! 13 (sub ! 1 refl (whole !))))) (from ! (stop !)) (init ! 9 refl (tt, h .typed .1 .1 .0)) $
-        assigns ! (of-opd ! (load ! (from ! (fld ! refl (stop !))) (look-in ! 13 (sub ! 2 refl (whole !))))) (from ! (stop !)) (init ! 7 refl (tt, h .typed .1 .1 .1 .0)) $
-        assigns ! (addr ! (from ! (fld ! refl (hop ! (look-in ! 15 (sub ! 0 refl (whole !))) (stop !))))) (from ! (stop !)) (init ! 5 refl (tt, tt)) $
-        assigns ! (agg ! (and-then ! (load ! (from ! (stop !)) (look ! 5 refl)) (and-then ! (load ! (from ! (fld ! refl (stop !))) (look-in ! 15 (sub ! 1 refl (whole !)))) (no-more !)))) (from ! (stop !)) (init ! 3 refl (tt, (tt, (record { fits = room .0 }, tt)))) $
-        use2 W (raw (Callee 𝓤 H A mem run .pre (to-callee refusal keys first))) (goes-callee refusal keys first (h .bounded) (h .refusal-fits) (h .keys-fit)) $
+        assigns ! (of-opd ! (load ! (from ! (fld ! refl (stop !))) (look-in ! 13 (sub ! 0 refl (whole !))))) (from ! (stop !))
+        (init ! 11 refl (tt, h .typed .1 .0)) $
+        assigns ! (of-opd ! (load ! (from ! (fld ! refl (stop !))) (look-in ! 13 (sub ! 1 refl (whole !))))) (from ! (stop !))
+        (init ! 9 refl (tt, h .typed .1 .1 .0)) $
+        assigns ! (of-opd ! (load ! (from ! (fld ! refl (stop !))) (look-in ! 13 (sub ! 2 refl (whole !))))) (from ! (stop !))
+        (init ! 7 refl (tt, h .typed .1 .1 .1 .0)) $
+        assigns ! (addr ! (from ! (fld ! refl (hop ! (look-in ! 15 (sub ! 0 refl (whole !))) (stop !))))) (from ! (stop !))
+        (init ! 5 refl (tt, tt)) $
+        assigns ! (agg ! (and-then ! (load ! (from ! (stop !)) (look ! 5 refl))
+        (and-then ! (load ! (from ! (fld ! refl (stop !))) (look-in ! 15 (sub ! 1 refl (whole !)))) (no-more !)))) (from ! (stop !))
+        (init ! 3 refl (tt, (tt, (record { fits = room .0 }, tt)))) $
+        use2 W (raw (Callee 𝓤 H A mem run .pre (to-callee refusal keys first)))
+        (goes-callee refusal keys first (h .bounded) (h .refusal-fits) (h .keys-fit)) $
         -- [what the call asks; kept; _11; …; _0; …]
-        calls-at ! fm (Callee 𝓤 H A mem run) known-callee (to-callee refusal keys first) (and-then ! (load ! (from ! (stop !)) (look ! 22 refl)) (and-then ! (load ! (from ! (stop !)) (look ! 20 refl)) (and-then ! (load ! (from ! (stop !)) (look ! 10 refl)) (and-then ! (load ! (from ! (stop !)) (look ! 8 refl)) (and-then ! (load ! (from ! (stop !)) (look ! 6 refl)) (and-then ! (load ! (from ! (stop !)) (look ! 16 refl)) (and-then ! (load ! (from ! (stop !)) (look ! 2 refl)) (no-more !)))))))) (λ v.
-        use1 W (later (some (λ (c : Answer). ((‵ (flft κ q) ⊛ ‵ (flft ν p) ⊛ ‵ ftrue) ⊛ ‵ (R.the-row .own c (v ∷ []))) ⊛ raw (ensured 𝓤 H A callee.ended (callee.clauses 𝓤 H A mem run) κs (args refusal keys first) tt c)))) (id⊢ 𝓤 _) $ await ! tt $ pick ! (λ c.
-        split ! $ move ! (1 ∷ []) $ use1 W (some (λ (ws : List ℕ). ‵ (finally u16 γ ws) ⊛ raw (fact 𝓤 (Answered c ws)))) (answered refusal keys first c) $ pick ! (λ ws.
+        calls-at ! fm (Callee 𝓤 H A mem run) known-callee (to-callee refusal keys first)
+        (and-then ! (load ! (from ! (stop !)) (look ! 22 refl))
+        (and-then ! (load ! (from ! (stop !)) (look ! 20 refl))
+        (and-then ! (load ! (from ! (stop !)) (look ! 10 refl))
+        (and-then ! (load ! (from ! (stop !)) (look ! 8 refl))
+        (and-then ! (load ! (from ! (stop !)) (look ! 6 refl))
+        (and-then ! (load ! (from ! (stop !)) (look ! 16 refl))
+        (and-then ! (load ! (from ! (stop !)) (look ! 2 refl)) (no-more !)))))))) (λ v.
+        use1 W (later (some (λ (c : Answer). ((‵ (flft κ q) ⊛ ‵ (flft ν p) ⊛ ‵ ftrue) ⊛ ‵ (R.the-row .own c (v ∷ []))) ⊛ raw
+        (ensured 𝓤 H A callee.ended (callee.clauses 𝓤 H A mem run) κs (args refusal keys first) tt c))))
+        (id⊢ 𝓤 _) $ await ! tt $ pick ! (λ c.
+        split ! $ move ! (1 ∷ []) $ use1 W (some (λ (ws : List ℕ). ‵ (finally u16 γ ws) ⊛ raw (fact 𝓤 (Answered c ws))))
+        (answered refusal keys first c) $ pick ! (λ ws.
         split ! $ move ! (1 ∷ []) $ heard ! (Answered c ws) (λ e. move ! (1 ∷ []) $ split ! $ move ! (1 ∷ []) $
         -- [the result; the tokens; what is last; kept; _11; …; _0; …]
         peeks ! R.the-row (Is R.the-row) (shows 𝓤 H A R.the-row) c (v ∷ []) (λ is.
         land ! (from ! (stop !)) (init ! 26 refl (LL.lawful R.the-type R′.the-laws 𝓤 H A W .typed c _ is .0)) $
-        returns ! (look ! 26 refl) $ forget ! 4 refl $ forget ! 6 refl $ forget ! 8 refl $ forget ! 10 refl $ forget ! 12 refl $ forget ! 14 refl $ forget ! 16 refl $ forget ! 18 refl $ forget ! 20 refl $ forget ! 22 refl $ forget ! 24 refl $ forget ! 26 refl $
-        move ! (26 ∷ 27 ∷ []) $ free1 ! $ move ! (24 ∷ 25 ∷ []) $ free1 ! $ move ! (22 ∷ 23 ∷ []) $ free1 ! $ move ! (20 ∷ 21 ∷ []) $ free1 ! $ move ! (18 ∷ 19 ∷ []) $ free1 ! $ move ! (16 ∷ 17 ∷ []) $ free1 ! $ move ! (14 ∷ 15 ∷ []) $ free1 ! $ move ! (12 ∷ 13 ∷ []) $ free1 ! $ move ! (10 ∷ 11 ∷ []) $ free1 ! $ move ! (8 ∷ 9 ∷ []) $ free1 ! $ move ! (6 ∷ 7 ∷ []) $ free1 ! $ move ! (4 ∷ 5 ∷ []) $ free1 ! $ free0 ! $
+        returns ! (look ! 26 refl) $ forget ! 4 refl $ forget ! 6 refl $ forget ! 8 refl $ forget ! 10 refl $ forget ! 12 refl $ forget !
+        14 refl $ forget ! 16 refl $ forget ! 18 refl $ forget ! 20 refl $ forget ! 22 refl $ forget ! 24 refl $ forget ! 26 refl $
+        move ! (26 ∷ 27 ∷ []) $ free1 ! $ move ! (24 ∷ 25 ∷ []) $ free1 ! $ move ! (22 ∷ 23 ∷ []) $ free1 ! $ move !
+        (20 ∷ 21 ∷ []) $ free1 ! $ move ! (18 ∷ 19 ∷ []) $ free1 ! $ move ! (16 ∷ 17 ∷ []) $ free1 ! $ move !
+        (14 ∷ 15 ∷ []) $ free1 ! $ move ! (12 ∷ 13 ∷ []) $ free1 ! $ move ! (10 ∷ 11 ∷ []) $ free1 ! $ move !
+        (8 ∷ 9 ∷ []) $ free1 ! $ move ! (6 ∷ 7 ∷ []) $ free1 ! $ move ! (4 ∷ 5 ∷ []) $ free1 ! $ free0 ! $
         by ! (exits c v ws e)))))))))))))))))))
 
 module _ {M : Type 1} (𝓤 : URA M) (H : Heap 𝓤) (A : Atoms 𝓤) (W : Given 𝓤 H A) (mem : Memory → SProp 𝓤) (run : Routine → Fun 𝓤) where
-  walks : (C : Calls 𝓤 H) (Λ : Loops 𝓤 H) → FmC 𝓤 H (W .laws) C → Triple 𝓤 (C #open-index) (Open 𝓤 H A mem run) → Triple 𝓤 (C #callee) (Callee 𝓤 H A mem run)
+  walks : (C : Calls 𝓤 H) (Λ : Loops 𝓤 H) → FmC 𝓤 H (W .laws) C → Triple 𝓤 (C #open-index) (Open 𝓤 H A mem run) →
+      Triple 𝓤 (C #callee) (Callee 𝓤 H A mem run)
       → Walks 𝓤 H A itself.ended stayed (WpFn 𝓤 H C Λ code.function) (itself.clauses 𝓤 H A mem run)
   walks C Λ fm known-open known-callee = walked 𝓤 H A itself.ended stayed (itself.clauses 𝓤 H A mem run) (WpFn 𝓤 H C Λ code.function)
-      (λ κs. (slice-vals, (slice-vals, (slice-vals, (slice-vals, (slice-vals, tt)))))) (λ κs. (shr-slice-tells (named 0) (κs .0) u16, (shr-slice-tells (named 0) (κs .0) u16, (shr-slice-tells (named 0) (κs .0) u16, (shr-slice-tells (named 0) (κs .0) u16, (mut-slice-tells (named 1) (κs .1 .0) u16, tt))))))
-      (λ κs qs bounds a g are. via 𝓤 _ (fst∗ 𝓤 _ (emp 𝓤)) (walk 𝓤 H A W mem run (κs .0) (κs .1 .0) (qs .0) (qs .1 .0) (a .0) (a .1 .0) (a .1 .1 .0) (a .1 .1 .1 .0) (a .1 .1 .1 .1 .0 .ptr .0) (a .1 .1 .1 .1 .0 .ptr .1) (a .1 .1 .1 .1 .0 .name) (a .1 .1 .1 .1 .0 .now)
+      (λ κs. (slice-vals, (slice-vals, (slice-vals, (slice-vals, (slice-vals, tt))))))
+      (λ κs. (
+        shr-slice-tells (named 0) (κs .0) u16,
+        (
+          shr-slice-tells (named 0) (κs .0) u16,
+          (
+            shr-slice-tells (named 0) (κs .0) u16,
+            (
+              shr-slice-tells (named 0) (κs .0) u16,
+              (mut-slice-tells (named 1) (κs .1 .0) u16, tt),
+            ),
+          ),
+        ),
+      ))
+      (λ κs qs bounds a g are. via 𝓤 _ (fst∗ 𝓤 _ (emp 𝓤)) (walk 𝓤 H A W mem run (κs .0) (κs .1 .0) (qs .0) (qs .1 .0) (a .0) (a .1 .0)
+      (a .1 .1 .0) (a .1 .1 .1 .0) (a .1 .1 .1 .1 .0 .ptr .0) (a .1 .1 .1 .1 .0 .ptr .1) (a .1 .1 .1 .1 .0 .name)
+      (a .1 .1 .1 .1 .0 .now)
       C Λ fm known-open known-callee (are .0) (are .1 .0) (are .1 .1 .0) (are .1 .1 .1 .0) (are .1 .1 .1 .1 .0 .0 .1)))
 
-  meets : (𝓣 : Tables 𝓤 H) → Triple 𝓤 (𝓣 .C #open-index) (Open 𝓤 H A mem run) → Triple 𝓤 (𝓣 .C #callee) (Callee 𝓤 H A mem run) → Meets 𝓤 H A itself.signature (WpFn 𝓤 H (𝓣 .C) (𝓣 .Λ) code.function) (itself.spec 𝓤 H A mem run)
+  meets : (𝓣 : Tables 𝓤 H) → Triple 𝓤 (𝓣 .C #open-index) (Open 𝓤 H A mem run) → Triple 𝓤 (𝓣 .C #callee) (Callee 𝓤 H A mem run) →
+      Meets 𝓤 H A itself.signature (WpFn 𝓤 H (𝓣 .C) (𝓣 .Λ) code.function) (itself.spec 𝓤 H A mem run)
   meets 𝓣 known-open known-callee =
-      walk-meets 𝓤 H A itself.ended stayed W
-      (goes-none-slice 𝓤 H A W 2 (0 ∷ []) tt (plain (λ _. u16)) yes, (goes-none-slice 𝓤 H A W 2 (0 ∷ []) tt (plain (λ _. u16)) yes, (goes-none-slice 𝓤 H A W 2 (0 ∷ []) tt (plain (λ _. u16)) yes, (goes-none-slice 𝓤 H A W 2 (0 ∷ []) tt (plain (λ _. u16)) yes, (goes-gave-slice 𝓤 H A W 2 1 tt (plain (λ _. u16)), tt)))))
-      (itself.clauses 𝓤 H A mem run) (WpFn 𝓤 H (𝓣 .C) (𝓣 .Λ) code.function) (WpFn-mono 𝓤 H (W .laws) 𝓣 code.function) (walks (𝓣 .C) (𝓣 .Λ) (fmOf 𝓤 H (W .laws) 𝓣) known-open known-callee)
+      walk-meets 𝓤 H A itself.ended stayed W (
+        goes-none-slice 𝓤 H A W 2 (0 ∷ []) tt (plain (λ _. u16)) yes,
+        (
+          goes-none-slice 𝓤 H A W 2 (0 ∷ []) tt (plain (λ _. u16)) yes,
+          (
+            goes-none-slice 𝓤 H A W 2 (0 ∷ []) tt (plain (λ _. u16)) yes,
+            (goes-none-slice 𝓤 H A W 2 (0 ∷ []) tt (plain (λ _. u16)) yes, (goes-gave-slice 𝓤 H A W 2 1 tt (plain (λ _. u16)), tt)),
+          ),
+        ),
+      )
+      (itself.clauses 𝓤 H A mem run) (WpFn 𝓤 H (𝓣 .C) (𝓣 .Λ) code.function) (WpFn-mono 𝓤 H (W .laws) 𝓣 code.function)
+      (walks (𝓣 .C) (𝓣 .Λ) (fmOf 𝓤 H (W .laws) 𝓣) known-open known-callee)
 
 pub cut-index-spec : {M : Type 1} → stated.statement M
 unfolding code.routine tablesOf
@@ -203,5 +292,7 @@ cut-index-spec 𝓤 H 𝓜 𝓖 𝓡 =
     entered 𝓤 H (tripleOf 𝓤 H (𝓖 .A) itself.signature (itself.spec 𝓤 H (𝓖 .A) (𝓜 .mem) (𝓡 .run)))
     (tables 𝓤 H 𝓜 𝓡 code.env .C) (tables 𝓤 H 𝓜 𝓡 code.env .Λ) #itself code.function (code.unfolded 𝓤 H 𝓜 𝓡)
     (meets 𝓤 H (𝓖 .A) (givenOf 𝓤 H 𝓜 𝓖) (𝓜 .mem) (𝓡 .run) (tablesOf 𝓤 H 𝓜 (tables 𝓤 H 𝓜 𝓡 code.env))
-    (cited 𝓤 H (Open 𝓤 H (𝓖 .A) (𝓜 .mem) (𝓡 .run)) 𝓜 𝓡 code.env #open-index opener-def.routine code.calls-opening·opened·open-index (opener-thm.met 𝓤 H 𝓜 𝓖 𝓡))
-    (cited 𝓤 H (Callee 𝓤 H (𝓖 .A) (𝓜 .mem) (𝓡 .run)) 𝓜 𝓡 code.env #callee callee-def.routine code.calls-cutter·cut·cut-opened (callee-thm.met 𝓤 H 𝓜 𝓖 𝓡)))
+    (cited 𝓤 H (Open 𝓤 H (𝓖 .A) (𝓜 .mem) (𝓡 .run)) 𝓜 𝓡 code.env #open-index opener-def.routine code.calls-opening·opened·open-index
+    (opener-thm.met 𝓤 H 𝓜 𝓖 𝓡))
+    (cited 𝓤 H (Callee 𝓤 H (𝓖 .A) (𝓜 .mem) (𝓡 .run)) 𝓜 𝓡 code.env #callee callee-def.routine code.calls-cutter·cut·cut-opened
+    (callee-thm.met 𝓤 H 𝓜 𝓖 𝓡)))

@@ -12,22 +12,29 @@ use Rattle.cutter.proofs.cut.cut_lent.Tie as tie
 
 returns : tie.Need-returns
 returns c =
-    let s = c .before .before .before .before .before .before .before .before .before .before .before .before .before .before .before .before .before .before .before in
+    let half = c .before .before .before .before .before .before .before .before .before in
+    let s = half .before .before .before .before .before .before .before .before .before .before in
     let a = s .args in
     let size = c .before .before .before .size-flagged in
-    sized-short (cut-down (lexicon (a .chars .now) (a .lengths .now)) (a .index .now) (a .string .now)) (record { refusal = 8; count = 0 }) (a .output .now)
+    sized-short (cut-down (lexicon (a .chars .now) (a .lengths .now)) (a .index .now) (a .string .now)) (record { refusal = 8; count = 0 })
+    (a .output .now)
     (omega (arith, cut-long (size .ensures))) refl refl
 
 write-cut-requires : tie.Need-write-cut-requires
 write-cut-requires c κs =
-    let s = c .before .before .before .before .before .before .before .before .before .before .before .before .before .before .before .before .before .before .before .before .before in
-    let a = s .args in
-    let size = c .before .before .before .before .before .size-flagged in
-    (s .pre .0 .fits, c .before .before .before .before .before .before .before .before .before .flag-bearing .ensures, size .ensures, omega (arith, cut-long (size .ensures)))
+    let half = c .before .before .before .before .before .before .before .before .before .before in
+    let s = half .before .before .before .before .before .before .before .before .before .before .before in
+    let size = c .before .before .before .before .before .size-flagged in (
+      s .pre .0 .fits,
+      c .before .before .before .before .before .before .before .before .before .flag-bearing .ensures,
+      size .ensures,
+      omega (arith, cut-long (size .ensures)),
+    )
 
 returns-2 : tie.Need-returns-2
 returns-2 c =
-    let s = c .before .before .before .before .before .before .before .before .before .before .before .before .before .before .before .before .before .before .before .before .before .before .before .before in
+    let half = c .before .before .before .before .before .before .before .before .before .before .before .before in
+    let s = half .before .before .before .before .before .before .before .before .before .before .before .before in
     let a = s .args in
     let size = c .before .before .before .before .before .before .before .before .size-flagged in
     sized-written (cut-down (lexicon (a .chars .now) (a .lengths .now)) (a .index .now) (a .string .now))
@@ -40,4 +47,5 @@ cut-lent-spec =
     tie.close
     (tie.spec
     (λ c. search needs) (λ c κs. search needs) (λ c. search needs) (λ c κs. search needs) (λ c κs. search needs) (λ c. search needs)
-    (λ c. search needs) (λ c. search needs) (λ c. search needs) returns write-cut-requires (λ c. search needs) (λ c. search needs) returns-2)
+    (λ c. search needs) (λ c. search needs) (λ c. search needs) returns write-cut-requires (λ c. search needs)
+    (λ c. search needs) returns-2)

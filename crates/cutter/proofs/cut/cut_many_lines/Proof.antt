@@ -6,20 +6,13 @@ use Rattle.laws.specs.Window.Searching.{cleared-room, cleared-whole}
 use Rattle.cutter.proofs.cut.cut_many_lines.Statement.{statement}
 use Rattle.cutter.proofs.cut.cut_many_lines.Tie as tie
 
-slice-aggregate-cut-lent : tie.Need-slice-aggregate-cut-lent
-slice-aggregate-cut-lent c = search needs
-
 cut-lent-requires : tie.Need-cut-lent-requires
 cut-lent-requires c κs =
     let s = c .before .before .before .before .before .before .before in
     (s .pre .0, s .pre .1, cleared-room 65536 (keys-of (s .args .index .now)) (omega arith), cleared-whole 65536)
 
-same-length : tie.Need-same-length
-same-length c = search needs
-
-returns : tie.Need-returns
-returns c = search needs
-
 pub cut-many-lines-spec : {M : Type 1} → statement M
 cut-many-lines-spec =
-    tie.close (tie.spec slice-aggregate-cut-lent cut-lent-requires same-length returns)
+    tie.close
+    (tie.spec
+    (λ c. search needs) cut-lent-requires (λ c. search needs) (λ c. search needs))

@@ -4,8 +4,8 @@ use Prim.Native.Nat.{_+_, _*_, _-_}
 use native.Mathlib.Omega.{arith}
 use borrow.Author.Needs.{needs}
 use Rattle.spec.specs.Dictionary.{lexicon}
-use Rattle.spec.specs.Index.{keys-of}
-use Rattle.laws.specs.Cut.ExactFlags.{exact-flags-get, exact-flags-none, Counting, counting-start, counting-bears, counting-passes, counting-end}
+use Rattle.laws.specs.Cut.ExactFlags.{exact-flags-get, exact-flags-none, Counting, counting-start, counting-bears, counting-passes}
+use Rattle.laws.specs.Cut.ExactFlags.{counting-end}
 use Rattle.cutter.proofs.cutting.size_flagged.Statement.{statement}
 use Rattle.cutter.proofs.cutting.size_flagged.Tie as tie
 
@@ -33,15 +33,21 @@ cast-entries c = omega (arith, c .shared-slice-known3 .given (2 + 3 * c .before 
 add-entries-3 : tie.Need-add-entries-3 Inv-loop μ-loop
 add-entries-3 c =
     let l = c .before .before .before .before .loop in
-    omega (arith, c .before .before .before .before .before .shared-slice-known .given 1, c .shared-slice-known3 .given (2 + 3 * l .line + 2))
+    omega (
+      arith,
+      c .before .before .before .before .before .shared-slice-known .given 1,
+      c .shared-slice-known3 .given (2 + 3 * l .line + 2),
+    )
 
 loop-again : tie.Need-loop-again Inv-loop μ-loop
 loop-again c =
     let s = c .before .before .before .before .before .before in
     let a = s .args in
     let l = c .before .before .before .before .loop in
-    counting-bears (lexicon (a .chars .now) (a .lengths .now)) (a .index .now) (a .string .now) (l .inv) (c .before .before .before .loop-test .taken)
-    (exact-flags-get (lexicon (a .chars .now) (a .lengths .now)) (a .index .now) (a .string .now) (s .pre .1) (l .line) (c .before .before .before .loop-test .taken) (c .before .if1 .taken))
+    counting-bears (lexicon (a .chars .now) (a .lengths .now)) (a .index .now) (a .string .now) (l .inv)
+    (c .before .before .before .loop-test .taken)
+    (exact-flags-get (lexicon (a .chars .now) (a .lengths .now)) (a .index .now) (a .string .now) (s .pre .1) (l .line)
+    (c .before .before .before .loop-test .taken) (c .before .if1 .taken))
     (omega (arith, c .shared-slice-known3 .given (2 + 3 * l .line + 2))) (s .pre .0)
 
 loop-again-2 : tie.Need-loop-again-2 Inv-loop μ-loop
@@ -49,13 +55,13 @@ loop-again-2 c =
     let s = c .before .before .before .before .before in
     let a = s .args in
     let l = c .before .before .before .loop in
-    counting-passes (lexicon (a .chars .now) (a .lengths .now)) (a .index .now) (a .string .now) (l .inv) (c .before .before .loop-test .taken)
-    (exact-flags-none (lexicon (a .chars .now) (a .lengths .now)) (a .index .now) (a .string .now) (s .pre .1) (l .line) (c .before .before .loop-test .taken) (c .if1 .left))
+    counting-passes (lexicon (a .chars .now) (a .lengths .now)) (a .index .now) (a .string .now) (l .inv)
+    (c .before .before .loop-test .taken)
+    (exact-flags-none (lexicon (a .chars .now) (a .lengths .now)) (a .index .now) (a .string .now) (s .pre .1) (l .line)
+    (c .before .before .loop-test .taken) (c .if1 .left))
 
 returns : tie.Need-returns Inv-loop μ-loop
 returns c =
-    let s = c .before .before .before in
-    let a = s .args in
     let l = c .before .loop in
     counting-end (l .inv) (c .loop-test .left) (omega (arith, c .before .before .shared-slice-known .given 1))
 

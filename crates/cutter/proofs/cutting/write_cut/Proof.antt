@@ -16,13 +16,31 @@ use Rattle.cutter.proofs.cutting.write_cut.Tie as tie
 
 done :
     (c : tie.After-slice-known3) →
-    tail-back (2 + 3 * c .before .before .before .before .before .before .before .before .before .before .before .before .before .before .before .args .size .keys) (c .before .before .before .before .before .before .write-directory .last .1 .1 .1 .1 .1 .1 .0) (c .before .before .write-positions .last .1 .1 .1 .1 .1 .0)
-    ≡ over (numbers (n-of (c .before .before .before .before .before .before .before .before .before .before .before .before .before .before .before .args .index .now)) (bearing (lexicon (c .before .before .before .before .before .before .before .before .before .before .before .before .before .before .before .args .chars .now) (c .before .before .before .before .before .before .before .before .before .before .before .before .before .before .before .args .lengths .now)) (c .before .before .before .before .before .before .before .before .before .before .before .before .before .before .before .args .string .now) (lines-in (c .before .before .before .before .before .before .before .before .before .before .before .before .before .before .before .args .index .now)))) (c .before .before .before .before .before .before .before .before .before .before .before .before .before .before .before .args .output .now)
+    tail-back
+    (2 + 3 *
+    c .before .before .before .before .before .before .before .before .before .before .before .before .before .before .before .args
+    .size .keys) (c .before .before .before .before .before .before .write-directory .last .1 .1 .1 .1 .1 .1 .0) (c .before .before
+    .write-positions .last .1 .1 .1 .1 .1 .0)
+    ≡ over
+    (numbers
+    (n-of
+    (c .before .before .before .before .before .before .before .before .before .before .before .before .before .before .before .args
+    .index .now)) (bearing (lexicon (c .before .before .before .before .before .before .before .before .before .before .before
+    .before .before .before .before .args .chars .now) (c .before .before .before .before .before .before .before .before .before
+    .before .before .before .before .before .before .args .lengths .now)) (c .before .before .before .before .before .before
+    .before .before .before .before .before .before .before .before .before .args .string .now) (lines-in (c .before .before
+    .before .before .before .before .before .before .before .before .before .before .before .before .before .args .index .now))))
+    (c .before .before .before .before .before .before .before .before .before .before .before .before .before .before .before
+    .args .output .now)
 done c =
     let s = c .before .before .before .before .before .before .before .before .before .before .before .before .before .before .before in
-    index-written (n-of (s .args .index .now)) (bearing (lexicon (s .args .chars .now) (s .args .lengths .now)) (s .args .string .now) (lines-in (s .args .index .now))) (s .args .size .keys)
-    (s .pre .2 .keys-are) (s .args .output .now) (cut-room (lexicon (s .args .chars .now) (s .args .lengths .now)) (s .args .index .now) (s .args .string .now) (s .args .output .now) (s .pre .3))
-    (c .before .before .before .before .before .before .write-directory .last .1 .1 .1 .1 .1 .1 .0) (c .before .before .before .before .before .before .write-directory .ensures) (c .before .before .write-positions .last .1 .1 .1 .1 .1 .0)
+    index-written (n-of (s .args .index .now)) (bearing (lexicon (s .args .chars .now) (s .args .lengths .now)) (s .args .string .now)
+    (lines-in (s .args .index .now))) (s .args .size .keys)
+    (s .pre .2 .keys-are) (s .args .output .now) (cut-room (lexicon (s .args .chars .now) (s .args .lengths .now)) (s .args .index .now)
+    (s .args .string .now) (s .args .output .now) (s .pre .3))
+    (c .before .before .before .before .before .before .write-directory .last .1 .1 .1 .1 .1 .1 .0)
+    (c .before .before .before .before .before .before .write-directory .ensures)
+    (c .before .before .write-positions .last .1 .1 .1 .1 .1 .0)
     (c .before .before .write-positions .ensures)
 
 slice-write-output : tie.Need-slice-write-output
@@ -30,8 +48,10 @@ slice-write-output c =
     let s = c .before .before .before .before .before .before .before in
     omega (
       arith,
-      room-is (n-of (s .args .index .now)) (bearing (lexicon (s .args .chars .now) (s .args .lengths .now)) (s .args .string .now) (lines-in (s .args .index .now))) (s .args .size .keys)
-          (s .pre .2 .keys-are) (s .args .output .now) (cut-room (lexicon (s .args .chars .now) (s .args .lengths .now)) (s .args .index .now) (s .args .string .now) (s .args .output .now) (s .pre .3)),
+      room-is (n-of (s .args .index .now)) (bearing (lexicon (s .args .chars .now) (s .args .lengths .now)) (s .args .string .now)
+          (lines-in (s .args .index .now))) (s .args .size .keys)
+          (s .pre .2 .keys-are) (s .args .output .now) (cut-room (lexicon (s .args .chars .now) (s .args .lengths .now))
+          (s .args .index .now) (s .args .string .now) (s .args .output .now) (s .pre .3)),
     )
 
 slice-write-output-2 : tie.Need-slice-write-output-2
@@ -39,8 +59,10 @@ slice-write-output-2 c =
     let s = c .before .before .before .before .before .before .before in
     simp length-set (omega (
       arith,
-      room-is (n-of (s .args .index .now)) (bearing (lexicon (s .args .chars .now) (s .args .lengths .now)) (s .args .string .now) (lines-in (s .args .index .now))) (s .args .size .keys)
-          (s .pre .2 .keys-are) (s .args .output .now) (cut-room (lexicon (s .args .chars .now) (s .args .lengths .now)) (s .args .index .now) (s .args .string .now) (s .args .output .now) (s .pre .3)),
+      room-is (n-of (s .args .index .now)) (bearing (lexicon (s .args .chars .now) (s .args .lengths .now)) (s .args .string .now)
+          (lines-in (s .args .index .now))) (s .args .size .keys)
+          (s .pre .2 .keys-are) (s .args .output .now) (cut-room (lexicon (s .args .chars .now) (s .args .lengths .now))
+          (s .args .index .now) (s .args .string .now) (s .args .output .now) (s .pre .3)),
     ))
 
 write-directory-requires : tie.Need-write-directory-requires
@@ -48,22 +70,28 @@ write-directory-requires c κs =
     let s = c .before .before .before .before .before .before .before .before in (
       s .pre .0,
       s .pre .1,
-      directory-room (n-of (s .args .index .now)) (bearing (lexicon (s .args .chars .now) (s .args .lengths .now)) (s .args .string .now) (lines-in (s .args .index .now))) (s .args .size .keys)
-          (s .pre .2 .keys-are) (s .args .output .now) (cut-room (lexicon (s .args .chars .now) (s .args .lengths .now)) (s .args .index .now) (s .args .string .now) (s .args .output .now) (s .pre .3)),
+      directory-room (n-of (s .args .index .now)) (bearing (lexicon (s .args .chars .now) (s .args .lengths .now)) (s .args .string .now)
+          (lines-in (s .args .index .now))) (s .args .size .keys)
+          (s .pre .2 .keys-are) (s .args .output .now) (cut-room (lexicon (s .args .chars .now) (s .args .lengths .now))
+          (s .args .index .now) (s .args .string .now) (s .args .output .now) (s .pre .3)),
     )
 
 sub-write-positions : tie.Need-sub-write-positions
 sub-write-positions c =
     let s = c .before .before .before .before .before .before .before .before .before .before .before in
-    positions-start (n-of (s .args .index .now)) (bearing (lexicon (s .args .chars .now) (s .args .lengths .now)) (s .args .string .now) (lines-in (s .args .index .now))) (s .args .size .keys)
-    (s .pre .2 .keys-are) (s .args .output .now) (cut-room (lexicon (s .args .chars .now) (s .args .lengths .now)) (s .args .index .now) (s .args .string .now) (s .args .output .now) (s .pre .3))
+    positions-start (n-of (s .args .index .now)) (bearing (lexicon (s .args .chars .now) (s .args .lengths .now)) (s .args .string .now)
+    (lines-in (s .args .index .now))) (s .args .size .keys)
+    (s .pre .2 .keys-are) (s .args .output .now) (cut-room (lexicon (s .args .chars .now) (s .args .lengths .now)) (s .args .index .now)
+    (s .args .string .now) (s .args .output .now) (s .pre .3))
     (c .before .before .write-directory .last .1 .1 .1 .1 .1 .1 .0) (c .before .before .write-directory .ensures)
 
 part-write-positions-start : tie.Need-part-write-positions-start
 part-write-positions-start c =
     let s = c .before .before .before .before .before .before .before .before .before .before .before in
-    positions-start (n-of (s .args .index .now)) (bearing (lexicon (s .args .chars .now) (s .args .lengths .now)) (s .args .string .now) (lines-in (s .args .index .now))) (s .args .size .keys)
-    (s .pre .2 .keys-are) (s .args .output .now) (cut-room (lexicon (s .args .chars .now) (s .args .lengths .now)) (s .args .index .now) (s .args .string .now) (s .args .output .now) (s .pre .3))
+    positions-start (n-of (s .args .index .now)) (bearing (lexicon (s .args .chars .now) (s .args .lengths .now)) (s .args .string .now)
+    (lines-in (s .args .index .now))) (s .args .size .keys)
+    (s .pre .2 .keys-are) (s .args .output .now) (cut-room (lexicon (s .args .chars .now) (s .args .lengths .now)) (s .args .index .now)
+    (s .args .string .now) (s .args .output .now) (s .pre .3))
     (c .before .before .write-directory .last .1 .1 .1 .1 .1 .1 .0) (c .before .before .write-directory .ensures)
 
 write-positions-requires : tie.Need-write-positions-requires
@@ -71,8 +99,10 @@ write-positions-requires c κs =
     let s = c .before .before .before .before .before .before .before .before .before .before .before .before in (
       s .pre .0,
       s .pre .1,
-      positions-room (n-of (s .args .index .now)) (bearing (lexicon (s .args .chars .now) (s .args .lengths .now)) (s .args .string .now) (lines-in (s .args .index .now))) (s .args .size .keys)
-          (s .pre .2 .keys-are) (s .args .output .now) (cut-room (lexicon (s .args .chars .now) (s .args .lengths .now)) (s .args .index .now) (s .args .string .now) (s .args .output .now) (s .pre .3))
+      positions-room (n-of (s .args .index .now)) (bearing (lexicon (s .args .chars .now) (s .args .lengths .now)) (s .args .string .now)
+          (lines-in (s .args .index .now))) (s .args .size .keys)
+          (s .pre .2 .keys-are) (s .args .output .now) (cut-room (lexicon (s .args .chars .now) (s .args .lengths .now))
+          (s .args .index .now) (s .args .string .now) (s .args .output .now) (s .pre .3))
           (c .before .before .before .write-directory .last .1 .1 .1 .1 .1 .1 .0) (c .before .before .before .write-directory .ensures),
     )
 
@@ -80,13 +110,16 @@ same-length : tie.Need-same-length
 same-length c =
     let s = c .before .before .before .before .before .before .before .before .before .before .before .before .before .before .before in
     ap length (done c)
-    ∙ written-long (n-of (s .args .index .now)) (bearing (lexicon (s .args .chars .now) (s .args .lengths .now)) (s .args .string .now) (lines-in (s .args .index .now))) (s .args .size .keys)
-    (s .pre .2 .keys-are) (s .args .output .now) (cut-room (lexicon (s .args .chars .now) (s .args .lengths .now)) (s .args .index .now) (s .args .string .now) (s .args .output .now) (s .pre .3))
+    ∙ written-long (n-of (s .args .index .now)) (bearing (lexicon (s .args .chars .now) (s .args .lengths .now)) (s .args .string .now)
+    (lines-in (s .args .index .now))) (s .args .size .keys)
+    (s .pre .2 .keys-are) (s .args .output .now) (cut-room (lexicon (s .args .chars .now) (s .args .lengths .now)) (s .args .index .now)
+    (s .args .string .now) (s .args .output .now) (s .pre .3))
 
 returns : tie.Need-returns
 returns c =
     let s = c .before .before .before .before .before .before .before .before .before .before .before .before .before .before .before in
-    done c ∙ cut-written (lexicon (s .args .chars .now) (s .args .lengths .now)) (s .args .index .now) (s .args .string .now) (s .args .output .now)
+    done c ∙ cut-written (lexicon (s .args .chars .now) (s .args .lengths .now)) (s .args .index .now) (s .args .string .now)
+    (s .args .output .now)
 
 pub write-cut-spec : {M : Type 1} → statement M
 write-cut-spec =

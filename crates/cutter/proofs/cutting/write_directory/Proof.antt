@@ -5,7 +5,6 @@ use native.Mathlib.Omega.{arith}
 use borrow.Author.Needs.{needs}
 use lib.ListN.{length-set}
 use Rattle.spec.specs.Dictionary.{lexicon}
-use Rattle.spec.specs.Index.{keys-of}
 use Rattle.laws.specs.Cut.ExactFlags.{exact-flags-get, exact-flags-none}
 use Rattle.laws.specs.Cut.Cutting.{Listing, listing-start, listing-room, listing-step, listing-pass, listing-end}
 use Rattle.cutter.proofs.cutting.write_directory.Statement.{statement}
@@ -29,23 +28,14 @@ loop-holds c =
 
 shared-slice-read-if1 : tie.Need-shared-slice-read-if1 Inv-loop μ-loop
 shared-slice-read-if1 c =
-    let s = c .before .before .before .before in
-    let a = s .args in
-    let l = c .before .before .loop in
     omega arith
 
 add-output : tie.Need-add-output Inv-loop μ-loop
 add-output c =
-    let s = c .before .before .before .before .before in
-    let a = s .args in
-    let l = c .before .before .before .loop in
     omega arith
 
 shared-slice-read-output : tie.Need-shared-slice-read-output Inv-loop μ-loop
 shared-slice-read-output c =
-    let s = c .before .before .before .before .before .before in
-    let a = s .args in
-    let l = c .before .before .before .before .loop in
     omega arith
 
 slice-write-output : tie.Need-slice-write-output Inv-loop μ-loop
@@ -53,27 +43,23 @@ slice-write-output c =
     let s = c .before .before .before .before .before .before in
     let a = s .args in
     let l = c .before .before .before .before .loop in
-    omega (arith, listing-room (lexicon (a .chars .now) (a .lengths .now)) (a .index .now) (a .string .now) (l .inv) (c .before .before .before .loop-test .taken) (exact-flags-get (lexicon (a .chars .now) (a .lengths .now)) (a .index .now) (a .string .now) (s .pre .1) (l .line) (c .before .before .before .loop-test .taken) (c .before .if1 .taken)) (s .pre .0))
+    omega (
+      arith,
+      listing-room (lexicon (a .chars .now) (a .lengths .now)) (a .index .now) (a .string .now) (l .inv)
+          (c .before .before .before .loop-test .taken) (exact-flags-get (lexicon (a .chars .now) (a .lengths .now)) (a .index .now)
+          (a .string .now) (s .pre .1) (l .line) (c .before .before .before .loop-test .taken) (c .before .if1 .taken)) (s .pre .0),
+    )
 
 add-output-2 : tie.Need-add-output-2 Inv-loop μ-loop
 add-output-2 c =
-    let s = c .before .before .before .before .before .before in
-    let a = s .args in
-    let l = c .before .before .before .before .loop in
     omega arith
 
 add-output-3 : tie.Need-add-output-3 Inv-loop μ-loop
 add-output-3 c =
-    let s = c .before .before .before .before .before .before in
-    let a = s .args in
-    let l = c .before .before .before .before .loop in
     omega arith
 
 shared-slice-read-output-2 : tie.Need-shared-slice-read-output-2 Inv-loop μ-loop
 shared-slice-read-output-2 c =
-    let s = c .before .before .before .before .before .before .before in
-    let a = s .args in
-    let l = c .before .before .before .before .before .loop in
     omega arith
 
 add-output-4 : tie.Need-add-output-4 Inv-loop μ-loop
@@ -81,34 +67,37 @@ add-output-4 c =
     let s = c .before .before .before .before .before .before .before in
     let a = s .args in
     let l = c .before .before .before .before .before .loop in
-    omega (arith, listing-room (lexicon (a .chars .now) (a .lengths .now)) (a .index .now) (a .string .now) (l .inv) (c .before .before .before .before .loop-test .taken) (exact-flags-get (lexicon (a .chars .now) (a .lengths .now)) (a .index .now) (a .string .now) (s .pre .1) (l .line) (c .before .before .before .before .loop-test .taken) (c .before .before .if1 .taken)) (s .pre .0))
+    omega (
+      arith,
+      listing-room (lexicon (a .chars .now) (a .lengths .now)) (a .index .now) (a .string .now) (l .inv)
+          (c .before .before .before .before .loop-test .taken) (exact-flags-get (lexicon (a .chars .now) (a .lengths .now)) (a .index .now)
+          (a .string .now) (s .pre .1) (l .line) (c .before .before .before .before .loop-test .taken) (c .before .before .if1 .taken))
+          (s .pre .0),
+    )
 
 slice-write-output-2 : tie.Need-slice-write-output-2 Inv-loop μ-loop
 slice-write-output-2 c =
     let s = c .before .before .before .before .before .before .before in
     let a = s .args in
     let l = c .before .before .before .before .before .loop in
-    simp length-set (omega (arith, listing-room (lexicon (a .chars .now) (a .lengths .now)) (a .index .now) (a .string .now) (l .inv) (c .before .before .before .before .loop-test .taken) (exact-flags-get (lexicon (a .chars .now) (a .lengths .now)) (a .index .now) (a .string .now) (s .pre .1) (l .line) (c .before .before .before .before .loop-test .taken) (c .before .before .if1 .taken)) (s .pre .0)))
+    simp length-set (omega (
+      arith,
+      listing-room (lexicon (a .chars .now) (a .lengths .now)) (a .index .now) (a .string .now) (l .inv)
+          (c .before .before .before .before .loop-test .taken) (exact-flags-get (lexicon (a .chars .now) (a .lengths .now)) (a .index .now)
+          (a .string .now) (s .pre .1) (l .line) (c .before .before .before .before .loop-test .taken) (c .before .before .if1 .taken))
+          (s .pre .0),
+    ))
 
 add-output-5 : tie.Need-add-output-5 Inv-loop μ-loop
 add-output-5 c =
-    let s = c .before .before .before .before .before .before .before in
-    let a = s .args in
-    let l = c .before .before .before .before .before .loop in
     omega arith
 
 add-output-6 : tie.Need-add-output-6 Inv-loop μ-loop
 add-output-6 c =
-    let s = c .before .before .before .before .before .before .before in
-    let a = s .args in
-    let l = c .before .before .before .before .before .loop in
     omega arith
 
 shared-slice-read-output-3 : tie.Need-shared-slice-read-output-3 Inv-loop μ-loop
 shared-slice-read-output-3 c =
-    let s = c .before .before .before .before .before .before .before .before in
-    let a = s .args in
-    let l = c .before .before .before .before .before .before .loop in
     omega arith
 
 add-output-7 : tie.Need-add-output-7 Inv-loop μ-loop
@@ -116,29 +105,49 @@ add-output-7 c =
     let s = c .before .before .before .before .before .before .before .before in
     let a = s .args in
     let l = c .before .before .before .before .before .before .loop in
-    omega (arith, listing-room (lexicon (a .chars .now) (a .lengths .now)) (a .index .now) (a .string .now) (l .inv) (c .before .before .before .before .before .loop-test .taken) (exact-flags-get (lexicon (a .chars .now) (a .lengths .now)) (a .index .now) (a .string .now) (s .pre .1) (l .line) (c .before .before .before .before .before .loop-test .taken) (c .before .before .before .if1 .taken)) (s .pre .0))
+    omega (
+      arith,
+      listing-room (lexicon (a .chars .now) (a .lengths .now)) (a .index .now) (a .string .now) (l .inv)
+          (c .before .before .before .before .before .loop-test .taken)
+          (exact-flags-get (lexicon (a .chars .now) (a .lengths .now)) (a .index .now) (a .string .now) (s .pre .1) (l .line)
+          (c .before .before .before .before .before .loop-test .taken) (c .before .before .before .if1 .taken)) (s .pre .0),
+    )
 
 slice-write-output-3 : tie.Need-slice-write-output-3 Inv-loop μ-loop
 slice-write-output-3 c =
     let s = c .before .before .before .before .before .before .before .before in
     let a = s .args in
     let l = c .before .before .before .before .before .before .loop in
-    simp length-set (omega (arith, listing-room (lexicon (a .chars .now) (a .lengths .now)) (a .index .now) (a .string .now) (l .inv) (c .before .before .before .before .before .loop-test .taken) (exact-flags-get (lexicon (a .chars .now) (a .lengths .now)) (a .index .now) (a .string .now) (s .pre .1) (l .line) (c .before .before .before .before .before .loop-test .taken) (c .before .before .before .if1 .taken)) (s .pre .0)))
+    simp length-set (omega (
+      arith,
+      listing-room (lexicon (a .chars .now) (a .lengths .now)) (a .index .now) (a .string .now) (l .inv)
+          (c .before .before .before .before .before .loop-test .taken)
+          (exact-flags-get (lexicon (a .chars .now) (a .lengths .now)) (a .index .now) (a .string .now) (s .pre .1) (l .line)
+          (c .before .before .before .before .before .loop-test .taken) (c .before .before .before .if1 .taken)) (s .pre .0),
+    ))
 
 add-at : tie.Need-add-at Inv-loop μ-loop
 add-at c =
     let s = c .before .before .before .before .before .before .before .before in
     let a = s .args in
     let l = c .before .before .before .before .before .before .loop in
-    omega (arith, listing-room (lexicon (a .chars .now) (a .lengths .now)) (a .index .now) (a .string .now) (l .inv) (c .before .before .before .before .before .loop-test .taken) (exact-flags-get (lexicon (a .chars .now) (a .lengths .now)) (a .index .now) (a .string .now) (s .pre .1) (l .line) (c .before .before .before .before .before .loop-test .taken) (c .before .before .before .if1 .taken)) (s .pre .0))
+    omega (
+      arith,
+      listing-room (lexicon (a .chars .now) (a .lengths .now)) (a .index .now) (a .string .now) (l .inv)
+          (c .before .before .before .before .before .loop-test .taken)
+          (exact-flags-get (lexicon (a .chars .now) (a .lengths .now)) (a .index .now) (a .string .now) (s .pre .1) (l .line)
+          (c .before .before .before .before .before .loop-test .taken) (c .before .before .before .if1 .taken)) (s .pre .0),
+    )
 
 loop-again : tie.Need-loop-again Inv-loop μ-loop
 loop-again c =
     let s = c .before .before .before .before .before .before .before .before in
     let a = s .args in
     let l = c .before .before .before .before .before .before .loop in
-    listing-step (lexicon (a .chars .now) (a .lengths .now)) (a .index .now) (a .string .now) (l .inv) (c .before .before .before .before .before .loop-test .taken)
-    (exact-flags-get (lexicon (a .chars .now) (a .lengths .now)) (a .index .now) (a .string .now) (s .pre .1) (l .line) (c .before .before .before .before .before .loop-test .taken) (c .before .before .before .if1 .taken)) (s .pre .0)
+    listing-step (lexicon (a .chars .now) (a .lengths .now)) (a .index .now) (a .string .now) (l .inv)
+    (c .before .before .before .before .before .loop-test .taken)
+    (exact-flags-get (lexicon (a .chars .now) (a .lengths .now)) (a .index .now) (a .string .now) (s .pre .1) (l .line)
+    (c .before .before .before .before .before .loop-test .taken) (c .before .before .before .if1 .taken)) (s .pre .0)
 
 loop-again-2 : tie.Need-loop-again-2 Inv-loop μ-loop
 loop-again-2 c =
@@ -146,7 +155,8 @@ loop-again-2 c =
     let a = s .args in
     let l = c .before .before .before .loop in
     listing-pass (lexicon (a .chars .now) (a .lengths .now)) (a .index .now) (a .string .now) (l .inv) (c .before .before .loop-test .taken)
-    (exact-flags-none (lexicon (a .chars .now) (a .lengths .now)) (a .index .now) (a .string .now) (s .pre .1) (l .line) (c .before .before .loop-test .taken) (c .if1 .left))
+    (exact-flags-none (lexicon (a .chars .now) (a .lengths .now)) (a .index .now) (a .string .now) (s .pre .1) (l .line)
+    (c .before .before .loop-test .taken) (c .if1 .left))
 
 same-length : tie.Need-same-length Inv-loop μ-loop
 same-length c = c .before .loop .inv .way .len

@@ -4,9 +4,9 @@ use Prim.Native.Nat.{_+_, _*_, _-_}
 use native.Mathlib.Omega.{arith}
 use borrow.Author.Needs.{needs}
 use Rattle.spec.specs.Dictionary.{lexicon}
-use Rattle.spec.specs.Index.{keys-of}
 use Rattle.laws.specs.Cut.ExactFlags.{exact-flags-get, exact-flags-none}
-use Rattle.laws.specs.Cut.Cutting.{Placing, placing-start, placing-there, placing-counted, placing-room, placing-step, placing-pass, placing-end}
+use Rattle.laws.specs.Cut.Cutting.{Placing, placing-start, placing-there, placing-counted, placing-room, placing-step, placing-pass}
+use Rattle.laws.specs.Cut.Cutting.{placing-end}
 use Rattle.cutter.proofs.cutting.write_positions.Statement.{statement}
 use Rattle.cutter.proofs.cutting.write_positions.Tie as tie
 
@@ -46,9 +46,6 @@ mul-end-2 c = omega (arith, c .before .before .shared-slice-known6 .given 1)
 
 shared-slice-read-end : tie.Need-shared-slice-read-end Inv-loop μ-loop
 shared-slice-read-end c =
-    let s = c .before .before .before .before .before .before .before .before .before .before in
-    let a = s .args in
-    let l = c .before .before .loop in
     omega arith
 
 cast-end : tie.Need-cast-end Inv-loop μ-loop
@@ -59,16 +56,17 @@ add-end-3 c =
     let s = c .before .before .before .before .before .before .before .before .before .before in
     let a = s .args in
     let l = c .before .before .loop in
-    omega (arith, placing-there (lexicon (a .chars .now) (a .lengths .now)) (a .index .now) (a .string .now) (l .inv) (c .before .loop-test .taken) (s .pre .0))
+    omega (
+      arith,
+      placing-there (lexicon (a .chars .now) (a .lengths .now)) (a .index .now) (a .string .now) (l .inv)
+          (c .before .loop-test .taken) (s .pre .0),
+    )
 
 add-line : tie.Need-add-line Inv-loop μ-loop
 add-line c = omega (arith, c .before .before .before .shared-slice-known6 .given 1)
 
 shared-slice-read-if1 : tie.Need-shared-slice-read-if1 Inv-loop μ-loop
 shared-slice-read-if1 c =
-    let s = c .before .before .before .before .before .before .before .before .before .before .before in
-    let a = s .args in
-    let l = c .before .before .before .loop in
     omega arith
 
 mul-write-list : tie.Need-mul-write-list Inv-loop μ-loop
@@ -76,36 +74,58 @@ mul-write-list c =
     let s = c .before .before .before .before .before .before .before .before .before .before .before .before in
     let a = s .args in
     let l = c .before .before .before .before .loop in
-    omega (arith, placing-there (lexicon (a .chars .now) (a .lengths .now)) (a .index .now) (a .string .now) (l .inv) (c .before .before .before .loop-test .taken) (s .pre .0))
+    omega (
+      arith,
+      placing-there (lexicon (a .chars .now) (a .lengths .now)) (a .index .now) (a .string .now) (l .inv)
+          (c .before .before .before .loop-test .taken) (s .pre .0),
+    )
 
 part-write-list-end : tie.Need-part-write-list-end Inv-loop μ-loop
 part-write-list-end c =
     let s = c .before .before .before .before .before .before .before .before .before .before .before .before in
     let a = s .args in
     let l = c .before .before .before .before .loop in
-    placing-there (lexicon (a .chars .now) (a .lengths .now)) (a .index .now) (a .string .now) (l .inv) (c .before .before .before .loop-test .taken) (s .pre .0)
+    placing-there (lexicon (a .chars .now) (a .lengths .now)) (a .index .now) (a .string .now) (l .inv)
+    (c .before .before .before .loop-test .taken) (s .pre .0)
 
 write-list-requires : tie.Need-write-list-requires Inv-loop μ-loop
 write-list-requires c κs =
     let s = c .before .before .before .before .before .before .before .before .before .before .before .before .before .before in
     let a = s .args in
     let l = c .before .before .before .before .before .before .loop in
-    placing-room (lexicon (a .chars .now) (a .lengths .now)) (a .index .now) (a .string .now) (l .inv) (c .before .before .before .before .before .loop-test .taken) (s .pre .0) (exact-flags-get (lexicon (a .chars .now) (a .lengths .now)) (a .index .now) (a .string .now) (s .pre .1) (l .line) (c .before .before .before .before .before .loop-test .taken) (c .before .before .if1 .taken))
+    placing-room (lexicon (a .chars .now) (a .lengths .now)) (a .index .now) (a .string .now) (l .inv)
+    (c .before .before .before .before .before .loop-test .taken) (s .pre .0)
+    (exact-flags-get (lexicon (a .chars .now) (a .lengths .now)) (a .index .now) (a .string .now) (s .pre .1) (l .line)
+    (c .before .before .before .before .before .loop-test .taken) (c .before .before .if1 .taken))
 
 add-at : tie.Need-add-at Inv-loop μ-loop
 add-at c =
-    let s = c .before .before .before .before .before .before .before .before .before .before .before .before .before .before .before .before .before in
+    let half = c .before .before .before .before .before .before .before .before in
+    let s = half .before .before .before .before .before .before .before .before .before in
     let a = s .args in
     let l = c .before .before .before .before .before .before .before .before .before .loop in
-    omega (arith, placing-room (lexicon (a .chars .now) (a .lengths .now)) (a .index .now) (a .string .now) (l .inv) (c .before .before .before .before .before .before .before .before .loop-test .taken) (s .pre .0) (exact-flags-get (lexicon (a .chars .now) (a .lengths .now)) (a .index .now) (a .string .now) (s .pre .1) (l .line) (c .before .before .before .before .before .before .before .before .loop-test .taken) (c .before .before .before .before .before .if1 .taken)), placing-counted (lexicon (a .chars .now) (a .lengths .now)) (a .index .now) (a .string .now) (l .inv) (c .before .before .before .before .before .before .before .before .loop-test .taken) (s .pre .0))
+    omega (
+      arith,
+      placing-room (lexicon (a .chars .now) (a .lengths .now)) (a .index .now) (a .string .now) (l .inv)
+          (c .before .before .before .before .before .before .before .before .loop-test .taken) (s .pre .0)
+          (exact-flags-get (lexicon (a .chars .now) (a .lengths .now)) (a .index .now) (a .string .now) (s .pre .1) (l .line)
+          (c .before .before .before .before .before .before .before .before .loop-test .taken)
+          (c .before .before .before .before .before .if1 .taken)),
+      placing-counted (lexicon (a .chars .now) (a .lengths .now)) (a .index .now) (a .string .now) (l .inv)
+          (c .before .before .before .before .before .before .before .before .loop-test .taken) (s .pre .0),
+    )
 
 loop-again : tie.Need-loop-again Inv-loop μ-loop
 loop-again c =
-    let s = c .before .before .before .before .before .before .before .before .before .before .before .before .before .before .before .before .before in
+    let half = c .before .before .before .before .before .before .before .before in
+    let s = half .before .before .before .before .before .before .before .before .before in
     let a = s .args in
     let l = c .before .before .before .before .before .before .before .before .before .loop in
-    placing-step (lexicon (a .chars .now) (a .lengths .now)) (a .index .now) (a .string .now) (l .inv) (c .before .before .before .before .before .before .before .before .loop-test .taken) (s .pre .0)
-    (exact-flags-get (lexicon (a .chars .now) (a .lengths .now)) (a .index .now) (a .string .now) (s .pre .1) (l .line) (c .before .before .before .before .before .before .before .before .loop-test .taken) (c .before .before .before .before .before .if1 .taken))
+    placing-step (lexicon (a .chars .now) (a .lengths .now)) (a .index .now) (a .string .now) (l .inv)
+    (c .before .before .before .before .before .before .before .before .loop-test .taken) (s .pre .0)
+    (exact-flags-get (lexicon (a .chars .now) (a .lengths .now)) (a .index .now) (a .string .now) (s .pre .1) (l .line)
+    (c .before .before .before .before .before .before .before .before .loop-test .taken)
+    (c .before .before .before .before .before .if1 .taken))
     (c .before .before .write-list .last .1 .1 .0) (c .before .before .write-list .ensures)
 
 loop-again-2 : tie.Need-loop-again-2 Inv-loop μ-loop
@@ -113,8 +133,10 @@ loop-again-2 c =
     let s = c .before .before .before .before .before .before .before .before .before .before .before .before in
     let a = s .args in
     let l = c .before .before .before .before .loop in
-    placing-pass (lexicon (a .chars .now) (a .lengths .now)) (a .index .now) (a .string .now) (l .inv) (c .before .before .before .loop-test .taken) (s .pre .0)
-    (exact-flags-none (lexicon (a .chars .now) (a .lengths .now)) (a .index .now) (a .string .now) (s .pre .1) (l .line) (c .before .before .before .loop-test .taken) (c .if1 .left))
+    placing-pass (lexicon (a .chars .now) (a .lengths .now)) (a .index .now) (a .string .now) (l .inv)
+    (c .before .before .before .loop-test .taken) (s .pre .0)
+    (exact-flags-none (lexicon (a .chars .now) (a .lengths .now)) (a .index .now) (a .string .now) (s .pre .1) (l .line)
+    (c .before .before .before .loop-test .taken) (c .if1 .left))
 
 same-length : tie.Need-same-length Inv-loop μ-loop
 same-length c = c .before .loop .inv .way .len

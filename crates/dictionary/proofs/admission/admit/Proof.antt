@@ -8,9 +8,6 @@ use Rattle.laws.specs.Dictionary.Answering.{answers-accepted, answers-refused}
 use Rattle.dictionary.proofs.admission.admit.Statement.{statement}
 use Rattle.dictionary.proofs.admission.admit.Tie as tie
 
-refusal-of-requires : tie.Need-refusal-of-requires
-refusal-of-requires c κs = search needs
-
 returns : tie.Need-returns
 unfolding Admit-says
 returns c =
@@ -30,8 +27,12 @@ returns-2 c =
     (length (c .before .before .before .before .args .lengths .now))
     (record { refusal = c .before .refusal-of .result; count = 0 })
     (c .before .refusal-of .ensures)
-    (λ (none : dictionary-refusal (c .before .before .before .before .args .chars .now) (c .before .before .before .before .args .lengths .now) ≡ 0). c .if1 .left (c .before .refusal-of .ensures ∙ none))
+    (λ (none : dictionary-refusal (c .before .before .before .before .args .chars .now)
+    (c .before .before .before .before .args .lengths .now) ≡ 0). c .if1 .left (c .before .refusal-of .ensures ∙ none))
     refl
 
 pub admit-spec : {M : Type 1} → statement M
-admit-spec = tie.close (tie.spec refusal-of-requires returns returns-2)
+admit-spec =
+    tie.close
+    (tie.spec
+    (λ c κs. search needs) returns returns-2)

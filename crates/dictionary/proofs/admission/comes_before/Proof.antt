@@ -24,7 +24,8 @@ returns : tie.Need-returns Inv-loop μ-loop
 returns c =
     let start = c .before .before .before .before .before .before .before .before .before in
     let walk = c .before .before .before .before .loop in
-    sym (before-differ (start .args .left .now) (start .args .right .now) (walk .i) (omega arith) (omega arith) (c .if1 .taken)) ∙ walk .inv .2
+    sym (before-differ (start .args .left .now) (start .args .right .now) (walk .i) (omega arith) (omega arith) (c .if1 .taken)) ∙
+    walk .inv .2
 
 loop-again : tie.Need-loop-again Inv-loop μ-loop
 loop-again c =
@@ -32,14 +33,16 @@ loop-again c =
     let walk = c .before .before .before .before .loop in (
       omega arith,
       omega arith,
-      sym (before-same (start .args .left .now) (start .args .right .now) (walk .i) (omega arith) (omega arith) (omega arith)) ∙ walk .inv .2,
+      sym (before-same (start .args .left .now) (start .args .right .now) (walk .i) (omega arith) (omega arith) (omega arith)) ∙
+          walk .inv .2,
     )
 
 returns-2 : tie.Need-returns-2 Inv-loop μ-loop
 returns-2 c =
     let start = c .before .before .before .before .before .before in
     let walk = c .before .loop in
-    sym (before-read (start .args .left .now) (start .args .right .now) (walk .i) (omega arith) (walk .inv .0) (walk .inv .1)) ∙ walk .inv .2
+    sym (before-read (start .args .left .now) (start .args .right .now) (walk .i) (omega arith) (walk .inv .0) (walk .inv .1)) ∙
+    walk .inv .2
 
 pub comes-before-spec : {M : Type 1} → statement M
 comes-before-spec =

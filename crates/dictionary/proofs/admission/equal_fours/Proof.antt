@@ -51,8 +51,7 @@ loop-again c =
     let start = test .before .before .before in
     let below = test .loop-test .taken in (
       omega (arith, below),
-      equal-four (start .args .left .now) (start .args .right .now) (turn .i) (omega (arith, below))
-          (omega (arith, below))
+      equal-four (start .args .left .now) (start .args .right .now) (turn .i) (omega (arith, below)) (omega (arith, below))
           (first .if2 .left) (second .if3 .left) (third .if4 .left) (c .if5 .left) (turn .inv .1),
     )
 

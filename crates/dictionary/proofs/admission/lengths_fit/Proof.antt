@@ -37,8 +37,10 @@ loop-again c =
 returns : tie.Need-returns Inv-loop μ-loop
 returns c =
     rw (
-      lengths-sum (c .before .before .args .lengths .now) (c .before .loop .sum) (c .before .loop .good) (c .before .loop .i) (c .before .loop .inv) (c .loop-test .left),
-      lengths-tested (c .before .before .args .lengths .now) (c .before .loop .sum) (c .before .loop .good) (c .before .loop .i) (c .before .loop .inv) (c .loop-test .left),
+      lengths-sum (c .before .before .args .lengths .now) (c .before .loop .sum) (c .before .loop .good) (c .before .loop .i)
+          (c .before .loop .inv) (c .loop-test .left),
+      lengths-tested (c .before .before .args .lengths .now) (c .before .loop .sum) (c .before .loop .good) (c .before .loop .i)
+          (c .before .loop .inv) (c .loop-test .left),
     )
 
 pub lengths-fit-spec : {M : Type 1} → statement M

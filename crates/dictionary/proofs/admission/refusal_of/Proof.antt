@@ -7,27 +7,36 @@ use Rattle.dictionary.proofs.admission.refusal_of.Statement.{statement}
 use Rattle.dictionary.proofs.admission.refusal_of.Tie as tie
 
 returns : tie.Need-returns
-returns c = sym (refuses-words (c .before .before .before .args .chars .now) (c .before .before .before .args .lengths .now) (c .if1 .taken))
+returns c = sym (refuses-words (c .before .before .before .args .chars .now) (c .before .before .before .args .lengths .now)
+    (c .if1 .taken))
 
 returns-2 : tie.Need-returns-2
-returns-2 c = sym (refuses-chars (c .before .before .before .before .args .chars .now) (c .before .before .before .before .args .lengths .now) (c .before .if1 .left) (c .if2 .taken))
+returns-2 c = sym (refuses-chars (c .before .before .before .before .args .chars .now)
+    (c .before .before .before .before .args .lengths .now) (c .before .if1 .left) (c .if2 .taken))
 
 returns-3 : tie.Need-returns-3
 returns-3 c =
     sym
-    (refuses-lengths (c .before .before .before .before .before .before .args .chars .now) (c .before .before .before .before .before .before .args .lengths .now) (c .before .before .before .if1 .left) (c .before .before .if2 .left)
+    (refuses-lengths (c .before .before .before .before .before .before .args .chars .now)
+    (c .before .before .before .before .before .before .args .lengths .now) (c .before .before .before .if1 .left)
+    (c .before .before .if2 .left)
     (sym (c .before .lengths-fit .ensures) ∙ not-true (c .before .lengths-fit .result) (c .if3 .taken)))
 
 words-ascend-requires : tie.Need-words-ascend-requires
 words-ascend-requires c κs =
-    fitting (c .before .before .before .before .before .before .args .chars .now) (c .before .before .before .before .before .before .args .lengths .now) (c .before .before .before .if1 .left) (c .before .before .if2 .left)
+    fitting (c .before .before .before .before .before .before .args .chars .now)
+    (c .before .before .before .before .before .before .args .lengths .now) (c .before .before .before .if1 .left)
+    (c .before .before .if2 .left)
     (sym (c .before .lengths-fit .ensures) ∙ not-false (c .before .lengths-fit .result) (c .if3 .left))
 
 returns-4 : tie.Need-returns-4
 returns-4 c =
     sym
-    (refuses-order (c .before .before .before .before .before .before .before .before .args .chars .now) (c .before .before .before .before .before .before .before .before .args .lengths .now) (c .before .before .before .before .before .if1 .left) (c .before .before .before .before .if2 .left)
-    (sym (c .before .before .before .lengths-fit .ensures) ∙ not-false (c .before .before .before .lengths-fit .result) (c .before .before .if3 .left))
+    (refuses-order (c .before .before .before .before .before .before .before .before .args .chars .now)
+    (c .before .before .before .before .before .before .before .before .args .lengths .now)
+    (c .before .before .before .before .before .if1 .left) (c .before .before .before .before .if2 .left)
+    (sym (c .before .before .before .lengths-fit .ensures) ∙ not-false (c .before .before .before .lengths-fit .result)
+    (c .before .before .if3 .left))
     (sym (c .before .words-ascend .ensures) ∙ not-true (c .before .words-ascend .result) (c .if4 .taken)))
 
 returns-5 : tie.Need-returns-5

@@ -18,17 +18,23 @@ loop-holds : tie.Need-loop-holds Inv-loop μ-loop
 loop-holds c = bisected-start (c .pre .2) (c .args .least)
 
 cast-if1 : tie.Need-cast-if1 Inv-loop μ-loop
-cast-if1 c = omega (arith, c .shared-slice-known .given (2 + 3 * (c .before .before .loop .a + (c .before .before .loop .b - c .before .before .loop .a) / 2) + c .before .before .before .args .field))
+cast-if1 c = omega (
+  arith,
+  c .shared-slice-known .given (2 + 3 *
+      (c .before .before .loop .a + (c .before .before .loop .b - c .before .before .loop .a) / 2) + c .before .before .before .args .field),
+)
 
 loop-again : tie.Need-loop-again Inv-loop μ-loop
 loop-again c =
     bisected-up (c .before .before .before .before .pre .2) (c .before .before .before .before .args .least)
-    (c .before .before .before .loop .inv) (c .before .before .before .loop .a + (c .before .before .before .loop .b - c .before .before .before .loop .a) / 2) (omega arith) (omega arith) (c .if1 .taken)
+    (c .before .before .before .loop .inv) (c .before .before .before .loop .a +
+    (c .before .before .before .loop .b - c .before .before .before .loop .a) / 2) (omega arith) (omega arith) (c .if1 .taken)
 
 loop-again-2 : tie.Need-loop-again-2 Inv-loop μ-loop
 loop-again-2 c =
     bisected-down (c .before .before .before .before .pre .2) (c .before .before .before .before .args .least)
-    (c .before .before .before .loop .inv) (c .before .before .before .loop .a + (c .before .before .before .loop .b - c .before .before .before .loop .a) / 2) (omega arith) (omega arith) (c .if1 .left)
+    (c .before .before .before .loop .inv) (c .before .before .before .loop .a +
+    (c .before .before .before .loop .b - c .before .before .before .loop .a) / 2) (omega arith) (omega arith) (c .if1 .left)
 
 returns : tie.Need-returns Inv-loop μ-loop
 returns c =
@@ -39,4 +45,5 @@ line-lower-bound-spec =
     tie.close
     (tie.spec
     Inv-loop μ-loop loop-holds (λ c. search needs) (λ c. search needs) (λ c. omega arith) (λ c. omega arith) (λ c. omega arith)
-    (λ c. omega arith) (λ c. omega arith) cast-if1 (λ c. search needs) (λ c. omega arith) loop-again (λ c. omega arith) loop-again-2 returns)
+    (λ c. omega arith) (λ c. omega arith) cast-if1 (λ c. search needs) (λ c. omega arith) loop-again
+    (λ c. omega arith) loop-again-2 returns)

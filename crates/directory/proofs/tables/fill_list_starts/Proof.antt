@@ -14,7 +14,8 @@ use Rattle.directory.proofs.tables.fill_list_starts.Tie as tie
 
 abbrev Inv-loop : tie.InvT-loop
 Inv-loop index keys list-starts₀ at₀ i₀ list-starts at i =
-    List-starts index i list-starts × (length list-starts ≡ length list-starts₀) × (at ≡ counts-from i 0 index) × (at ≤ 65535 * i) × (keys ≡ keys-of index) × (keys ≤ 65535) × Fits index
+    List-starts index i list-starts × (length list-starts ≡ length list-starts₀) × (at ≡ counts-from i 0 index) × (at ≤ 65535 * i) ×
+    (keys ≡ keys-of index) × (keys ≤ 65535) × Fits index
 
 abbrev μ-loop : tie.MeasureT-loop
 μ-loop index keys list-starts₀ at₀ i₀ list-starts at i = keys - i
@@ -55,7 +56,6 @@ same-length c = c .before .loop .inv .1
 
 returns : tie.Need-returns Inv-loop μ-loop
 returns c =
-    let a = c .before .before .args in
     let l = c .before .loop in
     list-starts-all (l .inv .0) (omega arith)
 

@@ -18,7 +18,11 @@ abbrev μ-loop : tie.MeasureT-loop
 μ-loop lengths word-starts₀ at₀ i₀ word-starts at i = length lengths - i
 
 loop-holds : tie.Need-loop-holds Inv-loop μ-loop
-loop-holds c = (word-starts-none (c .args .lengths .now) (c .args .word-starts .now) (c .pre .1), refl, word-starts-first (c .args .lengths .now))
+loop-holds c = (
+  word-starts-none (c .args .lengths .now) (c .args .word-starts .now) (c .pre .1),
+  refl,
+  word-starts-first (c .args .lengths .now),
+)
 
 cast-word-starts : tie.Need-cast-word-starts Inv-loop μ-loop
 cast-word-starts c =
@@ -47,7 +51,6 @@ same-length c = c .before .loop .inv .1
 
 returns : tie.Need-returns Inv-loop μ-loop
 returns c =
-    let a = c .before .before .args in
     let l = c .before .loop in
     word-starts-all (l .inv .0) (c .loop-test .left)
 

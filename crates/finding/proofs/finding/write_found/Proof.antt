@@ -3,7 +3,6 @@
 use Prim.Native.Nat.{_-_}
 use native.Mathlib.Omega.{arith}
 use borrow.Author.Needs.{needs}
-use lib.ListN.{length}
 use Rattle.laws.specs.Window.Finding.{Finding, finding-start, finding-more, finding-next, finding-end, finding-write}
 use Rattle.finding.proofs.finding.write_found.Statement.{statement}
 use Rattle.finding.proofs.finding.write_found.Tie as tie
@@ -29,27 +28,22 @@ next-found-requires c κs =
 
 add-output : tie.Need-add-output Inv-loop μ-loop
 add-output c =
-    let s = c .before .before .before .before .before in
     omega arith
 
 cast-output : tie.Need-cast-output Inv-loop μ-loop
 cast-output c =
-    let s = c .before .before .before .before .before in
     omega arith
 
 mul-output : tie.Need-mul-output Inv-loop μ-loop
 mul-output c =
-    let s = c .before .before .before .before .before in
     omega arith
 
 slice-write-output : tie.Need-slice-write-output Inv-loop μ-loop
 slice-write-output c =
-    let s = c .before .before .before .before .before in
     omega arith
 
 add-i : tie.Need-add-i Inv-loop μ-loop
 add-i c =
-    let s = c .before .before .before .before .before in
     omega arith
 
 loop-again : tie.Need-loop-again Inv-loop μ-loop

@@ -32,7 +32,8 @@ returns c =
 
 returns-2 : tie.Need-returns-2
 returns-2 c =
-    let s = c .before .before .before .before .before .before .before .before .before .before .before .before .before .before .before .before .before .before in
+    let half = c .before .before .before .before .before .before .before .before .before in
+    let s = half .before .before .before .before .before .before .before .before .before in
     let a = s .args in
     let sentinel = c .before .before .before .before .before .before .before .before .before .before .sentinel-of in
     let shown = c .before .before .before .before .before .before .before .before .reconstruct-checked in
@@ -40,7 +41,8 @@ returns-2 c =
     let told = c .before .before .reach-prefixes in (
       λ t.
           reconstructed-finds (lexicon (a .chars .now) (a .lengths .now)) (a .index .now) (n-of (a .index .now)) (sentinel .result)
-          (shown .last .1 .1 .1 .1 .1 .0) (a .string .now) (told .last .1 .1 .0) (record { is = shown .ensures .0; all = shown .ensures .1 .holds yes-all })
+          (shown .last .1 .1 .1 .1 .1 .0) (a .string .now) (told .last .1 .1 .0)
+          (record { is = shown .ensures .0; all = shown .ensures .1 .holds yes-all })
           (absent-at (a .string .now) (sentinel .result) (sentinel .ensures .absent)) (omega arith) (told .ensures),
       (
         λ f. clash refl f,

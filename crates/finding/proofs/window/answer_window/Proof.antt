@@ -5,34 +5,33 @@ use borrow.Author.Needs.{needs}
 use Rattle.finding.proofs.window.answer_window.Statement.{statement}
 use Rattle.finding.proofs.window.answer_window.Tie as tie
 
-count-found-requires : tie.Need-count-found-requires
-count-found-requires c κs = search needs
-
 returns : tie.Need-returns
 returns c =
     let a = c .before .before .before .before .args in
-    answer-short (a .len) (a .first) (a .reach .now) (a .output .now) (c .before .count-found .result) (c .before .count-found .ensures) (c .if1 .taken) (record { refusal = 8; count = 0 }) refl refl
+    answer-short (a .len) (a .first) (a .reach .now) (a .output .now) (c .before .count-found .result) (c .before .count-found .ensures)
+    (c .if1 .taken) (record { refusal = 8; count = 0 }) refl refl
 
 write-found-requires : tie.Need-write-found-requires
 write-found-requires c κs =
     let s = c .before .before .before .before .before in
     let a = s .args in (
-      count-is (a .len) (a .first) (a .reach .now) (a .output .now) (c .before .before .count-found .result) (c .before .before .count-found .ensures),
+      count-is (a .len) (a .first) (a .reach .now) (a .output .now) (c .before .before .count-found .result)
+          (c .before .before .count-found .ensures),
       c .before .if1 .left,
       s .pre,
     )
-
-same-length : tie.Need-same-length
-same-length c = search needs
 
 returns-2 : tie.Need-returns-2
 returns-2 c =
     let a = c .before .before .before .before .before .before .before .before .args in
     let counted = c .before .before .before .before .before .count-found in
     let written = c .before .before .write-found in
-    answer-found (a .len) (a .first) (a .reach .now) (a .output .now) (counted .result) (counted .ensures) (c .before .before .before .before .if1 .left)
+    answer-found (a .len) (a .first) (a .reach .now) (a .output .now) (counted .result) (counted .ensures)
+    (c .before .before .before .before .if1 .left)
     (written .last .1 .1 .1 .1 .0) (written .ensures) (record { refusal = 0; count = counted .result }) refl refl
 
 pub answer-window-spec : {M : Type 1} → statement M
 answer-window-spec =
-    tie.close (tie.spec count-found-requires returns write-found-requires same-length returns-2)
+    tie.close
+    (tie.spec
+    (λ c κs. search needs) returns write-found-requires (λ c. search needs) returns-2)

@@ -11,11 +11,15 @@ use Rattle.finding.proofs.window.first_in_window.Tie as tie
 
 extend-window-requires : tie.Need-extend-window-requires
 extend-window-requires c κs =
-    let s = c .before .before .before .before .before .before .before .before .before in
-    (s .pre .0, s .pre .2, s .pre .3, s .pre .1 .some, s .pre .1 .short, omega arith, cleared-within (length (s .args .reach .now)) (s .args .reach .now) (s .pre .5))
-
-same-length : tie.Need-same-length
-same-length c = search needs
+    let s = c .before .before .before .before .before .before .before .before .before in (
+      s .pre .0,
+      s .pre .2,
+      s .pre .3,
+      s .pre .1 .some,
+      s .pre .1 .short,
+      omega arith,
+      cleared-within (length (s .args .reach .now)) (s .args .reach .now) (s .pre .5),
+    )
 
 returns : tie.Need-returns
 returns c =
@@ -24,12 +28,6 @@ returns c =
     let window = c .before .before .before .extend-window in
     laws.first-in-none (lexicon (a .chars .now) (a .lengths .now)) (a .index .now) (a .string .now) (length (a .reach .now)) (a .first)
     (a .reach .now) (s .pre .5) (window .ensures) (c .if1 .taken)
-
-first-found-requires : tie.Need-first-found-requires
-first-found-requires c κs = search needs
-
-same-length-2 : tie.Need-same-length-2
-same-length-2 c = search needs
 
 returns-2 : tie.Need-returns-2
 returns-2 c =
@@ -41,4 +39,6 @@ returns-2 c =
 
 pub first-in-window-spec : {M : Type 1} → statement M
 first-in-window-spec =
-    tie.close (tie.spec extend-window-requires same-length returns first-found-requires same-length-2 returns-2)
+    tie.close
+    (tie.spec
+    extend-window-requires (λ c. search needs) returns (λ c κs. search needs) (λ c. search needs) returns-2)

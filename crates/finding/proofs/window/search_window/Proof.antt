@@ -19,16 +19,19 @@ returns c =
     let s = c .before .before .before .before .before .before .before .before .before .before .before .before .before .before .before in
     let a = s .args in
     let window = c .before .before .before .before .extend-listing in
-    says-none (lexicon (a .chars .now) (a .lengths .now)) (a .index .now) (a .string .now) (length (a .reach .now)) (a .first) (a .output .now)
+    says-none (lexicon (a .chars .now) (a .lengths .now)) (a .index .now) (a .string .now) (length (a .reach .now)) (a .first)
+    (a .output .now)
     (a .reach .now) (s .pre .3) (window .ensures) (c .if1 .taken) (record { refusal = 0; count = 0 }) refl refl
 
 returns-2 : tie.Need-returns-2
 returns-2 c =
-    let s = c .before .before .before .before .before .before .before .before .before .before .before .before .before .before .before .before .before .before .before .before in
+    let half = c .before .before .before .before .before .before .before .before .before .before in
+    let s = half .before .before .before .before .before .before .before .before .before .before in
     let a = s .args in
     let window = c .before .before .before .before .before .before .before .before .before .extend-listing in
     let answered = c .before .before .answer-window in
-    says-answered (lexicon (a .chars .now) (a .lengths .now)) (a .index .now) (a .string .now) (length (a .reach .now)) (a .first) (a .output .now)
+    says-answered (lexicon (a .chars .now) (a .lengths .now)) (a .index .now) (a .string .now) (length (a .reach .now)) (a .first)
+    (a .output .now)
     (a .reach .now) (s .pre .3) (window .ensures) (answered .result) (answered .last .1 .1 .1 .0) (answered .ensures)
 
 pub search-window-spec : {M : Type 1} → statement M

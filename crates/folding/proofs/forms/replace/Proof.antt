@@ -6,9 +6,6 @@ use Rattle.laws.specs.Text.WidthFolding.{form-get, char-lowered, char-stays}
 use Rattle.folding.proofs.forms.replace.Statement.{statement}
 use Rattle.folding.proofs.forms.replace.Tie as tie
 
-is-full-width-requires : tie.Need-is-full-width-requires
-is-full-width-requires c κs = search needs
-
 sub-result : tie.Need-sub-result
 sub-result c = omega (arith, form-get (c .before .before .args .character) (sym (c .before .is-full-width .ensures) ∙ c .if1 .taken))
 
@@ -19,4 +16,7 @@ returns-2 : tie.Need-returns-2
 returns-2 c = sym (char-stays (c .before .before .args .character) (sym (c .before .is-full-width .ensures) ∙ c .if1 .left))
 
 pub replace-spec : {M : Type 1} → statement M
-replace-spec = tie.close (tie.spec is-full-width-requires sub-result returns returns-2)
+replace-spec =
+    tie.close
+    (tie.spec
+    (λ c κs. search needs) sub-result returns returns-2)

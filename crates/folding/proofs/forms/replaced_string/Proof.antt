@@ -10,12 +10,6 @@ use Rattle.laws.specs.Receive.WorkParts.{front-taken}
 use Rattle.folding.proofs.forms.replaced_string.Statement.{statement}
 use Rattle.folding.proofs.forms.replaced_string.Tie as tie
 
-slice-aggregate-replace-into : tie.Need-slice-aggregate-replace-into
-slice-aggregate-replace-into c = search needs
-
-replace-into-requires : tie.Need-replace-into-requires
-replace-into-requires c κs = search needs
-
 returns : tie.Need-returns
 returns c =
     let string = c .before .before .before .before .args .string .now in
@@ -24,4 +18,6 @@ returns c =
 
 pub replaced-string-spec : {M : Type 1} → statement M
 replaced-string-spec =
-    tie.close (tie.spec slice-aggregate-replace-into replace-into-requires returns)
+    tie.close
+    (tie.spec
+    (λ c. search needs) (λ c κs. search needs) returns)

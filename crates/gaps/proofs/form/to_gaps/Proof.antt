@@ -4,12 +4,6 @@ use borrow.Author.Needs.{needs}
 use Rattle.gaps.proofs.form.to_gaps.Statement.{statement}
 use Rattle.gaps.proofs.form.to_gaps.Tie as tie
 
-put-form-requires : tie.Need-put-form-requires
-put-form-requires c κs = search needs
-
-same-length : tie.Need-same-length
-same-length c = search needs
-
 returns : tie.Need-returns
 returns c =
     let a = c .before .before .before .before .before .before .before .before .args in
@@ -17,4 +11,7 @@ returns c =
     (c .before .before .put-form .ensures)
 
 pub to-gaps-spec : {M : Type 1} → statement M
-to-gaps-spec = tie.close (tie.spec put-form-requires same-length returns)
+to-gaps-spec =
+    tie.close
+    (tie.spec
+    (λ c κs. search needs) (λ c. search needs) returns)

@@ -24,8 +24,7 @@ add-sum c =
     omega (
       arith,
       start .pre .1 (walk .i),
-      next-is (start .args .part .now) (start .args .gaps .now) (start .pre .0) (walk .inv)
-          (c .before .before .loop-test .taken),
+      next-is (start .args .part .now) (start .args .gaps .now) (start .pre .0) (walk .inv) (c .before .before .loop-test .taken),
     )
 
 loop-again : tie.Need-loop-again Inv-loop μ-loop

@@ -16,8 +16,7 @@ put-firsts-requires c κs =
     let start = c .before .before .before .before .before .before .before .before in (
       start .pre .0,
       start .pre .1,
-      distances-ready (start .pre .0 .fits) (start .args .keys) (start .pre .1) _
-          (c .before .before .before .write-distances .ensures),
+      distances-ready (start .pre .0 .fits) (start .args .keys) (start .pre .1) _ (c .before .before .before .write-distances .ensures),
     )
 
 returns : tie.Need-returns

@@ -16,15 +16,13 @@ put-firsts-requires c κs =
     let filled = c .before .before .before .fill in (
       start .pre .0,
       start .pre .1,
-      masks-ready (start .pre .0 .fits) (start .args .keys) (start .pre .1) (start .args .part .now) _
-          (start .pre .2) (filled .ensures),
+      masks-ready (start .pre .0 .fits) (start .args .keys) (start .pre .1) (start .args .part .now) _ (start .pre .2) (filled .ensures),
     )
 
 add-up-requires : tie.Need-add-up-requires
 add-up-requires c κs =
     let start = c .before .before .before .before .before .before .before .before .before .before .before .before in
     let can = start .pre .0 in
-    let xs = start .args .index .now in
     let masked = c .before .before .before .before .put-firsts .ensures in
     let sums = sums-written (can .fits) (start .args .keys) (start .pre .1) (can .totals refl) _ masked in (
       masks-long (can .fits) (start .args .keys) (start .pre .1) (can .totals refl) _ masked,

@@ -37,8 +37,7 @@ add-count : tie.Need-add-count Inv-loop μ-loop
 add-count c = omega (
   arith,
   member c .below,
-  chain-short (length (c .before .before .args .links .now))
-      (c .before .before .args .links .now) (c .before .before .args .head),
+  chain-short (length (c .before .before .args .links .now)) (c .before .before .args .links .now) (c .before .before .args .head),
 )
 
 mul-at : tie.Need-mul-at Inv-loop μ-loop

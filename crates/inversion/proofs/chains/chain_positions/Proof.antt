@@ -32,8 +32,7 @@ text-below c =
     omega (
       arith,
       below (c .before .before .before),
-      length-replaced
-          (c .before .before .before .before .before .before .before .before .before .args .text .now),
+      length-replaced (c .before .before .before .before .before .before .before .before .before .args .text .now),
     )
 
 loop-holds : tie.Need-loop-holds Inv-loop μ-loop

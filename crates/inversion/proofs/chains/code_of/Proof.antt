@@ -7,18 +7,6 @@ use Rattle.laws.specs.Build.KeyCode.{coded-lone, coded-word}
 use Rattle.inversion.proofs.chains.code_of.Statement.{statement}
 use Rattle.inversion.proofs.chains.code_of.Tie as tie
 
-replace-requires : tie.Need-replace-requires
-replace-requires c κs = search needs
-
-cast-result : tie.Need-cast-result
-cast-result c = search needs
-
-add-result : tie.Need-add-result
-add-result c = search needs
-
-sub-result : tie.Need-sub-result
-sub-result c = search needs
-
 returns : tie.Need-returns
 returns c =
     let start = c .before .before in (
@@ -34,4 +22,7 @@ returns-2 c = (
 )
 
 pub code-of-spec : {M : Type 1} → statement M
-code-of-spec = tie.close (tie.spec replace-requires cast-result add-result sub-result returns returns-2)
+code-of-spec =
+    tie.close
+    (tie.spec
+    (λ c κs. search needs) (λ c. search needs) (λ c. search needs) (λ c. search needs) returns returns-2)

@@ -17,9 +17,6 @@ returns c =
 sub-result-2 : tie.Need-sub-result-2
 sub-result-2 c = omega (arith, between-get (c .before .before .args .byte) (c .if2 .taken))
 
-add-result : tie.Need-add-result
-add-result c = search needs
-
 returns-2 : tie.Need-returns-2
 returns-2 c =
     let bounds = between-get (c .before .before .args .byte) (c .if2 .taken) in
@@ -30,4 +27,7 @@ returns-3 : tie.Need-returns-3
 returns-3 c = (sym (digit-none (c .before .before .args .byte) (c .before .if1 .left) (c .if2 .left)), omega arith)
 
 pub value-of-spec : {M : Type 1} → statement M
-value-of-spec = tie.close (tie.spec sub-result returns sub-result-2 add-result returns-2 returns-3)
+value-of-spec =
+    tie.close
+    (tie.spec
+    sub-result returns sub-result-2 (λ c. search needs) returns-2 returns-3)

@@ -7,9 +7,6 @@ use Rattle.laws.specs.JobSheet.Digits.{character-there, character-fits}
 use Rattle.jobreader.proofs.form.character.Statement.{statement}
 use Rattle.jobreader.proofs.form.character.Tie as tie
 
-spaced-character-requires : tie.Need-spaced-character-requires
-spaced-character-requires c κs = search needs
-
 cast-result : tie.Need-cast-result
 cast-result c =
     let entry = c .before .before in
@@ -21,4 +18,7 @@ returns c =
     c .spaced-character .ensures ∙ character-there (entry .args .line .now) (entry .args .at) (entry .pre .1)
 
 pub character-spec : {M : Type 1} → statement M
-character-spec = tie.close (tie.spec spaced-character-requires cast-result returns)
+character-spec =
+    tie.close
+    (tie.spec
+    (λ c κs. search needs) cast-result returns)

@@ -10,17 +10,11 @@ returns : tie.Need-returns
 returns c = sym (form-short (c .before .before .before .args .line .now) (c .before .before .before .args .head .now)
     (c .before .before .before .pre) (c .if1 .taken))
 
-has-head-requires : tie.Need-has-head-requires
-has-head-requires c κs = search needs
-
 returns-2 : tie.Need-returns-2
 returns-2 c =
     sym (form-other (c .before .before .before .before .before .args .line .now)
     (c .before .before .before .before .before .args .head .now) (c .before .before .before .before .before .pre)
     (sym (c .before .has-head .ensures) ∙ not-true (c .before .has-head .result) (c .if2 .taken)))
-
-ends-well-requires : tie.Need-ends-well-requires
-ends-well-requires c κs = search needs
 
 returns-3 : tie.Need-returns-3
 returns-3 c =
@@ -30,4 +24,6 @@ returns-3 c =
 
 pub is-form-spec : {M : Type 1} → statement M
 is-form-spec =
-    tie.close (tie.spec returns has-head-requires returns-2 ends-well-requires returns-3)
+    tie.close
+    (tie.spec
+    returns (λ c κs. search needs) returns-2 (λ c κs. search needs) returns-3)

@@ -4,11 +4,11 @@ use Rattle.laws.specs.JobSheet.Digits.{spaced-told}
 use Rattle.jobreader.proofs.form.is_spaced.Statement.{statement}
 use Rattle.jobreader.proofs.form.is_spaced.Tie as tie
 
-spaced-character-requires : tie.Need-spaced-character-requires
-spaced-character-requires c κs = search needs
-
 returns : tie.Need-returns
 returns c = rw (c .spaced-character .ensures) (spaced-told (c .before .before .args .line .now) (c .before .before .args .at))
 
 pub is-spaced-spec : {M : Type 1} → statement M
-is-spaced-spec = tie.close (tie.spec spaced-character-requires returns)
+is-spaced-spec =
+    tie.close
+    (tie.spec
+    (λ c κs. search needs) returns)

@@ -7,9 +7,6 @@ use Rattle.laws.specs.JobSheet.JobReading.{dictionary-first, then-finds}
 use Rattle.jobreader.proofs.job.parts_refusal.Statement.{statement}
 use Rattle.jobreader.proofs.job.parts_refusal.Tie as tie
 
-refusal-of-requires : tie.Need-refusal-of-requires
-refusal-of-requires c κs = search needs
-
 returns : tie.Need-returns
 returns c =
     c .before .refusal-of .ensures
@@ -17,9 +14,6 @@ returns c =
     (c .before .before .before .before .before .args .words .now) (c .before .before .before .before .before .args .finds .now)
     (λ (e : dictionary-refusal (c .before .before .before .before .before .args .chars .now)
     (c .before .before .before .before .before .args .words .now) ≡ 0). c .if1 .taken (c .before .refusal-of .ensures ∙ e)))
-
-some-length-wrong-requires : tie.Need-some-length-wrong-requires
-some-length-wrong-requires c κs = search needs
 
 returns-2 : tie.Need-returns-2
 returns-2 c =
@@ -39,4 +33,6 @@ returns-3 c =
 
 pub parts-refusal-spec : {M : Type 1} → statement M
 parts-refusal-spec =
-    tie.close (tie.spec refusal-of-requires returns some-length-wrong-requires returns-2 returns-3)
+    tie.close
+    (tie.spec
+    (λ c κs. search needs) returns (λ c κs. search needs) returns-2 returns-3)

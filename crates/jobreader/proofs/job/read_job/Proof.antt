@@ -34,8 +34,8 @@ contents-refusal-requires c κs =
 
 returns-3 : tie.Need-returns-3
 returns-3 c =
-    let s =
-    c .before .before .before .before .before .before .before .before .before .before .before .before .before .before .before .before .args .sheet .now in
+    let half = c .before .before .before .before .before .before .before .before in
+    let s = half .before .before .before .before .before .before .before .before .args .sheet .now in
     let good = not-false (c .before .before .before .before .before .before .before .before .before .read-sheet .result .good)
     (c .before .before .before .if2 .left) in
     let parts = job-parts (c .before .before .before .before .before .before .before .before .before .read-sheet .ensures) good in (

@@ -36,13 +36,14 @@ after-texts c =
 
 after-finds :
     (c : tie.After-read-forms3) → let s =
-    c .before .before .before .before .before .before .before .before .before .before .before .before .before .before .before .before .before .before .before .before .before .before .before in
+    c .before .before .before .before .before .before .before .before .before .before .before .before .before .before .before .before
+    .before .before .before .before .before .before .before in
     Finds-read (s .args .sheet .now) (s .args .chars .now) (s .args .lengths .now) (c .read-forms3 .result .at)
     (c .read-forms3 .result .used) (c .read-forms3 .result .count) (c .read-forms3 .last .1 .1 .1 .0)
     (c .read-forms3 .last .1 .1 .1 .1 .1 .0)
 after-finds c =
-    let s =
-    c .before .before .before .before .before .before .before .before .before .before .before .before .before .before .before .before .before .before .before .before .before .before .before in
+    let half = c .before .before .before .before .before .before .before .before .before .before .before in
+    let s = half .before .before .before .before .before .before .before .before .before .before .before .before in
     let t = c .before .before .before .before .before .before .before .before in
     finds-read (s .args .sheet .now) (s .args .chars .now) (s .args .lengths .now) (t .read-forms2 .result .at)
     (t .read-forms2 .result .used) (t .read-forms2 .result .count) (t .read-forms2 .last .1 .1 .1 .0)
@@ -67,10 +68,10 @@ read-forms-requires-3 c κs =
 
 sub-text : tie.Need-sub-text
 sub-text c =
-    let s =
-    c .before .before .before .before .before .before .before .before .before .before .before .before .before .before .before .before .before .before .before .before .before .before .before .before .before .before .before .before .before in
-    let w =
-    c .before .before .before .before .before .before .before .before .before .before .before .before .before .before .before .before .before .before .before .before .before .before in
+    let half = c .before .before .before .before .before .before .before .before .before .before .before .before .before .before in
+    let s = half .before .before .before .before .before .before .before .before .before .before .before .before .before .before .before in
+    let half = c .before .before .before .before .before .before .before .before .before .before .before in
+    let w = half .before .before .before .before .before .before .before .before .before .before .before in
     let t = c .before .before .before .before .before .before .before .before .before .before .before .before .before .before in
     omega (
       arith,
@@ -84,10 +85,11 @@ sub-text c =
 
 sub-found : tie.Need-sub-found
 sub-found c =
-    let s =
-    c .before .before .before .before .before .before .before .before .before .before .before .before .before .before .before .before .before .before .before .before .before .before .before .before .before .before .before .before .before .before .before in
-    let t =
-    c .before .before .before .before .before .before .before .before .before .before .before .before .before .before .before .before in
+    let far₁ = c .before .before .before .before .before .before .before .before .before .before .before .before in
+    let far₂ = far₁ .before .before .before .before .before .before .before .before .before .before .before .before in
+    let s = far₂ .before .before .before .before .before .before .before in
+    let half = c .before .before .before .before .before .before .before .before in
+    let t = half .before .before .before .before .before .before .before .before in
     let f = c .before .before .before .before .before .before .before .before in
     omega (
       arith,
@@ -101,12 +103,13 @@ sub-found c =
 
 sub-one-text : tie.Need-sub-one-text
 sub-one-text c =
-    let s =
-    c .before .before .before .before .before .before .before .before .before .before .before .before .before .before .before .before .before .before .before .before .before .before .before .before .before .before .before .before .before .before .before .before .before in
-    let w =
-    c .before .before .before .before .before .before .before .before .before .before .before .before .before .before .before .before .before .before .before .before .before .before .before .before .before .before in
-    let t =
-    c .before .before .before .before .before .before .before .before .before .before .before .before .before .before .before .before .before .before in
+    let far₁ = c .before .before .before .before .before .before .before .before .before .before .before .before in
+    let far₂ = far₁ .before .before .before .before .before .before .before .before .before .before .before .before in
+    let s = far₂ .before .before .before .before .before .before .before .before .before in
+    let half = c .before .before .before .before .before .before .before .before .before .before .before .before .before in
+    let w = half .before .before .before .before .before .before .before .before .before .before .before .before .before in
+    let half = c .before .before .before .before .before .before .before .before .before in
+    let t = half .before .before .before .before .before .before .before .before .before in
     omega (
       arith,
       words-count (s .args .sheet .now) (s .args .chars .now) (s .args .lengths .now) (w .read-forms .result .at)
@@ -119,8 +122,9 @@ sub-one-text c =
 
 same-length : tie.Need-same-length
 same-length c =
-    let s =
-    c .before .before .before .before .before .before .before .before .before .before .before .before .before .before .before .before .before .before .before .before .before .before .before .before .before .before .before .before .before .before .before .before .before .before .before in
+    let far₁ = c .before .before .before .before .before .before .before .before .before .before .before .before in
+    let far₂ = far₁ .before .before .before .before .before .before .before .before .before .before .before .before in
+    let s = far₂ .before .before .before .before .before .before .before .before .before .before .before in
     let f = c .before .before .before .before .before .before .before .before .before .before .before .before in
     finds-chars-long (s .args .sheet .now) (s .args .chars .now) (s .args .lengths .now) (f .read-forms3 .result .at)
     (f .read-forms3 .result .used) (f .read-forms3 .result .count) (f .read-forms3 .last .1 .1 .1 .0)
@@ -128,8 +132,9 @@ same-length c =
 
 same-length-2 : tie.Need-same-length-2
 same-length-2 c =
-    let s =
-    c .before .before .before .before .before .before .before .before .before .before .before .before .before .before .before .before .before .before .before .before .before .before .before .before .before .before .before .before .before .before .before .before .before .before .before in
+    let far₁ = c .before .before .before .before .before .before .before .before .before .before .before .before in
+    let far₂ = far₁ .before .before .before .before .before .before .before .before .before .before .before .before in
+    let s = far₂ .before .before .before .before .before .before .before .before .before .before .before in
     let f = c .before .before .before .before .before .before .before .before .before .before .before .before in
     finds-lengths-long (s .args .sheet .now) (s .args .chars .now) (s .args .lengths .now) (f .read-forms3 .result .at)
     (f .read-forms3 .result .used) (f .read-forms3 .result .count) (f .read-forms3 .last .1 .1 .1 .0)
@@ -137,13 +142,14 @@ same-length-2 c =
 
 returns : tie.Need-returns
 returns c =
-    let s =
-    c .before .before .before .before .before .before .before .before .before .before .before .before .before .before .before .before .before .before .before .before .before .before .before .before .before .before .before .before .before .before .before .before .before .before .before in
+    let far₁ = c .before .before .before .before .before .before .before .before .before .before .before .before in
+    let far₂ = far₁ .before .before .before .before .before .before .before .before .before .before .before .before in
+    let s = far₂ .before .before .before .before .before .before .before .before .before .before .before in
     let f = c .before .before .before .before .before .before .before .before .before .before .before .before in
-    let t =
-    c .before .before .before .before .before .before .before .before .before .before .before .before .before .before .before .before .before .before .before .before in
-    let w =
-    c .before .before .before .before .before .before .before .before .before .before .before .before .before .before .before .before .before .before .before .before .before .before .before .before .before .before .before .before in
+    let half = c .before .before .before .before .before .before .before .before .before .before in
+    let t = half .before .before .before .before .before .before .before .before .before .before in
+    let half = c .before .before .before .before .before .before .before .before .before .before .before .before .before .before in
+    let w = half .before .before .before .before .before .before .before .before .before .before .before .before .before .before in
     let words : w .read-forms .result .count ≡ length (words-on (s .args .sheet .now)) =
     words-count (s .args .sheet .now) (s .args .chars .now) (s .args .lengths .now) (w .read-forms .result .at)
     (w .read-forms .result .used) (w .read-forms .result .count) (w .read-forms .last .1 .1 .1 .0)

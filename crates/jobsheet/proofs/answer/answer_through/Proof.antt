@@ -11,9 +11,9 @@ use Rattle.jobsheet.proofs.answer.answer_through.Tie as tie
 
 -- the answer is the first bytes of the buffer
 answer-in-hand :
-    (c : tie.After-put-answer) → In-hand (job-answer (c .before .before .before .before .before .args .sheet .now)) (c .put-answer .result) (c .put-answer .last .1 .0)
+    (c : tie.After-put-answer) → In-hand (job-answer (c .before .before .before .before .before .args .sheet .now)) (c .put-answer .result)
+    (c .put-answer .last .1 .0)
 answer-in-hand c =
-    let a = c .before .before .before .before .before .args in
     written-in-hand (c .put-answer .ensures)
 
 slice-reshare-prefix-hand-over : tie.Need-slice-reshare-prefix-hand-over
@@ -21,7 +21,8 @@ slice-reshare-prefix-hand-over c = answer-in-hand (c .before .before) .room
 
 slice-aggregate-hand-over : tie.Need-slice-aggregate-hand-over
 slice-aggregate-hand-over c =
-    let put = c .before .before .before .put-answer in sym (length-take-le (put .result) (put .last .1 .0) (answer-in-hand (c .before .before .before) .room))
+    let put = c .before .before .before .put-answer in sym (length-take-le (put .result) (put .last .1 .0)
+    (answer-in-hand (c .before .before .before) .room))
 
 returns : tie.Need-returns
 returns c =

@@ -9,13 +9,8 @@ use Rattle.jobsheet.proofs.answer.hand_over.Tie as tie
 
 returns : tie.Need-returns
 returns c =
-    let a = c .before .before .before .args in sized-short (a .bytes .now) (record { refusal = 8; count = 0 }) (a .output .now) (c .if1 .taken) refl refl
-
-put-bytes-requires : tie.Need-put-bytes-requires
-put-bytes-requires c κs = search needs
-
-same-length : tie.Need-same-length
-same-length c = search needs
+    let a = c .before .before .before .args in sized-short (a .bytes .now) (record { refusal = 8; count = 0 }) (a .output .now)
+    (c .if1 .taken) refl refl
 
 returns-2 : tie.Need-returns-2
 returns-2 c =
@@ -25,4 +20,7 @@ returns-2 c =
     (put .ensures)
 
 pub hand-over-spec : {M : Type 1} → statement M
-hand-over-spec = tie.close (tie.spec returns put-bytes-requires same-length returns-2)
+hand-over-spec =
+    tie.close
+    (tie.spec
+    returns (λ c κs. search needs) (λ c. search needs) returns-2)

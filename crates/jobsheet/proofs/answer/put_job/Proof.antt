@@ -19,7 +19,8 @@ put-refused-line-requires c κs =
 
 returns : tie.Need-returns
 returns c =
-    let a = c .before .before .before .before .before .before .before .before .before .before .before .before .before .before .before .before .args in
+    let half = c .before .before .before .before .before .before .before .before in
+    let a = half .before .before .before .before .before .before .before .before .args in
     let read = c .before .before .before .before .before .before .before .before .before .read-job in
     let put = c .before .before .put-refused-line in
     subst (λ (ys : List ℕ). Wrote ys 0 (a .out .now) (put .result) (put .last .0))
@@ -38,7 +39,8 @@ put-parts-requires c κs =
 
 returns-2 : tie.Need-returns-2
 returns-2 c =
-    let a = c .before .before .before .before .before .before .before .before .before .before .before .before .before .before .before .before .before .before .args in
+    let half = c .before .before .before .before .before .before .before .before .before in
+    let a = half .before .before .before .before .before .before .before .before .before .args in
     let read = c .before .before .before .before .before .before .before .before .before .before .before .read-job in
     let none : sheet-refusal (a .sheet .now) ≡ 0 = sym (read .ensures .0) ∙ c .before .before .before .before .before .before .if1 .left in
     let put = c .before .before .put-parts in

@@ -18,10 +18,10 @@ abbrev μ-loop : tie.MeasureT-loop
 
 -- the next string is there
 next-fits :
-    (c : tie.In-loop Inv-loop μ-loop) → let a = c .before .before .before .before .before .before .before .before .before .before .before .args in
+    (c : tie.In-loop Inv-loop μ-loop) → let a =
+    c .before .before .before .before .before .before .before .before .before .before .before .args in
     c .before .loop .from + getD (a .counts .now) (c .before .loop .i) 0 ≤ length (a .strings .now)
 next-fits c =
-    let a = c .before .before .before .before .before .before .before .before .before .before .before .args in
     let l = c .before .loop in
     string-fits
     (l .inv .1) (c .loop-test .taken)
@@ -31,7 +31,8 @@ loop-holds c =
     let s = c .before .before .before .before .before .before .before .before .before in
     let a = s .args in (
       refl,
-      finds-start (lexicon (a .chars .now) (a .lengths .now)) (a .index .now) (a .strings .now) (a .counts .now) (a .at) (a .out .now) (s .pre .0 .1 .tested)
+      finds-start (lexicon (a .chars .now) (a .lengths .now)) (a .index .now) (a .strings .now) (a .counts .now) (a .at) (a .out .now)
+          (s .pre .0 .1 .tested)
           (s .pre .0 .1 .fits) (s .pre .1),
     )
 
@@ -56,27 +57,22 @@ part-put-find-end c = omega (arith, next-fits (c .before))
 put-find-requires : tie.Need-put-find-requires Inv-loop μ-loop
 put-find-requires c κs =
     let s = c .before .before .before .before .before .before .before .before .before .before .before .before .before .before .before in
-    let a = s .args in
     let l = c .before .before .before .before .before .loop in
     let taken = c .before .before .before .before .loop-test .taken in (
       (
         s .pre .0 .0,
-        string-is
-            (l .inv .1) taken,
+        string-is (l .inv .1) taken,
         omega arith,
       ),
-      find-fits
-          (l .inv .1) taken,
+      find-fits (l .inv .1) taken,
     )
 
 loop-again : tie.Need-loop-again Inv-loop μ-loop
 loop-again c =
-    let a = c .before .before .before .before .before .before .before .before .before .before .before .before .before .before .before .before .before .before .before .before .args in
     let l = c .before .before .before .before .before .before .before .before .before .before .loop in
     let put = c .before .before .before .before .put-find in (
       put .kept .1 .1 .1 .1 .1 .1 .0 ∙ l .inv .0,
-      finds-step
-          (l .inv .1) (c .before .before .before .before .before .before .before .before .before .loop-test .taken) (put .ensures),
+      finds-step (l .inv .1) (c .before .before .before .before .before .before .before .before .before .loop-test .taken) (put .ensures),
     )
 
 same-length : tie.Need-same-length Inv-loop μ-loop
@@ -87,7 +83,6 @@ same-length-2 c = c .before .loop .inv .1 .writing .len
 
 returns : tie.Need-returns Inv-loop μ-loop
 returns c =
-    let a = c .before .before .before .before .before .before .before .before .before .before .before .args in
     let l = c .before .loop in
     finds-end
     (l .inv .1) (c .loop-test .left)

@@ -17,25 +17,38 @@ use Rattle.jobsheet.proofs.lines.put_built.Tie as tie
 
 -- the index is the first numbers of the slice lent for it
 index-in-hand :
-    (c : tie.After-build) → let a = c .before .before .before .before .before .before .before .before .before .before .before .before .args in
+    (c : tie.After-build) → let a = c .before .before .before .before .before .before .before .before .before .before .before .before .args
+    in
     In-hand (index-of (lexicon (a .chars .now) (a .lengths .now)) (replaced (a .text .now))) (c .build .result .count)
     (c .build .last .1 .1 .1 .0)
 index-in-hand c =
     let s = c .before .before .before .before .before .before .before .before .before .before .before .before in
     let a = s .args in
-    build-accepted (a .chars .now) (a .lengths .now) (a .text .now) (λ i h. omega (arith, c .before .before .before .before .before .before .before .before .before .before .before .shared-slice-known .given i))
-    (λ i h. omega (arith, c .before .before .before .before .before .before .before .before .before .shared-slice-known3 .given i)) (s .pre .0 .admits) (s .pre .0 .short) (c .build .result)
-    (a .index .now) (c .build .last .1 .1 .1 .0) (a .work .now) (c .build .last .1 .1 .1 .1 .0) (s .pre .1 .0) (s .pre .1 .1) (c .build .ensures)
+    build-accepted (a .chars .now) (a .lengths .now) (a .text .now)
+    (λ i h. omega (
+      arith,
+      c .before .before .before .before .before .before .before .before .before .before .before .shared-slice-known .given i,
+    ))
+    (λ i h. omega (arith, c .before .before .before .before .before .before .before .before .before .shared-slice-known3 .given i))
+    (s .pre .0 .admits) (s .pre .0 .short) (c .build .result)
+    (a .index .now) (c .build .last .1 .1 .1 .0) (a .work .now) (c .build .last .1 .1 .1 .1 .0) (s .pre .1 .0) (s .pre .1 .1)
+    (c .build .ensures)
 
 in-hand-usable :
-    (c : tie.After-build) → let a = c .before .before .before .before .before .before .before .before .before .before .before .before .args in
+    (c : tie.After-build) → let a = c .before .before .before .before .before .before .before .before .before .before .before .before .args
+    in
     Usable (a .chars .now) (a .lengths .now) (take (c .build .result .count) (c .build .last .1 .1 .1 .0))
 in-hand-usable c =
     let s = c .before .before .before .before .before .before .before .before .before .before .before .before in
     let a = s .args in
     rw (index-in-hand c .is)
-    (index-usable (a .chars .now) (a .lengths .now) (a .text .now) (λ i h. omega (arith, c .before .before .before .before .before .before .before .before .before .before .before .shared-slice-known .given i))
-    (λ i h. omega (arith, c .before .before .before .before .before .before .before .before .before .shared-slice-known3 .given i)) (s .pre .0 .admits) (s .pre .0 .short))
+    (index-usable (a .chars .now) (a .lengths .now) (a .text .now)
+    (λ i h. omega (
+      arith,
+      c .before .before .before .before .before .before .before .before .before .before .before .shared-slice-known .given i,
+    ))
+    (λ i h. omega (arith, c .before .before .before .before .before .before .before .before .before .shared-slice-known3 .given i))
+    (s .pre .0 .admits) (s .pre .0 .short))
 
 slice-reshare-prefix-put-lines : tie.Need-slice-reshare-prefix-put-lines
 slice-reshare-prefix-put-lines c = index-in-hand (c .before .before .before .before) .room
@@ -47,16 +60,19 @@ slice-aggregate-put-lines c =
 
 put-lines-requires : tie.Need-put-lines-requires
 put-lines-requires c κs =
-    let s = c .before .before .before .before .before .before .before .before .before .before .before .before .before .before .before .before .before .before .before in
+    let half = c .before .before .before .before .before .before .before .before .before in
+    let s = half .before .before .before .before .before .before .before .before .before .before in
     (in-hand-usable (c .before .before .before .before .before .before .before), s .pre .0 .strings, s .pre .1 .2, s .pre .1 .3)
 
 returns : tie.Need-returns
 returns c =
-    let a = c .before .before .before .before .before .before .before .before .before .before .before .before .before .before .before .before .before .before .before .before .before .before .before .before .args in
+    let half = c .before .before .before .before .before .before .before .before .before .before .before .before in
+    let a = half .before .before .before .before .before .before .before .before .before .before .before .before .args in
     let built = c .before .before .before .before .before .before .before .before .before .before .before .before .build in
     let put = c .before .before .before .before .put-lines in
     subst (λ (ys : List ℕ). Wrote ys 0 (a .out .now) (put .result) (put .last .1 .1 .1 .1 .1 .1 .0))
-    (index-shown (a .chars .now) (a .lengths .now) (a .text .now) (a .strings .now) (a .counts .now) (take (built .result .count) (built .last .1 .1 .1 .0))
+    (index-shown (a .chars .now) (a .lengths .now) (a .text .now) (a .strings .now) (a .counts .now)
+    (take (built .result .count) (built .last .1 .1 .1 .0))
     (index-in-hand (c .before .before .before .before .before .before .before .before .before .before .before .before) .is))
     (put .ensures)
 

@@ -13,31 +13,51 @@ use Rattle.jobsheet.proofs.lines.put_filled.Tie as tie
 
 put-index-lines-requires : tie.Need-put-index-lines-requires
 put-index-lines-requires c κs =
-    let s = c .before .before .before .before .before .before .before .before .before .before .before .before .before .before .before .before in
+    let half = c .before .before .before .before .before .before .before .before in
+    let s = half .before .before .before .before .before .before .before .before in
     let a = s .args in (
       usable-whole (a .chars .now) (a .lengths .now) (a .index .now) (s .pre .0 .0),
       index-lines-fit (a .out .now) (s .pre .0 .0)
-          (λ i. omega (arith, c .before .before .before .before .before .before .before .before .before .before .before .before .before .shared-slice-known3 .given i)) (s .pre .1 .0) (s .pre .1 .2),
+          (λ i. omega (
+            arith,
+            c .before .before .before .before .before .before .before .before .before .before .before .before .before
+                .shared-slice-known3 .given i,
+          )) (s .pre .1 .0) (s .pre .1 .2),
     )
 
 -- what is left to print after the lines of the index
 at-finds :
-    (c : tie.After-put-index-lines) → let a = c .before .before .before .before .before .before .before .before .before .before .before .before .before .before .before .before .before .args in
+    (c : tie.After-put-index-lines) → let a =
+    c .before .before .before .before .before .before .before .before .before .before .before .before .before .before .before .before
+    .before .args in
     Writing (shown (a .chars .now) (a .lengths .now) (a .index .now) (a .strings .now) (a .counts .now)) 0 (a .out .now)
     (found-lines (lexicon (a .chars .now) (a .lengths .now)) (a .index .now) (words-from (a .counts .now) (a .strings .now)))
     (c .put-index-lines .result) (c .put-index-lines .last .0)
 at-finds c =
-    let s = c .before .before .before .before .before .before .before .before .before .before .before .before .before .before .before .before .before in
+    let half = c .before .before .before .before .before .before .before .before in
+    let s = half .before .before .before .before .before .before .before .before .before in
     let a = s .args in
     then-finds (a .out .now) (s .pre .0 .0)
-    (λ i. omega (arith, c .before .before .before .before .before .before .before .before .before .before .before .before .before .before .shared-slice-known3 .given i)) (s .pre .1 .0) (s .pre .1 .2)
+    (λ i. omega (
+      arith,
+      c .before .before .before .before .before .before .before .before .before .before .before .before .before .before
+          .shared-slice-known3 .given i,
+    )) (s .pre .1 .0) (s .pre .1 .2)
     (c .put-index-lines .ensures)
 
 put-finds-requires : tie.Need-put-finds-requires
 put-finds-requires c κs =
-    let s = c .before .before .before .before .before .before .before .before .before .before .before .before .before .before .before .before .before .before .before .before .before .before .before in (
+    let half = c .before .before .before .before .before .before .before .before .before .before .before in
+    let s = half .before .before .before .before .before .before .before .before .before .before .before .before in (
       (
-        record { can = s .pre .0 .1; word-starts = c .before .before .before .before .before .before .before .before .before .before .before .before .before .fill-word-starts .ensures; list-starts = c .before .before .before .before .before .before .before .before .before .before .fill-list-starts .ensures },
+        record {
+          can = s .pre .0 .1;
+          word-starts =
+              c .before .before .before .before .before .before .before .before .before .before .before .before .before .fill-word-starts
+              .ensures;
+          list-starts = c .before .before .before .before .before .before .before .before .before .before .fill-list-starts
+              .ensures;
+        },
         s .pre .1 .0,
         omega arith,
       ),
@@ -46,9 +66,11 @@ put-finds-requires c κs =
 
 returns : tie.Need-returns
 returns c =
-    let a = c .before .before .before .before .before .before .before .before .before .before .before .before .before .before .before .before .before .before .before .before .before .before .before .before .before .before .before .before .args in
+    let half = c .before .before .before .before .before .before .before .before .before .before .before .before .before .before in
+    let a = half .before .before .before .before .before .before .before .before .before .before .before .before .before .before .args in
     writing-last (found-lines (lexicon (a .chars .now) (a .lengths .now)) (a .index .now) (words-from (a .counts .now) (a .strings .now)))
-    (at-finds (c .before .before .before .before .before .before .before .before .before .before .before)) (c .before .before .before .before .put-finds .ensures)
+    (at-finds (c .before .before .before .before .before .before .before .before .before .before .before))
+    (c .before .before .before .before .put-finds .ensures)
 
 pub put-filled-spec : {M : Type 1} → statement M
 put-filled-spec =

@@ -16,7 +16,9 @@ put-filled-requires c κs =
     let a = s .args in
     let can : Can-read (a .chars .now) (a .lengths .now) (a .index .now) =
     can-read (a .chars .now) (a .lengths .now) (a .index .now)
-    (λ (i : ℕ). omega (arith, c .before .before .before .before .before .before .before .before .before .shared-slice-known .given i)) (λ (i : ℕ). omega (arith, c .before .before .before .before .before .before .before .shared-slice-known3 .given i)) (s .pre .0 .accepts) in (
+    (λ (i : ℕ). omega (arith, c .before .before .before .before .before .before .before .before .before .shared-slice-known .given i))
+    (λ (i : ℕ). omega (arith, c .before .before .before .before .before .before .before .shared-slice-known3 .given i))
+    (s .pre .0 .accepts) in (
       (s .pre .0, can, s .pre .1, cleared-room 2667 (a .keys) (omega arith)),
       (s .pre .2, s .pre .3, s .pre .4),
     )

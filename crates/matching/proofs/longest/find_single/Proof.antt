@@ -16,7 +16,8 @@ abbrev μ-loop : tie.MeasureT-loop
 μ-loop chars lengths heads links word-starts text at c bucket next₀ next = next
 
 -- the walk is at the number of a word
-known : (c : tie.In-loop Inv-loop μ-loop) → c .before .loop .next - 1 < length (c .before .before .before .before .before .before .before .before .before .before .before .args .lengths .now)
+known : (c : tie.In-loop Inv-loop μ-loop) → c .before .loop .next - 1 < length
+    (c .before .before .before .before .before .before .before .before .before .before .before .args .lengths .now)
 known c =
     let start = c .before .before .before .before .before .before .before .before .before .before .before in
     single-known (start .pre .0) (start .args .text .now) (start .args .at)
@@ -46,13 +47,21 @@ mul-if1 c = omega (arith, c .shared-slice-known9 .given (c .before .before .loop
 shared-slice-read-if1 : tie.Need-shared-slice-read-if1 Inv-loop μ-loop
 shared-slice-read-if1 c =
     let start = c .before .before .before .before .before .before .before .before .before .before .before .before .before in
-    omega (arith, start .pre .0 .words .started (c .before .before .before .loop .next - 1) (omega (arith, known (c .before .before))), word-some (start .args .chars .now) (start .args .lengths .now) (start .pre .0 .words .dictionary) (c .before .before .before .loop .next - 1) (known (c .before .before)), word-room (start .args .chars .now) (start .args .lengths .now) (start .pre .0 .words .dictionary) (c .before .before .before .loop .next - 1) (known (c .before .before)))
+    omega (
+      arith,
+      start .pre .0 .words .started (c .before .before .before .loop .next - 1) (omega (arith, known (c .before .before))),
+      word-some (start .args .chars .now) (start .args .lengths .now) (start .pre .0 .words .dictionary)
+          (c .before .before .before .loop .next - 1) (known (c .before .before)),
+      word-room (start .args .chars .now) (start .args .lengths .now) (start .pre .0 .words .dictionary)
+          (c .before .before .before .loop .next - 1) (known (c .before .before)),
+    )
 
 returns : tie.Need-returns Inv-loop μ-loop
 returns c =
     let start = c .before .before .before .before .before .before .before .before .before .before .before .before .before .before in
     single-hit (start .pre .0) (start .args .text .now) (start .args .at)
-    (c .before .before .before .before .loop .next) (c .before .before .before .before .loop .inv) (c .before .before .before .loop-test .taken) (start .pre .1) (c .if1 .taken)
+    (c .before .before .before .before .loop .next) (c .before .before .before .before .loop .inv)
+    (c .before .before .before .loop-test .taken) (start .pre .1) (c .if1 .taken)
 
 mul-next-2 : tie.Need-mul-next-2 Inv-loop μ-loop
 mul-next-2 c = omega (arith, known (c .before .before .before))
@@ -67,13 +76,15 @@ loop-less : tie.Need-loop-less Inv-loop μ-loop
 loop-less c =
     let start = c .before .before .before .before .before .before .before .before .before .before .before .before .before .before .before in
     single-stop (start .pre .0) (start .args .text .now) (start .args .at)
-    (c .before .before .before .before .before .loop .next) (c .before .before .before .before .before .loop .inv) (c .before .before .before .before .loop-test .taken) .falls
+    (c .before .before .before .before .before .loop .next) (c .before .before .before .before .before .loop .inv)
+    (c .before .before .before .before .loop-test .taken) .falls
 
 loop-again : tie.Need-loop-again Inv-loop μ-loop
 loop-again c =
     let start = c .before .before .before .before .before .before .before .before .before .before .before .before .before .before .before in
     single-miss (start .pre .0) (start .args .text .now) (start .args .at)
-    (c .before .before .before .before .before .loop .next) (c .before .before .before .before .before .loop .inv) (c .before .before .before .before .loop-test .taken) (c .before .if1 .left)
+    (c .before .before .before .before .before .loop .next) (c .before .before .before .before .before .loop .inv)
+    (c .before .before .before .before .loop-test .taken) (c .before .if1 .left)
 
 returns-2 : tie.Need-returns-2 Inv-loop μ-loop
 returns-2 c =

@@ -7,13 +7,13 @@ use lib.ListN.{length, getD}
 use Rattle.spec.specs.Dictionary.{lexicon}
 use Rattle.laws.specs.Match.Columns.{Column, column-part, run-known, run-hit, run-deep, run-column, run-stop, run-step}
 use Rattle.laws.specs.Match.MatchTable.{many-words}
-use Rattle.laws.specs.Match.PrefixRanges.{Narrowed, narrow-start, narrow-end}
+use Rattle.laws.specs.Match.PrefixRanges.{Prefix-range, prefix-range-start, prefix-range-end}
 use Rattle.matching.proofs.ranges.find_last_standing.Statement.{statement}
 use Rattle.matching.proofs.ranges.find_last_standing.Tie as tie
 
 abbrev Inv-loop : tie.InvT-loop
 Inv-loop chars lengths word-starts text at count best₀ low₀ high₀ depth₀ best low high depth =
-    Narrowed (lexicon chars lengths .words) text (at + 1) count low high depth best
+    Prefix-range (lexicon chars lengths .words) text (at + 1) count low high depth best
 
 abbrev μ-loop : tie.MeasureT-loop
 μ-loop chars lengths word-starts text at count best₀ low₀ high₀ depth₀ best low high depth = (high - low) + (32 - depth)
@@ -50,7 +50,7 @@ loop-holds c =
     let start = c .before .before .before .before in
     let chars = start .args .chars .now in
     let lengths = start .args .lengths .now in
-    narrow-start (lexicon chars lengths .words) (start .args .text .now) (start .args .at + 1) (start .args .count)
+    prefix-range-start (lexicon chars lengths .words) (start .args .text .now) (start .args .at + 1) (start .args .count)
     (omega (arith, many-words chars lengths (start .pre .0 .dictionary))) (omega arith) (omega arith)
 
 mul-if1 : tie.Need-mul-if1 Inv-loop μ-loop
@@ -119,7 +119,7 @@ returns-2 : tie.Need-returns-2 Inv-loop μ-loop
 returns-2 c =
     let start = c .before .before .before .before .before .before in
     let turn = c .before .loop in
-    narrow-end (lexicon (start .args .chars .now) (start .args .lengths .now) .words) (start .args .text .now) (start .args .at + 1)
+    prefix-range-end (lexicon (start .args .chars .now) (start .args .lengths .now) .words) (start .args .text .now) (start .args .at + 1)
     (start .args .count) (turn .inv) (c .loop-test .left)
 
 pub find-last-standing-spec : {M : Type 1} → statement M

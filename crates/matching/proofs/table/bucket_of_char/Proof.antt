@@ -6,12 +6,12 @@ use Rattle.laws.specs.Match.MatchTable.{char-small}
 use Rattle.matching.proofs.table.bucket_of_char.Statement.{statement}
 use Rattle.matching.proofs.table.bucket_of_char.Tie as tie
 
-add-result : tie.Need-add-result
-add-result c = search needs
-
 returns : tie.Need-returns
 unfolding char-bucket
 returns c = (refl, char-small (c .args .x))
 
 pub bucket-of-char-spec : {M : Type 1} → statement M
-bucket-of-char-spec = tie.close (tie.spec add-result returns)
+bucket-of-char-spec =
+    tie.close
+    (tie.spec
+    (λ c. search needs) returns)

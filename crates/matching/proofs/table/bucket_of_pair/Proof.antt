@@ -6,15 +6,12 @@ use Rattle.laws.specs.Match.MatchTable.{pair-small}
 use Rattle.matching.proofs.table.bucket_of_pair.Statement.{statement}
 use Rattle.matching.proofs.table.bucket_of_pair.Tie as tie
 
-mul-result : tie.Need-mul-result
-mul-result c = search needs
-
-add-result : tie.Need-add-result
-add-result c = search needs
-
 returns : tie.Need-returns
 unfolding pair-bucket
 returns c = (refl, pair-small (c .args .x) (c .args .y))
 
 pub bucket-of-pair-spec : {M : Type 1} → statement M
-bucket-of-pair-spec = tie.close (tie.spec mul-result add-result returns)
+bucket-of-pair-spec =
+    tie.close
+    (tie.spec
+    (λ c. search needs) (λ c. search needs) returns)

@@ -5,7 +5,8 @@ use Prim.Native.Nat.{_-_}
 use native.Mathlib.Omega.{arith}
 use lib.ListN.{length, length-set}
 use borrow.Author.Needs.{needs}
-use Rattle.laws.specs.Match.MatchTable.{few-words, word-some, word-room, Chained, chained-start, chained-small, chained-step, chained-end, bucket-read}
+use Rattle.laws.specs.Match.MatchTable.{few-words, word-some, word-room, Chained, chained-start, chained-small, chained-step, chained-end}
+use Rattle.laws.specs.Match.MatchTable.{bucket-read}
 use Rattle.matching.proofs.table.fill_match_table.Statement.{statement}
 use Rattle.matching.proofs.table.fill_match_table.Tie as tie
 
@@ -21,8 +22,13 @@ abbrev μ-loop : tie.MeasureT-loop
 
 loop-holds : tie.Need-loop-holds Inv-loop μ-loop
 loop-holds c =
-    let start = c .before .before .before .before .before in
-    (chained-start (start .args .chars .now) (start .args .lengths .now) (start .args .heads .now) (start .args .links .now) (start .args .word-starts .now) (start .pre), refl, refl, refl)
+    let start = c .before .before .before .before .before in (
+      chained-start (start .args .chars .now) (start .args .lengths .now) (start .args .heads .now) (start .args .links .now)
+          (start .args .word-starts .now) (start .pre),
+      refl,
+      refl,
+      refl,
+    )
 
 cast-len : tie.Need-cast-len Inv-loop μ-loop
 cast-len c = omega (arith, c .shared-slice-known3 .given (c .before .before .loop .i))
@@ -31,15 +37,24 @@ bucket-of-word-requires : tie.Need-bucket-of-word-requires Inv-loop μ-loop
 bucket-of-word-requires c κs =
     let start = c .before .before .before .before .before .before .before .before in
     let turn = c .before .before in (
-      word-some (start .args .chars .now) (start .args .lengths .now) (start .pre .dictionary) (turn .loop .i) (c .before .loop-test .taken),
-      omega (arith, word-room (start .args .chars .now) (start .args .lengths .now) (start .pre .dictionary) (turn .loop .i) (c .before .loop-test .taken)),
+      word-some (start .args .chars .now) (start .args .lengths .now) (start .pre .dictionary) (turn .loop .i)
+          (c .before .loop-test .taken),
+      omega (
+        arith,
+        word-room (start .args .chars .now) (start .args .lengths .now) (start .pre .dictionary) (turn .loop .i)
+            (c .before .loop-test .taken),
+      ),
     )
 
 cast-word-starts : tie.Need-cast-word-starts Inv-loop μ-loop
 cast-word-starts c =
     let start = c .before .before .before .before .before .before .before .before .before in
     let turn = c .before .before .before in
-    omega (arith, chained-small (start .args .chars .now) (start .args .lengths .now) (turn .loop .heads) (turn .loop .links) (turn .loop .word-starts) (turn .loop .inv .0) (start .pre .dictionary))
+    omega (
+      arith,
+      chained-small (start .args .chars .now) (start .args .lengths .now) (turn .loop .heads) (turn .loop .links)
+          (turn .loop .word-starts) (turn .loop .inv .0) (start .pre .dictionary),
+    )
 
 cast-heads : tie.Need-cast-heads Inv-loop μ-loop
 cast-heads c =
@@ -50,16 +65,23 @@ add-at : tie.Need-add-at Inv-loop μ-loop
 add-at c =
     let start = c .before .before .before .before .before .before .before .before .before .before in
     let turn = c .before .before .before .before in
-    omega (arith, chained-small (start .args .chars .now) (start .args .lengths .now) (turn .loop .heads) (turn .loop .links) (turn .loop .word-starts) (turn .loop .inv .0) (start .pre .dictionary), c .before .before .shared-slice-known3 .given (turn .loop .i))
+    omega (
+      arith,
+      chained-small (start .args .chars .now) (start .args .lengths .now) (turn .loop .heads) (turn .loop .links)
+          (turn .loop .word-starts) (turn .loop .inv .0) (start .pre .dictionary),
+      c .before .before .shared-slice-known3 .given (turn .loop .i),
+    )
 
 loop-again : tie.Need-loop-again Inv-loop μ-loop
 loop-again c =
     let start = c .before .before .before .before .before .before .before .before .before .before in
     let turn = c .before .before .before .before in
     let room = c .before .bucket-of-word .ensures .small in (
-      chained-step (start .args .chars .now) (start .args .lengths .now) (turn .loop .heads) (turn .loop .links) (turn .loop .word-starts) (turn .loop .inv .0)
+      chained-step (start .args .chars .now) (start .args .lengths .now) (turn .loop .heads) (turn .loop .links) (turn .loop .word-starts)
+          (turn .loop .inv .0)
           (c .before .bucket-of-word .result) (c .before .before .before .loop-test .taken)
-          (bucket-read (start .args .lengths .now) (start .pre .dictionary) (turn .loop .i) (c .before .before .before .loop-test .taken) (turn .loop .inv .0 .at-is) (c .before .bucket-of-word .ensures))
+          (bucket-read (start .args .lengths .now) (start .pre .dictionary) (turn .loop .i) (c .before .before .before .loop-test .taken)
+          (turn .loop .inv .0 .at-is) (c .before .bucket-of-word .ensures))
           room,
       simp length-set (turn .loop .inv .1),
       simp length-set (turn .loop .inv .2),
@@ -70,7 +92,11 @@ cast-word-starts-2 : tie.Need-cast-word-starts-2 Inv-loop μ-loop
 cast-word-starts-2 c =
     let start = c .before .before .before .before .before .before .before in
     let turn = c .before in
-    omega (arith, chained-small (start .args .chars .now) (start .args .lengths .now) (turn .loop .heads) (turn .loop .links) (turn .loop .word-starts) (turn .loop .inv .0) (start .pre .dictionary))
+    omega (
+      arith,
+      chained-small (start .args .chars .now) (start .args .lengths .now) (turn .loop .heads) (turn .loop .links)
+          (turn .loop .word-starts) (turn .loop .inv .0) (start .pre .dictionary),
+    )
 
 same-length : tie.Need-same-length Inv-loop μ-loop
 same-length c = c .before .loop .inv .1
@@ -85,7 +111,8 @@ returns : tie.Need-returns Inv-loop μ-loop
 returns c =
     let start = c .before .before .before .before .before .before .before in
     let turn = c .before in
-    chained-end (start .args .chars .now) (start .args .lengths .now) (turn .loop .heads) (turn .loop .links) (turn .loop .word-starts) (turn .loop .inv .0) (start .pre .dictionary) (c .loop-test .left)
+    chained-end (start .args .chars .now) (start .args .lengths .now) (turn .loop .heads) (turn .loop .links) (turn .loop .word-starts)
+    (turn .loop .inv .0) (start .pre .dictionary) (c .loop-test .left)
 
 pub fill-match-table-spec : {M : Type 1} → statement M
 fill-match-table-spec =

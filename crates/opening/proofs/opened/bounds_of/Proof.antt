@@ -12,12 +12,14 @@ use Rattle.opening.proofs.opened.bounds_of.Tie as tie
 returns : tie.Need-returns
 returns c =
     let a = c .before .before .before .before .before .args in
-    bounds-refused (a .chars .now) (a .lengths .now) (a .index .now) (c .before .refusal-of .result) (c .before .refusal-of .ensures) (c .if1 .taken)
+    bounds-refused (a .chars .now) (a .lengths .now) (a .index .now) (c .before .refusal-of .result) (c .before .refusal-of .ensures)
+    (c .if1 .taken)
 
 shared-slice-read-keys : tie.Need-shared-slice-read-keys
 shared-slice-read-keys c =
     let a = c .before .before .before .before .before .before .args in
-    let ok = index-accepted (a .chars .now) (a .lengths .now) (a .index .now) (sym (c .before .before .refusal-of .ensures) ∙ c .before .if1 .left) in
+    let ok = index-accepted (a .chars .now) (a .lengths .now) (a .index .now)
+    (sym (c .before .before .refusal-of .ensures) ∙ c .before .if1 .left) in
     omega (arith, readable-fits longest-text (lexicon (a .chars .now) (a .lengths .now)) (a .index .now) (ok .is-readable) .has-header)
 
 cast-keys : tie.Need-cast-keys
@@ -32,7 +34,8 @@ add-t10 c = omega (arith, c .shared-slice-known4 .given 1)
 returns-2 : tie.Need-returns-2
 returns-2 c =
     let a = c .before .before .before .before .before .before .args in
-    bounds-accepted (a .chars .now) (a .lengths .now) (a .index .now) (c .before .before .refusal-of .result) (c .before .before .refusal-of .ensures) (c .before .if1 .left) _ refl
+    bounds-accepted (a .chars .now) (a .lengths .now) (a .index .now) (c .before .before .refusal-of .result)
+    (c .before .before .refusal-of .ensures) (c .before .if1 .left) _ refl
 
 pub bounds-of-spec : {M : Type 1} → statement M
 bounds-of-spec =

@@ -15,12 +15,6 @@ returns-2 c =
     let a = c .before .before .before .before .args in
     apart-empty (a .first .now) (a .second .now) (a .at) (c .if2 .taken)
 
-sub-min : tie.Need-sub-min
-sub-min c = search needs
-
-min-requires : tie.Need-min-requires
-min-requires c κs = search needs
-
 same-run-requires : tie.Need-same-run-requires
 same-run-requires c κs = (omega arith, omega arith)
 
@@ -32,4 +26,6 @@ returns-3 c =
 
 pub agrees-after-spec : {M : Type 1} → statement M
 agrees-after-spec =
-    tie.close (tie.spec returns returns-2 sub-min min-requires same-run-requires returns-3)
+    tie.close
+    (tie.spec
+    returns returns-2 (λ c. search needs) (λ c κs. search needs) same-run-requires returns-3)

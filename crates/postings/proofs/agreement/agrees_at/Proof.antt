@@ -15,15 +15,18 @@ returns c =
     let s = c .before .before .before .before .before in
     let a = s .args in
     c .agrees-after .ensures
-    ∙ ap (λ (at : ℕ). agrees (a .string .now) 0 (a .key .now) at) (c .before .key-start .ensures ∙ ap key-start (toZ-ofZ w32 (a .offset) (s .fits .offset)))
-    ∙ agrees-string-first (a .key .now) (a .string .now) (a .offset) (above (a .offset) (s .fits .offset) (c .before .before .if1 .taken) .string-starts)
+    ∙ ap (λ (at : ℕ). agrees (a .string .now) 0 (a .key .now) at)
+    (c .before .key-start .ensures ∙ ap key-start (toZ-ofZ w32 (a .offset) (s .fits .offset)))
+    ∙ agrees-string-first (a .key .now) (a .string .now) (a .offset)
+    (above (a .offset) (s .fits .offset) (c .before .before .if1 .taken) .string-starts)
 
 returns-2 : tie.Need-returns-2
 returns-2 c =
     let s = c .before .before .before .before .before in
     let a = s .args in
     c .agrees-after2 .ensures
-    ∙ ap (λ (at : ℕ). agrees (a .key .now) 0 (a .string .now) at) (c .before .string-start .ensures ∙ ap string-start (toZ-ofZ w32 (a .offset) (s .fits .offset)))
+    ∙ ap (λ (at : ℕ). agrees (a .key .now) 0 (a .string .now) at)
+    (c .before .string-start .ensures ∙ ap string-start (toZ-ofZ w32 (a .offset) (s .fits .offset)))
     ∙ agrees-key-first (a .key .now) (a .string .now) (a .offset) (not-above (a .offset) (s .fits .offset) (c .before .before .if1 .left))
 
 pub agrees-at-spec : {M : Type 1} → statement M

@@ -8,18 +8,19 @@ use Rattle.postings.proofs.tallying.key_length.Tie as tie
 returns : tie.Need-returns
 returns c = lone-length (c .before .pre .0) (c .before .args .kind) (c .before .args .value) (c .before .pre .1) (c .if1 .taken)
 
-mul-result : tie.Need-mul-result
-mul-result c = search needs
-
 shared-slice-read-result : tie.Need-shared-slice-read-result
-shared-slice-read-result c = word-below (c .before .before .pre .0) (c .before .before .args .kind) (c .before .before .args .value) (c .before .before .pre .1) (c .before .if1 .left)
+shared-slice-read-result c = word-below (c .before .before .pre .0) (c .before .before .args .kind) (c .before .before .args .value)
+    (c .before .before .pre .1) (c .before .if1 .left)
 
 cast-result : tie.Need-cast-result
 cast-result c = omega (arith, c .shared-slice-known .given (c .before .before .args .value))
 
 returns-2 : tie.Need-returns-2
-returns-2 c = word-length (c .before .before .pre .0) (c .before .before .args .kind) (c .before .before .args .value) (c .before .before .pre .1) (c .before .if1 .left)
+returns-2 c = word-length (c .before .before .pre .0) (c .before .before .args .kind) (c .before .before .args .value)
+    (c .before .before .pre .1) (c .before .if1 .left)
 
 pub key-length-spec : {M : Type 1} → statement M
 key-length-spec =
-    tie.close (tie.spec returns mul-result shared-slice-read-result cast-result returns-2)
+    tie.close
+    (tie.spec
+    returns (λ c. search needs) shared-slice-read-result cast-result returns-2)

@@ -16,14 +16,16 @@ returns : tie.Need-returns
 returns c =
     let start = c .before .before .before .before in
     let a = start .args in
-    tally-refused (a .chars .now) (a .lengths .now) (a .index .now) (record { refusal = a .refusal; count = 0; «by_length» = replicate 32 0 }) (start .pre .number)
+    tally-refused (a .chars .now) (a .lengths .now) (a .index .now)
+    (record { refusal = a .refusal; count = 0; «by_length» = replicate 32 0 }) (start .pre .number)
     (λ (none : index-refusal (a .chars .now) (a .lengths .now) (a .index .now) ≡ 0). c .if1 .taken (start .pre .number ∙ none)) refl refl
 
 raised-requires : tie.Need-raised-requires
 raised-requires c κs =
     let start = c .before .before .before .before in
     let a = start .args in
-    let read = index-read (a .chars .now) (a .lengths .now) (a .index .now) (λ (i : ℕ). omega (arith, c .before .before .before .shared-slice-known .given i)) (opened-accepted (start .pre) (c .if1 .left)) in
+    let read = index-read (a .chars .now) (a .lengths .now) (a .index .now)
+    (λ (i : ℕ). omega (arith, c .before .before .before .shared-slice-known .given i)) (opened-accepted (start .pre) (c .if1 .left)) in
     let lines = opened-keys (start .pre) (c .if1 .left) in
     (read .is-admitted, read .is-readable, lines, omega (arith, lines), small-zeros)
 
@@ -31,7 +33,9 @@ sub-t12 : tie.Need-sub-t12
 sub-t12 c =
     let start = c .before .before .before .before .before in
     let a = start .args in
-    let read = index-read (a .chars .now) (a .lengths .now) (a .index .now) (λ (i : ℕ). omega (arith, c .before .before .before .before .shared-slice-known .given i)) (opened-accepted (start .pre) (c .before .if1 .left)) in
+    let read = index-read (a .chars .now) (a .lengths .now) (a .index .now)
+    (λ (i : ℕ). omega (arith, c .before .before .before .before .shared-slice-known .given i))
+    (opened-accepted (start .pre) (c .before .if1 .left)) in
     omega (arith, opened-first (start .pre) (c .before .if1 .left))
 
 returns-2 : tie.Need-returns-2
@@ -39,10 +43,13 @@ returns-2 c =
     let start = c .before .before .before .before .before in
     let a = start .args in
     let none = opened-accepted (start .pre) (c .before .if1 .left) in
-    let read = index-read (a .chars .now) (a .lengths .now) (a .index .now) (λ (i : ℕ). omega (arith, c .before .before .before .before .shared-slice-known .given i)) none in
+    let read = index-read (a .chars .now) (a .lengths .now) (a .index .now)
+    (λ (i : ℕ). omega (arith, c .before .before .before .before .shared-slice-known .given i)) none in
     let positions = opened-first (start .pre) (c .before .if1 .left) in
     let left = entries-left longest-text (lexicon (a .chars .now) (a .lengths .now)) (a .index .now) (read .is-readable) in
-    tally-accepted (a .chars .now) (a .lengths .now) (a .index .now) (record { refusal = a .refusal; count = length (a .index .now) - a .first; «by_length» = c .raised .result }) (start .pre .number) none
+    tally-accepted (a .chars .now) (a .lengths .now) (a .index .now)
+    (record { refusal = a .refusal; count = length (a .index .now) - a .first; «by_length» = c .raised .result })
+    (start .pre .number) none
     (omega (arith, positions, left)) (c .raised .ensures ∙ tally-afresh (lexicon (a .chars .now) (a .lengths .now)) (a .index .now))
 
 pub tally-opened-spec : {M : Type 1} → statement M

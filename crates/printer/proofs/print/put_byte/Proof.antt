@@ -4,17 +4,11 @@ use Rattle.basics.specs.Placed.{wrote-one}
 use Rattle.printer.proofs.print.put_byte.Statement.{statement}
 use Rattle.printer.proofs.print.put_byte.Tie as tie
 
-slice-write-out : tie.Need-slice-write-out
-slice-write-out c = search needs
-
-add-result : tie.Need-add-result
-add-result c = search needs
-
-same-length : tie.Need-same-length
-same-length c = search needs
-
 returns : tie.Need-returns
 returns c = wrote-one (c .args .byte) (c .args .at) (c .args .out .now) (c .pre)
 
 pub put-byte-spec : {M : Type 1} → statement M
-put-byte-spec = tie.close (tie.spec slice-write-out add-result same-length returns)
+put-byte-spec =
+    tie.close
+    (tie.spec
+    (λ c. search needs) (λ c. search needs) (λ c. search needs) returns)

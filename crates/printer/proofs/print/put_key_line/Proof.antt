@@ -34,9 +34,6 @@ put-key-name-requires c κs =
 put-list-requires : tie.Need-put-list-requires
 put-list-requires c κs = at-list (c .before .before .before) .room
 
-same-length : tie.Need-same-length
-same-length c = search needs
-
 returns : tie.Need-returns
 returns c =
     let s = c .before .before .before .before .before .before .before .before .before .before in
@@ -45,4 +42,6 @@ returns c =
 
 pub put-key-line-spec : {M : Type 1} → statement M
 put-key-line-spec =
-    tie.close (tie.spec put-key-name-requires put-list-requires same-length returns)
+    tie.close
+    (tie.spec
+    put-key-name-requires put-list-requires (λ c. search needs) returns)

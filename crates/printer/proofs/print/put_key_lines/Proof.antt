@@ -41,22 +41,19 @@ add-next-3 c = omega (arith, positions-fit (c .before .before .before .before .l
 mul-put-key-line : tie.Need-mul-put-key-line Inv-loop μ-loop
 mul-put-key-line c = omega (
   arith,
-  positions-fit (c .before .before .before .before .before .loop .inv .2)
-      (c .before .before .before .before .loop-test .taken),
+  positions-fit (c .before .before .before .before .before .loop .inv .2) (c .before .before .before .before .loop-test .taken),
 )
 
 part-put-key-line-start : tie.Need-part-put-key-line-start Inv-loop μ-loop
 part-put-key-line-start c = omega (
   arith,
-  positions-fit (c .before .before .before .before .before .loop .inv .2)
-      (c .before .before .before .before .loop-test .taken),
+  positions-fit (c .before .before .before .before .before .loop .inv .2) (c .before .before .before .before .loop-test .taken),
 )
 
 part-put-key-line-end : tie.Need-part-put-key-line-end Inv-loop μ-loop
 part-put-key-line-end c = omega (
   arith,
-  positions-fit (c .before .before .before .before .before .loop .inv .2)
-      (c .before .before .before .before .loop-test .taken),
+  positions-fit (c .before .before .before .before .before .loop .inv .2) (c .before .before .before .before .loop-test .taken),
 )
 
 put-key-line-requires : tie.Need-put-key-line-requires Inv-loop μ-loop

@@ -19,18 +19,12 @@ at-number c =
     let s = c .before .before .before .before in
     writing-step gap (decimal (s .args .n)) (at-space s) (c .put-bytes .ensures)
 
-slice-aggregate-put-bytes : tie.Need-slice-aggregate-put-bytes
-slice-aggregate-put-bytes c = search needs
-
 put-bytes-requires : tie.Need-put-bytes-requires
 put-bytes-requires c κs =
     let s = c .before .before .before in writing-room gap (decimal (s .args .n)) (at-space s)
 
 put-decimal-requires : tie.Need-put-decimal-requires
 put-decimal-requires c κs = at-number (c .before .before .before) .room
-
-same-length : tie.Need-same-length
-same-length c = search needs
 
 returns : tie.Need-returns
 returns c =
@@ -40,4 +34,6 @@ returns c =
 
 pub put-next-decimal-spec : {M : Type 1} → statement M
 put-next-decimal-spec =
-    tie.close (tie.spec slice-aggregate-put-bytes put-bytes-requires put-decimal-requires same-length returns)
+    tie.close
+    (tie.spec
+    (λ c. search needs) put-bytes-requires put-decimal-requires (λ c. search needs) returns)

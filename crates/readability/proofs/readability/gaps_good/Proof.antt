@@ -22,7 +22,6 @@ cast-sum c = omega (arith, c .shared-slice-known .given (c .before .before .loop
 
 add-sum : tie.Need-add-sum Inv-loop μ-loop
 add-sum c =
-    let start = c .before .before .before in
     let walk = c .before .before .loop in
     omega (arith, c .shared-slice-known .given (walk .i))
 

@@ -5,10 +5,13 @@ use Rattle.readability.proofs.readability.is_reached.Statement.{stateme
 use Rattle.readability.proofs.readability.is_reached.Tie as tie
 
 returns : tie.Need-returns
-returns c = passed-none (c .before .args .chars .now) (c .before .args .lengths .now) (c .before .args .position .word) (c .before .args .position .at) (c .before .args .value) (c .before .pre .passed) (c .if1 .taken)
+returns c = passed-none (c .before .args .chars .now) (c .before .args .lengths .now) (c .before .args .cursor .word)
+    (c .before .args .cursor .at) (c .before .args .value) (c .before .pre .passed) (c .if1 .taken)
 
 shared-slice-read-if2 : tie.Need-shared-slice-read-if2
-shared-slice-read-if2 c = word-some (c .before .before .args .chars .now) (c .before .before .args .lengths .now) (c .before .before .args .position .word) (c .before .before .args .position .at) (c .before .before .args .value) (c .before .before .pre .passed) (c .before .if1 .left)
+shared-slice-read-if2 c = word-some (c .before .before .args .chars .now) (c .before .before .args .lengths .now)
+    (c .before .before .args .cursor .word) (c .before .before .args .cursor .at) (c .before .before .args .value)
+    (c .before .before .pre .passed) (c .before .if1 .left)
 
 returns-2 : tie.Need-returns-2
 returns-2 c = reached-other (c .before .before .before .pre) (c .before .before .if1 .left) (c .if2 .taken)

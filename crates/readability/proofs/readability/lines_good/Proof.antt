@@ -6,7 +6,7 @@ use native.Mathlib.Omega.{arith}
 use borrow.Author.Tests.{not-true, not-false}
 use Rattle.spec.specs.Dictionary.{lexicon}
 use Rattle.models.specs.Readability.{read-as}
-use Rattle.laws.specs.Readable.LineSteps.{Lines-read, lines-start, lines-end, lines-raise}
+use Rattle.laws.specs.Readable.LineSteps.{Lines-read, lines-start, lines-end, lines-extend}
 use Rattle.laws.specs.Readable.LineKinds.{word-stop, word-step}
 use borrow.Author.Needs.{needs}
 use Rattle.readability.proofs.readability.lines_good.Statement.{statement}
@@ -40,7 +40,7 @@ lone-lines-requires c κs =
     let lex = lexicon (args .chars .now) (args .lengths .now) in (
       start .pre .0,
       start .pre .2,
-      lines-raise (read-as (args .as-gaps)) lex (args .index .now) (walk .i) (walk .at) (walk .least) (walk .inv .0)
+      lines-extend (read-as (args .as-gaps)) lex (args .index .now) (walk .i) (walk .at) (walk .least) (walk .inv .0)
           (c .before .before .loop-test .taken) (omega arith) (walk .inv .1),
     )
 
@@ -87,7 +87,11 @@ add-at-2 c =
     omega arith
 
 add-least : tie.Need-add-least Inv-loop μ-loop
-add-least c = omega (arith, c .before .before .shared-slice-known8 .given (2 + 3 * c .before .before .before .before .before .before .before .loop .i + 1))
+add-least c = omega (
+  arith,
+  c .before .before .shared-slice-known8 .given
+      (2 + 3 * c .before .before .before .before .before .before .before .loop .i + 1),
+)
 
 loop-again : tie.Need-loop-again Inv-loop μ-loop
 loop-again c =
@@ -98,8 +102,7 @@ loop-again c =
     let args = start .args in
     let lex = lexicon (args .chars .now) (args .lengths .now) in
     let good = sym (c .before .word-line-good .ensures) ∙ not-false (c .before .word-line-good .result) (c .if2 .left) in (
-      word-step (walk .inv .0) (test .loop-test .taken)
-          (word .if1 .left) good,
+      word-step (walk .inv .0) (test .loop-test .taken) (word .if1 .left) good,
       omega (arith, c .before .before .shared-slice-known8 .given (2 + 3 * walk .i + 1)),
     )
 

@@ -29,7 +29,11 @@ cast-keys : tie.Need-cast-keys Inv-loop μ-loop
 cast-keys c = omega (arith, c .shared-slice-known5 .given 1)
 
 loop-holds : tie.Need-loop-holds Inv-loop μ-loop
-loop-holds c = (c .before .before .before .before .before .pre .2, passed-start (c .before .before .before .before .before .args .chars .now) (c .before .before .before .before .before .args .lengths .now) (c .before .before .before .before .before .pre .0))
+loop-holds c = (
+  c .before .before .before .before .before .pre .2,
+  passed-start (c .before .before .before .before .before .args .chars .now)
+      (c .before .before .before .before .before .args .lengths .now) (c .before .before .before .before .before .pre .0),
+)
 
 cast-count : tie.Need-cast-count Inv-loop μ-loop
 cast-count c = omega (arith, c .shared-slice-known8 .given (2 + 3 * c .before .before .before .before .loop .i + 2))
@@ -82,7 +86,6 @@ returns-3 c =
 
 line-list-good-requires : tie.Need-line-list-good-requires Inv-loop μ-loop
 line-list-good-requires c κs =
-    let start = c .before .before .before .before .before .before .before .before .before .before .before .before .before .before .before in
     let walk = c .before .before .before .before .before .before .before .before .before .loop in
     let known = c .before .before .before .before .before .shared-slice-known8 in
     (walk .inv .0 .room, omega (arith, known .given 0), omega arith, omega (arith, known .given (2 + 3 * walk .i + 2)))
@@ -122,10 +125,18 @@ add-at c =
     omega arith
 
 cast-least : tie.Need-cast-least Inv-loop μ-loop
-cast-least c = omega (arith, c .before .before .before .before .before .before .before .shared-slice-known8 .given (2 + 3 * c .before .before .before .before .before .before .before .before .before .before .before .loop .i + 1))
+cast-least c = omega (
+  arith,
+  c .before .before .before .before .before .before .before .shared-slice-known8 .given
+      (2 + 3 * c .before .before .before .before .before .before .before .before .before .before .before .loop .i + 1),
+)
 
 add-least : tie.Need-add-least Inv-loop μ-loop
-add-least c = omega (arith, c .before .before .before .before .before .before .before .shared-slice-known8 .given (2 + 3 * c .before .before .before .before .before .before .before .before .before .before .before .loop .i + 1))
+add-least c = omega (
+  arith,
+  c .before .before .before .before .before .before .before .shared-slice-known8 .given
+      (2 + 3 * c .before .before .before .before .before .before .before .before .before .before .before .loop .i + 1),
+)
 
 loop-again : tie.Need-loop-again Inv-loop μ-loop
 loop-again c =
@@ -142,7 +153,8 @@ loop-again c =
     let good = sym (c .before .line-list-good .ensures) ∙ not-false (c .before .line-list-good .result) (c .if4 .left) in (
       lone-step (walk .least) (walk .inv .0) (test .loop-test .taken)
           (omega (arith, known .given (2 + 3 * walk .i + 1))) (kind .if1 .left) (low .if2 .left) unlisted good,
-      passed-raise ((getD (start .args .index .now) (2 + 3 * walk .i + 1) 0) + 1) (omega arith) (c .before .before .before .before .skip-below .ensures .passed),
+      passed-raise ((getD (start .args .index .now) (2 + 3 * walk .i + 1) 0) + 1) (omega arith)
+          (c .before .before .before .before .skip-below .ensures .passed),
     )
 
 returns-5 : tie.Need-returns-5 Inv-loop μ-loop

@@ -12,9 +12,6 @@ use borrow.Author.Needs.{needs}
 use Rattle.readability.proofs.readability.refusal_as.Statement.{statement}
 use Rattle.readability.proofs.readability.refusal_as.Tie as tie
 
-refusal-of-requires : tie.Need-refusal-of-requires
-refusal-of-requires c κs = search needs
-
 returns : tie.Need-returns
 returns c =
     let args = c .before .before .before .before .before .args in
@@ -48,4 +45,6 @@ returns-3 c =
 
 pub refusal-as-spec : {M : Type 1} → statement M
 refusal-as-spec =
-    tie.close (tie.spec refusal-of-requires returns readable-requires returns-2 returns-3)
+    tie.close
+    (tie.spec
+    (λ c κs. search needs) returns readable-requires returns-2 returns-3)

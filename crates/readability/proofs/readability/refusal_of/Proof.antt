@@ -6,9 +6,6 @@ use borrow.Author.Needs.{needs}
 use Rattle.readability.proofs.readability.refusal_of.Statement.{statement}
 use Rattle.readability.proofs.readability.refusal_of.Tie as tie
 
-refusal-as-requires : tie.Need-refusal-as-requires
-refusal-as-requires c κs = search needs
-
 returns : tie.Need-returns
 returns c =
     let start = c .before .before .before .before in
@@ -16,4 +13,7 @@ returns c =
     ∙ ap (index-refusal (start .args .chars .now) (start .args .lengths .now)) (read-positions (start .args .index .now))
 
 pub refusal-of-spec : {M : Type 1} → statement M
-refusal-of-spec = tie.close (tie.spec refusal-as-requires returns)
+refusal-of-spec =
+    tie.close
+    (tie.spec
+    (λ c κs. search needs) returns)

@@ -18,7 +18,9 @@ loop-holds : tie.Need-loop-holds Inv-loop μ-loop
 loop-holds c = c .pre
 
 shared-slice-read-if1 : tie.Need-shared-slice-read-if1 Inv-loop μ-loop
-shared-slice-read-if1 c = word-some (c .before .before .before .args .chars .now) (c .before .before .before .args .lengths .now) (c .before .before .loop .word) (c .before .before .loop .at) (c .before .before .before .args .value) (c .before .before .loop .inv) (c .before .loop-test .taken)
+shared-slice-read-if1 c = word-some (c .before .before .before .args .chars .now) (c .before .before .before .args .lengths .now)
+    (c .before .before .loop .word) (c .before .before .loop .at) (c .before .before .before .args .value) (c .before .before .loop .inv)
+    (c .before .loop-test .taken)
 
 returns : tie.Need-returns Inv-loop μ-loop
 returns c = record { passed = c .before .before .before .loop .inv; first = λ h. c .if1 .taken }
@@ -27,10 +29,19 @@ cast-at : tie.Need-cast-at Inv-loop μ-loop
 cast-at c = omega (arith, c .shared-slice-known2 .given (c .before .before .before .before .loop .word))
 
 add-at : tie.Need-add-at Inv-loop μ-loop
-add-at c = omega (arith, word-room (c .before .before .before .before .before .args .chars .now) (c .before .before .before .before .before .args .lengths .now) (c .before .before .before .before .loop .word) (c .before .before .before .before .loop .at) (c .before .before .before .before .before .args .value) (c .before .before .before .before .loop .inv) (c .before .before .before .loop-test .taken))
+add-at c = omega (
+  arith,
+  word-room (c .before .before .before .before .before .args .chars .now)
+      (c .before .before .before .before .before .args .lengths .now) (c .before .before .before .before .loop .word)
+      (c .before .before .before .before .loop .at) (c .before .before .before .before .before .args .value)
+      (c .before .before .before .before .loop .inv) (c .before .before .before .loop-test .taken),
+)
 
 loop-again : tie.Need-loop-again Inv-loop μ-loop
-loop-again c = passed-step (c .before .before .before .before .before .args .chars .now) (c .before .before .before .before .before .args .lengths .now) (c .before .before .before .before .loop .word) (c .before .before .before .before .loop .at) (c .before .before .before .before .before .args .value) (c .before .before .before .before .loop .inv) (c .before .before .before .loop-test .taken) (c .before .if1 .left)
+loop-again c = passed-step (c .before .before .before .before .before .args .chars .now)
+    (c .before .before .before .before .before .args .lengths .now) (c .before .before .before .before .loop .word)
+    (c .before .before .before .before .loop .at) (c .before .before .before .before .before .args .value)
+    (c .before .before .before .before .loop .inv) (c .before .before .before .loop-test .taken) (c .before .if1 .left)
 
 returns-2 : tie.Need-returns-2 Inv-loop μ-loop
 returns-2 c = record { passed = c .before .loop .inv; first = λ h. absurd (omega arith) }

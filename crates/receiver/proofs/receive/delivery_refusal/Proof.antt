@@ -1,5 +1,4 @@
 -- `delivery_refusal` meets its contract: one law for each return. Assumes nothing.
-use borrow.Author.Needs.{needs}
 use native.Mathlib.Omega.{arith}
 use Rattle.laws.specs.Receive.Receiving.{short-refused, short-work, short-none}
 use Rattle.receiver.proofs.receive.delivery_refusal.Statement.{statement}

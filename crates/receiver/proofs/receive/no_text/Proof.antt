@@ -3,14 +3,11 @@ use borrow.Author.Needs.{needs}
 use Rattle.receiver.proofs.receive.no_text.Statement.{statement}
 use Rattle.receiver.proofs.receive.no_text.Tie as tie
 
-refuse-requires : tie.Need-refuse-requires
-refuse-requires c κs = search needs
-
-same-length : tie.Need-same-length
-same-length c = search needs
-
 returns : tie.Need-returns
 returns c = c .before .before .refuse .ensures
 
 pub no-text-spec : {M : Type 1} → statement M
-no-text-spec = tie.close (tie.spec refuse-requires same-length returns)
+no-text-spec =
+    tie.close
+    (tie.spec
+    (λ c κs. search needs) (λ c. search needs) returns)

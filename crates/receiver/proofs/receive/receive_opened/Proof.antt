@@ -12,7 +12,8 @@ use Rattle.receiver.proofs.receive.receive_opened.Tie as tie
 delivery-refusal-requires : tie.Need-delivery-refusal-requires
 delivery-refusal-requires c κs =
     let start = c .before .before .before .before in
-    λ (none : start .args .refusal ≡ 0). delivery-header (start .args .chars .now) (start .args .lengths .now) (start .args .index .now) (sym (start .pre) ∙ none)
+    λ (none : start .args .refusal ≡ 0). delivery-header (start .args .chars .now) (start .args .lengths .now) (start .args .index .now)
+    (sym (start .pre) ∙ none)
 
 returns : tie.Need-returns
 returns c =
@@ -23,13 +24,16 @@ returns c =
     let w = start .args .work .now in
     let answer = c .before .before .refuse in
     let early = c .before .before .before .before .before .delivery-refusal in
-    receive-refused cs ls xs (answer .result) w w (answer .last .0) refl (opened-delivery cs ls xs (length w) (start .args .refusal) (early .result) (start .pre) (early .ensures)) (c .before .before .before .before .if1 .taken) (answer .ensures)
+    receive-refused cs ls xs (answer .result) w w (answer .last .0) refl
+    (opened-delivery cs ls xs (length w) (start .args .refusal) (early .result) (start .pre) (early .ensures))
+    (c .before .before .before .before .if1 .taken) (answer .ensures)
 
 text-of-requires : tie.Need-text-of-requires
 text-of-requires c κs =
     let start = c .before .before .before .before .before .before .before in
     let early = c .before .before .delivery-refusal in
-    sym (opened-delivery (start .args .chars .now) (start .args .lengths .now) (start .args .index .now) (length (start .args .work .now)) (start .args .refusal) (early .result) (start .pre) (early .ensures)) ∙ c .before .if1 .left
+    sym (opened-delivery (start .args .chars .now) (start .args .lengths .now) (start .args .index .now) (length (start .args .work .now))
+    (start .args .refusal) (early .result) (start .pre) (early .ensures)) ∙ c .before .if1 .left
 
 returns-2 : tie.Need-returns-2
 returns-2 c =
@@ -40,31 +44,49 @@ returns-2 c =
     let w = start .args .work .now in
     let answer = c .before .before .no-text in
     let tried = c .before .before .before .before .before .before .before .text-of in
-    receive-unreceived cs ls xs (answer .result) w (tried .last .1 .1 .1 .0) (answer .last .0) (tried .kept .1 .1 .1 .0) (sym (opened-delivery cs ls xs (length w) (start .args .refusal) (c .before .before .before .before .before .before .before .before .before .before .delivery-refusal .result) (start .pre) (c .before .before .before .before .before .before .before .before .before .before .delivery-refusal .ensures)) ∙ c .before .before .before .before .before .before .before .before .before .if1 .left)
+    receive-unreceived cs ls xs (answer .result) w (tried .last .1 .1 .1 .0) (answer .last .0) (tried .kept .1 .1 .1 .0)
+    (sym (opened-delivery cs ls xs (length w) (start .args .refusal)
+    (c .before .before .before .before .before .before .before .before .before .before .delivery-refusal .result) (start .pre)
+    (c .before .before .before .before .before .before .before .before .before .before .delivery-refusal .ensures)) ∙
+    c .before .before .before .before .before .before .before .before .before .if1 .left)
     (sym (tried .ensures .exact) ∙ not-true (tried .result) (c .before .before .before .before .if2 .taken)) (answer .ensures)
 
 shared-slice-read-t20 : tie.Need-shared-slice-read-t20
 shared-slice-read-t20 c =
-    let start = c .before .before .before .before .before .before .before .before .before .before .before .before .before .before .before .before in
+    let start =
+    c .before .before .before .before .before .before .before .before .before .before .before .before .before .before .before .before in
     let cs = start .args .chars .now in
     let ls = start .args .lengths .now in
     let xs = start .args .index .now in
     let w = start .args .work .now in
-    omega (arith, delivered cs ls xs (length w) (sym (opened-delivery cs ls xs (length w) (start .args .refusal) (c .before .before .before .before .before .before .before .before .before .before .before .delivery-refusal .result) (start .pre) (c .before .before .before .before .before .before .before .before .before .before .before .delivery-refusal .ensures)) ∙ c .before .before .before .before .before .before .before .before .before .before .if1 .left) .fits .has-header)
+    omega (
+      arith,
+      delivered cs ls xs (length w) (sym (opened-delivery cs ls xs (length w) (start .args .refusal)
+          (c .before .before .before .before .before .before .before .before .before .before .before .delivery-refusal .result) (start .pre)
+          (c .before .before .before .before .before .before .before .before .before .before .before .delivery-refusal .ensures)) ∙
+          c .before .before .before .before .before .before .before .before .before .before .if1 .left) .fits .has-header,
+    )
 
 cast-t7 : tie.Need-cast-t7
 cast-t7 c = omega (arith, c .shared-slice-known4 .given 0)
 
 returns-3 : tie.Need-returns-3
 returns-3 c =
-    let start = c .before .before .before .before .before .before .before .before .before .before .before .before .before .before .before .before in
+    let start =
+    c .before .before .before .before .before .before .before .before .before .before .before .before .before .before .before .before in
     let cs = start .args .chars .now in
     let ls = start .args .lengths .now in
     let xs = start .args .index .now in
     let w = start .args .work .now in
     let tried = c .before .before .before .before .before .before .before .before .text-of in
-    receive-received cs ls xs (record { refusal = 0; count = n-of xs }) w (tried .last .1 .1 .1 .0) (c .before .before .before .clear .last .0) (tried .kept .1 .1 .1 .0) (sym (opened-delivery cs ls xs (length w) (start .args .refusal) (c .before .before .before .before .before .before .before .before .before .before .before .delivery-refusal .result) (start .pre) (c .before .before .before .before .before .before .before .before .before .before .before .delivery-refusal .ensures)) ∙ c .before .before .before .before .before .before .before .before .before .before .if1 .left)
-    (sym (tried .ensures .exact) ∙ not-false (tried .result) (c .before .before .before .before .before .if2 .left)) refl refl (c .before .before .before .clear .ensures)
+    receive-received cs ls xs (record { refusal = 0; count = n-of xs }) w (tried .last .1 .1 .1 .0)
+    (c .before .before .before .clear .last .0) (tried .kept .1 .1 .1 .0)
+    (sym (opened-delivery cs ls xs (length w) (start .args .refusal)
+    (c .before .before .before .before .before .before .before .before .before .before .before .delivery-refusal .result) (start .pre)
+    (c .before .before .before .before .before .before .before .before .before .before .before .delivery-refusal .ensures)) ∙
+    c .before .before .before .before .before .before .before .before .before .before .if1 .left)
+    (sym (tried .ensures .exact) ∙ not-false (tried .result) (c .before .before .before .before .before .if2 .left)) refl refl
+    (c .before .before .before .clear .ensures)
 
 pub receive-opened-spec : {M : Type 1} → statement M
 receive-opened-spec =

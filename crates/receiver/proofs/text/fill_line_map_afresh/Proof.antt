@@ -6,17 +6,17 @@ use borrow.Author.Needs.{needs}
 use Rattle.receiver.proofs.text.fill_line_map_afresh.Statement.{statement}
 use Rattle.receiver.proofs.text.fill_line_map_afresh.Tie as tie
 
-clear-requires : tie.Need-clear-requires
-clear-requires c κs = search needs
-
 fill-line-map-requires : tie.Need-fill-line-map-requires
-fill-line-map-requires c κs = rw (c .before .before .before .clear .kept .0) (c .before .before .before .before .before .before .before .pre)
-
-same-length : tie.Need-same-length
-same-length c = search needs
+fill-line-map-requires c κs = rw (c .before .before .before .clear .kept .0)
+    (c .before .before .before .before .before .before .before .pre)
 
 returns : tie.Need-returns
-returns c = c .before .before .fill-line-map .ensures ∙ ap (fill-line-map 0 (lines-in (c .before .before .before .before .before .before .before .before .before .before .args .index .now))) (c .before .before .before .before .before .before .clear .ensures)
+returns c = c .before .before .fill-line-map .ensures ∙ ap (fill-line-map 0
+    (lines-in (c .before .before .before .before .before .before .before .before .before .before .args .index .now)))
+    (c .before .before .before .before .before .before .clear .ensures)
 
 pub fill-line-map-afresh-spec : {M : Type 1} → statement M
-fill-line-map-afresh-spec = tie.close (tie.spec clear-requires fill-line-map-requires same-length returns)
+fill-line-map-afresh-spec =
+    tie.close
+    (tie.spec
+    (λ c κs. search needs) fill-line-map-requires (λ c. search needs) returns)

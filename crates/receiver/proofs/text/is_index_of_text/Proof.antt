@@ -3,7 +3,7 @@
 use mathlib.Core.Path.{refl}
 use native.Mathlib.Omega.{arith}
 use lib.ListN.{length, take, drop}
-use Rattle.spec.specs.Dictionary.{longest-text, lexicon}
+use Rattle.spec.specs.Dictionary.{longest-text}
 use Rattle.spec.specs.Index.{n-of}
 use Rattle.laws.specs.Receive.LineMapWalk.{readable-line-map}
 use Rattle.laws.specs.Receive.Receiving.{delivered}
@@ -61,7 +61,8 @@ test-parts-requires c κs =
     let met = delivered cs ls xs (length w) (start .pre .0) in (
       start .pre .1,
       met .fits,
-      tried-mapped cs ls xs w (λ i h. omega (arith, given .shared-slice-known .given i)) (λ i h. omega (arith, slices .slice-known .given i))
+      tried-mapped cs ls xs w (λ i h. omega (arith, given .shared-slice-known .given i))
+          (λ i h. omega (arith, slices .slice-known .given i))
           (start .pre .0) (reconstructed .reconstruct-front .last .1 .1 .1 .1 .1 .0) behind (take (n-of xs) (drop (n-of xs) behind))
           (reconstructed .reconstruct-front .ensures) (mapped .fill-line-map-behind .ensures .0) (mapped .fill-line-map-behind .ensures .1),
       omega arith,
@@ -81,7 +82,8 @@ returns c =
     let behind = mapped .fill-line-map-behind .last .1 .1 .0 in
     read-back cs ls xs w (λ i h. omega (arith, given .shared-slice-known .given i)) (λ i h. omega (arith, slices .slice-known .given i))
     (start .pre .0) (reconstructed .reconstruct-front .last .1 .1 .1 .1 .1 .0) behind (take (n-of xs) (drop (n-of xs) behind))
-    (reconstructed .reconstruct-front .ensures) (mapped .fill-line-map-behind .ensures .0) (mapped .fill-line-map-behind .ensures .1) (c .test-parts .result)
+    (reconstructed .reconstruct-front .ensures) (mapped .fill-line-map-behind .ensures .0) (mapped .fill-line-map-behind .ensures .1)
+    (c .test-parts .result)
     (c .test-parts .ensures)
 
 pub is-index-of-text-spec : {M : Type 1} → statement M

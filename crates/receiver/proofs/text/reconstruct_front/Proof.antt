@@ -27,7 +27,8 @@ returns : tie.Need-returns
 returns c =
     let start = c .before .before .before .before .before .before .before .before .before in
     let part = c .before .before .reconstruct-entries .last .1 .1 .1 .1 .0 in
-    let len : length part ≡ start .args .n = c .before .before .reconstruct-entries .kept .1 .1 .1 .1 .0 ∙ length-take-le (start .args .n) (start .args .work .now) (start .pre .3) in
+    let len : length part ≡ start .args .n = c .before .before .reconstruct-entries .kept .1 .1 .1 .1 .0 ∙
+    length-take-le (start .args .n) (start .args .work .now) (start .pre .3) in
     front-put (start .args .n) (start .args .work .now) part _ len (c .before .before .reconstruct-entries .ensures)
 
 pub reconstruct-front-spec : {M : Type 1} → statement M

@@ -20,7 +20,11 @@ verify-requires c κs =
       start .pre .0,
       start .pre .1,
       rw same (start .pre .2),
-      omega (arith, length-take-le (start .args .n) (start .args .work .now) (omega arith), behind-long (start .args .n) (start .args .work .now) (start .pre .3)),
+      omega (
+        arith,
+        length-take-le (start .args .n) (start .args .work .now) (omega arith),
+        behind-long (start .args .n) (start .args .work .now) (start .pre .3),
+      ),
     )
 
 returns : tie.Need-returns

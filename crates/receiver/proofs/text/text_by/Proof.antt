@@ -7,7 +7,6 @@ use Prim.Native.Nat.{_≤_}
 use lib.Seq.{length-take-le}
 use borrow.Author.Tests.{not-true, not-false}
 use borrow.Author.Needs.{needs}
-use Rattle.spec.specs.Dictionary.{lexicon}
 use Rattle.spec.specs.Index.{n-of}
 use Rattle.laws.specs.Receive.Receiving.{delivered}
 use Rattle.laws.specs.Receive.ReceivedText.{not-tried, tried}
@@ -16,7 +15,6 @@ use Rattle.receiver.proofs.text.text_by.Tie as tie
 
 returns : tie.Need-returns
 returns c =
-    let start = c .before .before .before .before .before .before .before .before .before .before .before .before in
     let call = c .before .before .before .is-index-of-text in
     not-tried
     (call .ensures)
@@ -53,12 +51,12 @@ slice-aggregate-holds-full-width : tie.Need-slice-aggregate-holds-full-width
 slice-aggregate-holds-full-width c =
     let start = c .before .before .before .before .before .before .before .before .before .before .before .before .before .before in
     sym
-    (length-take-le (n-of (start .args .index .now)) (c .before .before .before .before .before .is-index-of-text .last .1 .1 .1 .1 .1 .1 .0)
+    (length-take-le (n-of (start .args .index .now))
+    (c .before .before .before .before .before .is-index-of-text .last .1 .1 .1 .1 .1 .1 .0)
     (room (c .before)))
 
 returns-2 : tie.Need-returns-2
 returns-2 c =
-    let start = c .before .before .before .before .before .before .before .before .before .before .before .before .before .before .before in
     let call = c .before .before .before .before .before .before .is-index-of-text in
     tried
     (call .ensures)

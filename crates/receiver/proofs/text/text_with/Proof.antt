@@ -13,7 +13,9 @@ fill-match-table-requires c κs =
     let ls = start .args .lengths .now in
     let xs = start .args .index .now in
     let w = start .args .work .now in
-    delivered-room cs ls xs (length w) (λ i h. omega (arith, c .before .before .before .before .before .before .before .before .before .shared-slice-known .given i)) (start .pre .0) (start .pre .1)
+    delivered-room cs ls xs (length w)
+    (λ i h. omega (arith, c .before .before .before .before .before .before .before .before .before .shared-slice-known .given i))
+    (start .pre .0) (start .pre .1)
 
 pub text-with-spec : {M : Type 1} → statement M
 text-with-spec =

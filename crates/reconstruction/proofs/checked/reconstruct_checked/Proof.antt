@@ -7,18 +7,6 @@ use borrow.Author.Needs.{needs}
 use Rattle.reconstruction.proofs.checked.reconstruct_checked.Statement.{statement}
 use Rattle.reconstruction.proofs.checked.reconstruct_checked.Tie as tie
 
-fill-requires : tie.Need-fill-requires
-fill-requires c κs = search needs
-
-reconstruct-entries-requires : tie.Need-reconstruct-entries-requires
-reconstruct-entries-requires c κs = search needs
-
-entries-match-requires : tie.Need-entries-match-requires
-entries-match-requires c κs = search needs
-
-same-length : tie.Need-same-length
-same-length c = search needs
-
 returns : tie.Need-returns
 returns c =
     let s = c .before .before .before .before .before .before .before .before .before .before .before .before .before .before .before in
@@ -32,4 +20,6 @@ returns c =
 
 pub reconstruct-checked-spec : {M : Type 1} → statement M
 reconstruct-checked-spec =
-    tie.close (tie.spec fill-requires reconstruct-entries-requires entries-match-requires same-length returns)
+    tie.close
+    (tie.spec
+    (λ c κs. search needs) (λ c κs. search needs) (λ c κs. search needs) (λ c. search needs) returns)

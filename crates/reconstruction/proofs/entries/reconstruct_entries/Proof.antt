@@ -3,11 +3,11 @@
 use mathlib.Core.Path.{_∙_}
 use Prim.Native.Nat.{_+_, _*_, _-_}
 use native.Mathlib.Omega.{arith}
-use lib.ListN.{getD}
 use Rattle.spec.specs.Dictionary.{lexicon}
 use Rattle.laws.specs.Directory.Tables.{Can-read}
 use Rattle.laws.specs.Receive.LinePass.{lies-room}
-use Rattle.laws.specs.Receive.ReconstructionWalk.{Reconstructing-lines, reconstructing-start, reconstructing-lies, reconstructing-step, reconstructing-end}
+use Rattle.laws.specs.Receive.ReconstructionWalk.{Reconstructing-lines, reconstructing-start, reconstructing-lies, reconstructing-step}
+use Rattle.laws.specs.Receive.ReconstructionWalk.{reconstructing-end}
 use Rattle.reconstruction.proofs.entries.reconstruct_entries.Statement.{statement}
 use Rattle.reconstruction.proofs.entries.reconstruct_entries.Tie as tie
 
@@ -40,7 +40,6 @@ loop-holds c =
 
 shared-slice-read-end : tie.Need-shared-slice-read-end Inv-loop μ-loop
 shared-slice-read-end c =
-    let l = c .before .before .loop in
     omega arith
 
 cast-end : tie.Need-cast-end Inv-loop μ-loop
@@ -50,7 +49,11 @@ add-end-3 : tie.Need-add-end-3 Inv-loop μ-loop
 add-end-3 c =
     let s = c .before .before .before .before .before .before .before .before .before in
     let l = c .before .before .loop in
-    omega (arith, lies-room (reconstructing-lies (lexicon (s .args .chars .now) (s .args .lengths .now)) (s .args .index .now) (s .args .text .now) (l .text) (l .begin) (l .line) (l .inv .1) (c .before .loop-test .taken)) (l .inv .0 .fits))
+    omega (
+      arith,
+      lies-room (reconstructing-lies (lexicon (s .args .chars .now) (s .args .lengths .now)) (s .args .index .now)
+          (s .args .text .now) (l .text) (l .begin) (l .line) (l .inv .1) (c .before .loop-test .taken)) (l .inv .0 .fits),
+    )
 
 reconstruct-line-requires : tie.Need-reconstruct-line-requires Inv-loop μ-loop
 reconstruct-line-requires c κs =
@@ -58,13 +61,13 @@ reconstruct-line-requires c κs =
     let l = c .before .before .before .loop in (
       l .inv .0,
       s .pre .1,
-      reconstructing-lies (lexicon (s .args .chars .now) (s .args .lengths .now)) (s .args .index .now) (s .args .text .now) (l .text) (l .begin) (l .line) (l .inv .1) (c .before .before .loop-test .taken),
+      reconstructing-lies (lexicon (s .args .chars .now) (s .args .lengths .now)) (s .args .index .now) (s .args .text .now) (l .text)
+          (l .begin) (l .line) (l .inv .1) (c .before .before .loop-test .taken),
       l .inv .1 .len ∙ s .pre .2,
     )
 
 add-line : tie.Need-add-line Inv-loop μ-loop
 add-line c =
-    let l = c .before .before .before .before .before .before .loop in
     omega arith
 
 loop-again : tie.Need-loop-again Inv-loop μ-loop
@@ -72,8 +75,10 @@ loop-again c =
     let s = c .before .before .before .before .before .before .before .before .before .before .before .before .before in
     let l = c .before .before .before .before .before .before .loop in (
       l .inv .0,
-      reconstructing-step (lexicon (s .args .chars .now) (s .args .lengths .now)) (s .args .index .now) (s .args .text .now) (l .text) (l .begin) (l .line) (l .inv .1)
-          (reconstructing-lies (lexicon (s .args .chars .now) (s .args .lengths .now)) (s .args .index .now) (s .args .text .now) (l .text) (l .begin) (l .line) (l .inv .1) (c .before .before .before .before .before .loop-test .taken))
+      reconstructing-step (lexicon (s .args .chars .now) (s .args .lengths .now)) (s .args .index .now) (s .args .text .now) (l .text)
+          (l .begin) (l .line) (l .inv .1)
+          (reconstructing-lies (lexicon (s .args .chars .now) (s .args .lengths .now)) (s .args .index .now) (s .args .text .now) (l .text)
+          (l .begin) (l .line) (l .inv .1) (c .before .before .before .before .before .loop-test .taken))
           (c .before .before .reconstruct-line .last .1 .1 .1 .1 .1 .1 .1 .0) (c .before .before .reconstruct-line .ensures),
     )
 
@@ -84,7 +89,8 @@ returns : tie.Need-returns Inv-loop μ-loop
 returns c =
     let s = c .before .before .before .before .before .before .before .before in
     let l = c .before .loop in
-    reconstructing-end (lexicon (s .args .chars .now) (s .args .lengths .now)) (s .args .index .now) (s .args .text .now) (l .text) (l .begin) (l .line) (l .inv .1) (c .loop-test .left)
+    reconstructing-end (lexicon (s .args .chars .now) (s .args .lengths .now)) (s .args .index .now) (s .args .text .now) (l .text)
+    (l .begin) (l .line) (l .inv .1) (c .loop-test .left)
 
 pub reconstruct-entries-spec : {M : Type 1} → statement M
 reconstruct-entries-spec =

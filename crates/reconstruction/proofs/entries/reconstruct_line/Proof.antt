@@ -31,10 +31,18 @@ returns c =
     (c .before .before .fill-at .last .1 .1 .0) (c .before .before .fill-at .ensures)
 
 cast-word : tie.Need-cast-word
-cast-word c = omega (arith, c .before .shared-slice-known6 .given (2 + 3 * c .before .before .before .before .before .before .before .before .args .line + 1))
+cast-word c = omega (
+  arith,
+  c .before .shared-slice-known6 .given
+      (2 + 3 * c .before .before .before .before .before .before .before .before .args .line + 1),
+)
 
 mul-start : tie.Need-mul-start
-mul-start c = omega (arith, c .before .shared-slice-known6 .given (2 + 3 * c .before .before .before .before .before .before .before .before .args .line + 1))
+mul-start c = omega (
+  arith,
+  c .before .shared-slice-known6 .given
+      (2 + 3 * c .before .before .before .before .before .before .before .before .args .line + 1),
+)
 
 shared-slice-read-start : tie.Need-shared-slice-read-start
 shared-slice-read-start c =
@@ -47,7 +55,11 @@ cast-start c =
     omega (arith, c .shared-slice-known7 .given (getD (s .args .index .now) (2 + 3 * s .args .line + 1) 0))
 
 mul-stop : tie.Need-mul-stop
-mul-stop c = omega (arith, c .before .before .shared-slice-known6 .given (2 + 3 * c .before .before .before .before .before .before .before .before .before .args .line + 1))
+mul-stop c = omega (
+  arith,
+  c .before .before .shared-slice-known6 .given
+      (2 + 3 * c .before .before .before .before .before .before .before .before .before .args .line + 1),
+)
 
 shared-slice-read-stop : tie.Need-shared-slice-read-stop
 shared-slice-read-stop c =
@@ -87,12 +99,15 @@ part-reconstruct-positions-end-2 c =
 reconstruct-positions-requires : tie.Need-reconstruct-positions-requires
 reconstruct-positions-requires c κs =
     let s = c .before .before .before .before .before .before .before .before .before .before .before .before .before in
-    word-reconstructs (s .pre .0) (s .pre .2) (s .args .text .now) (s .pre .3) (c .before .before .before .before .before .if1 .left) (s .pre .1)
+    word-reconstructs (s .pre .0) (s .pre .2) (s .args .text .now) (s .pre .3) (c .before .before .before .before .before .if1 .left)
+    (s .pre .1)
 
 returns-2 : tie.Need-returns-2
 returns-2 c =
-    let s = c .before .before .before .before .before .before .before .before .before .before .before .before .before .before .before .before in
-    word-reconstructed (s .pre .0) (s .pre .2) (s .args .text .now) (s .pre .3) (c .before .before .before .before .before .before .before .before .if1 .left) (s .pre .1)
+    let s =
+    c .before .before .before .before .before .before .before .before .before .before .before .before .before .before .before .before in
+    word-reconstructed (s .pre .0) (s .pre .2) (s .args .text .now) (s .pre .3)
+    (c .before .before .before .before .before .before .before .before .if1 .left) (s .pre .1)
     (c .before .before .reconstruct-positions .last .1 .1 .0) (c .before .before .reconstruct-positions .ensures)
 
 pub reconstruct-line-spec : {M : Type 1} → statement M

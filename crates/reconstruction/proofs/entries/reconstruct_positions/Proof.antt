@@ -23,7 +23,11 @@ cast-reconstruct-string : tie.Need-cast-reconstruct-string Inv-loop μ-loop
 cast-reconstruct-string c = omega (arith, c .shared-slice-known3 .given (c .before .before .loop .i))
 
 sub-reconstruct-string : tie.Need-sub-reconstruct-string Inv-loop μ-loop
-sub-reconstruct-string c = omega (arith, c .before .before .before .before .before .before .pre .from (c .before .before .loop .i) (c .before .loop-test .taken))
+sub-reconstruct-string c = omega (
+  arith,
+  c .before .before .before .before .before .before .pre .from (c .before .before .loop .i)
+      (c .before .loop-test .taken),
+)
 
 reconstruct-string-requires : tie.Need-reconstruct-string-requires Inv-loop μ-loop
 reconstruct-string-requires c κs =
@@ -36,7 +40,8 @@ loop-again : tie.Need-loop-again Inv-loop μ-loop
 loop-again c =
     let s = c .before .before .before .before .before .before .before .before .before .before in
     let l = c .before .before .before .before .before .before .loop in
-    reconstructed-step (s .args .string .now) (s .args .positions .now) (s .args .text .now) (l .inv) (c .before .before .before .before .before .loop-test .taken)
+    reconstructed-step (s .args .string .now) (s .args .positions .now) (s .args .text .now) (l .inv)
+    (c .before .before .before .before .before .loop-test .taken)
     (c .before .before .reconstruct-string .last .1 .1 .0) (c .before .before .reconstruct-string .ensures)
 
 same-length : tie.Need-same-length Inv-loop μ-loop

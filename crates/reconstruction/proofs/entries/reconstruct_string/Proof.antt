@@ -19,12 +19,10 @@ loop-holds c = setting-start (c .args .string .now) (c .args .at) (c .args .text
 
 add-text : tie.Need-add-text Inv-loop μ-loop
 add-text c =
-    let s = c .before .before .before in
     omega arith
 
 slice-write-text : tie.Need-slice-write-text Inv-loop μ-loop
 slice-write-text c =
-    let l = c .before .before .loop in
     omega arith
 
 loop-again : tie.Need-loop-again Inv-loop μ-loop

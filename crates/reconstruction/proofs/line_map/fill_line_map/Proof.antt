@@ -3,7 +3,6 @@
 use Prim.Native.Nat.{_+_, _*_, _-_}
 use native.Mathlib.Omega.{arith}
 use borrow.Author.Needs.{needs}
-use lib.ListN.{getD}
 use Rattle.models.specs.Reception.{fill-line-map}
 use Rattle.laws.specs.Receive.LinePass.{lies-room, passing-lies}
 use Rattle.laws.specs.Receive.LineMapWalk.{Filling-lines, mapping-start, mapping-room, mapping-step, mapping-end}
@@ -53,7 +52,11 @@ add-end-3 : tie.Need-add-end-3 Inv-loop μ-loop
 add-end-3 c =
     let s = c .before .before .before .before .before .before in
     let l = c .before .before .loop in
-    omega (arith, lies-room (passing-lies fill-line-map (s .args .index .now) (s .args .line-map .now) (l .inv) (c .before .loop-test .taken)) (s .pre .fits))
+    omega (
+      arith,
+      lies-room (passing-lies fill-line-map (s .args .index .now) (s .args .line-map .now) (l .inv)
+          (c .before .loop-test .taken)) (s .pre .fits),
+    )
 
 add-number : tie.Need-add-number Inv-loop μ-loop
 add-number c = omega (arith, c .before .before .before .shared-slice-known2 .given 1)
@@ -65,13 +68,18 @@ mul-fill-at : tie.Need-mul-fill-at Inv-loop μ-loop
 mul-fill-at c =
     let s = c .before .before .before .before .before .before in
     let l = c .before .before .loop in
-    omega (arith, lies-room (passing-lies fill-line-map (s .args .index .now) (s .args .line-map .now) (l .inv) (c .before .loop-test .taken)) (s .pre .fits))
+    omega (
+      arith,
+      lies-room (passing-lies fill-line-map (s .args .index .now) (s .args .line-map .now) (l .inv)
+          (c .before .loop-test .taken)) (s .pre .fits),
+    )
 
 part-fill-at-end : tie.Need-part-fill-at-end Inv-loop μ-loop
 part-fill-at-end c =
     let s = c .before .before .before .before .before .before in
     let l = c .before .before .loop in
-    lies-room (passing-lies fill-line-map (s .args .index .now) (s .args .line-map .now) (l .inv) (c .before .loop-test .taken)) (s .pre .fits)
+    lies-room (passing-lies fill-line-map (s .args .index .now) (s .args .line-map .now) (l .inv) (c .before .loop-test .taken))
+    (s .pre .fits)
 
 fill-at-requires : tie.Need-fill-at-requires Inv-loop μ-loop
 fill-at-requires c κs =
@@ -85,7 +93,8 @@ loop-again c =
     let s = c .before .before .before .before .before .before .before .before .before .before .before in
     let l = c .before .before .before .before .before .before .before .loop in
     mapping-step (s .args .index .now) (s .args .line-map .now) (l .line-map) (l .begin) (l .line) (l .inv)
-    (passing-lies fill-line-map (s .args .index .now) (s .args .line-map .now) (l .inv) (c .before .before .before .before .before .before .loop-test .taken))
+    (passing-lies fill-line-map (s .args .index .now) (s .args .line-map .now) (l .inv)
+    (c .before .before .before .before .before .before .loop-test .taken))
     (c .before .before .fill-at .last .1 .1 .0) (c .before .before .fill-at .ensures)
 
 same-length : tie.Need-same-length Inv-loop μ-loop

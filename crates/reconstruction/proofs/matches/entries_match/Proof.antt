@@ -4,7 +4,6 @@ use Prim.Native.Nat.{_+_, _*_, _-_}
 use native.Mathlib.Omega.{arith}
 use borrow.Author.Needs.{needs}
 use borrow.Author.Tests.{not-true, not-false}
-use lib.ListN.{getD}
 use Rattle.basics.specs.Bools.{reflects-yes, reflects-no}
 use Rattle.spec.specs.Dictionary.{lexicon}
 use Rattle.laws.specs.Receive.LinePass.{lies-room}
@@ -29,7 +28,8 @@ add-begin : tie.Need-add-begin Inv-loop μ-loop
 add-begin c = omega (arith, c .shared-slice-known6 .given 1)
 
 loop-holds : tie.Need-loop-holds Inv-loop μ-loop
-loop-holds c = let a = c .before .before .before .before .before .before .args in matching-start (lexicon (a .chars .now) (a .lengths .now)) (a .index .now) (a .text .now)
+loop-holds c = let a = c .before .before .before .before .before .before .args in matching-start
+    (lexicon (a .chars .now) (a .lengths .now)) (a .index .now) (a .text .now)
 
 cast-end : tie.Need-cast-end Inv-loop μ-loop
 cast-end c = omega (arith, c .shared-slice-known7 .given (2 + 3 * c .before .before .loop .line + 2))
@@ -39,20 +39,30 @@ add-end-3 c =
     let s = c .before .before .before .before .before .before .before .before .before in
     let a = s .args in
     let l = c .before .before .loop in
-    omega (arith, lies-room (matching-lies (lexicon (a .chars .now) (a .lengths .now)) (a .index .now) (a .text .now) (l .inv) (c .before .loop-test .taken)) (s .pre .0 .fits))
+    omega (
+      arith,
+      lies-room (matching-lies (lexicon (a .chars .now) (a .lengths .now)) (a .index .now) (a .text .now) (l .inv)
+          (c .before .loop-test .taken)) (s .pre .0 .fits),
+    )
 
 line-stands-requires : tie.Need-line-stands-requires Inv-loop μ-loop
 line-stands-requires c κs =
     let s = c .before .before .before .before .before .before .before .before .before in
     let a = s .args in
-    let l = c .before .before .loop in
-    (s .pre .0, s .pre .1, matching-lies (lexicon (a .chars .now) (a .lengths .now)) (a .index .now) (a .text .now) (l .inv) (c .before .loop-test .taken), s .pre .2)
+    let l = c .before .before .loop in (
+      s .pre .0,
+      s .pre .1,
+      matching-lies (lexicon (a .chars .now) (a .lengths .now)) (a .index .now) (a .text .now) (l .inv)
+          (c .before .loop-test .taken),
+      s .pre .2,
+    )
 
 returns : tie.Need-returns Inv-loop μ-loop
 returns c =
     let a = c .before .before .before .before .before .before .before .before .before .before .before .args in
     let l = c .before .before .before .before .loop in
-    let lies = matching-lies (lexicon (a .chars .now) (a .lengths .now)) (a .index .now) (a .text .now) (l .inv) (c .before .before .before .loop-test .taken) in
+    let lies = matching-lies (lexicon (a .chars .now) (a .lengths .now)) (a .index .now) (a .text .now) (l .inv)
+    (c .before .before .before .loop-test .taken) in
     reflects-no
     (λ all.
     c .before .line-stands .ensures .fails (not-true (c .before .line-stands .result) (c .if1 .taken))
@@ -62,7 +72,9 @@ loop-again : tie.Need-loop-again Inv-loop μ-loop
 loop-again c =
     let a = c .before .before .before .before .before .before .before .before .before .before .before .args in
     let l = c .before .before .before .before .loop in
-    matching-step (lexicon (a .chars .now) (a .lengths .now)) (a .index .now) (a .text .now) (l .inv) (matching-lies (lexicon (a .chars .now) (a .lengths .now)) (a .index .now) (a .text .now) (l .inv) (c .before .before .before .loop-test .taken))
+    matching-step (lexicon (a .chars .now) (a .lengths .now)) (a .index .now) (a .text .now) (l .inv)
+    (matching-lies (lexicon (a .chars .now) (a .lengths .now)) (a .index .now) (a .text .now) (l .inv)
+    (c .before .before .before .loop-test .taken))
     (c .before .line-stands .ensures .holds (not-false (c .before .line-stands .result) (c .if1 .left)))
 
 returns-2 : tie.Need-returns-2 Inv-loop μ-loop

@@ -6,7 +6,8 @@ use borrow.Author.Needs.{needs}
 use lib.ListN.{length, getD}
 use mathlib.Core.List.{[], _∷_}
 use Rattle.basics.specs.Bools.{reflects-yes, reflects-no}
-use Rattle.laws.specs.Receive.EntriesMatch.{Stand-first, stand-first-none, stand-first-next, stand-first-end, stand-character, character-stands}
+use Rattle.laws.specs.Receive.EntriesMatch.{Stand-first, stand-first-none, stand-first-next, stand-first-end, stand-character}
+use Rattle.laws.specs.Receive.EntriesMatch.{character-stands}
 use Rattle.reconstruction.proofs.matches.holds_at_each.Statement.{statement}
 use Rattle.reconstruction.proofs.matches.holds_at_each.Tie as tie
 
@@ -42,7 +43,8 @@ returns c =
     reflects-no
     (λ each.
     c .if1 .taken
-    (character-stands (a .character) (a .text .now) (getD (a .positions .now) (l .i) 0) (each (l .i) (c .before .before .before .loop-test .taken))))
+    (character-stands (a .character) (a .text .now) (getD (a .positions .now) (l .i) 0)
+    (each (l .i) (c .before .before .before .loop-test .taken))))
 
 loop-again : tie.Need-loop-again Inv-loop μ-loop
 loop-again c =
@@ -50,12 +52,14 @@ loop-again c =
     let l = c .before .before .before .before .loop in
     let below = c .before .before .before .loop-test .taken in
     stand-first-next (s .args .character ∷ []) (s .args .text .now) (s .args .positions .now) (l .i) (l .inv)
-    (stand-character (s .args .character) (s .args .text .now) (getD (s .args .positions .now) (l .i) 0) (s .pre .from (l .i) below) (omega (arith, s .pre .to (l .i) below)) (c .if1 .left))
+    (stand-character (s .args .character) (s .args .text .now) (getD (s .args .positions .now) (l .i) 0) (s .pre .from (l .i) below)
+    (omega (arith, s .pre .to (l .i) below)) (c .if1 .left))
 
 returns-2 : tie.Need-returns-2 Inv-loop μ-loop
 returns-2 c =
     let a = c .before .before .args in
-    reflects-yes (stand-first-end (a .character ∷ []) (a .text .now) (a .positions .now) (c .before .loop .i) (c .loop-test .left) (c .before .loop .inv))
+    reflects-yes (stand-first-end (a .character ∷ []) (a .text .now) (a .positions .now) (c .before .loop .i) (c .loop-test .left)
+    (c .before .loop .inv))
 
 pub holds-at-each-spec : {M : Type 1} → statement M
 holds-at-each-spec =

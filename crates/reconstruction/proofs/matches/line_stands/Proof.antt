@@ -6,7 +6,8 @@ use borrow.Author.Needs.{needs}
 use lib.ListN.{getD}
 use Rattle.laws.specs.Directory.Tables.{word-below, word-room}
 use Rattle.laws.specs.Receive.LinePass.{lies-room}
-use Rattle.laws.specs.Receive.ReconstructionWalk.{positions-some, positions-rise, word-reconstructs, word-stood, lone-reconstructs, lone-stood}
+use Rattle.laws.specs.Receive.ReconstructionWalk.{positions-some, positions-rise, word-reconstructs, word-stood, lone-reconstructs}
+use Rattle.laws.specs.Receive.ReconstructionWalk.{lone-stood}
 use Rattle.reconstruction.proofs.matches.line_stands.Statement.{statement}
 use Rattle.reconstruction.proofs.matches.line_stands.Tie as tie
 
@@ -33,10 +34,18 @@ returns c =
     lone-stood (s .pre .0) (s .pre .2) (a .text .now) (s .pre .3) (c .before .before .if1 .taken) (a .text .now) (c .holds-at-each .ensures)
 
 cast-word : tie.Need-cast-word
-cast-word c = omega (arith, c .before .shared-slice-known7 .given (2 + 3 * c .before .before .before .before .before .before .before .before .args .line + 1))
+cast-word c = omega (
+  arith,
+  c .before .shared-slice-known7 .given
+      (2 + 3 * c .before .before .before .before .before .before .before .before .args .line + 1),
+)
 
 mul-start : tie.Need-mul-start
-mul-start c = omega (arith, c .before .shared-slice-known7 .given (2 + 3 * c .before .before .before .before .before .before .before .before .args .line + 1))
+mul-start c = omega (
+  arith,
+  c .before .shared-slice-known7 .given
+      (2 + 3 * c .before .before .before .before .before .before .before .before .args .line + 1),
+)
 
 shared-slice-read-start : tie.Need-shared-slice-read-start
 shared-slice-read-start c =
@@ -49,7 +58,11 @@ cast-start c =
     omega (arith, c .shared-slice-known8 .given (getD (s .args .index .now) (2 + 3 * s .args .line + 1) 0))
 
 mul-stop : tie.Need-mul-stop
-mul-stop c = omega (arith, c .before .before .shared-slice-known7 .given (2 + 3 * c .before .before .before .before .before .before .before .before .before .args .line + 1))
+mul-stop c = omega (
+  arith,
+  c .before .before .shared-slice-known7 .given
+      (2 + 3 * c .before .before .before .before .before .before .before .before .before .args .line + 1),
+)
 
 shared-slice-read-stop : tie.Need-shared-slice-read-stop
 shared-slice-read-stop c =
@@ -99,7 +112,8 @@ returns-2 : tie.Need-returns-2
 returns-2 c =
     let s = c .before .before .before .before .before .before .before .before .before .before .before .before .before in
     let a = s .args in
-    word-stood (s .pre .0) (s .pre .2) (a .text .now) (s .pre .3) (c .before .before .before .before .before .if1 .left) (s .pre .1) (a .text .now) (c .stands-at-each .ensures)
+    word-stood (s .pre .0) (s .pre .2) (a .text .now) (s .pre .3) (c .before .before .before .before .before .if1 .left) (s .pre .1)
+    (a .text .now) (c .stands-at-each .ensures)
 
 pub line-stands-spec : {M : Type 1} → statement M
 line-stands-spec =

@@ -6,7 +6,8 @@ use borrow.Author.Tests.{not-true, not-false}
 use borrow.Author.Needs.{needs}
 use lib.ListN.{length, getD}
 use Rattle.basics.specs.Bools.{reflects-yes, reflects-no}
-use Rattle.laws.specs.Receive.EntriesMatch.{Period, period-whole, stand-all, stand-whole, stand-back, Stand-first, stand-first-none, stand-first-next, stand-first-end, rise-after}
+use Rattle.laws.specs.Receive.EntriesMatch.{Period, period-whole, stand-all, stand-whole, stand-back, Stand-first, stand-first-none}
+use Rattle.laws.specs.Receive.EntriesMatch.{stand-first-next, stand-first-end, rise-after}
 use Rattle.reconstruction.proofs.matches.stands_at_each.Statement.{statement}
 use Rattle.reconstruction.proofs.matches.stands_at_each.Tie as tie
 
@@ -33,7 +34,6 @@ same-run-requires c κs =
 returns : tie.Need-returns Inv-loop μ-loop
 returns c =
     let s = c .before .before .before .before .before .before in
-    let a = s .args in
     reflects-no
     (λ each.
     c .before .same-run .ensures .fails (not-true (c .before .same-run .result) (c .if1 .taken))
@@ -45,8 +45,10 @@ loop-holds c =
     let a = s .args in (
       omega arith,
       period-whole (a .string .now),
-      stand-first-next (a .string .now) (a .text .now) (a .positions .now) 0 (stand-first-none (a .string .now) (a .text .now) (a .positions .now))
-          (stand-all (a .string .now) (a .text .now) (getD (a .positions .now) 0 0) (s .pre .0 .from 0 (s .pre .1)) (s .pre .0 .to 0 (s .pre .1)) (c .before .same-run .ensures .holds (not-false (c .before .same-run .result) (c .if1 .left)))),
+      stand-first-next (a .string .now) (a .text .now) (a .positions .now) 0
+          (stand-first-none (a .string .now) (a .text .now) (a .positions .now))
+          (stand-all (a .string .now) (a .text .now) (getD (a .positions .now) 0 0) (s .pre .0 .from 0 (s .pre .1))
+          (s .pre .0 .to 0 (s .pre .1)) (c .before .same-run .ensures .holds (not-false (c .before .same-run .result) (c .if1 .left)))),
     )
 
 cast-position : tie.Need-cast-position Inv-loop μ-loop
@@ -91,13 +93,15 @@ loop-again c =
     let l = c .before .before .before .before .before .before .loop in (
       omega arith,
       c .before .before .period-of .ensures,
-      stand-first-next (a .string .now) (a .text .now) (a .positions .now) (l .i) (l .inv .2) (c .before .stands-again .ensures .holds (not-false (c .before .stands-again .result) (c .if2 .left))),
+      stand-first-next (a .string .now) (a .text .now) (a .positions .now) (l .i) (l .inv .2)
+          (c .before .stands-again .ensures .holds (not-false (c .before .stands-again .result) (c .if2 .left))),
     )
 
 returns-3 : tie.Need-returns-3 Inv-loop μ-loop
 returns-3 c =
     let a = c .before .before .before .before .before .before .before .before .args in
-    reflects-yes (stand-first-end (a .string .now) (a .text .now) (a .positions .now) (c .before .loop .i) (c .loop-test .left) (c .before .loop .inv .2))
+    reflects-yes (stand-first-end (a .string .now) (a .text .now) (a .positions .now) (c .before .loop .i) (c .loop-test .left)
+    (c .before .loop .inv .2))
 
 pub stands-at-each-spec : {M : Type 1} → statement M
 stands-at-each-spec =

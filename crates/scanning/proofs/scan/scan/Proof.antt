@@ -2,7 +2,7 @@
 -- there on. The measure is how many positions are left. Assumes nothing.
 use Prim.Native.Nat.{_-_}
 use native.Mathlib.Omega.{arith}
-use lib.ListN.{length, take, drop}
+use lib.ListN.{take, drop}
 use borrow.Author.Needs.{needs}
 use Rattle.spec.specs.Dictionary.{lexicon}
 use Rattle.laws.specs.Build.ScanTokens.{Scanning}
@@ -32,8 +32,7 @@ step-requires c κs =
     let start = c .before .before .before .before .before .before .before .before .before .before in
     let lex = lexicon (start .args .chars .now) (start .args .lengths .now) in (
       start .pre .0,
-      behind-below lex (start .args .work .now) (start .args .n) (start .pre .1) (turn .inv)
-          (c .before .before .loop-test .taken),
+      behind-below lex (start .args .work .now) (start .args .n) (start .pre .1) (turn .inv) (c .before .before .loop-test .taken),
       behind-end-within lex (start .args .work .now) (start .args .n) (start .pre .1) (turn .inv),
     )
 
@@ -61,10 +60,8 @@ returns c =
     let turn = c .before .loop in
     let start = c .before .before .before .before .before .before .before .before in
     let lex = lexicon (start .args .chars .now) (start .args .lengths .now) in (
-      behind-tokens lex (start .args .work .now) (start .args .n) (start .pre .1) (turn .inv)
-          (c .loop-test .left),
-      behind-rest lex (start .args .work .now) (start .args .n) (start .pre .1) (turn .inv)
-          (c .loop-test .left),
+      behind-tokens lex (start .args .work .now) (start .args .n) (start .pre .1) (turn .inv) (c .loop-test .left),
+      behind-rest lex (start .args .work .now) (start .args .n) (start .pre .1) (turn .inv) (c .loop-test .left),
     )
 
 pub scan-spec : {M : Type 1} → statement M

@@ -4,15 +4,12 @@ use Rattle.spec.specs.Calls.{zeros}
 use Rattle.scanning.proofs.work.clear.Statement.{statement}
 use Rattle.scanning.proofs.work.clear.Tie as tie
 
-fill-requires : tie.Need-fill-requires
-fill-requires c κs = search needs
-
-same-length : tie.Need-same-length
-same-length c = search needs
-
 returns : tie.Need-returns
 unfolding zeros
 returns c = search needs
 
 pub clear-spec : {M : Type 1} → statement M
-clear-spec = tie.close (tie.spec fill-requires same-length returns)
+clear-spec =
+    tie.close
+    (tie.spec
+    (λ c κs. search needs) (λ c. search needs) returns)

@@ -7,7 +7,6 @@ use Rattle.searcher.proofs.estimate.count_keys.Tie as tie
 count-lone-requires : tie.Need-count-lone-requires
 count-lone-requires c κs =
     let s = c .before .before .before .before .before .before in
-    let a = s .args in
     (s .pre .0 .fits, lone-rise (s .pre .0) (s .pre .2), s .pre .0 .keys-small)
 
 pub count-keys-spec : {M : Type 1} → statement M

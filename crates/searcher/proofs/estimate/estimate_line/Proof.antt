@@ -13,15 +13,25 @@ cast-count c = omega (arith, c .shared-slice-known3 .given (2 + 3 * c .before .b
 mul-result : tie.Need-mul-result
 mul-result c =
     let a = c .before .before .before .before .before .args in
-    let len : c .word-length .result ≤ 65535 = omega (arith, c .before .before .before .before .shared-slice-known .given (getD (a .index .now) (2 + 3 * a .line + 1) 0)) in
-    let times : getD (a .index .now) (2 + 3 * a .line + 2) 0 * c .word-length .result ≤ 65535 * 65535 = mul-le-mul {n₂ = 65535} {m₂ = 65535} (omega (arith, c .before .before .shared-slice-known3 .given (2 + 3 * a .line + 2))) len in
+    let len : c .word-length .result ≤ 65535 = omega (
+      arith,
+      c .before .before .before .before .shared-slice-known .given
+          (getD (a .index .now) (2 + 3 * a .line + 1) 0),
+    ) in
+    let times : getD (a .index .now) (2 + 3 * a .line + 2) 0 * c .word-length .result ≤ 65535 * 65535 =
+    mul-le-mul {n₂ = 65535} {m₂ = 65535} (omega (arith, c .before .before .shared-slice-known3 .given (2 + 3 * a .line + 2))) len in
     omega (arith, times)
 
 returns : tie.Need-returns
 returns c =
     let a = c .before .before .before .before .before .args in
-    let len : c .word-length .result ≤ 65535 = omega (arith, c .before .before .before .before .shared-slice-known .given (getD (a .index .now) (2 + 3 * a .line + 1) 0)) in
-    let times : getD (a .index .now) (2 + 3 * a .line + 2) 0 * c .word-length .result ≤ 65535 * 65535 = mul-le-mul {n₂ = 65535} {m₂ = 65535} (omega (arith, c .before .before .shared-slice-known3 .given (2 + 3 * a .line + 2))) len in
+    let len : c .word-length .result ≤ 65535 = omega (
+      arith,
+      c .before .before .before .before .shared-slice-known .given
+          (getD (a .index .now) (2 + 3 * a .line + 1) 0),
+    ) in
+    let times : getD (a .index .now) (2 + 3 * a .line + 2) 0 * c .word-length .result ≤ 65535 * 65535 =
+    mul-le-mul {n₂ = 65535} {m₂ = 65535} (omega (arith, c .before .before .shared-slice-known3 .given (2 + 3 * a .line + 2))) len in
     times
 
 returns-2 : tie.Need-returns-2

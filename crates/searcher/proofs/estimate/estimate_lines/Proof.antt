@@ -27,4 +27,5 @@ pub estimate-lines-spec : {M : Type 1} → statement M
 estimate-lines-spec =
     tie.close
     (tie.spec
-    Inv-loop μ-loop loop-holds estimate-line-requires (λ c. omega arith) (λ c. omega arith) (λ c. omega arith) loop-again (λ c. omega arith))
+    Inv-loop μ-loop loop-holds estimate-line-requires (λ c. omega arith) (λ c. omega arith) (λ c. omega arith) loop-again
+    (λ c. omega arith))

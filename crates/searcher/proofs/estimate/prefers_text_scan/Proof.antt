@@ -15,7 +15,6 @@ returns c = λ t. clash t refl
 count-word-lines-requires : tie.Need-count-word-lines-requires
 count-word-lines-requires c κs =
     let s = c .before .before .before .before .before .before .before in
-    let a = s .args in
     (s .pre .0 .fits, kinds-rise (s .pre .0))
 
 cost-exceeds-requires : tie.Need-cost-exceeds-requires

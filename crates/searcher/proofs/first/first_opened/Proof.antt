@@ -24,14 +24,16 @@ returns-2 : tie.Need-returns-2
 returns-2 c =
     let s = c .before .before .before .before .before .before in
     let a = s .args in
-    first-empty (a .chars .now) (a .lengths .now) (a .index .now) (a .string .now) (record { refusal = 6; position = 0 }) (sym (s .pre .0) ∙ c .before .if1 .left)
+    first-empty (a .chars .now) (a .lengths .now) (a .index .now) (a .string .now) (record { refusal = 6; position = 0 })
+    (sym (s .pre .0) ∙ c .before .if1 .left)
     (c .if2 .taken) refl refl
 
 returns-3 : tie.Need-returns-3
 returns-3 c =
     let s = c .before .before .before .before .before .before .before in
     let a = s .args in
-    first-long (a .chars .now) (a .lengths .now) (a .index .now) (a .string .now) (record { refusal = 6; position = 0 }) (sym (s .pre .0) ∙ c .before .before .if1 .left)
+    first-long (a .chars .now) (a .lengths .now) (a .index .now) (a .string .now) (record { refusal = 6; position = 0 })
+    (sym (s .pre .0) ∙ c .before .before .if1 .left)
     (c .if3 .taken) refl refl
 
 first-lines-requires : tie.Need-first-lines-requires
@@ -41,7 +43,8 @@ first-lines-requires c κs =
     let none = c .before .before .if1 .left in
     let can : Can-read (a .chars .now) (a .lengths .now) (a .index .now) =
     can-read (a .chars .now) (a .lengths .now) (a .index .now)
-    (λ (i : ℕ). omega (arith, c .before .before .before .before .before .before .shared-slice-known .given i)) (λ (i : ℕ). omega (arith, c .before .before .before .before .shared-slice-known3 .given i))
+    (λ (i : ℕ). omega (arith, c .before .before .before .before .before .before .shared-slice-known .given i))
+    (λ (i : ℕ). omega (arith, c .before .before .before .before .shared-slice-known3 .given i))
     (sym (s .pre .0) ∙ none) in (
       can,
       s .pre .1 ∙ accepted-yes (a .refusal) (keys-of (a .index .now)) 0 none,
@@ -51,13 +54,18 @@ first-lines-requires c κs =
 cast-position : tie.Need-cast-position
 cast-position c =
     let a = c .before .before .before .before .before .before .before .before .args in
-    omega (arith, first-position-small (lexicon (a .chars .now) (a .lengths .now)) (a .index .now) (replaced (a .string .now)), c .before .before .before .before .before .shared-slice-known3 .given 0)
+    omega (
+      arith,
+      first-position-small (lexicon (a .chars .now) (a .lengths .now)) (a .index .now) (replaced (a .string .now)),
+      c .before .before .before .before .before .shared-slice-known3 .given 0,
+    )
 
 returns-4 : tie.Need-returns-4
 returns-4 c =
     let s = c .before .before .before .before .before .before .before .before in
     let a = s .args in
-    first-says (a .chars .now) (a .lengths .now) (a .index .now) (a .string .now) (record { refusal = 0; position = c .first-lines .result })
+    first-says (a .chars .now) (a .lengths .now) (a .index .now) (a .string .now)
+    (record { refusal = 0; position = c .first-lines .result })
     (sym (s .pre .0) ∙ c .before .before .before .if1 .left) (record { some = omega arith; short = c .before .if3 .left }) refl
     (c .first-lines .ensures)
 

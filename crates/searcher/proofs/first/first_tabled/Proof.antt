@@ -13,8 +13,7 @@ first-plain-requires : tie.Need-first-plain-requires
 first-plain-requires c κs =
     let start = c .before .before .before .before .before .before .before .before in (
       start .pre .0,
-      own-string (start .args .string .now) (c .before .replaced-string .result) (c .before .replaced-string .ensures)
-          (start .pre .1),
+      own-string (start .args .string .now) (c .before .replaced-string .result) (c .before .replaced-string .ensures) (start .pre .1),
     )
 
 returns : tie.Need-returns

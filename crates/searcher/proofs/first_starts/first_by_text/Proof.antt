@@ -10,7 +10,8 @@ returns : tie.Need-returns
 returns c =
     let a = c .before .before .before .before .before .before .before .before .before .before .before .before .before .before .args in
     let told = c .before .before .before .before .before .reach-by-text in
-    first-in-told (lexicon (a .chars .now) (a .lengths .now)) (a .index .now) (a .string .now) (length (a .reach .now)) (told .last .1 .1 .1 .1 .1 .0)
+    first-in-told (lexicon (a .chars .now) (a .lengths .now)) (a .index .now) (a .string .now) (length (a .reach .now))
+    (told .last .1 .1 .1 .1 .1 .0)
     (told .ensures .0 (c .before .before .if1 .taken)) (told .kept .1 .1 .1 .1 .1 .0) (c .first-found .result) (c .first-found .ensures)
 
 returns-2 : tie.Need-returns-2
@@ -18,7 +19,8 @@ returns-2 c =
     let a = c .before .before .before .before .before .before .before .before .before .before .before .before .before .args in
     let told = c .before .before .before .before .reach-by-text in
     let found = c .first-by-entries in
-    first-in-count (lexicon (a .chars .now) (a .lengths .now)) (a .index .now) (a .string .now) (length (told .last .1 .1 .1 .1 .1 .0)) 1 (length (a .reach .now))
+    first-in-count (lexicon (a .chars .now) (a .lengths .now)) (a .index .now) (a .string .now) (length (told .last .1 .1 .1 .1 .1 .0)) 1
+    (length (a .reach .now))
     (found .result) (told .kept .1 .1 .1 .1 .1 .0) (found .ensures)
 
 pub first-by-text-spec : {M : Type 1} → statement M

@@ -11,7 +11,8 @@ use Rattle.searcher.proofs.first_starts.first_by_text_in.Tie as tie
 
 slice-aggregate-first-by-text : tie.Need-slice-aggregate-first-by-text
 slice-aggregate-first-by-text c =
-    let s = c .before .before .before .before .before .before .before .before in sym (length-take-le (s .args .starts) (s .args .room .now) (s .pre .2))
+    let s = c .before .before .before .before .before .before .before .before in sym
+    (length-take-le (s .args .starts) (s .args .room .now) (s .pre .2))
 
 first-by-text-requires : tie.Need-first-by-text-requires
 first-by-text-requires c κs =

@@ -11,14 +11,16 @@ returns-3 : tie.Need-returns-3
 returns-3 c =
     let a = c .before .before .before .before .before .before .before .before .before .before .before .args in
     let near = c .before .first-in-middle2 in
-    first-in-first (lexicon (a .chars .now) (a .lengths .now)) (a .index .now) (a .string .now) (a .starts) 8192 (a .starts - 8192) 1 (omega arith) (near .result) (near .ensures)
+    first-in-first (lexicon (a .chars .now) (a .lengths .now)) (a .index .now) (a .string .now) (a .starts) 8192 (a .starts - 8192) 1
+    (omega arith) (near .result) (near .ensures)
     (c .if3 .taken)
 
 returns-4 : tie.Need-returns-4
 returns-4 c =
     let a = c .before .before .before .before .before .before .before .before .before .before .before .before .args in
     let near = c .before .before .first-in-middle2 in
-    first-in-second (lexicon (a .chars .now) (a .lengths .now)) (a .index .now) (a .string .now) (a .starts) 8192 (a .starts - 8192) 1 (omega arith) (near .result) (near .ensures)
+    first-in-second (lexicon (a .chars .now) (a .lengths .now)) (a .index .now) (a .string .now) (a .starts) 8192 (a .starts - 8192) 1
+    (omega arith) (near .result) (near .ensures)
     (omega arith) (c .before .if3 .left) (c .first-in-long .result) (c .first-in-long .ensures)
 
 pub first-by-windows-spec : {M : Type 1} → statement M

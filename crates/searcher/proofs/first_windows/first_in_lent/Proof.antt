@@ -12,7 +12,8 @@ use Rattle.searcher.proofs.first_windows.first_in_lent.Tie as tie
 
 slice-aggregate-first-in-window : tie.Need-slice-aggregate-first-in-window
 slice-aggregate-first-in-window c =
-    let s = c .before .before .before .before .before .before .before .before .before in sym (length-take-le (s .args .starts) (s .args .reach .now) (s .pre .5))
+    let s = c .before .before .before .before .before .before .before .before .before in sym
+    (length-take-le (s .args .starts) (s .args .reach .now) (s .pre .5))
 
 first-in-window-requires : tie.Need-first-in-window-requires
 first-in-window-requires c κs =
@@ -31,7 +32,8 @@ returns c =
     let s = c .before .before .before .before .before .before .before .before .before .before .before .before in
     let a = s .args in
     let found = c .before .before .first-in-window in
-    first-in-count (lexicon (a .chars .now) (a .lengths .now)) (a .index .now) (a .string .now) (length (take (a .starts) (a .reach .now))) (a .first)
+    first-in-count (lexicon (a .chars .now) (a .lengths .now)) (a .index .now) (a .string .now) (length (take (a .starts) (a .reach .now)))
+    (a .first)
     (a .starts) (found .result) (length-take-le (a .starts) (a .reach .now) (s .pre .5)) (found .ensures)
 
 pub first-in-lent-spec : {M : Type 1} → statement M

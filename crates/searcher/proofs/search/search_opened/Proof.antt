@@ -15,7 +15,8 @@ returns : tie.Need-returns
 returns c =
     let s = c .before .before .before .before .before .before in
     let a = s .args in
-    search-refused (a .chars .now) (a .lengths .now) (a .index .now) (a .string .now) (record { refusal = a .refusal; count = 0 }) (a .output .now)
+    search-refused (a .chars .now) (a .lengths .now) (a .index .now) (a .string .now) (record { refusal = a .refusal; count = 0 })
+    (a .output .now)
     (λ (e : index-refusal (a .chars .now) (a .lengths .now) (a .index .now) ≡ 0). c .if1 .taken (s .pre .0 ∙ e)) (s .pre .0) refl
 
 returns-2 : tie.Need-returns-2
@@ -39,7 +40,8 @@ search-lines-requires c κs =
     let none = c .before .before .before .if1 .left in
     let can : Can-read (a .chars .now) (a .lengths .now) (a .index .now) =
     can-read (a .chars .now) (a .lengths .now) (a .index .now)
-    (λ (i : ℕ). omega (arith, c .before .before .before .before .before .before .before .before .shared-slice-known .given i)) (λ (i : ℕ). omega (arith, c .before .before .before .before .before .before .shared-slice-known3 .given i))
+    (λ (i : ℕ). omega (arith, c .before .before .before .before .before .before .before .before .shared-slice-known .given i))
+    (λ (i : ℕ). omega (arith, c .before .before .before .before .before .before .shared-slice-known3 .given i))
     (sym (s .pre .0) ∙ none) in (
       can,
       s .pre .1 ∙ accepted-yes (a .refusal) (keys-of (a .index .now)) 0 none,
@@ -52,7 +54,8 @@ returns-4 c =
     let a = s .args in
     let searched = c .before .before .search-lines in
     search-says (a .chars .now) (a .lengths .now) (a .index .now) (a .string .now) (searched .result) (a .output .now)
-    (sym (s .pre .0) ∙ c .before .before .before .before .before .before .if1 .left) (record { some = omega arith; short = c .before .before .before .before .if3 .left })
+    (sym (s .pre .0) ∙ c .before .before .before .before .before .before .if1 .left)
+    (record { some = omega arith; short = c .before .before .before .before .if3 .left })
     (searched .last .1 .1 .1 .1 .1 .0) (searched .ensures)
 
 pub search-opened-spec : {M : Type 1} → statement M

@@ -5,20 +5,13 @@ use borrow.Author.Needs.{needs}
 use Rattle.searcher.proofs.starts.search_in_long.Statement.{statement}
 use Rattle.searcher.proofs.starts.search_in_long.Tie as tie
 
-slice-aggregate-search-lent : tie.Need-slice-aggregate-search-lent
-slice-aggregate-search-lent c = search needs
-
 search-lent-requires : tie.Need-search-lent-requires
 search-lent-requires c κs =
     let s = c .before .before .before .before .before .before .before .before .before in
     (s .pre .0, s .pre .1, s .pre .2, cleared-room 65536 (s .args .starts) (omega arith), cleared-whole 65536)
 
-same-length : tie.Need-same-length
-same-length c = search needs
-
-returns : tie.Need-returns
-returns c = search needs
-
 pub search-in-long-spec : {M : Type 1} → statement M
 search-in-long-spec =
-    tie.close (tie.spec slice-aggregate-search-lent search-lent-requires same-length returns)
+    tie.close
+    (tie.spec
+    (λ c. search needs) search-lent-requires (λ c. search needs) (λ c. search needs))

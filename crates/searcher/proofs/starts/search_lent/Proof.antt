@@ -11,7 +11,8 @@ use Rattle.searcher.proofs.starts.search_lent.Tie as tie
 
 slice-aggregate-search-cleared : tie.Need-slice-aggregate-search-cleared
 slice-aggregate-search-cleared c =
-    let s = c .before .before .before .before .before .before .before .before .before in sym (length-take-le (s .args .starts) (s .args .reach .now) (s .pre .3))
+    let s = c .before .before .before .before .before .before .before .before .before in sym
+    (length-take-le (s .args .starts) (s .args .reach .now) (s .pre .3))
 
 search-cleared-requires : tie.Need-search-cleared-requires
 search-cleared-requires c κs =

@@ -11,11 +11,14 @@ use Rattle.searcher.proofs.window.search_cleared.Tie as tie
 
 returns : tie.Need-returns
 returns c =
-    let a = c .before .before .before .before .before .before .before .before .before .before .before .before .before .before .before .before .before .before .args in
+    let half = c .before .before .before .before .before .before .before .before .before in
+    let a = half .before .before .before .before .before .before .before .before .before .args in
     let told = c .before .before .before .before .before .before .before .before .reach-if-cheaper in
     let answered = c .before .before .answer-window in
-    says-told (lexicon (a .chars .now) (a .lengths .now)) (a .index .now) (a .string .now) (length (a .reach .now)) (told .last .1 .1 .1 .1 .1 .0) (answered .result) (a .output .now)
-    (answered .last .1 .1 .1 .0) (told .ensures .0 (c .before .before .before .before .before .if1 .taken)) (told .kept .1 .1 .1 .1 .1 .0) (answered .ensures)
+    says-told (lexicon (a .chars .now) (a .lengths .now)) (a .index .now) (a .string .now) (length (a .reach .now))
+    (told .last .1 .1 .1 .1 .1 .0) (answered .result) (a .output .now)
+    (answered .last .1 .1 .1 .0) (told .ensures .0 (c .before .before .before .before .before .if1 .taken)) (told .kept .1 .1 .1 .1 .1 .0)
+    (answered .ensures)
 
 search-window-requires : tie.Need-search-window-requires
 search-window-requires c κs =
@@ -30,10 +33,12 @@ search-window-requires c κs =
 
 returns-2 : tie.Need-returns-2
 returns-2 c =
-    let a = c .before .before .before .before .before .before .before .before .before .before .before .before .before .before .before .before .before .before .before .before .args in
+    let half = c .before .before .before .before .before .before .before .before .before .before in
+    let a = half .before .before .before .before .before .before .before .before .before .before .args in
     let told = c .before .before .before .before .before .before .before .before .before .before .reach-if-cheaper in
     let searched = c .before .before .before .before .search-window in
-    says-count (lexicon (a .chars .now) (a .lengths .now)) (a .index .now) (a .string .now) (length (told .last .1 .1 .1 .1 .1 .0)) (length (a .reach .now)) 1 (searched .result) (a .output .now)
+    says-count (lexicon (a .chars .now) (a .lengths .now)) (a .index .now) (a .string .now) (length (told .last .1 .1 .1 .1 .1 .0))
+    (length (a .reach .now)) 1 (searched .result) (a .output .now)
     (searched .last .1 .1 .1 .1 .1 .1 .1 .1 .0) (told .kept .1 .1 .1 .1 .1 .0) (searched .ensures)
 
 pub search-cleared-spec : {M : Type 1} → statement M

@@ -9,30 +9,31 @@ use Rattle.zsearch.proofs.sentinel.sentinel_of.Statement.{statement}
 use Rattle.zsearch.proofs.sentinel.sentinel_of.Tie as tie
 
 abbrev Inv-loop : tie.InvT-loop
-Inv-loop string ground₀ ground = Lower-in string ground
+Inv-loop string sentinel₀ sentinel = Lower-in string sentinel
 
 abbrev μ-loop : tie.MeasureT-loop
-μ-loop string ground₀ ground = suc (length string) - ground
+μ-loop string sentinel₀ sentinel = suc (length string) - sentinel
 
 loop-holds : tie.Need-loop-holds Inv-loop μ-loop
 loop-holds c = lower-none (c .before .args .string .now)
 
 -- every number below the next one is a character too
 more :
-    (c : tie.Then1 Inv-loop μ-loop) → Lower-in (c .before .before .before .before .args .string .now) (c .before .before .loop .ground + 1)
+    (c : tie.Then1 Inv-loop μ-loop) → Lower-in (c .before .before .before .before .args .string .now)
+    (c .before .before .loop .sentinel + 1)
 more c =
-    lower-next (c .before .before .before .before .args .string .now) (c .before .before .loop .ground) (c .before .before .loop .inv)
+    lower-next (c .before .before .before .before .args .string .now) (c .before .before .loop .sentinel) (c .before .before .loop .inv)
     (c .before .has-char .ensures .holds (c .if1 .taken))
 
-add-ground : tie.Need-add-ground Inv-loop μ-loop
-add-ground c =
+add-sentinel : tie.Need-add-sentinel Inv-loop μ-loop
+add-sentinel c =
     let s = c .before .before .before .before in
-    omega (arith, lower-few (s .args .string .now) (c .before .before .loop .ground + 1) (more c))
+    omega (arith, lower-few (s .args .string .now) (c .before .before .loop .sentinel + 1) (more c))
 
 loop-less : tie.Need-loop-less Inv-loop μ-loop
 loop-less c =
     let s = c .before .before .before .before in
-    omega (arith, lower-few (s .args .string .now) (c .before .before .loop .ground + 1) (more c))
+    omega (arith, lower-few (s .args .string .now) (c .before .before .loop .sentinel + 1) (more c))
 
 loop-again : tie.Need-loop-again Inv-loop μ-loop
 loop-again c = more c
@@ -45,4 +46,4 @@ pub sentinel-of-spec : {M : Type 1} → statement M
 sentinel-of-spec =
     tie.close
     (tie.spec
-    Inv-loop μ-loop loop-holds (λ c κs. search needs) add-ground loop-less loop-again returns)
+    Inv-loop μ-loop loop-holds (λ c κs. search needs) add-sentinel loop-less loop-again returns)
