@@ -17,8 +17,23 @@ ghost use Rattle.laws.specs.Text.Facts.{Rise, All-stand};
 ghost use Rattle.laws.specs.Directory.Tables.{Can-read, Word-starts};
 ghost use Rattle.laws.specs.Receive.PositionWalk.{Lie-within};
 ghost use Rattle.laws.specs.Receive.LinePass.{Line-lies};
-ghost use Rattle.laws.specs.Receive.EntriesMatch.{Period, Stand-each};
-use copying::compare::same_run;
+ghost use Rattle.laws.specs.Receive.EntriesMatch.{Equal-part, Period, Stand-each};
+
+// Whether the characters of a string from its index `from` on are those of the text, if the string starts at the text's index `at`. By
+// `same_run` of copying, which compares from the last one, a search in a text of equal characters takes a sixth longer.
+fn equal_from(string: &[u16], from: usize, text: &[u16], at: usize) -> bool
+    requires { ⌜ at + length (now string) ≤ length (now text) ⌝ }
+    ensures { λ r. ⌜ Reflects r (Equal-part (now (string .entry)) from (length (now (string .entry))) (now (text .entry)) at) ⌝ }
+{
+    let mut i = from;
+    while i < string.len() {
+        if string[i] != text[at + i] {
+            return false;
+        }
+        i += 1;
+    }
+    true
+}
 
 // A period of the string: `step` if it is one, else the known one.
 fn period_of(string: &[u16], known: usize, step: usize) -> usize
@@ -31,7 +46,7 @@ fn period_of(string: &[u16], known: usize, step: usize) -> usize
     if string.len() <= step {
         return known;
     }
-    if same_run(string, step, string, 0, string.len() - step) {
+    if equal_from(&string[step..], 0, string, 0) {
         return step;
     }
     known
@@ -45,10 +60,9 @@ fn stands_again(string: &[u16], period: usize, step: usize, position: usize, tex
     ensures { λ r. ⌜ Reflects r (Stand (now (string .entry)) (now (text .entry)) position) ⌝ }
 {
     if step == period {
-        let from = string.len() - period;
-        return same_run(string, from, text, position - 1 + from, period);
+        return equal_from(string, string.len() - period, text, position - 1);
     }
-    same_run(string, 0, text, position - 1, string.len())
+    equal_from(string, 0, text, position - 1)
 }
 
 // Whether a string stands at each of these positions.
@@ -57,7 +71,7 @@ fn stands_at_each(string: &[u16], positions: &[u16], text: &[u16]) -> bool
         Lie-within (length (now string)) (length (now text)) (now positions) × (1 ≤ length (now positions)) × Rise 1 (now positions) ⌝ }
     ensures { λ r. ⌜ Reflects r (Stand-each (now (string .entry)) (now (text .entry)) (now (positions .entry))) ⌝ }
 {
-    if !same_run(string, 0, text, positions[0] as usize - 1, string.len()) {
+    if !equal_from(string, 0, text, positions[0] as usize - 1) {
         return false;
     }
     let mut period = string.len();

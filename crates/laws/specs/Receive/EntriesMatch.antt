@@ -5,7 +5,8 @@ use mathlib.Core.Logic.{_⊎_, inl, inr, ⊎-elim}
 use mathlib.Core.List.{List, [], _∷_}
 use Prim.Native.Nat.{ℕ, zero, suc, _+_, _*_, _-_, _≤_, _<_}
 use native.Mathlib.Omega.{arith}
-use lib.ListN.{length, getD, take, drop}
+use lib.ListN.{length, getD, take, drop, length-take, length-drop}
+use lib.Seq.{getD-take, getD-drop}
 use borrow.Author.Count.{below-more}
 use Rattle.basics.specs.Bools.{le-or-lt}
 use Rattle.basics.specs.Member.{In, in-getD, in-place, in-append-get}
@@ -15,7 +16,7 @@ use Rattle.spec.specs.Numbers.{Line, line}
 use Rattle.spec.specs.Index.{header, keys-of, count-at, key-at, counts-from, lines-in}
 use Rattle.models.specs.Entries.{entries-at, flat}
 use Rattle.models.specs.Window.{list-start}
-use Rattle.laws.specs.Text.Strings.{Same-run, Stand}
+use Rattle.laws.specs.Text.Strings.{Stand}
 use Rattle.laws.specs.Text.Overlaps.{stand-at, stand-put, stand-char}
 use Rattle.laws.specs.Text.Facts.{Rise, All-stand}
 use Rattle.laws.specs.Numbers.Flat.{posting, entries-at-get, flat-put}
@@ -24,6 +25,21 @@ use Rattle.laws.specs.Numbers.LineNumbers.{line-of-is, line-of-in}
 use Rattle.laws.specs.Receive.LinePass.{Line-lies, lies-positions}
 
 -- ONE POSITION
+
+-- the characters of s from a to b − 1 equal those of ts that lie `at` further on
+abbrev pub Equal-part : (string : List ℕ) → (a b : ℕ) → (text : List ℕ) → (at : ℕ) → Type 0
+Equal-part s a b ts at = (x : ℕ) → a ≤ x → x < b → getD s x 0 ≡ getD ts (at + x) 0
+
+module _ (s : List ℕ) (a : ℕ) (ts : List ℕ) (at : ℕ) where
+  pub equal-part-none : Equal-part s a a ts at
+  equal-part-none x lo hi = absurd (omega arith)
+
+  pub equal-part-next : (b : ℕ) → Equal-part s a b ts at → getD s b 0 ≡ getD ts (at + b) 0 → Equal-part s a (b + 1) ts at
+  equal-part-next b h e x lo hi =
+      below-more (λ (y : ℕ). a ≤ y → getD s y 0 ≡ getD ts (at + y) 0) b (λ y under from. h y from under) (λ from. e) x hi lo
+
+  pub equal-part-end : (b : ℕ) → length s ≤ b → Equal-part s a b ts at → Equal-part s a (length s) ts at
+  equal-part-end b past h x lo hi = h x lo (omega arith)
 
 -- A PERIOD of a string: shifted by d, the string equals itself on the overlap
 pub record Period (s : List ℕ) (d : ℕ) : Type 0 where
@@ -34,48 +50,44 @@ module _ (s : List ℕ) where
   pub period-whole : Period s (length s)
   period-whole = record { within = omega arith; equal = λ x b. absurd (omega arith) }
 
-  -- by comparing the suffix after d characters with the string's start
-  pub period-put : (d : ℕ) → d ≤ length s → Same-run s d s 0 (length s - d) → Period s d
+  -- by comparing the suffix after d characters, as it is lent, with the string's start
+  pub period-put :
+      (d : ℕ) → d ≤ length s →
+      Equal-part (take (length s - d) (drop d s)) 0 (length (take (length s - d) (drop d s))) s 0 → Period s d
   period-put d within h =
-      record { within = within; equal = λ x b. let z : 0 + x ≡ x = omega arith in rw z at (h x (omega arith)) }
+      record {
+        within = within;
+        equal =
+            λ x b.
+            let z : 0 + x ≡ x = omega arith in
+            sym (getD-take (length s - d) (drop d s) x 0 (omega arith) ∙ getD-drop d s x 0)
+            ∙ rw z at (h x (omega arith) (omega (arith, length-take (length s - d) (drop d s), length-drop d s)));
+      }
 
   module _ (ts : List ℕ) (p : ℕ) (some : 1 ≤ p) (room : p + length s ≤ suc (length ts)) where
     -- all characters are equal
-    pub stand-all : Same-run s 0 ts (p - 1) (length s) → Stand s ts p
+    pub stand-all : Equal-part s 0 (length s) ts (p - 1) → Stand s ts p
     stand-all h =
-        stand-put s ts p some room
-        (λ i b.
-        let y : 0 + i ≡ i = omega arith in
-        let z : p - 1 + i ≡ p + i - 1 = omega arith in
-        rw (y, z) at (h i b))
+        stand-put s ts p some room (λ i b. let z : p - 1 + i ≡ p + i - 1 = omega arith in rw z at (h i (omega arith) b))
 
     -- If the string stands one period before, it is enough that the last characters are equal, as many as the period.
     pub stand-again :
-        {d : ℕ} → Period s d → d ≤ p → Stand s ts (p - d) → Same-run s (length s - d) ts (p - 1 + (length s - d)) d → Stand s ts p
-    stand-again {d} period back before h = stand-put s ts p some room (λ i b. each i b (le-or-lt (length s - d) i))
+        {d : ℕ} → Period s d → d ≤ p → Stand s ts (p - d) → Equal-part s (length s - d) (length s) ts (p - 1) → Stand s ts p
+    stand-again {d} period back before h = stand-all (λ i lo b. each i b (le-or-lt (length s - d) i))
       where
-        each : (i : ℕ) → i < length s → (length s - d ≤ i) ⊎ (i < length s - d) → getD s i 0 ≡ getD ts (p + i - 1) 0
-        each i b (inl late) =
-            let y : length s - d + (i - (length s - d)) ≡ i = omega arith in
-            let z : p - 1 + (length s - d) + (i - (length s - d)) ≡ p + i - 1 = omega arith in
-            rw (y, z) at (h (i - (length s - d)) (omega arith))
+        each : (i : ℕ) → i < length s → (length s - d ≤ i) ⊎ (i < length s - d) → getD s i 0 ≡ getD ts (p - 1 + i) 0
+        each i b (inl late) = h i late b
         each i b (inr early) =
-            let z : p - d + (d + i) - 1 ≡ p + i - 1 = omega arith in
+            let z : p - d + (d + i) - 1 ≡ p - 1 + i = omega arith in
             sym (period .equal i (omega arith))
             ∙ stand-at (d + i) before (omega arith)
             ∙ ap (λ (j : ℕ). getD ts j 0) z
 
--- if the string stands, every part of it is equal, and the whole of it
-pub stand-part :
-    {s ts : List ℕ} {p : ℕ} → Stand s ts p → (a n : ℕ) → a + n ≤ length s → Same-run s a ts (p - 1 + a) n
-stand-part {ts} {p} st a n fits j b =
-    let z : p + (a + j) - 1 ≡ p - 1 + a + j = omega (arith, st .from) in
-    stand-at (a + j) st (omega arith) ∙ ap (λ (k : ℕ). getD ts k 0) z
-
-pub stand-whole : {s ts : List ℕ} {p : ℕ} → Stand s ts p → Same-run s 0 ts (p - 1) (length s)
-stand-whole {s} {p} st =
-    let z : p - 1 + 0 ≡ p - 1 = omega arith in
-    rw z at (stand-part st 0 (length s) (omega arith))
+-- if the string stands, every part of it is equal
+pub stand-part : {s ts : List ℕ} {p : ℕ} → Stand s ts p → (a : ℕ) → Equal-part s a (length s) ts (p - 1)
+stand-part {s} {ts} {p} st a x lo hi =
+    let z : p + x - 1 ≡ p - 1 + x = omega (arith, st .from) in
+    stand-at x st hi ∙ ap (λ (j : ℕ). getD ts j 0) z
 
 -- from b back to a
 pub stand-back : {s ts : List ℕ} {a : ℕ} (b : ℕ) → a ≤ b → Stand s ts a → Stand s ts (b - (b - a))

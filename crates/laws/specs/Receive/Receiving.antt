@@ -140,10 +140,10 @@ module _ (n : ℕ) (r : Answer) (o w v : List ℕ) where
       }
 
   pub gives-text :
-      n ≤ length o → n ≤ length w → r .refusal ≡ 0 → r .count ≡ n → (z : List ℕ) → z ≡ over (take n w) o → v ≡ zeros w →
+      {z : List ℕ} → n ≤ length o → n ≤ length w → r .refusal ≡ 0 → r .count ≡ n → z ≡ over (take n w) o → v ≡ zeros w →
       Gives n r o z w v
   unfolding in-front
-  gives-text room len zero count z put cleared =
+  gives-text {z} room len zero count put cleared =
       let none : output-refusal n (length o) ≡ 0 = output-fits n (length o) room in
       record {
         puts =

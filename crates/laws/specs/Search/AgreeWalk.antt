@@ -62,11 +62,11 @@ module _ (s e : List ℕ) (at : ℕ) where
 
   -- the shared positions compared
   pub agrees-compared :
-      {n : ℕ} (r : Bool) → at < length s → (length e ≡ 0 → ⊥) → n ≡ min (length s - at) (length e) →
+      {n : ℕ} {r : Bool} → at < length s → (length e ≡ 0 → ⊥) → n ≡ min (length s - at) (length e) →
       Reflects r (Same-run s at e 0 n) → r ≡ agrees s 0 e at
-  agrees-compared {n} true some other whole h =
+  agrees-compared {n} {r = true} some other whole h =
       together n some other (omega arith) (λ k b. let z : 0 + k ≡ k = omega arith in rw z at (h .holds refl k b))
-  agrees-compared {n} false some other whole h = sym (false-put (agrees s 0 e at) (λ t. h .fails refl (λ j b. equal j b t)))
+  agrees-compared {n} {r = false} some other whole h = sym (false-put (agrees s 0 e at) (λ t. h .fails refl (λ j b. equal j b t)))
     where
       equal : (j : ℕ) → j < n → agrees s 0 e at ≡ true → getD s (at + j) 0 ≡ getD e (0 + j) 0
       equal j b t =

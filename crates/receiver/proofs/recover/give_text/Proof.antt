@@ -31,9 +31,8 @@ returns-2 c =
     let start = written .before .before .before .before .before .before in
     let a = start .args in
     let cleared = c .before .before .clear in
-    let copied = written .write-list in
     gives-text (a .n) (record { refusal = 0; count = a .n }) (a .output .now) (a .work .now) (cleared .last .0)
-    (written .before .before .before .if1 .left) (start .pre) refl refl (copied .last .1 .1 .0) (copied .ensures) (cleared .ensures)
+    (written .before .before .before .if1 .left) (start .pre) refl refl (written .write-list .ensures) (cleared .ensures)
 
 pub give-text-spec : {M : Type 1} → statement M
 give-text-spec =

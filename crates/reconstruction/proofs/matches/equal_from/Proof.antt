@@ -1,0 +1,74 @@
+-- `equal_from` meets its contract. The invariant: the characters from `from` up to i are equal. The measure is how
+-- many are left. Assumes nothing.
+use Prim.Native.Nat.{_-_, _≤_}
+use native.Mathlib.Omega.{arith}
+use borrow.Author.Needs.{needs}
+use lib.ListN.{length}
+use Rattle.basics.specs.Bools.{reflects-yes, reflects-no}
+use Rattle.laws.specs.Receive.EntriesMatch.{Equal-part, equal-part-none, equal-part-next, equal-part-end}
+use Rattle.reconstruction.proofs.matches.equal_from.Statement.{statement}
+use Rattle.reconstruction.proofs.matches.equal_from.Tie as tie
+
+abbrev Inv-loop : tie.InvT-loop
+Inv-loop string from text at i₀ i = (from ≤ i) × Equal-part string from i text at
+
+abbrev μ-loop : tie.MeasureT-loop
+μ-loop string from text at i₀ i = length string - i
+
+loop-holds : tie.Need-loop-holds Inv-loop μ-loop
+loop-holds c = (omega arith, equal-part-none (c .args .string .now) (c .args .from) (c .args .text .now) (c .args .at))
+
+mul-if1 : tie.Need-mul-if1 Inv-loop μ-loop
+mul-if1 c = search needs
+
+shared-slice-read-if1 : tie.Need-shared-slice-read-if1 Inv-loop μ-loop
+shared-slice-read-if1 c = search needs
+
+add-if1 : tie.Need-add-if1 Inv-loop μ-loop
+add-if1 c = search needs
+
+mul-if1-2 : tie.Need-mul-if1-2 Inv-loop μ-loop
+mul-if1-2 c = search needs
+
+shared-slice-read-if1-2 : tie.Need-shared-slice-read-if1-2 Inv-loop μ-loop
+shared-slice-read-if1-2 c = search needs
+
+returns : tie.Need-returns Inv-loop μ-loop
+returns c =
+    let l = c .before .before .before .before .loop in
+    reflects-no (λ all. c .if1 .taken (all (l .i) (l .inv .0) (c .before .before .before .loop-test .taken)))
+
+add-i : tie.Need-add-i Inv-loop μ-loop
+add-i c = search needs
+
+loop-less : tie.Need-loop-less Inv-loop μ-loop
+loop-less c = search needs
+
+loop-again : tie.Need-loop-again Inv-loop μ-loop
+loop-again c =
+    let a = c .before .before .before .before .before .args in
+    let l = c .before .before .before .before .loop in
+    (omega arith, equal-part-next (a .string .now) (a .from) (a .text .now) (a .at) (l .i) (l .inv .1) (c .if1 .left))
+
+returns-2 : tie.Need-returns-2 Inv-loop μ-loop
+returns-2 c =
+    let a = c .before .before .args in
+    reflects-yes (equal-part-end (a .string .now) (a .from) (a .text .now) (a .at) (c .before .loop .i) (c .loop-test .left) (c .before .loop .inv .1))
+
+pub equal-from-spec : {M : Type 1} → statement M
+equal-from-spec =
+    tie.close
+    (tie.spec
+    Inv-loop
+    μ-loop
+    loop-holds
+    mul-if1
+    shared-slice-read-if1
+    add-if1
+    mul-if1-2
+    shared-slice-read-if1-2
+    returns
+    add-i
+    loop-less
+    loop-again
+    returns-2)
