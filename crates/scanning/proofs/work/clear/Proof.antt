@@ -6,7 +6,7 @@ use Rattle.scanning.proofs.work.clear.Tie as tie
 
 returns : tie.Need-returns
 unfolding zeros
-returns c = search needs
+returns c = c .before .before .fill .ensures
 
 pub clear-spec : {M : Type 1} → statement M
 clear-spec =
