@@ -21,7 +21,8 @@ cast-if1 : tie.Need-cast-if1 Inv-loop μ-loop
 cast-if1 c = omega (
   arith,
   c .shared-slice-known .given (2 + 3 *
-      (c .before .before .loop .a + (c .before .before .loop .b - c .before .before .loop .a) / 2) + c .before .before .before .args .field),
+      (c .before .before .loop .a + (c .before .before .loop .b - c .before .before .loop .a) / 2) + c .before .before .before .args
+      .field),
 )
 
 loop-again : tie.Need-loop-again Inv-loop μ-loop

@@ -33,15 +33,13 @@ returns c =
 cast-word : tie.Need-cast-word
 cast-word c = omega (
   arith,
-  c .before .shared-slice-known6 .given
-      (2 + 3 * c .before .before .before .before .before .before .before .before .args .line + 1),
+  c .before .shared-slice-known6 .given (2 + 3 * c .before .before .before .before .before .before .before .before .args .line + 1),
 )
 
 mul-start : tie.Need-mul-start
 mul-start c = omega (
   arith,
-  c .before .shared-slice-known6 .given
-      (2 + 3 * c .before .before .before .before .before .before .before .before .args .line + 1),
+  c .before .shared-slice-known6 .given (2 + 3 * c .before .before .before .before .before .before .before .before .args .line + 1),
 )
 
 shared-slice-read-start : tie.Need-shared-slice-read-start

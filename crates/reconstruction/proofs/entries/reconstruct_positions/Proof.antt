@@ -25,8 +25,7 @@ cast-reconstruct-string c = omega (arith, c .shared-slice-known3 .given (c .befo
 sub-reconstruct-string : tie.Need-sub-reconstruct-string Inv-loop μ-loop
 sub-reconstruct-string c = omega (
   arith,
-  c .before .before .before .before .before .before .pre .from (c .before .before .loop .i)
-      (c .before .loop-test .taken),
+  c .before .before .before .before .before .before .pre .from (c .before .before .loop .i) (c .before .loop-test .taken),
 )
 
 reconstruct-string-requires : tie.Need-reconstruct-string-requires Inv-loop μ-loop

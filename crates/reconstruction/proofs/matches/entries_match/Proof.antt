@@ -52,8 +52,7 @@ line-stands-requires c κs =
     let l = c .before .before .loop in (
       s .pre .0,
       s .pre .1,
-      matching-lies (lexicon (a .chars .now) (a .lengths .now)) (a .index .now) (a .text .now) (l .inv)
-          (c .before .loop-test .taken),
+      matching-lies (lexicon (a .chars .now) (a .lengths .now)) (a .index .now) (a .text .now) (l .inv) (c .before .loop-test .taken),
       s .pre .2,
     )
 

@@ -12,29 +12,15 @@ use Rattle.reconstruction.proofs.matches.stands_again.Statement.{statem
 use Rattle.reconstruction.proofs.matches.stands_again.Tie as tie
 use Rattle.reconstruction.proofs.matches.equal_from.Reads as equal-from-reads
 
-sub-equal-from : tie.Need-sub-equal-from
-sub-equal-from c = search needs
-
-sub-equal-from-2 : tie.Need-sub-equal-from-2
-sub-equal-from-2 c = search needs
-
-equal-from-requires : tie.Need-equal-from-requires
-equal-from-requires c κs = search needs
-
 returns : tie.Need-returns
 returns c =
     let s = c .before .before .before .before in
     let a = s .args in
     let apart : a .step ≡ a .period = c .before .if1 .taken in
     reflects-same (c .equal-from .result)
-    (stand-again (a .string .now) (a .text .now) (a .position) (omega arith) (s .pre .3) (s .pre .0) (omega arith) (subst (λ (d : ℕ). Stand (a .string .now) (a .text .now) (a .position - d)) apart (s .pre .2)))
+    (stand-again (a .string .now) (a .text .now) (a .position) (omega arith) (s .pre .3) (s .pre .0) (omega arith)
+    (subst (λ (d : ℕ). Stand (a .string .now) (a .text .now) (a .position - d)) apart (s .pre .2)))
     (λ st. stand-part st (length (a .string .now) - a .period)) (c .equal-from .ensures)
-
-sub-equal-from-3 : tie.Need-sub-equal-from-3
-sub-equal-from-3 c = search needs
-
-equal-from-requires-2 : tie.Need-equal-from-requires-2
-equal-from-requires-2 c κs = search needs
 
 returns-2 : tie.Need-returns-2
 returns-2 c =
@@ -47,10 +33,4 @@ pub stands-again-spec : {M : Type 1} → statement M
 stands-again-spec =
     tie.close
     (tie.spec
-    sub-equal-from
-    sub-equal-from-2
-    equal-from-requires
-    returns
-    sub-equal-from-3
-    equal-from-requires-2
-    returns-2)
+    (λ c. search needs) (λ c. search needs) (λ c κs. search needs) returns (λ c. search needs) (λ c κs. search needs) returns-2)

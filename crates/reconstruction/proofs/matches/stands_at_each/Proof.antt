@@ -6,7 +6,8 @@ use borrow.Author.Tests.{not-true, not-false}
 use borrow.Author.Needs.{needs}
 use lib.ListN.{length, getD}
 use Rattle.basics.specs.Bools.{reflects-yes, reflects-no}
-use Rattle.laws.specs.Receive.EntriesMatch.{Period, period-whole, stand-all, stand-part, stand-back, Stand-first, stand-first-none, stand-first-next, stand-first-end, rise-after}
+use Rattle.laws.specs.Receive.EntriesMatch.{Period, period-whole, stand-all, stand-part, stand-back, Stand-first, stand-first-none}
+use Rattle.laws.specs.Receive.EntriesMatch.{stand-first-next, stand-first-end, rise-after}
 use Rattle.reconstruction.proofs.matches.stands_at_each.Statement.{statement}
 use Rattle.reconstruction.proofs.matches.stands_at_each.Tie as tie
 use Rattle.reconstruction.proofs.matches.equal_from.Reads as equal-from-reads
@@ -36,7 +37,6 @@ equal-from-requires c κs =
 returns : tie.Need-returns Inv-loop μ-loop
 returns c =
     let s = c .before .before .before .before .before .before in
-    let a = s .args in
     reflects-no
     (λ each.
     c .before .equal-from .ensures .fails (not-true (c .before .equal-from .result) (c .if1 .taken))
@@ -48,27 +48,15 @@ loop-holds c =
     let a = s .args in (
       omega arith,
       period-whole (a .string .now),
-      stand-first-next (a .string .now) (a .text .now) (a .positions .now) 0 (stand-first-none (a .string .now) (a .text .now) (a .positions .now))
-          (stand-all (a .string .now) (a .text .now) (getD (a .positions .now) 0 0) (s .pre .0 .from 0 (s .pre .1)) (s .pre .0 .to 0 (s .pre .1)) (c .before .equal-from .ensures .holds (not-false (c .before .equal-from .result) (c .if1 .left)))),
+      stand-first-next (a .string .now) (a .text .now) (a .positions .now) 0
+          (stand-first-none (a .string .now) (a .text .now) (a .positions .now))
+          (stand-all (a .string .now) (a .text .now) (getD (a .positions .now) 0 0) (s .pre .0 .from 0 (s .pre .1))
+          (s .pre .0 .to 0 (s .pre .1)) (c .before .equal-from .ensures .holds
+          (not-false (c .before .equal-from .result) (c .if1 .left)))),
     )
-
-mul-position : tie.Need-mul-position Inv-loop μ-loop
-mul-position c = search needs
-
-shared-slice-read-position : tie.Need-shared-slice-read-position Inv-loop μ-loop
-shared-slice-read-position c = search needs
 
 cast-position : tie.Need-cast-position Inv-loop μ-loop
 cast-position c = omega (arith, c .shared-slice-known5 .given (c .before .before .loop .i))
-
-sub-step : tie.Need-sub-step Inv-loop μ-loop
-sub-step c = search needs
-
-mul-step : tie.Need-mul-step Inv-loop μ-loop
-mul-step c = search needs
-
-shared-slice-read-step : tie.Need-shared-slice-read-step Inv-loop μ-loop
-shared-slice-read-step c = search needs
 
 cast-step : tie.Need-cast-step Inv-loop μ-loop
 cast-step c = omega (arith, c .shared-slice-known6 .given (c .before .before .before .loop .i - 1))
@@ -103,50 +91,26 @@ returns-2 c =
     c .before .stands-again .ensures .fails (not-true (c .before .stands-again .result) (c .if2 .taken))
     (each (l .i) (c .before .before .before .before .before .loop-test .taken)))
 
-add-i : tie.Need-add-i Inv-loop μ-loop
-add-i c = search needs
-
-loop-less : tie.Need-loop-less Inv-loop μ-loop
-loop-less c = search needs
-
 loop-again : tie.Need-loop-again Inv-loop μ-loop
 loop-again c =
     let a = c .before .before .before .before .before .before .before .before .before .before .before .before .before .args in
     let l = c .before .before .before .before .before .before .loop in (
       omega arith,
       c .before .before .period-of .ensures,
-      stand-first-next (a .string .now) (a .text .now) (a .positions .now) (l .i) (l .inv .2) (c .before .stands-again .ensures .holds (not-false (c .before .stands-again .result) (c .if2 .left))),
+      stand-first-next (a .string .now) (a .text .now) (a .positions .now) (l .i) (l .inv .2)
+          (c .before .stands-again .ensures .holds (not-false (c .before .stands-again .result) (c .if2 .left))),
     )
 
 returns-3 : tie.Need-returns-3 Inv-loop μ-loop
 returns-3 c =
     let a = c .before .before .before .before .before .before .before .before .args in
-    reflects-yes (stand-first-end (a .string .now) (a .text .now) (a .positions .now) (c .before .loop .i) (c .loop-test .left) (c .before .loop .inv .2))
+    reflects-yes (stand-first-end (a .string .now) (a .text .now) (a .positions .now) (c .before .loop .i) (c .loop-test .left)
+    (c .before .loop .inv .2))
 
 pub stands-at-each-spec : {M : Type 1} → statement M
 stands-at-each-spec =
     tie.close
     (tie.spec
-    Inv-loop
-    μ-loop
-    shared-slice-read-equal-from
-    cast-equal-from
-    sub-equal-from
-    equal-from-requires
-    returns
-    loop-holds
-    mul-position
-    shared-slice-read-position
-    cast-position
-    sub-step
-    mul-step
-    shared-slice-read-step
-    cast-step
-    sub-step-2
-    period-of-requires
-    stands-again-requires
-    returns-2
-    add-i
-    loop-less
-    loop-again
-    returns-3)
+    Inv-loop μ-loop shared-slice-read-equal-from cast-equal-from sub-equal-from equal-from-requires returns loop-holds (λ c. search needs)
+    (λ c. search needs) cast-position (λ c. search needs) (λ c. search needs) (λ c. search needs) cast-step sub-step-2 period-of-requires
+    stands-again-requires returns-2 (λ c. search needs) (λ c. search needs) loop-again returns-3)

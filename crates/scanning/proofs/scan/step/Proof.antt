@@ -46,7 +46,8 @@ add-t15 c =
       step-fits (lexicon (start .args .chars .now) (start .args .lengths .now))
           (admitted-lexicon (start .args .chars .now) (start .args .lengths .now) (start .pre .0 .words .dictionary))
           (start .args .text .now) (λ i b. omega (arith, c .before .before .before .shared-slice-known6 .given i)) (start .args .at)
-          (start .args .end) (start .pre .1) (c .before .before .find-longest .result .number) (c .before .before .find-longest .result .len)
+          (start .args .end) (start .pre .1) (c .before .before .find-longest .result .number)
+          (c .before .before .find-longest .result .len)
           (c .before .before .find-longest .ensures) (λ (z : c .before .before .find-longest .result .number ≡ 0). omega (arith, z)),
     )
 
