@@ -1,8 +1,8 @@
 // The last of the first k words that stands at a position, by prefix ranges.
 //
 // Words are sorted, so those that share d characters with the text are neighbours, and binary search finds the equal range of those that
-// share the next one. The cost is bounded by the longest word times the logarithm of k, however many words begin alike. Where the first or
-// the last word of a range already has the text's character, as nearly always after the first few, that end is not searched.
+// share the next one. The cost is bounded by the longest word times the logarithm of k, however many words begin alike. Where the first
+// and the last word of a range have the text's character, as nearly always after the first few, so have all, and nothing is searched.
 ghost use mathlib.Core.Path.{_≡_};
 ghost use Prim.Native.Nat.{_+_, _≤_, _<_};
 ghost use lib.ListN.{length, getD};
@@ -80,6 +80,12 @@ pub(crate) fn find_last_standing(
                 return best;
             }
             let c = text[at + depth] as usize;
+            if char_at(chars, word_starts, low, depth) as usize == c {
+                if char_at(chars, word_starts, high - 1, depth) as usize == c {
+                    depth += 1;
+                    continue;
+                }
+            }
             low = lower_bound(chars, word_starts, low, high, depth, c);
             high = lower_bound(chars, word_starts, low, high, depth, c + 1);
             depth += 1;

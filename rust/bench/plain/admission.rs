@@ -58,10 +58,10 @@ fn prefix_code(chars: &[u16], at: usize, end: usize) -> u64 {
     let last = chars.len() - 1;
     let second = (at + 1).min(last);
     let third = (second + 1).min(last);
-    let long = end - at;
+    let len = end - at;
     let digit = |present: bool, place: usize| {
         let number = u64::from(chars[place]) + 1;
         if present { number } else { 0 }
     };
-    (digit(true, at) << 34) + (digit(1 < long, second) << 17) + digit(2 < long, third)
+    (digit(true, at) << 34) + (digit(1 < len, second) << 17) + digit(2 < len, third)
 }

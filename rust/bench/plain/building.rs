@@ -29,18 +29,18 @@ pub fn build(
         if work.len() < 8 * text.len() {
             return Err(7);
         }
-        let (replaced, marks) = work[..2 * text.len()].split_at_mut(text.len());
+        let (replaced, tokens) = work[..2 * text.len()].split_at_mut(text.len());
         copy_replaced(text, replaced);
-        scan(&MatchTable::new(chars, lengths), replaced, marks);
-        write_marked(replaced, marks, output)
+        scan(&MatchTable::new(chars, lengths), replaced, tokens);
+        write_tokens(replaced, tokens, output)
     });
     work.fill(0);
     answer
 }
 
 /// Writes the index that the tokens stand for. They become links.
-fn write_marked(text: &[u16], marks: &mut [u16], output: &mut [u16]) -> Result<usize, u32> {
-    let chains = Chains::link(text, marks);
+fn write_tokens(text: &[u16], tokens: &mut [u16], output: &mut [u16]) -> Result<usize, u32> {
+    let chains = Chains::link(text, tokens);
     let size = 2 + 3 * chains.keys + chains.entries;
     if output.len() < size {
         return Err(8);
@@ -48,16 +48,16 @@ fn write_marked(text: &[u16], marks: &mut [u16], output: &mut [u16]) -> Result<u
     output[0] = text.len() as u16;
     output[1] = chains.keys as u16;
     let (directory, positions) = output[2..size].split_at_mut(3 * chains.keys);
-    chains.write_directory(marks, directory);
-    chains.write_positions(marks, positions);
+    chains.write_directory(tokens, directory);
+    chains.write_positions(tokens, positions);
     Ok(size)
 }
 
 /// Writes one token a position: what is registered there.
-fn scan(table: &MatchTable, text: &[u16], marks: &mut [u16]) {
+fn scan(table: &MatchTable, text: &[u16], tokens: &mut [u16]) {
     let mut last = 0;
-    for (at, mark) in marks.iter_mut().enumerate() {
-        (*mark, last) = step(table, text, at, last);
+    for (at, token) in tokens.iter_mut().enumerate() {
+        (*token, last) = step(table, text, at, last);
     }
 }
 
@@ -83,28 +83,28 @@ struct Chains {
 
 impl Chains {
     /// Links from the last position to the first.
-    fn link(text: &[u16], marks: &mut [u16]) -> Chains {
+    fn link(text: &[u16], tokens: &mut [u16]) -> Chains {
         let mut chains = Chains {
             heads: [0; CODES],
             pages: [false; CODES / PAGE],
             keys: 0,
             entries: 0,
         };
-        for (at, (mark, &character)) in marks.iter_mut().zip(text).enumerate().rev() {
-            if *mark == 0 {
+        for (at, (token, &character)) in tokens.iter_mut().zip(text).enumerate().rev() {
+            if *token == 0 {
                 continue;
             }
-            let code = if *mark == LONE {
+            let code = if *token == LONE {
                 4_096 + usize::from(character)
             } else {
-                usize::from(*mark - 1)
+                usize::from(*token - 1)
             };
             let head = chains.heads[code];
             chains.keys += usize::from(head == 0);
             chains.entries += 1;
             chains.pages[code / PAGE] = true;
             chains.heads[code] = at as u16 + 1;
-            *mark = head;
+            *token = head;
         }
         chains
     }

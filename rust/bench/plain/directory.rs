@@ -54,7 +54,12 @@ impl<'a> Lines<'a> {
 
     /// Of the lines from `low` to `high`, whose words ascend and share their
     /// first `depth` characters, those that have this one next.
-    fn narrow(&self, (low, high): (usize, usize), depth: usize, character: u16) -> (usize, usize) {
+    fn equal_range(
+        &self,
+        (low, high): (usize, usize),
+        depth: usize,
+        character: u16,
+    ) -> (usize, usize) {
         if low < high {
             let ends = [low, high - 1];
             if ends.iter().all(|&line| self.word(line)[depth] == character) {
@@ -80,7 +85,7 @@ impl<'a> Lines<'a> {
             let Some(&character) = string.get(depth) else {
                 break;
             };
-            (low, high) = self.narrow((low, high), depth, character);
+            (low, high) = self.equal_range((low, high), depth, character);
             depth += 1;
         }
         for line in low..high {
@@ -122,7 +127,7 @@ impl<'a> Directory<'a> {
     }
 
     /// The positions of one line.
-    pub fn places(&self, line: usize) -> &'a [u16] {
+    pub fn positions(&self, line: usize) -> &'a [u16] {
         let at = self.start(line);
         &self.positions[at..at + self.count(line)]
     }

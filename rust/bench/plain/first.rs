@@ -2,8 +2,8 @@
 
 use super::Query;
 use super::directory::Directory;
-use super::painted::{is_dense, reach_painted};
-use super::searching::{Fronts, reach_laid};
+use super::searching::{Leading, reach_laid};
+use super::text_scan::{prefers_text_scan, reach_reconstructed};
 
 /// The position, or 0 where there is none.
 pub fn first(query: Query) -> Result<usize, u32> {
@@ -13,7 +13,7 @@ pub fn first(query: Query) -> Result<usize, u32> {
     let directory = Directory::new(query.chars, query.lengths, query.index);
     let n = usize::from(query.index[0]);
     let starts = (n + 1).saturating_sub(string.len());
-    let found = match is_dense(&directory, n, string) {
+    let found = match prefers_text_scan(&directory, n, string) {
         true => by_text(&directory, string, n, starts),
         false => None,
     };
@@ -24,14 +24,14 @@ pub fn first(query: Query) -> Result<usize, u32> {
 fn by_text(directory: &Directory, string: &[u16], n: usize, starts: usize) -> Option<usize> {
     let mut reach = [0; 65_535];
     let reach = &mut reach[..starts];
-    reach_painted(directory, n, string, reach).then(|| found(reach, string, 1))
+    reach_reconstructed(directory, n, string, reach).then(|| found(reach, string, 1))
 }
 
 /// By the entries: the first 8,192 starts, then the rest. Fewer have a shorter
 /// array, so that a short sheet does not pay for clearing it.
 fn by_windows(directory: &Directory, string: &[u16], starts: usize) -> usize {
-    let fronts = Fronts::new(directory, string);
-    let search = (directory, string, &fronts);
+    let leading = Leading::new(directory, string);
+    let search = (directory, string, &leading);
     if starts <= 1_024 {
         return in_window::<1_024>(search, 1, starts);
     }
@@ -44,13 +44,13 @@ fn by_windows(directory: &Directory, string: &[u16], starts: usize) -> usize {
 
 /// The first found of at most `N` starts from `first` on, 0 where there is none.
 fn in_window<const N: usize>(
-    (directory, string, fronts): (&Directory, &[u16], &Fronts),
+    (directory, string, leading): (&Directory, &[u16], &Leading),
     first: usize,
     starts: usize,
 ) -> usize {
     let mut reach = [0; N];
     let reach = &mut reach[..starts.min(N)];
-    if reach_laid(directory, string, fronts, first, reach) < string.len() {
+    if reach_laid(directory, string, leading, first, reach) < string.len() {
         return 0;
     }
     found(reach, string, first)

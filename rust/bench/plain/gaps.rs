@@ -2,7 +2,7 @@
 //! the lists are written as one. Most are short, and a loop over each would end with a
 //! mispredicted branch.
 
-use super::reading::{admit_gaps, admit_index};
+use super::readability::{admit_gaps, admit_index};
 
 pub fn to_gaps(
     chars: &[u16],

@@ -64,7 +64,7 @@ impl<'a> MatchTable<'a> {
                 link = self.links[number];
             }
             if link != 0 {
-                let best = self.narrow(here, usize::from(link));
+                let best = self.find_last_standing(here, usize::from(link));
                 if best != 0 {
                     return if self.length(best) > short { best } else { 0 };
                 }
@@ -112,7 +112,7 @@ impl<'a> MatchTable<'a> {
     /// The longest word below `count` that stands here + 1, or 0. The words from
     /// `low` to `high` are those that share `depth` characters with the text.
     #[inline(never)]
-    fn narrow(&self, here: &[u16], count: usize) -> u16 {
+    fn find_last_standing(&self, here: &[u16], count: usize) -> u16 {
         let (mut low, mut high) = (0, count);
         let mut best = 0;
         let mut depth = 0;

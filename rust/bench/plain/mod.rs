@@ -8,10 +8,10 @@ pub mod directory;
 pub mod first;
 pub mod gaps;
 pub mod matching;
-pub mod painted;
-pub mod reading;
+pub mod readability;
 pub mod reception;
 pub mod searching;
+pub mod text_scan;
 pub mod width;
 
-pub use reading::Query;
+pub use readability::Query;

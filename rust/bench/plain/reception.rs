@@ -6,7 +6,7 @@
 
 use super::building::{LONE, step};
 use super::matching::MatchTable;
-use super::reading::admit_index;
+use super::readability::admit_index;
 use super::width::holds_full_width;
 
 pub fn receive(
@@ -48,12 +48,12 @@ fn text_of<'a>(
     if work.len() < 8 * n {
         return Err(7);
     }
-    let (text, notes) = work[..2 * n].split_at_mut(n);
-    notes.fill(0);
+    let (text, line_map) = work[..2 * n].split_at_mut(n);
+    line_map.fill(0);
     let table = MatchTable::new(chars, lengths);
     let (directory, positions) = index[2..].split_at(3 * usize::from(index[1]));
-    paint(&table, directory, positions, text, notes);
-    let has_it = registered(&table, directory, text, notes) == Some(positions.len());
+    reconstruct(&table, directory, positions, text, line_map);
+    let has_it = registered(&table, directory, text, line_map) == Some(positions.len());
     if has_it && !holds_full_width(text) {
         Ok(text)
     } else {
@@ -63,12 +63,12 @@ fn text_of<'a>(
 
 /// Reconstructs the text and fills the line map: each entry's characters at its
 /// position, and the number of its line + 1 at its start.
-fn paint(
+fn reconstruct(
     table: &MatchTable,
     directory: &[u16],
     positions: &[u16],
     text: &mut [u16],
-    notes: &mut [u16],
+    line_map: &mut [u16],
 ) {
     let mut rest = positions;
     for (number, line) in directory.chunks_exact(3).enumerate() {
@@ -81,7 +81,7 @@ fn paint(
         };
         for &place in places {
             let start = usize::from(place) - 1;
-            notes[start] = number as u16 + 1;
+            line_map[start] = number as u16 + 1;
             for (character, &shown) in text[start..start + spelt.len()].iter_mut().zip(spelt) {
                 *character = shown;
             }
@@ -91,20 +91,25 @@ fn paint(
 
 /// How many entries the text has registered, if the line map has each where it
 /// starts.
-fn registered(table: &MatchTable, directory: &[u16], text: &[u16], notes: &[u16]) -> Option<usize> {
+fn registered(
+    table: &MatchTable,
+    directory: &[u16],
+    text: &[u16],
+    line_map: &[u16],
+) -> Option<usize> {
     let mut count = 0;
     let mut last = 0;
-    for (at, (&character, &note)) in text.iter().zip(notes).enumerate() {
-        let mark;
-        (mark, last) = step(table, text, at, last);
-        if mark == 0 {
+    for (at, (&character, &mapped)) in text.iter().zip(line_map).enumerate() {
+        let token;
+        (token, last) = step(table, text, at, last);
+        if token == 0 {
             continue;
         }
-        let line = 3 * usize::from(note).checked_sub(1)?;
-        let key = if mark == LONE {
+        let line = 3 * usize::from(mapped).checked_sub(1)?;
+        let key = if token == LONE {
             [1, character]
         } else {
-            [0, mark - 1]
+            [0, token - 1]
         };
         if directory[line..line + 2] != key {
             return None;

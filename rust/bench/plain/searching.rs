@@ -5,7 +5,7 @@
 
 use super::Query;
 use super::directory::Directory;
-use super::painted::{is_dense, reach_painted};
+use super::text_scan::{prefers_text_scan, reach_reconstructed};
 
 /// The fewest starts for which the longer array is taken: a short sheet does
 /// not pay for clearing it.
@@ -28,9 +28,11 @@ fn find(query: Query, reach: &mut [u16], output: &mut [u16]) -> Result<usize, u3
     let string = query.string;
     let directory = Directory::new(query.chars, query.lengths, query.index);
     let n = usize::from(query.index[0]);
-    if !(is_dense(&directory, n, string) && reach_painted(&directory, n, string, reach)) {
-        let fronts = Fronts::new(&directory, string);
-        reach_laid(&directory, string, &fronts, 1, reach);
+    if !(prefers_text_scan(&directory, n, string)
+        && reach_reconstructed(&directory, n, string, reach))
+    {
+        let leading = Leading::new(&directory, string);
+        reach_laid(&directory, string, &leading, 1, reach);
     }
     let whole = string.len() as u16;
     let count = reach.iter().filter(|&&reach| reach >= whole).count();
@@ -46,14 +48,14 @@ fn find(query: Query, reach: &mut [u16], output: &mut [u16]) -> Result<usize, u3
 
 /// The leading keys: the lines of words that agree with the string and begin at
 /// its start or before it. They are the same for every window.
-pub struct Fronts {
+pub struct Leading {
     lines: [u16; 4_096],
     count: usize,
 }
 
-impl Fronts {
-    pub fn new(directory: &Directory, string: &[u16]) -> Fronts {
-        let mut fronts = Fronts {
+impl Leading {
+    pub fn new(directory: &Directory, string: &[u16]) -> Leading {
+        let mut leading = Leading {
             lines: [0; 4_096],
             count: 0,
         };
@@ -62,11 +64,11 @@ impl Fronts {
                 .next()
                 .is_some()
             {
-                fronts.lines[fronts.count] = line as u16;
-                fronts.count += 1;
+                leading.lines[leading.count] = line as u16;
+                leading.count += 1;
             }
         }
-        fronts
+        leading
     }
 }
 
@@ -80,7 +82,7 @@ fn agreeing(word: &[u16], string: &[u16]) -> impl Iterator<Item = usize> {
 pub fn reach_laid(
     directory: &Directory,
     string: &[u16],
-    fronts: &Fronts,
+    leading: &Leading,
     first: usize,
     reach: &mut [u16],
 ) -> usize {
@@ -90,31 +92,31 @@ pub fn reach_laid(
         most: 0,
         whole: string.len(),
     };
-    cover_front(directory, string, fronts, &mut cover);
+    cover_leading(directory, string, leading, &mut cover);
     for offset in 1..string.len() {
         if usize::from(cover.most) < offset {
             break;
         }
         let lines = &directory.lines;
-        lines.each_that_starts(&string[offset..], |line, long| {
-            cover.raise(directory.places(line), offset, long);
+        lines.each_that_starts(&string[offset..], |line, len| {
+            cover.extend(directory.positions(line), offset, len);
         });
     }
     usize::from(cover.most)
 }
 
 /// Keys that agree with the string and begin at its start or before it.
-fn cover_front(directory: &Directory, string: &[u16], fronts: &Fronts, cover: &mut Cover) {
+fn cover_leading(directory: &Directory, string: &[u16], leading: &Leading, cover: &mut Cover) {
     let lines = &directory.lines;
-    for &line in &fronts.lines[..fronts.count] {
+    for &line in &leading.lines[..leading.count] {
         let line = usize::from(line);
         let word = lines.word(line);
         for back in agreeing(word, string) {
-            cover.lay(directory.places(line), back, word.len() - back);
+            cover.lay(directory.positions(line), back, word.len() - back);
         }
     }
     if let Some(line) = lines.lone(string[0]) {
-        cover.lay(directory.places(line), 0, 1);
+        cover.lay(directory.positions(line), 0, 1);
     }
 }
 
@@ -134,10 +136,10 @@ struct Cover<'a> {
 }
 
 impl Cover<'_> {
-    /// Entries of which the string covers the last `long` characters, `back`
+    /// Entries of which the string covers the last `len` characters, `back`
     /// characters after their start.
-    fn lay(&mut self, positions: &[u16], back: usize, long: usize) {
-        let covered = long.min(self.whole) as u16;
+    fn lay(&mut self, positions: &[u16], back: usize, len: usize) {
+        let covered = len.min(self.whole) as u16;
         let positions = in_window(positions, self.first, back, 0, self.reach.len());
         for &position in positions {
             let reach = &mut self.reach[usize::from(position) + back - self.first];
@@ -150,8 +152,8 @@ impl Cover<'_> {
 
     /// Entries that begin `offset` characters into the string: they add to what
     /// reaches as far.
-    fn raise(&mut self, positions: &[u16], offset: usize, long: usize) {
-        let covered = (offset + long).min(self.whole) as u16;
+    fn extend(&mut self, positions: &[u16], offset: usize, len: usize) {
+        let covered = (offset + len).min(self.whole) as u16;
         let least = offset as u16;
         let mut some = false;
         for &position in in_window(positions, self.first, 0, offset, self.reach.len()) {

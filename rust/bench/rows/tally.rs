@@ -20,7 +20,7 @@ pub fn print_readability(sheets: &Sheets) {
                     other => other.map(drop).map_err(Refusal::number),
                 }
             },
-            |index, _| plain::reading::admit_index(chars, lengths, index),
+            |index, _| plain::readability::admit_index(chars, lengths, index),
         )
     });
 }
@@ -34,7 +34,7 @@ pub fn print(sheets: &Sheets) {
                     .map(|tally| (tally.by_length, tally.count))
                     .map_err(Refusal::number)
             },
-            |index, _| plain::reading::tally(chars, lengths, index),
+            |index, _| plain::readability::tally(chars, lengths, index),
         )
     });
 }

@@ -3,11 +3,8 @@ use borrow.Author.Needs.{needs}
 use Rattle.mopekihua.proofs.mopekihua_admit.Statement.{statement}
 use Rattle.mopekihua.proofs.mopekihua_admit.Tie as tie
 
-returns : tie.Need-returns
-returns c = c .admit .ensures
-
 pub mopekihua-admit-spec : {M : Type 1} → statement M
 mopekihua-admit-spec =
     tie.close
     (tie.spec
-    (λ c κs. search needs) returns)
+    (λ c κs. search needs) (λ c. c .admit .ensures))

@@ -47,9 +47,6 @@ cast-agrees-at c = start-fits (c .before .before .before .loop .i) (small (c .be
 sub-agrees-at : tie.Need-sub-agrees-at Inv-loop μ-loop
 sub-agrees-at c = offset-fits32 0 (c .before .before .before .loop .i) (omega arith) (small (c .before .before))
 
-agrees-at-requires : tie.Need-agrees-at-requires Inv-loop μ-loop
-agrees-at-requires c κs = tt
-
 returns : tie.Need-returns Inv-loop μ-loop
 returns c =
     let a = c .before .before .before .before .before .before .before .before .before .args in
@@ -82,4 +79,4 @@ begins-before-spec =
     tie.close
     (tie.spec
     Inv-loop μ-loop (λ c. search needs) loop-holds (λ c. search needs) (λ c. search needs) (λ c. search needs) cast-agrees-at sub-agrees-at
-    agrees-at-requires returns (λ c. search needs) loop-again (λ c. search needs) loop-again-2 returns-2)
+    (λ c κs. tt) returns (λ c. search needs) loop-again (λ c. search needs) loop-again-2 returns-2)

@@ -30,18 +30,10 @@ key-of-requires c κs =
     let s = c .before .before .before .before .before .before .before .before in
     (s .pre .0, s .pre .1, omega arith)
 
-add-line : tie.Need-add-line Inv-loop μ-loop
-add-line c =
-    omega arith
-
 begins-before-requires : tie.Need-begins-before-requires Inv-loop μ-loop
 begins-before-requires c κs =
     let s = c .before .before .before .before .before .before .before .before .before in
     (spelt-short (s .pre .0) (c .before .before .loop .line) (omega arith) (c .key-of .result .now) (c .key-of .ensures), s .pre .2)
-
-slice-write-flags : tie.Need-slice-write-flags Inv-loop μ-loop
-slice-write-flags c =
-    omega arith
 
 loop-again : tie.Need-loop-again Inv-loop μ-loop
 loop-again c =
@@ -65,9 +57,6 @@ loop-again-2 c =
           c .before .begins-before .ensures .1 (c .if1 .left) p some),
     )
 
-same-length : tie.Need-same-length Inv-loop μ-loop
-same-length c = c .before .loop .inv .1 .way .len
-
 returns : tie.Need-returns Inv-loop μ-loop
 returns c =
     let s = c .before .before .before .before .before .before .before .before in
@@ -80,5 +69,5 @@ pub flag-before-spec : {M : Type 1} → statement M
 flag-before-spec =
     tie.close
     (tie.spec
-    Inv-loop μ-loop loop-holds key-of-requires add-line begins-before-requires slice-write-flags (λ c. omega arith) loop-again
-    (λ c. omega arith) loop-again-2 same-length returns)
+    Inv-loop μ-loop loop-holds key-of-requires (λ c. omega arith) begins-before-requires (λ c. omega arith) (λ c. omega arith) loop-again
+    (λ c. omega arith) loop-again-2 (λ c. c .before .loop .inv .1 .way .len) returns)

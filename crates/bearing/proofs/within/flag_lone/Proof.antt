@@ -13,8 +13,7 @@ use Rattle.bearing.proofs.within.flag_lone.Tie as tie
 cast-line-lower-bound : tie.Need-cast-line-lower-bound
 cast-line-lower-bound c = omega (
   arith,
-  c .shared-slice-known6 .given
-      (c .before .before .before .before .before .before .before .args .key-start),
+  c .shared-slice-known6 .given (c .before .before .before .before .before .before .before .args .key-start),
 )
 
 line-lower-bound-requires : tie.Need-line-lower-bound-requires

@@ -39,9 +39,6 @@ loop-again c =
           (now .last .1 .1 .1 .1 .1 .1 .1 .0) (l .inv .1) (now .ensures),
     )
 
-same-length : tie.Need-same-length Inv-loop μ-loop
-same-length c = c .before .loop .inv .1 .way .len
-
 returns : tie.Need-returns Inv-loop μ-loop
 returns c =
     let s = c .before .before .before .before .before .before .before .before in
@@ -54,5 +51,5 @@ pub flag-within-spec : {M : Type 1} → statement M
 flag-within-spec =
     tie.close
     (tie.spec
-    Inv-loop μ-loop (λ c. search needs) loop-holds flag-offset-requires (λ c. search needs) (λ c. omega arith) loop-again same-length
-    returns)
+    Inv-loop μ-loop (λ c. search needs) loop-holds flag-offset-requires (λ c. search needs) (λ c. omega arith) loop-again
+    (λ c. c .before .loop .inv .1 .way .len) returns)

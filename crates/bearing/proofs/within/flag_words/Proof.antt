@@ -61,14 +61,6 @@ word-length-requires c κs =
     let l = c .before .before .loop in
     (omega arith, shared-word (s .pre .0) (s .pre .2) (s .pre .1) (l .inv .1) (l .low) (omega arith) (c .before .loop-test .taken))
 
-slice-write-flags : tie.Need-slice-write-flags Inv-loop μ-loop
-slice-write-flags c =
-    omega arith
-
-add-low : tie.Need-add-low Inv-loop μ-loop
-add-low c =
-    omega arith
-
 loop-again : tie.Need-loop-again Inv-loop μ-loop
 loop-again c =
     let s = c .before .before .before .before .before .before .before .before .before .before .before in
@@ -82,24 +74,12 @@ loop-again c =
       shared-prefix-next (s .pre .0) (s .pre .2) (s .pre .1) (l .inv .1) (c .before .before .before .loop-test .taken),
     )
 
-add-character : tie.Need-add-character Inv-loop μ-loop
-add-character c = omega (arith, below (c .before .before))
-
-mul-character : tie.Need-mul-character Inv-loop μ-loop
-mul-character c = omega (arith, below (c .before .before))
-
-shared-slice-read-character : tie.Need-shared-slice-read-character Inv-loop μ-loop
-shared-slice-read-character c = below (c .before .before .before)
-
 equal-range-requires : tie.Need-equal-range-requires Inv-loop μ-loop
 equal-range-requires c κs =
     let s = c .before .before .before .before .before .before .before .before .before .before .before .before in
     let l = c .before .before .before .before .before .loop in
     shared-prefix-column (s .pre .0) (s .pre .2) (s .pre .1) (l .inv .1) (c .before .before .before .before .loop-test .taken)
     (λ e. c .before .if2 .left (c .before .before .word-length .ensures ∙ e))
-
-add-depth : tie.Need-add-depth Inv-loop μ-loop
-add-depth c = omega (arith, below (c .before .before .before .before))
 
 loop-less-2 : tie.Need-loop-less-2 Inv-loop μ-loop
 loop-less-2 c =
@@ -129,9 +109,6 @@ loop-again-2 c =
           refl (below (c .before .before .before .before)) (c .equal-range .ensures .0) (c .equal-range .ensures .1),
     )
 
-same-length-2 : tie.Need-same-length-2 Inv-loop μ-loop
-same-length-2 c = c .before .loop .inv .0 .way .len
-
 returns-2 : tie.Need-returns-2 Inv-loop μ-loop
 returns-2 c =
     let s = c .before .before .before .before .before .before .before .before in
@@ -143,6 +120,8 @@ pub flag-words-spec : {M : Type 1} → statement M
 flag-words-spec =
     tie.close
     (tie.spec
-    Inv-loop μ-loop (λ c. omega arith) loop-holds flag-lines-requires same-length returns word-length-requires slice-write-flags add-low
-    (λ c. omega arith) loop-again add-character mul-character shared-slice-read-character equal-range-requires add-depth loop-less-2
-    loop-again-2 same-length-2 returns-2)
+    Inv-loop μ-loop (λ c. omega arith) loop-holds flag-lines-requires same-length returns word-length-requires (λ c. omega arith)
+    (λ c. omega arith) (λ c. omega arith) loop-again (λ c. omega (arith, below (c .before .before)))
+    (λ c. omega (arith, below (c .before .before))) (λ c. below (c .before .before .before)) equal-range-requires
+    (λ c. omega (arith, below (c .before .before .before .before))) loop-less-2 loop-again-2 (λ c. c .before .loop .inv .0 .way .len)
+    returns-2)

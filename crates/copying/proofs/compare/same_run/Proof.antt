@@ -15,9 +15,6 @@ Inv-loop chars at text from count i₀ i = (i ≤ count) × ((j : ℕ) → j < c
 abbrev μ-loop : tie.MeasureT-loop
 μ-loop chars at text from count i₀ i = i
 
-loop-holds : tie.Need-loop-holds Inv-loop μ-loop
-loop-holds c = (omega arith, λ j l b. absurd (omega arith))
-
 returns : tie.Need-returns Inv-loop μ-loop
 returns c =
     let turn = c .before .before .before .before .loop in
@@ -33,5 +30,5 @@ pub same-run-spec : {M : Type 1} → statement M
 same-run-spec =
     tie.close
     (tie.spec
-    Inv-loop μ-loop loop-holds (λ c. search needs) (λ c. search needs) (λ c. search needs) (λ c. search needs) (λ c. search needs)
-    (λ c. search needs) (λ c. search needs) returns (λ c. omega arith) loop-again returns-2)
+    Inv-loop μ-loop (λ c. (omega arith, λ j l b. absurd (omega arith))) (λ c. search needs) (λ c. search needs) (λ c. search needs)
+    (λ c. search needs) (λ c. search needs) (λ c. search needs) (λ c. search needs) returns (λ c. omega arith) loop-again returns-2)

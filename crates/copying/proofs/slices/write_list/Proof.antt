@@ -18,10 +18,6 @@ abbrev μ-loop : tie.MeasureT-loop
 loop-holds : tie.Need-loop-holds Inv-loop μ-loop
 loop-holds c = copying-start (c .args .list .now) (c .args .from) (c .args .output .now) (c .pre)
 
-add-output : tie.Need-add-output Inv-loop μ-loop
-add-output c =
-    omega arith
-
 slice-write-output : tie.Need-slice-write-output Inv-loop μ-loop
 slice-write-output c =
     let a = c .before .before .before .args in
@@ -34,9 +30,6 @@ loop-again c =
     let l = c .before .before .loop in
     copying-step (a .list .now) (a .from) (a .output .now) (l .output) (l .i) (l .inv) (c .before .loop-test .taken)
 
-same-length : tie.Need-same-length Inv-loop μ-loop
-same-length c = c .before .loop .inv .way .len
-
 returns : tie.Need-returns Inv-loop μ-loop
 returns c =
     let a = c .before .before .args in
@@ -47,5 +40,5 @@ pub write-list-spec : {M : Type 1} → statement M
 write-list-spec =
     tie.close
     (tie.spec
-    Inv-loop μ-loop loop-holds (λ c. search needs) (λ c. search needs) add-output (λ c. search needs) slice-write-output (λ c. search needs)
-    (λ c. search needs) loop-again same-length returns)
+    Inv-loop μ-loop loop-holds (λ c. search needs) (λ c. search needs) (λ c. omega arith) (λ c. search needs) slice-write-output
+    (λ c. search needs) (λ c. search needs) loop-again (λ c. c .before .loop .inv .way .len) returns)

@@ -80,9 +80,6 @@ loop-again-3 c =
     (w .ensures) (w .ok)
     (omega arith) from (c .if1 .left))
 
-same-length : tie.Need-same-length Inv-loop μ-loop
-same-length c = c .before .loop .inv .way .len
-
 returns : tie.Need-returns Inv-loop μ-loop
 returns c =
     let l = c .before .loop in
@@ -94,4 +91,5 @@ extend-at-all-spec =
     (tie.spec
     Inv-loop μ-loop (λ c. search needs) (λ c. search needs) (λ c κs. search needs) (λ c κs. search needs) (λ c. search needs) loop-holds
     (λ c. search needs) (λ c. search needs) cast-at add-at (λ c. search needs) (λ c κs. search needs) extend-start-requires
-    (λ c. search needs) loop-again (λ c. search needs) loop-again-2 (λ c. search needs) loop-again-3 same-length returns)
+    (λ c. search needs) loop-again (λ c. search needs) loop-again-2 (λ c. search needs) loop-again-3 (λ c. c .before .loop .inv .way .len)
+    returns)

@@ -50,9 +50,6 @@ cast-p c = omega (arith, c .shared-slice-known2 .given (c .before .before .loop 
 add-p : tie.Need-add-p Inv-loop μ-loop
 add-p c = omega (arith, c .shared-slice-known2 .given (c .before .before .loop .i))
 
-sub-p : tie.Need-sub-p Inv-loop μ-loop
-sub-p c = omega (arith, own (c .before))
-
 extend-start-requires : tie.Need-extend-start-requires Inv-loop μ-loop
 extend-start-requires c κs =
     let end = c .before .before .before .before .before .max .ensures in
@@ -80,9 +77,6 @@ loop-again-2 c =
           (inside (c .before .before .before .before .before .before)) (end .ensures) (done .ensures) (c .if1 .left),
     )
 
-same-length : tie.Need-same-length Inv-loop μ-loop
-same-length c = c .before .loop .inv .1 .way .len
-
 returns : tie.Need-returns Inv-loop μ-loop
 returns c =
     let s = c .before .before .before .before .before .before in
@@ -95,5 +89,5 @@ extend-at-range-spec =
     tie.close
     (tie.spec
     Inv-loop μ-loop (λ c. search needs) (λ c. search needs) (λ c κs. search needs) (λ c κs. search needs) (λ c. search needs) loop-holds
-    (λ c. search needs) (λ c. omega arith) cast-p add-p sub-p (λ c. search needs) extend-start-requires (λ c. search needs) loop-again
-    (λ c. search needs) loop-again-2 same-length returns)
+    (λ c. search needs) (λ c. omega arith) cast-p add-p (λ c. omega (arith, own (c .before))) (λ c. search needs) extend-start-requires
+    (λ c. search needs) loop-again (λ c. search needs) loop-again-2 (λ c. c .before .loop .inv .1 .way .len) returns)

@@ -29,8 +29,7 @@ returns-2 c =
     extends-none (a .key-start) (a .end) (a .reach .now) (a .p)
     (λ near. omega (
       arith,
-      wrap-above (w .result) reached (a .key-start) (a .end - a .key-start) (w .ensures) (w .ok) (omega arith) near
-          (c .if1 .left),
+      wrap-above (w .result) reached (a .key-start) (a .end - a .key-start) (w .ensures) (w .ok) (omega arith) near (c .if1 .left),
     ))
 
 pub extend-start-spec : {M : Type 1} → statement M

@@ -22,9 +22,6 @@ loop-holds c =
     (s .args .max-reach)
     (s .pre .3)
 
-shared-slice-read-if1 : tie.Need-shared-slice-read-if1 Inv-loop μ-loop
-shared-slice-read-if1 c = c .before .loop-test .taken
-
 shared-slice-read-if1-2 : tie.Need-shared-slice-read-if1-2 Inv-loop μ-loop
 shared-slice-read-if1-2 c = c .before .before .before .before .before .before .before .before .pre .1
 
@@ -51,9 +48,6 @@ loop-again-2 c =
     backing-pass (a .string .now) (a .key .now) (a .first) (a .positions .now) (a .reach .now) (l .inv)
     (c .before .before .before .loop-test .taken) (c .if1 .left)
 
-same-length : tie.Need-same-length Inv-loop μ-loop
-same-length c = c .before .loop .inv .way .len
-
 returns : tie.Need-returns Inv-loop μ-loop
 returns c =
     let a = c .before .before .before .before .before .before .args in
@@ -65,5 +59,5 @@ pub extend-back-spec : {M : Type 1} → statement M
 extend-back-spec =
     tie.close
     (tie.spec
-    Inv-loop μ-loop loop-holds (λ c. search needs) (λ c. search needs) shared-slice-read-if1 shared-slice-read-if1-2 extend-key-requires
-    (λ c. omega arith) loop-again (λ c. omega arith) loop-again-2 same-length returns)
+    Inv-loop μ-loop loop-holds (λ c. search needs) (λ c. search needs) (λ c. c .before .loop-test .taken) shared-slice-read-if1-2
+    extend-key-requires (λ c. omega arith) loop-again (λ c. omega arith) loop-again-2 (λ c. c .before .loop .inv .way .len) returns)

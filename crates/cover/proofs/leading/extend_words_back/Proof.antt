@@ -27,9 +27,6 @@ loop-holds c =
     listed-start (leading-at (lexicon (a .chars .now) (a .lengths .now)) (a .index .now) (a .string .now) (a .first)) (a .lines .now)
     (a .reach .now) (a .max-reach) (s .pre .4)
 
-shared-slice-read-line : tie.Need-shared-slice-read-line Inv-loop μ-loop
-shared-slice-read-line c = c .before .loop-test .taken
-
 cast-line : tie.Need-cast-line Inv-loop μ-loop
 cast-line c = omega (arith, c .shared-slice-known8 .given (c .before .before .loop .i))
 
@@ -82,9 +79,6 @@ loop-again c =
     (c .before .before .before .before .before .key-of .ensures) (c .before .before .before .before .positions-of .ensures) (l .reach)
     (extended .last .1 .1 .1 .1 .0) (extended .result) (extended .ensures))
 
-same-length : tie.Need-same-length Inv-loop μ-loop
-same-length c = c .before .loop .inv .len
-
 returns : tie.Need-returns Inv-loop μ-loop
 returns c =
     let a = c .before .before .before .before .before .before .before .before .before .before .args in
@@ -96,5 +90,5 @@ pub extend-words-back-spec : {M : Type 1} → statement M
 extend-words-back-spec =
     tie.close
     (tie.spec
-    Inv-loop μ-loop loop-holds (λ c. search needs) shared-slice-read-line cast-line key-of-requires positions-of-requires
-    extend-back-requires add-i (λ c. search needs) loop-again same-length returns)
+    Inv-loop μ-loop loop-holds (λ c. search needs) (λ c. c .before .loop-test .taken) cast-line key-of-requires positions-of-requires
+    extend-back-requires add-i (λ c. search needs) loop-again (λ c. c .before .loop .inv .len) returns)

@@ -62,15 +62,6 @@ agrees-leading-requires c κs =
       s .pre .2,
     )
 
-mul-lines : tie.Need-mul-lines Inv-loop μ-loop
-mul-lines c = omega (arith, room c)
-
-slice-write-lines : tie.Need-slice-write-lines Inv-loop μ-loop
-slice-write-lines c = room c
-
-add-count : tie.Need-add-count Inv-loop μ-loop
-add-count c = omega (arith, room c)
-
 loop-again : tie.Need-loop-again Inv-loop μ-loop
 loop-again c =
     let a = c .before .before .before .before .before .before .before .before .before .before .before .args in
@@ -86,9 +77,6 @@ loop-again-2 c =
     (l .count) (l .line) (l .inv) (c .before .before .before .loop-test .taken)
     (sym (c .if1 .left) ∙ c .before .agrees-leading .ensures ∙ ap (agrees-leading (a .string .now)) (c .before .before .key-of .ensures))
 
-same-length : tie.Need-same-length Inv-loop μ-loop
-same-length c = c .before .loop .inv .len
-
 returns : tie.Need-returns Inv-loop μ-loop
 returns c =
     let a = c .before .before .before .before .before .before .before .before .args in
@@ -103,5 +91,6 @@ pub fill-leading-spec : {M : Type 1} → statement M
 fill-leading-spec =
     tie.close
     (tie.spec
-    Inv-loop μ-loop loop-holds (λ c. search needs) key-of-requires agrees-leading-requires (λ c. omega arith) mul-lines slice-write-lines
-    add-count (λ c. search needs) loop-again (λ c. search needs) loop-again-2 same-length returns)
+    Inv-loop μ-loop loop-holds (λ c. search needs) key-of-requires agrees-leading-requires (λ c. omega arith) (λ c. omega (arith, room c))
+    (λ c. room c) (λ c. omega (arith, room c)) (λ c. search needs) loop-again (λ c. search needs) loop-again-2
+    (λ c. c .before .loop .inv .len) returns)

@@ -29,10 +29,6 @@ extend-line-requires c κs =
     let s = c .before .before .before .before .before .before .before .before .before .before in
     (s .pre .0, s .pre .1, omega arith, s .pre .3, c .before .before .loop .inv .bounded)
 
-add-line : tie.Need-add-line Inv-loop μ-loop
-add-line c =
-    omega arith
-
 loop-again : tie.Need-loop-again Inv-loop μ-loop
 loop-again c =
     let a = c .before .before .before .before .before .before .before .before .before .before .before .before .before .args in
@@ -40,9 +36,6 @@ loop-again c =
     left-step (offset-at (a .key-start) (lexicon (a .chars .now) (a .lengths .now)) (a .index .now) (a .string .now) (a .first)) (a .from)
     (a .to) (a .reach .now) (l .reach) (l .highest) (l .line) (a .to) (l .inv) (c .before .before .before .before .loop-test .taken)
     (c .before .before .extend-line .kept .1 .1 .1 .1 .1 .1 .1 .1 .1 .0) (c .before .before .extend-line .ensures)
-
-same-length : tie.Need-same-length Inv-loop μ-loop
-same-length c = c .before .loop .inv .len
 
 returns : tie.Need-returns Inv-loop μ-loop
 returns c =
@@ -55,4 +48,5 @@ pub extend-lines-spec : {M : Type 1} → statement M
 extend-lines-spec =
     tie.close
     (tie.spec
-    Inv-loop μ-loop loop-holds extend-line-requires add-line (λ c. search needs) loop-again same-length returns)
+    Inv-loop μ-loop loop-holds extend-line-requires (λ c. omega arith) (λ c. search needs) loop-again (λ c. c .before .loop .inv .len)
+    returns)

@@ -66,10 +66,6 @@ loop-holds c =
       refl,
     )
 
-goes-on-requires : tie.Need-goes-on-requires Inv-loop μ-loop
-goes-on-requires c κs =
-    omega arith
-
 word-length-requires : tie.Need-word-length-requires Inv-loop μ-loop
 word-length-requires c κs =
     let s = c .before .before .before .before .before .before .before .before .before .before in
@@ -83,10 +79,6 @@ extend-line-requires c κs =
     let s = c .before .before .before .before .before .before .before .before .before .before .before .before .before in
     let l = c .before .before .before .before .before .loop in
     (s .pre .0, omega arith, omega (arith, some (c .before .before .before)), s .pre .4, l .inv .0 .bounded)
-
-add-low : tie.Need-add-low Inv-loop μ-loop
-add-low c =
-    omega arith
 
 loop-less : tie.Need-loop-less Inv-loop μ-loop
 loop-less c = omega (arith, some (c .before .before .before .before .before .before))
@@ -106,15 +98,6 @@ loop-again c =
       l .inv .2,
     )
 
-add-equal-range : tie.Need-add-equal-range Inv-loop μ-loop
-add-equal-range c = omega (arith, below (c .before .before))
-
-mul-equal-range : tie.Need-mul-equal-range Inv-loop μ-loop
-mul-equal-range c = omega (arith, below (c .before .before))
-
-shared-slice-read-equal-range : tie.Need-shared-slice-read-equal-range Inv-loop μ-loop
-shared-slice-read-equal-range c = below (c .before .before .before)
-
 equal-range-requires : tie.Need-equal-range-requires Inv-loop μ-loop
 equal-range-requires c κs =
     let s = c .before .before .before .before .before .before .before .before .before .before .before .before .before in
@@ -122,17 +105,13 @@ equal-range-requires c κs =
     shared-prefix-column (s .pre .0 .can) (s .pre .1) (s .pre .0 .word-starts)
     (l .inv .1) (some (c .before .before .before)) (λ e. c .before .if2 .left (c .before .before .word-length .ensures ∙ e))
 
-add-depth : tie.Need-add-depth Inv-loop μ-loop
-add-depth c = omega (arith, below (c .before .before .before .before))
-
 loop-less-2 : tie.Need-loop-less-2 Inv-loop μ-loop
 loop-less-2 c =
     let s = c .before .before .before .before .before .before .before .before .before .before .before .before .before .before in
     let l = c .before .before .before .before .before .before .loop in
     omega (
       arith,
-      shared-deep (s .pre .0 .can) (s .pre .1) (s .pre .0 .word-starts)
-          (l .inv .1) (some (c .before .before .before .before))
+      shared-deep (s .pre .0 .can) (s .pre .1) (s .pre .0 .word-starts) (l .inv .1) (some (c .before .before .before .before))
           (λ e. c .before .before .if2 .left (c .before .before .before .word-length .ensures ∙ e)),
       some (c .before .before .before .before),
     )
@@ -154,8 +133,7 @@ loop-again-2 c =
           (l .inv .1) (some (c .before .before .before .before))
           (λ e. c .before .before .if2 .left (c .before .before .before .word-length .ensures ∙ e))
           refl (below (c .before .before .before .before)) (c .equal-range .ensures .0) (c .equal-range .ensures .1) (a .first)),
-      shared-prefix-deeper (s .pre .0 .can) (s .pre .1) (s .pre .0 .word-starts)
-          (l .inv .1) (some (c .before .before .before .before))
+      shared-prefix-deeper (s .pre .0 .can) (s .pre .1) (s .pre .0 .word-starts) (l .inv .1) (some (c .before .before .before .before))
           (λ e. c .before .before .if2 .left (c .before .before .before .word-length .ensures ∙ e))
           refl (below (c .before .before .before .before)) (c .equal-range .ensures .0) (c .equal-range .ensures .1),
       l .inv .2,
@@ -184,6 +162,7 @@ pub extend-words-spec : {M : Type 1} → statement M
 extend-words-spec =
     tie.close
     (tie.spec
-    Inv-loop μ-loop (λ c. omega arith) loop-holds goes-on-requires word-length-requires extend-line-requires add-low loop-less loop-again
-    add-equal-range mul-equal-range shared-slice-read-equal-range equal-range-requires add-depth loop-less-2 loop-again-2
-    extend-lines-requires same-length returns)
+    Inv-loop μ-loop (λ c. omega arith) loop-holds (λ c κs. omega arith) word-length-requires extend-line-requires (λ c. omega arith)
+    loop-less loop-again (λ c. omega (arith, below (c .before .before))) (λ c. omega (arith, below (c .before .before)))
+    (λ c. below (c .before .before .before)) equal-range-requires (λ c. omega (arith, below (c .before .before .before .before)))
+    loop-less-2 loop-again-2 extend-lines-requires same-length returns)

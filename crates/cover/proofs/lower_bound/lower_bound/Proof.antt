@@ -17,17 +17,13 @@ abbrev μ-loop : tie.MeasureT-loop
 abbrev middle : tie.At-loop Inv-loop μ-loop → ℕ
 middle turn = turn .loop .a + (turn .loop .b - turn .loop .a) / 2
 
-cast-if2 : tie.Need-cast-if2 Inv-loop μ-loop
-cast-if2 c = omega (arith, c .shared-slice-known .given 0)
-
 returns-2 : tie.Need-returns-2 Inv-loop μ-loop
 returns-2 c =
     let start = c .before .before .before in
     bound-first (start .pre) (start .args .least) (omega arith) (c .if2 .taken)
 
 cast-if3 : tie.Need-cast-if3 Inv-loop μ-loop
-cast-if3 c =
-    omega (arith, c .shared-slice-known2 .given (length (c .before .before .before .before .args .positions .now) - 1))
+cast-if3 c = omega (arith, c .shared-slice-known2 .given (length (c .before .before .before .before .args .positions .now) - 1))
 
 returns-3 : tie.Need-returns-3 Inv-loop μ-loop
 returns-3 c =
@@ -63,6 +59,7 @@ pub lower-bound-spec : {M : Type 1} → statement M
 lower-bound-spec =
     tie.close
     (tie.spec
-    Inv-loop μ-loop (λ c. search needs) (λ c. search needs) cast-if2 returns-2 (λ c. search needs) (λ c. search needs) (λ c. search needs)
-    cast-if3 returns-3 loop-holds (λ c. search needs) (λ c. search needs) (λ c. omega arith) (λ c. omega arith) cast-if4 (λ c. search needs)
-    (λ c. omega arith) loop-again (λ c. omega arith) loop-again-2 returns-4)
+    Inv-loop μ-loop (λ c. search needs) (λ c. search needs) (λ c. omega (arith, c .shared-slice-known .given 0)) returns-2
+    (λ c. search needs) (λ c. search needs) (λ c. search needs) cast-if3 returns-3 loop-holds (λ c. search needs) (λ c. search needs)
+    (λ c. omega arith) (λ c. omega arith) cast-if4 (λ c. search needs) (λ c. omega arith) loop-again (λ c. omega arith) loop-again-2
+    returns-4)

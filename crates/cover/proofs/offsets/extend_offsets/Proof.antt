@@ -24,9 +24,6 @@ loop-holds c =
     offsets-start (lexicon (a .chars .now) (a .lengths .now)) (lines-in (a .index .now)) (a .string .now) (a .first) (a .reach .now)
     (a .max-reach) (s .pre .2) (s .pre .5)
 
-same-length : tie.Need-same-length Inv-loop μ-loop
-same-length c = c .before .before .loop .inv .way .len
-
 returns : tie.Need-returns Inv-loop μ-loop
 returns c =
     let a = c .before .before .before .before .before .before .before .before .before .before .args in
@@ -47,9 +44,6 @@ loop-again c =
     (c .before .before .before .before .before .loop-test .taken)
     (c .before .before .extend-offset .kept .1 .1 .1 .1 .1 .1 .1 .1 .1 .0) (c .before .before .extend-offset .ensures)
 
-same-length-2 : tie.Need-same-length-2 Inv-loop μ-loop
-same-length-2 c = c .before .loop .inv .way .len
-
 returns-2 : tie.Need-returns-2 Inv-loop μ-loop
 returns-2 c =
     let a = c .before .before .before .before .before .before .before .before .before .args in
@@ -61,5 +55,5 @@ pub extend-offsets-spec : {M : Type 1} → statement M
 extend-offsets-spec =
     tie.close
     (tie.spec
-    Inv-loop μ-loop loop-holds same-length returns extend-offset-requires (λ c. search needs) (λ c. search needs) loop-again same-length-2
-    returns-2)
+    Inv-loop μ-loop loop-holds (λ c. c .before .before .loop .inv .way .len) returns extend-offset-requires (λ c. search needs)
+    (λ c. search needs) loop-again (λ c. c .before .loop .inv .way .len) returns-2)

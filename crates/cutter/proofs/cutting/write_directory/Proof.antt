@@ -17,26 +17,11 @@ Inv-loop chars lengths index string flags from output₀ count at₀ line₀ out
 abbrev μ-loop : tie.MeasureT-loop
 μ-loop chars lengths index string flags from output₀ count at₀ line₀ output at line = count - line
 
-cast-count : tie.Need-cast-count Inv-loop μ-loop
-cast-count c = omega (arith, c .shared-slice-known .given 1)
-
 loop-holds : tie.Need-loop-holds Inv-loop μ-loop
 loop-holds c =
     let s = c .before in
     let a = s .args in
     listing-start (lexicon (a .chars .now) (a .lengths .now)) (a .index .now) (a .string .now) (a .from) (a .output .now) (s .pre .2)
-
-shared-slice-read-if1 : tie.Need-shared-slice-read-if1 Inv-loop μ-loop
-shared-slice-read-if1 c =
-    omega arith
-
-add-output : tie.Need-add-output Inv-loop μ-loop
-add-output c =
-    omega arith
-
-shared-slice-read-output : tie.Need-shared-slice-read-output Inv-loop μ-loop
-shared-slice-read-output c =
-    omega arith
 
 slice-write-output : tie.Need-slice-write-output Inv-loop μ-loop
 slice-write-output c =
@@ -49,18 +34,6 @@ slice-write-output c =
           (c .before .before .before .loop-test .taken) (exact-flags-get (lexicon (a .chars .now) (a .lengths .now)) (a .index .now)
           (a .string .now) (s .pre .1) (l .line) (c .before .before .before .loop-test .taken) (c .before .if1 .taken)) (s .pre .0),
     )
-
-add-output-2 : tie.Need-add-output-2 Inv-loop μ-loop
-add-output-2 c =
-    omega arith
-
-add-output-3 : tie.Need-add-output-3 Inv-loop μ-loop
-add-output-3 c =
-    omega arith
-
-shared-slice-read-output-2 : tie.Need-shared-slice-read-output-2 Inv-loop μ-loop
-shared-slice-read-output-2 c =
-    omega arith
 
 add-output-4 : tie.Need-add-output-4 Inv-loop μ-loop
 add-output-4 c =
@@ -87,18 +60,6 @@ slice-write-output-2 c =
           (a .string .now) (s .pre .1) (l .line) (c .before .before .before .before .loop-test .taken) (c .before .before .if1 .taken))
           (s .pre .0),
     ))
-
-add-output-5 : tie.Need-add-output-5 Inv-loop μ-loop
-add-output-5 c =
-    omega arith
-
-add-output-6 : tie.Need-add-output-6 Inv-loop μ-loop
-add-output-6 c =
-    omega arith
-
-shared-slice-read-output-3 : tie.Need-shared-slice-read-output-3 Inv-loop μ-loop
-shared-slice-read-output-3 c =
-    omega arith
 
 add-output-7 : tie.Need-add-output-7 Inv-loop μ-loop
 add-output-7 c =
@@ -158,9 +119,6 @@ loop-again-2 c =
     (exact-flags-none (lexicon (a .chars .now) (a .lengths .now)) (a .index .now) (a .string .now) (s .pre .1) (l .line)
     (c .before .before .loop-test .taken) (c .if1 .left))
 
-same-length : tie.Need-same-length Inv-loop μ-loop
-same-length c = c .before .loop .inv .way .len
-
 returns : tie.Need-returns Inv-loop μ-loop
 returns c =
     let s = c .before .before .before in
@@ -172,8 +130,9 @@ pub write-directory-spec : {M : Type 1} → statement M
 write-directory-spec =
     tie.close
     (tie.spec
-    Inv-loop μ-loop (λ c. omega arith) cast-count loop-holds (λ c. search needs) shared-slice-read-if1 (λ c. search needs) add-output
-    (λ c. search needs) shared-slice-read-output (λ c. search needs) slice-write-output (λ c. search needs) add-output-2 add-output-3
-    (λ c. search needs) shared-slice-read-output-2 add-output-4 (λ c. search needs) slice-write-output-2 (λ c. search needs) add-output-5
-    add-output-6 (λ c. search needs) shared-slice-read-output-3 add-output-7 (λ c. search needs) slice-write-output-3 add-at
-    (λ c. search needs) loop-again (λ c. search needs) loop-again-2 same-length returns)
+    Inv-loop μ-loop (λ c. omega arith) (λ c. omega (arith, c .shared-slice-known .given 1)) loop-holds (λ c. search needs)
+    (λ c. omega arith) (λ c. search needs) (λ c. omega arith) (λ c. search needs) (λ c. omega arith) (λ c. search needs) slice-write-output
+    (λ c. search needs) (λ c. omega arith) (λ c. omega arith) (λ c. search needs) (λ c. omega arith) add-output-4 (λ c. search needs)
+    slice-write-output-2 (λ c. search needs) (λ c. omega arith) (λ c. omega arith) (λ c. search needs) (λ c. omega arith) add-output-7
+    (λ c. search needs) slice-write-output-3 add-at (λ c. search needs) loop-again (λ c. search needs) loop-again-2
+    (λ c. c .before .loop .inv .way .len) returns)

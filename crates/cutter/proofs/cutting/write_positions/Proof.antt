@@ -17,15 +17,6 @@ Inv-loop chars lengths index string flags part₀ count start₀ at₀ line₀ p
 abbrev μ-loop : tie.MeasureT-loop
 μ-loop chars lengths index string flags part₀ count start₀ at₀ line₀ part start at line = count - line
 
-cast-count : tie.Need-cast-count Inv-loop μ-loop
-cast-count c = omega (arith, c .shared-slice-known6 .given 1)
-
-mul-start : tie.Need-mul-start Inv-loop μ-loop
-mul-start c = omega (arith, c .shared-slice-known6 .given 1)
-
-add-start : tie.Need-add-start Inv-loop μ-loop
-add-start c = omega (arith, c .shared-slice-known6 .given 1)
-
 loop-holds : tie.Need-loop-holds Inv-loop μ-loop
 loop-holds c =
     let s = c .before .before .before .before .before .before .before in
@@ -44,10 +35,6 @@ add-end-2 c = omega (arith, c .before .before .shared-slice-known6 .given 1)
 mul-end-2 : tie.Need-mul-end-2 Inv-loop μ-loop
 mul-end-2 c = omega (arith, c .before .before .shared-slice-known6 .given 1)
 
-shared-slice-read-end : tie.Need-shared-slice-read-end Inv-loop μ-loop
-shared-slice-read-end c =
-    omega arith
-
 cast-end : tie.Need-cast-end Inv-loop μ-loop
 cast-end c = omega (arith, c .shared-slice-known7 .given (2 + 3 * c .before .before .loop .line + 2))
 
@@ -64,10 +51,6 @@ add-end-3 c =
 
 add-line : tie.Need-add-line Inv-loop μ-loop
 add-line c = omega (arith, c .before .before .before .shared-slice-known6 .given 1)
-
-shared-slice-read-if1 : tie.Need-shared-slice-read-if1 Inv-loop μ-loop
-shared-slice-read-if1 c =
-    omega arith
 
 mul-write-list : tie.Need-mul-write-list Inv-loop μ-loop
 mul-write-list c =
@@ -138,9 +121,6 @@ loop-again-2 c =
     (exact-flags-none (lexicon (a .chars .now) (a .lengths .now)) (a .index .now) (a .string .now) (s .pre .1) (l .line)
     (c .before .before .before .loop-test .taken) (c .if1 .left))
 
-same-length : tie.Need-same-length Inv-loop μ-loop
-same-length c = c .before .loop .inv .way .len
-
 returns : tie.Need-returns Inv-loop μ-loop
 returns c =
     let s = c .before .before .before .before .before .before .before .before .before in
@@ -152,6 +132,8 @@ pub write-positions-spec : {M : Type 1} → statement M
 write-positions-spec =
     tie.close
     (tie.spec
-    Inv-loop μ-loop (λ c. omega arith) cast-count mul-start add-start loop-holds mul-end add-end add-end-2 mul-end-2 shared-slice-read-end
-    cast-end add-end-3 add-line shared-slice-read-if1 mul-write-list (λ c. omega arith) (λ c. search needs) part-write-list-end
-    write-list-requires (λ c. omega arith) add-at (λ c. search needs) loop-again (λ c. search needs) loop-again-2 same-length returns)
+    Inv-loop μ-loop (λ c. omega arith) (λ c. omega (arith, c .shared-slice-known6 .given 1))
+    (λ c. omega (arith, c .shared-slice-known6 .given 1)) (λ c. omega (arith, c .shared-slice-known6 .given 1)) loop-holds mul-end add-end
+    add-end-2 mul-end-2 (λ c. omega arith) cast-end add-end-3 add-line (λ c. omega arith) mul-write-list (λ c. omega arith)
+    (λ c. search needs) part-write-list-end write-list-requires (λ c. omega arith) add-at (λ c. search needs) loop-again
+    (λ c. search needs) loop-again-2 (λ c. c .before .loop .inv .way .len) returns)

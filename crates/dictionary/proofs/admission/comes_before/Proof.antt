@@ -14,12 +14,6 @@ Inv-loop left right shared i₀ i = Equal-front left right i
 abbrev μ-loop : tie.MeasureT-loop
 μ-loop left right shared i₀ i = shared - i
 
-equal-fours-requires : tie.Need-equal-fours-requires Inv-loop μ-loop
-equal-fours-requires c κs = (omega arith, omega arith)
-
-loop-holds : tie.Need-loop-holds Inv-loop μ-loop
-loop-holds c = c .equal-fours .ensures
-
 returns : tie.Need-returns Inv-loop μ-loop
 returns c =
     let start = c .before .before .before .before .before .before .before .before .before in
@@ -48,5 +42,5 @@ pub comes-before-spec : {M : Type 1} → statement M
 comes-before-spec =
     tie.close
     (tie.spec
-    Inv-loop μ-loop (λ c κs. search needs) equal-fours-requires loop-holds (λ c. search needs) (λ c. search needs) (λ c. search needs)
-    (λ c. search needs) returns (λ c. search needs) (λ c. search needs) loop-again returns-2)
+    Inv-loop μ-loop (λ c κs. search needs) (λ c κs. (omega arith, omega arith)) (λ c. c .equal-fours .ensures) (λ c. search needs)
+    (λ c. search needs) (λ c. search needs) (λ c. search needs) returns (λ c. search needs) (λ c. search needs) loop-again returns-2)

@@ -14,15 +14,6 @@ Inv-loop left right shared i₀ i = (i ≤ shared) × Equal-front left right i
 abbrev μ-loop : tie.MeasureT-loop
 μ-loop left right shared i₀ i = shared - i
 
-returns : tie.Need-returns Inv-loop μ-loop
-returns c = (omega arith, omega arith, refl)
-
-loop-holds : tie.Need-loop-holds Inv-loop μ-loop
-loop-holds c = (omega arith, (omega arith, omega arith, refl))
-
-returns-2 : tie.Need-returns-2 Inv-loop μ-loop
-returns-2 c = c .before .before .before .before .loop .inv .1
-
 returns-3 : tie.Need-returns-3 Inv-loop μ-loop
 returns-3 c =
     let first = c .before .before .before in
@@ -55,15 +46,13 @@ loop-again c =
           (first .if2 .left) (second .if3 .left) (third .if4 .left) (c .if5 .left) (turn .inv .1),
     )
 
-returns-6 : tie.Need-returns-6 Inv-loop μ-loop
-returns-6 c = c .before .loop .inv .1
-
 pub equal-fours-spec : {M : Type 1} → statement M
 equal-fours-spec =
     tie.close
     (tie.spec
-    Inv-loop μ-loop returns loop-holds (λ c. search needs) (λ c. search needs) (λ c. search needs) (λ c. search needs) (λ c. search needs)
-    returns-2 (λ c. search needs) (λ c. search needs) (λ c. search needs) (λ c. search needs) (λ c. search needs) (λ c. search needs)
-    returns-3 (λ c. search needs) (λ c. search needs) (λ c. search needs) (λ c. search needs) (λ c. search needs) (λ c. search needs)
-    returns-4 (λ c. search needs) (λ c. search needs) (λ c. search needs) (λ c. search needs) (λ c. search needs) (λ c. search needs)
-    returns-5 (λ c. search needs) (λ c. search needs) loop-again returns-6)
+    Inv-loop μ-loop (λ c. (omega arith, omega arith, refl)) (λ c. (omega arith, (omega arith, omega arith, refl))) (λ c. search needs)
+    (λ c. search needs) (λ c. search needs) (λ c. search needs) (λ c. search needs) (λ c. c .before .before .before .before .loop .inv .1)
+    (λ c. search needs) (λ c. search needs) (λ c. search needs) (λ c. search needs) (λ c. search needs) (λ c. search needs) returns-3
+    (λ c. search needs) (λ c. search needs) (λ c. search needs) (λ c. search needs) (λ c. search needs) (λ c. search needs) returns-4
+    (λ c. search needs) (λ c. search needs) (λ c. search needs) (λ c. search needs) (λ c. search needs) (λ c. search needs) returns-5
+    (λ c. search needs) (λ c. search needs) loop-again (λ c. c .before .loop .inv .1))

@@ -14,9 +14,6 @@ Inv-loop lengths count sum₀ good₀ i₀ sum good i = Lengths-read lengths sum
 abbrev μ-loop : tie.MeasureT-loop
 μ-loop lengths count sum₀ good₀ i₀ sum good i = length lengths - i
 
-loop-holds : tie.Need-loop-holds Inv-loop μ-loop
-loop-holds c = lengths-start (c .args .lengths .now)
-
 cast-sum : tie.Need-cast-sum Inv-loop μ-loop
 cast-sum c = omega (arith, c .shared-slice-known .given (c .before .before .loop .i))
 
@@ -47,5 +44,5 @@ pub lengths-fit-spec : {M : Type 1} → statement M
 lengths-fit-spec =
     tie.close
     (tie.spec
-    Inv-loop μ-loop loop-holds (λ c. search needs) (λ c. search needs) cast-sum add-sum (λ c. search needs) (λ c. search needs) loop-again
-    (λ c. omega arith) returns)
+    Inv-loop μ-loop (λ c. lengths-start (c .args .lengths .now)) (λ c. search needs) (λ c. search needs) cast-sum add-sum
+    (λ c. search needs) (λ c. search needs) loop-again (λ c. omega arith) returns)

@@ -20,9 +20,6 @@ abbrev μ-loop : tie.MeasureT-loop
 returns : tie.Need-returns Inv-loop μ-loop
 returns c = no-words (c .before .before .before .args .chars .now) (c .before .before .before .args .lengths .now) (c .if1 .taken)
 
-cast-next : tie.Need-cast-next Inv-loop μ-loop
-cast-next c = omega (arith, c .shared-slice-known3 .given 0)
-
 prefix-code-requires : tie.Need-prefix-code-requires Inv-loop μ-loop
 prefix-code-requires c κs =
     let first = words-start (c .before .before .before .before .args .chars .now) (c .before .before .before .before .args .lengths .now)
@@ -98,5 +95,6 @@ pub words-ascend-spec : {M : Type 1} → statement M
 words-ascend-spec =
     tie.close
     (tie.spec
-    Inv-loop μ-loop returns (λ c. search needs) cast-next prefix-code-requires loop-holds (λ c. search needs) (λ c. search needs) cast-end
-    add-end prefix-code-requires-2 neighbours-ascend-requires returns-2 (λ c. search needs) (λ c. search needs) loop-again returns-3)
+    Inv-loop μ-loop returns (λ c. search needs) (λ c. omega (arith, c .shared-slice-known3 .given 0)) prefix-code-requires loop-holds
+    (λ c. search needs) (λ c. search needs) cast-end add-end prefix-code-requires-2 neighbours-ascend-requires returns-2
+    (λ c. search needs) (λ c. search needs) loop-again returns-3)

@@ -35,5 +35,5 @@ pub equal-range-spec : {M : Type 1} → statement M
 equal-range-spec =
     tie.close
     (tie.spec
-    char-at-requires (λ c. search needs) char-at-requires-2 returns (λ c κs. search needs) (λ c. search needs)
-    word-lower-bound-requires-2 (λ c. search needs))
+    char-at-requires (λ c. search needs) char-at-requires-2 returns (λ c κs. search needs) (λ c. search needs) word-lower-bound-requires-2
+    (λ c. search needs))

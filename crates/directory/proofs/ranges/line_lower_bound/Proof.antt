@@ -14,9 +14,6 @@ Inv-loop index low high field least a₀ b₀ a b = Bisected (number-at index fi
 abbrev μ-loop : tie.MeasureT-loop
 μ-loop index low high field least a₀ b₀ a b = b - a
 
-loop-holds : tie.Need-loop-holds Inv-loop μ-loop
-loop-holds c = bisected-start (c .pre .2) (c .args .least)
-
 cast-if1 : tie.Need-cast-if1 Inv-loop μ-loop
 cast-if1 c = omega (
   arith,
@@ -38,13 +35,12 @@ loop-again-2 c =
     (c .before .before .before .loop .b - c .before .before .before .loop .a) / 2) (omega arith) (omega arith) (c .if1 .left)
 
 returns : tie.Need-returns Inv-loop μ-loop
-returns c =
-    bisected-end (c .before .before .pre .2) (c .before .before .args .least) (c .before .loop .inv) (c .loop-test .left)
+returns c = bisected-end (c .before .before .pre .2) (c .before .before .args .least) (c .before .loop .inv) (c .loop-test .left)
 
 pub line-lower-bound-spec : {M : Type 1} → statement M
 line-lower-bound-spec =
     tie.close
     (tie.spec
-    Inv-loop μ-loop loop-holds (λ c. search needs) (λ c. search needs) (λ c. omega arith) (λ c. omega arith) (λ c. omega arith)
-    (λ c. omega arith) (λ c. omega arith) cast-if1 (λ c. search needs) (λ c. omega arith) loop-again
+    Inv-loop μ-loop (λ c. bisected-start (c .pre .2) (c .args .least)) (λ c. search needs) (λ c. search needs) (λ c. omega arith)
+    (λ c. omega arith) (λ c. omega arith) (λ c. omega arith) (λ c. omega arith) cast-if1 (λ c. search needs) (λ c. omega arith) loop-again
     (λ c. omega arith) loop-again-2 returns)

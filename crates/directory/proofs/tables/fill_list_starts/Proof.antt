@@ -51,9 +51,6 @@ loop-again c =
       l .inv .6,
     )
 
-same-length : tie.Need-same-length Inv-loop μ-loop
-same-length c = c .before .loop .inv .1
-
 returns : tie.Need-returns Inv-loop μ-loop
 returns c =
     let l = c .before .loop in
@@ -65,4 +62,4 @@ fill-list-starts-spec =
     (tie.spec
     Inv-loop μ-loop loop-holds (λ c. omega arith) (λ c. search needs) (λ c. search needs) (λ c. search needs) (λ c. search needs)
     (λ c. search needs) (λ c. search needs) (λ c. search needs) cast-at add-at-3 (λ c. search needs) (λ c. search needs) loop-again
-    same-length returns)
+    (λ c. c .before .loop .inv .1) returns)

@@ -46,9 +46,6 @@ loop-again c =
       omega (arith, word-start-next (a .lengths .now) (l .i) (c .before .loop-test .taken)),
     )
 
-same-length : tie.Need-same-length Inv-loop μ-loop
-same-length c = c .before .loop .inv .1
-
 returns : tie.Need-returns Inv-loop μ-loop
 returns c =
     let l = c .before .loop in
@@ -59,4 +56,4 @@ fill-word-starts-spec =
     tie.close
     (tie.spec
     Inv-loop μ-loop loop-holds cast-word-starts (λ c. search needs) (λ c. search needs) (λ c. search needs) (λ c. search needs) cast-at
-    add-at (λ c. search needs) (λ c. search needs) loop-again same-length returns)
+    add-at (λ c. search needs) (λ c. search needs) loop-again (λ c. c .before .loop .inv .1) returns)

@@ -27,14 +27,8 @@ bit-small : (b : Bool) → boolByte b ≤ 1
 bit-small true = omega arith
 bit-small false = omega arith
 
-loop-holds : tie.Need-loop-holds Inv-loop μ-loop
-loop-holds c = counting-start (c .args .len) (c .args .reach .now)
-
 cast-count : tie.Need-cast-count Inv-loop μ-loop
 cast-count c = omega (arith, c .shared-slice-known .given (c .before .before .loop .i))
-
-cast-count-2 : tie.Need-cast-count-2 Inv-loop μ-loop
-cast-count-2 c = tt
 
 add-count : tie.Need-add-count Inv-loop μ-loop
 add-count c =
@@ -59,5 +53,5 @@ pub count-found-spec : {M : Type 1} → statement M
 count-found-spec =
     tie.close
     (tie.spec
-    Inv-loop μ-loop loop-holds (λ c. search needs) (λ c. search needs) cast-count cast-count-2 add-count (λ c. search needs)
-    (λ c. search needs) loop-again returns)
+    Inv-loop μ-loop (λ c. counting-start (c .args .len) (c .args .reach .now)) (λ c. search needs) (λ c. search needs) cast-count (λ c. tt)
+    add-count (λ c. search needs) (λ c. search needs) loop-again returns)

@@ -19,20 +19,8 @@ loop-holds c = passing-start (c .args .len) (c .args .reach .now) (c .args .from
 below : (c : tie.At-loop Inv-loop μ-loop) → c .loop .i < length (c .before .args .reach .now)
 below c = passing-below (c .before .args .len) (c .before .args .reach .now) (c .before .args .from) (c .loop .inv)
 
-mul-if1 : tie.Need-mul-if1 Inv-loop μ-loop
-mul-if1 c = omega (arith, below c)
-
-shared-slice-read-if1 : tie.Need-shared-slice-read-if1 Inv-loop μ-loop
-shared-slice-read-if1 c = below (c .before)
-
 cast-if1 : tie.Need-cast-if1 Inv-loop μ-loop
 cast-if1 c = omega (arith, c .shared-slice-known .given (c .before .loop .i))
-
-add-i : tie.Need-add-i Inv-loop μ-loop
-add-i c = omega (arith, below (c .before .before))
-
-loop-less : tie.Need-loop-less Inv-loop μ-loop
-loop-less c = omega (arith, below (c .before .before))
 
 loop-again : tie.Need-loop-again Inv-loop μ-loop
 loop-again c =
@@ -50,13 +38,5 @@ pub next-found-spec : {M : Type 1} → statement M
 next-found-spec =
     tie.close
     (tie.spec
-    Inv-loop
-    μ-loop
-    loop-holds
-    mul-if1
-    shared-slice-read-if1
-    cast-if1
-    add-i
-    loop-less
-    loop-again
-    returns)
+    Inv-loop μ-loop loop-holds (λ c. omega (arith, below c)) (λ c. below (c .before)) cast-if1
+    (λ c. omega (arith, below (c .before .before))) (λ c. omega (arith, below (c .before .before))) loop-again returns)

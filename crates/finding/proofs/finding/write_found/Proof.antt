@@ -26,26 +26,6 @@ next-found-requires c κs =
     let l = c .before .loop in
     finding-more (a .len) (a .first) (a .reach .now) (a .output .now) (l .inv) (omega arith)
 
-add-output : tie.Need-add-output Inv-loop μ-loop
-add-output c =
-    omega arith
-
-cast-output : tie.Need-cast-output Inv-loop μ-loop
-cast-output c =
-    omega arith
-
-mul-output : tie.Need-mul-output Inv-loop μ-loop
-mul-output c =
-    omega arith
-
-slice-write-output : tie.Need-slice-write-output Inv-loop μ-loop
-slice-write-output c =
-    omega arith
-
-add-i : tie.Need-add-i Inv-loop μ-loop
-add-i c =
-    omega arith
-
 loop-again : tie.Need-loop-again Inv-loop μ-loop
 loop-again c =
     let s = c .before .before .before .before .before in
@@ -55,9 +35,6 @@ loop-again c =
     let next = finding-next (a .len) (a .first) (a .reach .now) (a .output .now) (l .inv) (n .ensures) in
     finding-write (a .len) (a .first) (a .reach .now) (a .output .now) next (n .ensures .within) (n .ensures .near)
     (omega arith)
-
-same-length : tie.Need-same-length Inv-loop μ-loop
-same-length c = c .before .loop .inv .len
 
 returns : tie.Need-returns Inv-loop μ-loop
 returns c =
@@ -70,5 +47,5 @@ pub write-found-spec : {M : Type 1} → statement M
 write-found-spec =
     tie.close
     (tie.spec
-    Inv-loop μ-loop loop-holds next-found-requires add-output cast-output mul-output slice-write-output (λ c. search needs) add-i
-    (λ c. omega arith) loop-again same-length returns)
+    Inv-loop μ-loop loop-holds next-found-requires (λ c. omega arith) (λ c. omega arith) (λ c. omega arith) (λ c. omega arith)
+    (λ c. search needs) (λ c. omega arith) (λ c. omega arith) loop-again (λ c. c .before .loop .inv .len) returns)

@@ -15,9 +15,6 @@ Inv-loop text all₀ i₀ all i = Exceeds text all i
 abbrev μ-loop : tie.MeasureT-loop
 μ-loop text all₀ i₀ all i = length text - i
 
-loop-holds : tie.Need-loop-holds Inv-loop μ-loop
-loop-holds c = (omega arith, λ e. refl)
-
 loop-again : tie.Need-loop-again Inv-loop μ-loop
 loop-again c =
     let turn = c .before .before .before .loop in
@@ -34,5 +31,5 @@ pub excesses-spec : {M : Type 1} → statement M
 excesses-spec =
     tie.close
     (tie.spec
-    Inv-loop μ-loop loop-holds (λ c. search needs) (λ c. search needs) (λ c κs. search needs) (λ c. search needs) (λ c. search needs)
-    loop-again returns)
+    Inv-loop μ-loop (λ c. (omega arith, λ e. refl)) (λ c. search needs) (λ c. search needs) (λ c κs. search needs) (λ c. search needs)
+    (λ c. search needs) loop-again returns)

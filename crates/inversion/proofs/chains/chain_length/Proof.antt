@@ -40,20 +40,8 @@ add-count c = omega (
   chain-short (length (c .before .before .args .links .now)) (c .before .before .args .links .now) (c .before .before .args .head),
 )
 
-mul-at : tie.Need-mul-at Inv-loop μ-loop
-mul-at c = omega (arith, inside c)
-
-shared-slice-read-at : tie.Need-shared-slice-read-at Inv-loop μ-loop
-shared-slice-read-at c = inside (c .before)
-
 cast-at : tie.Need-cast-at Inv-loop μ-loop
 cast-at c = omega (arith, c .shared-slice-known .given (c .before .before .loop .at - 1))
-
-loop-less : tie.Need-loop-less Inv-loop μ-loop
-loop-less c = omega (arith, member (c .before) .below)
-
-loop-again : tie.Need-loop-again Inv-loop μ-loop
-loop-again c = member (c .before) .next
 
 returns : tie.Need-returns Inv-loop μ-loop
 returns c = walk-ends (c .before .before .args .links .now) (chain (c .before .before .args .links .now) (c .before .before .args .head))
@@ -63,4 +51,5 @@ pub chain-length-spec : {M : Type 1} → statement M
 chain-length-spec =
     tie.close
     (tie.spec
-    Inv-loop μ-loop loop-holds add-count (λ c. omega arith) mul-at shared-slice-read-at cast-at loop-less loop-again returns)
+    Inv-loop μ-loop loop-holds add-count (λ c. omega arith) (λ c. omega (arith, inside c)) (λ c. inside (c .before)) cast-at
+    (λ c. omega (arith, member (c .before) .below)) (λ c. member (c .before) .next) returns)

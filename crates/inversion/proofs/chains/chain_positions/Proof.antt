@@ -41,18 +41,6 @@ loop-holds c =
     links-start (replaced (start .args .text .now)) (start .args .tokens .now)
     (start .pre .1)
 
-mul-token : tie.Need-mul-token Inv-loop μ-loop
-mul-token c = omega (arith, below c)
-
-slice-read-token : tie.Need-slice-read-token Inv-loop μ-loop
-slice-read-token c = below (c .before)
-
-mul-code-of : tie.Need-mul-code-of Inv-loop μ-loop
-mul-code-of c = omega (arith, below (c .before .before))
-
-shared-slice-read-code-of : tie.Need-shared-slice-read-code-of Inv-loop μ-loop
-shared-slice-read-code-of c = text-below c
-
 code-of-requires : tie.Need-code-of-requires Inv-loop μ-loop
 code-of-requires c κs =
     let start = c .before .before .before .before .before .before .before .before .before in
@@ -64,9 +52,6 @@ code-of-requires c κs =
 
 mul-tokens : tie.Need-mul-tokens Inv-loop μ-loop
 mul-tokens c = omega (arith, below (c .before .before .before .before .before))
-
-slice-write-tokens : tie.Need-slice-write-tokens Inv-loop μ-loop
-slice-write-tokens c = below (c .before .before .before .before .before)
 
 add-heads : tie.Need-add-heads Inv-loop μ-loop
 add-heads c = omega (arith, below (c .before .before .before .before .before))
@@ -103,9 +88,6 @@ loop-again-3 c =
     (omega arith) (l .inv)
     (coded-none (getD (l .tokens) (l .p - 1) 0) (getD (replaced (start .args .text .now)) (l .p - 1) 0) (c .if1 .left))
 
-same-length : tie.Need-same-length Inv-loop μ-loop
-same-length c = c .before .loop .inv .linked .len
-
 same-length-2 : tie.Need-same-length-2 Inv-loop μ-loop
 same-length-2 c = c .before .loop .inv .codes ∙ sym (c .before .before .before .before .before .before .pre .1 .codes)
 
@@ -118,7 +100,8 @@ pub chain-positions-spec : {M : Type 1} → statement M
 chain-positions-spec =
     tie.close
     (tie.spec
-    Inv-loop μ-loop loop-holds (λ c. omega arith) mul-token slice-read-token mul-code-of shared-slice-read-code-of code-of-requires
-    (λ c. omega arith) (λ c. omega arith) mul-tokens slice-write-tokens add-heads cast-heads (λ c. omega arith) (λ c. omega arith)
-    (λ c. omega arith) (λ c. omega arith) (λ c. omega arith) (λ c. omega arith) loop-again (λ c. omega arith) loop-again-2
-    (λ c. omega arith) loop-again-3 same-length same-length-2 (λ c. omega arith) returns)
+    Inv-loop μ-loop loop-holds (λ c. omega arith) (λ c. omega (arith, below c)) (λ c. below (c .before))
+    (λ c. omega (arith, below (c .before .before))) (λ c. text-below c) code-of-requires (λ c. omega arith) (λ c. omega arith) mul-tokens
+    (λ c. below (c .before .before .before .before .before)) add-heads cast-heads (λ c. omega arith) (λ c. omega arith) (λ c. omega arith)
+    (λ c. omega arith) (λ c. omega arith) (λ c. omega arith) loop-again (λ c. omega arith) loop-again-2 (λ c. omega arith) loop-again-3
+    (λ c. c .before .loop .inv .linked .len) same-length-2 (λ c. omega arith) returns)

@@ -23,24 +23,16 @@ page c =
 loop-holds : tie.Need-loop-holds Inv-loop μ-loop
 loop-holds c = passed-start (c .args .heads .now) (c .args .from) (c .pre .1)
 
-add-code : tie.Need-add-code Inv-loop μ-loop
-add-code c = omega (arith, page c .within)
-
-loop-again : tie.Need-loop-again Inv-loop μ-loop
-loop-again c = page c
-
 returns : tie.Need-returns Inv-loop μ-loop
 returns c = next-found (c .before .before .before .before .loop .inv) (c .if3 .taken)
 
 loop-again-2 : tie.Need-loop-again-2 Inv-loop μ-loop
 loop-again-2 c = passed-one (c .before .before .before .before .loop .inv) (omega arith) (c .if3 .left)
 
-returns-2 : tie.Need-returns-2 Inv-loop μ-loop
-returns-2 c = next-none (c .before .loop .inv) (c .loop-test .left)
-
 pub next-code-spec : {M : Type 1} → statement M
 next-code-spec =
     tie.close
     (tie.spec
-    Inv-loop μ-loop loop-holds (λ c. omega arith) add-code (λ c. omega arith) loop-again (λ c. search needs) (λ c. search needs) returns
-    (λ c. omega arith) (λ c. omega arith) loop-again-2 returns-2)
+    Inv-loop μ-loop loop-holds (λ c. omega arith) (λ c. omega (arith, page c .within)) (λ c. omega arith) (λ c. page c) (λ c. search needs)
+    (λ c. search needs) returns (λ c. omega arith) (λ c. omega arith) loop-again-2
+    (λ c. next-none (c .before .loop .inv) (c .loop-test .left)))

@@ -6,12 +6,6 @@ use borrow.Author.Needs.{needs}
 use Rattle.inversion.proofs.write.put_three.Statement.{statement}
 use Rattle.inversion.proofs.write.put_three.Tie as tie
 
-slice-write-output-2 : tie.Need-slice-write-output-2
-slice-write-output-2 c = simp length-set (omega arith)
-
-slice-write-output-3 : tie.Need-slice-write-output-3
-slice-write-output-3 c = simp length-set (omega arith)
-
 returns : tie.Need-returns
 returns c = three-written (c .args .output .now) (c .args .at) (c .args .first) (c .args .second) (c .args .third) (c .pre)
 
@@ -19,5 +13,5 @@ pub put-three-spec : {M : Type 1} → statement M
 put-three-spec =
     tie.close
     (tie.spec
-    (λ c. search needs) (λ c. search needs) (λ c. search needs) (λ c. search needs) slice-write-output-2 (λ c. search needs)
-    (λ c. search needs) slice-write-output-3 (λ c. search needs) returns)
+    (λ c. search needs) (λ c. search needs) (λ c. search needs) (λ c. search needs) (λ c. simp length-set (omega arith))
+    (λ c. search needs) (λ c. search needs) (λ c. simp length-set (omega arith)) (λ c. search needs) returns)

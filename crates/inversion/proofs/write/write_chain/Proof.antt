@@ -19,41 +19,13 @@ hand :
     (c : tie.In-loop Inv-loop μ-loop) →
     Copy-in-hand (c .before .before .args .links .now) (c .before .before .args .head) (c .before .before .args .part .now)
     (c .before .loop .part) (c .before .before .args .at) (c .before .loop .here) (c .before .loop .member)
-hand c =
-    copy-member (c .before .loop .inv) (c .before .before .pre .0) (c .loop-test .taken)
+hand c = copy-member (c .before .loop .inv) (c .before .before .pre .0) (c .loop-test .taken)
 
 len : (c : tie.In-loop Inv-loop μ-loop) → length (c .before .loop .part) ≡ length (c .before .before .args .part .now)
 len c = c .before .loop .inv .writing .len
 
 loop-holds : tie.Need-loop-holds Inv-loop μ-loop
 loop-holds c = copy-start (c .args .part .now) (c .args .at) (c .pre .0) (c .pre .1)
-
-mul-part : tie.Need-mul-part Inv-loop μ-loop
-mul-part c = omega (arith, hand c .room, len c)
-
-slice-write-part : tie.Need-slice-write-part Inv-loop μ-loop
-slice-write-part c = hand c .room
-
-add-here : tie.Need-add-here Inv-loop μ-loop
-add-here c = omega (arith, hand c .room, len c)
-
-cast-member : tie.Need-cast-member Inv-loop μ-loop
-cast-member c = omega (arith, hand c .linked)
-
-mul-member : tie.Need-mul-member Inv-loop μ-loop
-mul-member c = omega (arith, hand c .linked)
-
-shared-slice-read-member : tie.Need-shared-slice-read-member Inv-loop μ-loop
-shared-slice-read-member c = hand (c .before) .linked
-
-loop-less : tie.Need-loop-less Inv-loop μ-loop
-loop-less c = omega (arith, hand (c .before) .left)
-
-loop-again : tie.Need-loop-again Inv-loop μ-loop
-loop-again c = hand (c .before) .next
-
-same-length : tie.Need-same-length Inv-loop μ-loop
-same-length c = c .before .loop .inv .writing .len
 
 returns : tie.Need-returns Inv-loop μ-loop
 returns c = (
@@ -65,5 +37,6 @@ pub write-chain-spec : {M : Type 1} → statement M
 write-chain-spec =
     tie.close
     (tie.spec
-    Inv-loop μ-loop loop-holds mul-part slice-write-part add-here cast-member (λ c. omega arith) mul-member shared-slice-read-member
-    loop-less loop-again same-length returns)
+    Inv-loop μ-loop loop-holds (λ c. omega (arith, hand c .room, len c)) (λ c. hand c .room) (λ c. omega (arith, hand c .room, len c))
+    (λ c. omega (arith, hand c .linked)) (λ c. omega arith) (λ c. omega (arith, hand c .linked)) (λ c. hand (c .before) .linked)
+    (λ c. omega (arith, hand (c .before) .left)) (λ c. hand (c .before) .next) (λ c. c .before .loop .inv .writing .len) returns)

@@ -41,9 +41,6 @@ loop-holds c =
     listing-start directory-by-line (start .args .heads .now) (start .args .links .now) (start .args .output .now)
     (start .args .at) (start .pre .1) (c .next-code .ensures)
 
-shared-slice-read-chain-length : tie.Need-shared-slice-read-chain-length Inv-loop μ-loop
-shared-slice-read-chain-length c = c .before .loop-test .taken
-
 chain-length-requires : tie.Need-chain-length-requires Inv-loop μ-loop
 chain-length-requires c κs = c .before .before .before .before .before .before .before .before .pre .0 .threads
     (c .before .before .loop .code) (c .before .loop-test .taken)
@@ -82,9 +79,6 @@ loop-again c =
     (c .before .before .before .before .before .chain-length .ensures))
     (c .before .before .before .put-line .ensures)
 
-same-length : tie.Need-same-length Inv-loop μ-loop
-same-length c = c .before .loop .inv .writing .len
-
 returns : tie.Need-returns Inv-loop μ-loop
 returns c =
     let start = c .before .before .before .before .before .before .before in
@@ -96,5 +90,6 @@ pub write-directory-spec : {M : Type 1} → statement M
 write-directory-spec =
     tie.close
     (tie.spec
-    Inv-loop μ-loop next-code-requires loop-holds (λ c. omega arith) shared-slice-read-chain-length chain-length-requires put-line-requires
-    add-here (λ c. omega arith) next-code-requires-2 (λ c. omega arith) loop-again same-length returns)
+    Inv-loop μ-loop next-code-requires loop-holds (λ c. omega arith) (λ c. c .before .loop-test .taken) chain-length-requires
+    put-line-requires add-here (λ c. omega arith) next-code-requires-2 (λ c. omega arith) loop-again
+    (λ c. c .before .loop .inv .writing .len) returns)

@@ -86,13 +86,10 @@ same-length c =
     (start .args .keys)
     (start .pre .1 .0 .0) (start .args .output .now) (start .pre .1 .1)
 
-returns : tie.Need-returns
-returns c = done c
-
 pub write-index-spec : {M : Type 1} → statement M
 write-index-spec =
     tie.close
     (tie.spec
     (λ c. search needs) slice-write-output (λ c. search needs) slice-write-output-2 write-directory-requires (λ c. search needs)
     (λ c. search needs) (λ c. search needs) sub-write-positions part-write-positions-start (λ c. search needs) write-positions-requires
-    same-length returns)
+    same-length (λ c. done c))

@@ -44,9 +44,6 @@ loop-holds c =
     listing-start positions-by-line (start .args .heads .now) (start .args .links .now) (start .args .part .now) 0
     (omega arith) (c .next-code .ensures)
 
-shared-slice-read-write-chain : tie.Need-shared-slice-read-write-chain Inv-loop μ-loop
-shared-slice-read-write-chain c = c .before .loop-test .taken
-
 write-chain-requires : tie.Need-write-chain-requires Inv-loop μ-loop
 write-chain-requires c κs = (
   c .before .before .before .before .before .before .before .before .before .pre .0 .threads (c .before .before .before .loop .code)
@@ -70,9 +67,6 @@ loop-again c =
     (line-positions-are (l .code) (chain (start .args .links .now) (getD (start .args .heads .now) (l .code) 0)))
     (c .before .before .before .write-chain .ensures .1))
 
-same-length : tie.Need-same-length Inv-loop μ-loop
-same-length c = c .before .loop .inv .writing .len
-
 returns : tie.Need-returns Inv-loop μ-loop
 returns c =
     let start = c .before .before .before .before .before .before .before in
@@ -84,5 +78,5 @@ pub write-positions-spec : {M : Type 1} → statement M
 write-positions-spec =
     tie.close
     (tie.spec
-    Inv-loop μ-loop next-code-requires loop-holds (λ c. omega arith) shared-slice-read-write-chain write-chain-requires (λ c. omega arith)
-    next-code-requires-2 (λ c. omega arith) loop-again same-length returns)
+    Inv-loop μ-loop next-code-requires loop-holds (λ c. omega arith) (λ c. c .before .loop-test .taken) write-chain-requires
+    (λ c. omega arith) next-code-requires-2 (λ c. omega arith) loop-again (λ c. c .before .loop .inv .writing .len) returns)

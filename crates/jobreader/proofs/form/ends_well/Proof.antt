@@ -16,9 +16,6 @@ Inv-loop line at₀ at = (at ≤ length line) × (ends-well (drop at line) ≡ e
 abbrev μ-loop : tie.MeasureT-loop
 μ-loop line at₀ at = length line - at
 
-loop-holds : tie.Need-loop-holds Inv-loop μ-loop
-loop-holds c = (c .before .pre, refl)
-
 returns : tie.Need-returns Inv-loop μ-loop
 returns c =
     sym (sym (c .before .before .before .loop .inv .1) ∙ ends-next (c .before .before .before .before .before .args .line .now)
@@ -47,5 +44,5 @@ pub ends-well-spec : {M : Type 1} → statement M
 ends-well-spec =
     tie.close
     (tie.spec
-    Inv-loop μ-loop loop-holds (λ c. omega arith) (λ c κs. omega arith) returns (λ c. omega arith) (λ c. omega arith) loop-again
-    (λ c. omega arith) returns-2 (λ c. omega arith) returns-3)
+    Inv-loop μ-loop (λ c. (c .before .pre, refl)) (λ c. omega arith) (λ c κs. omega arith) returns (λ c. omega arith) (λ c. omega arith)
+    loop-again (λ c. omega arith) returns-2 (λ c. omega arith) returns-3)

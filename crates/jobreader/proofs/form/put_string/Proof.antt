@@ -32,15 +32,9 @@ add-end c = omega (arith, string-room (c .before .before .loop .inv) (c .before 
 loop-again : tie.Need-loop-again Inv-loop μ-loop
 loop-again c = string-step (c .before .before .loop .inv) (c .before .loop-test .taken) (c .character .result) (c .character .ensures)
 
-same-length : tie.Need-same-length Inv-loop μ-loop
-same-length c = c .before .loop .inv .writing .len
-
-returns : tie.Need-returns Inv-loop μ-loop
-returns c = string-end (c .before .loop .inv) (c .loop-test .left)
-
 pub put-string-spec : {M : Type 1} → statement M
 put-string-spec =
     tie.close
     (tie.spec
     Inv-loop μ-loop loop-holds (λ c. omega arith) character-requires mul-out slice-write-out add-end (λ c. omega arith) (λ c. omega arith)
-    loop-again same-length returns)
+    loop-again (λ c. c .before .loop .inv .writing .len) (λ c. string-end (c .before .loop .inv) (c .loop-test .left)))

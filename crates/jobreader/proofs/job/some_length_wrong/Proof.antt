@@ -16,9 +16,6 @@ Inv-loop lengths i₀ i = (i ≤ length lengths) × (some-length-wrong (drop i l
 abbrev μ-loop : tie.MeasureT-loop
 μ-loop lengths i₀ i = length lengths - i
 
-loop-holds : tie.Need-loop-holds Inv-loop μ-loop
-loop-holds c = (omega arith, refl)
-
 returns : tie.Need-returns Inv-loop μ-loop
 returns c = sym (sym (c .before .before .before .loop .inv .1) ∙
     length-none (c .before .before .before .before .args .lengths .now) (c .before .before .before .loop .i)
@@ -45,5 +42,5 @@ pub some-length-wrong-spec : {M : Type 1} → statement M
 some-length-wrong-spec =
     tie.close
     (tie.spec
-    Inv-loop μ-loop loop-holds (λ c. search needs) (λ c. omega arith) returns returns-2 (λ c. omega arith) (λ c. omega arith) loop-again
-    returns-3)
+    Inv-loop μ-loop (λ c. (omega arith, refl)) (λ c. search needs) (λ c. omega arith) returns returns-2 (λ c. omega arith)
+    (λ c. omega arith) loop-again returns-3)

@@ -12,20 +12,15 @@ Inv-loop sheet at i₀ i = Line-read sheet i₀ i
 abbrev μ-loop : tie.MeasureT-loop
 μ-loop sheet at i₀ i = length sheet - i
 
-loop-holds : tie.Need-loop-holds Inv-loop μ-loop
-loop-holds c = line-start (c .args .sheet .now) (c .args .at) (c .pre)
-
 returns : tie.Need-returns Inv-loop μ-loop
 returns c = line-ended (c .before .before .before .loop .inv) (c .before .before .loop-test .taken) (c .if1 .taken)
 
 loop-again : tie.Need-loop-again Inv-loop μ-loop
 loop-again c = line-step (c .before .before .before .loop .inv) (c .before .before .loop-test .taken) (c .if1 .left)
 
-returns-2 : tie.Need-returns-2 Inv-loop μ-loop
-returns-2 c = line-unended (c .before .loop .inv) (c .loop-test .left)
-
 pub line-end-spec : {M : Type 1} → statement M
 line-end-spec =
     tie.close
     (tie.spec
-    Inv-loop μ-loop loop-holds (λ c. omega arith) returns (λ c. omega arith) (λ c. omega arith) loop-again returns-2)
+    Inv-loop μ-loop (λ c. line-start (c .args .sheet .now) (c .args .at) (c .pre)) (λ c. omega arith) returns (λ c. omega arith)
+    (λ c. omega arith) loop-again (λ c. line-unended (c .before .loop .inv) (c .loop-test .left)))

@@ -71,19 +71,11 @@ loop-again c = (
       (c .form-end2 .ensures),
 )
 
-same-length : tie.Need-same-length Inv-loop μ-loop
-same-length c = c .before .loop .inv .2 .chars-left .len
-
-same-length-2 : tie.Need-same-length-2 Inv-loop μ-loop
-same-length-2 c = c .before .loop .inv .2 .lengths-left .len
-
-returns : tie.Need-returns Inv-loop μ-loop
-returns c = forms-end (c .before .loop .inv .2) (c .loop-test .left)
-
 pub read-forms-spec : {M : Type 1} → statement M
 read-forms-spec =
     tie.close
     (tie.spec
     Inv-loop μ-loop form-end-requires loop-holds (λ c. omega arith) (λ c. omega arith) (λ c. omega arith) put-string-requires
     (λ c. omega arith) cast-lengths mul-lengths slice-write-lengths add-i (λ c. omega arith) form-end-requires-2 (λ c. omega arith)
-    loop-again same-length same-length-2 returns)
+    loop-again (λ c. c .before .loop .inv .2 .chars-left .len) (λ c. c .before .loop .inv .2 .lengths-left .len)
+    (λ c. forms-end (c .before .loop .inv .2) (c .loop-test .left)))

@@ -13,11 +13,7 @@ use Rattle.jobsheet.proofs.answer.answer_through.Tie as tie
 answer-in-hand :
     (c : tie.After-put-answer) → In-hand (job-answer (c .before .before .before .before .before .args .sheet .now)) (c .put-answer .result)
     (c .put-answer .last .1 .0)
-answer-in-hand c =
-    written-in-hand (c .put-answer .ensures)
-
-slice-reshare-prefix-hand-over : tie.Need-slice-reshare-prefix-hand-over
-slice-reshare-prefix-hand-over c = answer-in-hand (c .before .before) .room
+answer-in-hand c = written-in-hand (c .put-answer .ensures)
 
 slice-aggregate-hand-over : tie.Need-slice-aggregate-hand-over
 slice-aggregate-hand-over c =
@@ -36,5 +32,5 @@ pub answer-through-spec : {M : Type 1} → statement M
 answer-through-spec =
     tie.close
     (tie.spec
-    (λ c κs. search needs) slice-reshare-prefix-hand-over slice-aggregate-hand-over (λ c κs. search needs) (λ c. search needs)
-    (λ c. search needs) returns)
+    (λ c κs. search needs) (λ c. answer-in-hand (c .before .before) .room) slice-aggregate-hand-over (λ c κs. search needs)
+    (λ c. search needs) (λ c. search needs) returns)

@@ -53,5 +53,5 @@ pub put-job-spec : {M : Type 1} → statement M
 put-job-spec =
     tie.close
     (tie.spec
-    (λ c κs. search needs) (λ c. search needs) put-refused-line-requires (λ c. search needs) (λ c. search needs) (λ c. search needs) returns
-    put-parts-requires (λ c. search needs) (λ c. search needs) (λ c. search needs) returns-2)
+    (λ c κs. search needs) (λ c. search needs) put-refused-line-requires (λ c. search needs) (λ c. search needs) (λ c. search needs)
+    returns put-parts-requires (λ c. search needs) (λ c. search needs) (λ c. search needs) returns-2)

@@ -27,9 +27,6 @@ positions-in-hand c =
     })
     (s .pre .0 .2) (c .search-tabled .ensures)
 
-slice-reshare-prefix-put-found-line : tie.Need-slice-reshare-prefix-put-found-line
-slice-reshare-prefix-put-found-line c = positions-in-hand (c .before .before .before) .room
-
 slice-aggregate-put-found-line : tie.Need-slice-aggregate-put-found-line
 slice-aggregate-put-found-line c =
     let searched = c .before .before .before .before .search-tabled in
@@ -50,5 +47,5 @@ pub put-find-spec : {M : Type 1} → statement M
 put-find-spec =
     tie.close
     (tie.spec
-    (λ c κs. search needs) slice-reshare-prefix-put-found-line slice-aggregate-put-found-line put-found-line-requires (λ c. search needs)
-    (λ c. search needs) returns)
+    (λ c κs. search needs) (λ c. positions-in-hand (c .before .before .before) .room) slice-aggregate-put-found-line
+    put-found-line-requires (λ c. search needs) (λ c. search needs) returns)

@@ -36,23 +36,8 @@ loop-holds c =
           (s .pre .0 .1 .fits) (s .pre .1),
     )
 
-shared-slice-read-next : tie.Need-shared-slice-read-next Inv-loop μ-loop
-shared-slice-read-next c = c .before .loop-test .taken
-
 cast-next : tie.Need-cast-next Inv-loop μ-loop
 cast-next c = omega (arith, c .shared-slice-known8 .given (c .before .before .loop .i))
-
-add-next : tie.Need-add-next Inv-loop μ-loop
-add-next c = omega (arith, next-fits (c .before))
-
-mul-put-find : tie.Need-mul-put-find Inv-loop μ-loop
-mul-put-find c = omega (arith, next-fits (c .before))
-
-part-put-find-start : tie.Need-part-put-find-start Inv-loop μ-loop
-part-put-find-start c = omega (arith, next-fits (c .before))
-
-part-put-find-end : tie.Need-part-put-find-end Inv-loop μ-loop
-part-put-find-end c = omega (arith, next-fits (c .before))
 
 put-find-requires : tie.Need-put-find-requires Inv-loop μ-loop
 put-find-requires c κs =
@@ -75,12 +60,6 @@ loop-again c =
       finds-step (l .inv .1) (c .before .before .before .before .before .before .before .before .before .loop-test .taken) (put .ensures),
     )
 
-same-length : tie.Need-same-length Inv-loop μ-loop
-same-length c = c .before .loop .inv .0
-
-same-length-2 : tie.Need-same-length-2 Inv-loop μ-loop
-same-length-2 c = c .before .loop .inv .1 .writing .len
-
 returns : tie.Need-returns Inv-loop μ-loop
 returns c =
     let l = c .before .loop in
@@ -91,6 +70,7 @@ pub put-finds-spec : {M : Type 1} → statement M
 put-finds-spec =
     tie.close
     (tie.spec
-    Inv-loop μ-loop loop-holds (λ c. omega arith) shared-slice-read-next cast-next add-next mul-put-find (λ c. omega arith)
-    part-put-find-start part-put-find-end put-find-requires (λ c. omega arith) (λ c. omega arith) loop-again same-length same-length-2
-    returns)
+    Inv-loop μ-loop loop-holds (λ c. omega arith) (λ c. c .before .loop-test .taken) cast-next (λ c. omega (arith, next-fits (c .before)))
+    (λ c. omega (arith, next-fits (c .before))) (λ c. omega arith) (λ c. omega (arith, next-fits (c .before)))
+    (λ c. omega (arith, next-fits (c .before))) put-find-requires (λ c. omega arith) (λ c. omega arith) loop-again
+    (λ c. c .before .loop .inv .0) (λ c. c .before .loop .inv .1 .writing .len) returns)

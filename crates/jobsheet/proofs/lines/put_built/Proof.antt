@@ -50,9 +50,6 @@ in-hand-usable c =
     (λ i h. omega (arith, c .before .before .before .before .before .before .before .before .before .shared-slice-known3 .given i))
     (s .pre .0 .admits) (s .pre .0 .short))
 
-slice-reshare-prefix-put-lines : tie.Need-slice-reshare-prefix-put-lines
-slice-reshare-prefix-put-lines c = index-in-hand (c .before .before .before .before) .room
-
 slice-aggregate-put-lines : tie.Need-slice-aggregate-put-lines
 slice-aggregate-put-lines c =
     let built = c .before .before .before .before .before .build in
@@ -80,5 +77,5 @@ pub put-built-spec : {M : Type 1} → statement M
 put-built-spec =
     tie.close
     (tie.spec
-    (λ c κs. search needs) slice-reshare-prefix-put-lines slice-aggregate-put-lines put-lines-requires (λ c. search needs)
-    (λ c. search needs) (λ c. search needs) (λ c. search needs) returns)
+    (λ c κs. search needs) (λ c. index-in-hand (c .before .before .before .before) .room) slice-aggregate-put-lines put-lines-requires
+    (λ c. search needs) (λ c. search needs) (λ c. search needs) (λ c. search needs) returns)

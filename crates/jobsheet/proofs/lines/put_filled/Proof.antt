@@ -17,12 +17,11 @@ put-index-lines-requires c κs =
     let s = half .before .before .before .before .before .before .before .before in
     let a = s .args in (
       usable-whole (a .chars .now) (a .lengths .now) (a .index .now) (s .pre .0 .0),
-      index-lines-fit (a .out .now) (s .pre .0 .0)
-          (λ i. omega (
-            arith,
-            c .before .before .before .before .before .before .before .before .before .before .before .before .before
-                .shared-slice-known3 .given i,
-          )) (s .pre .1 .0) (s .pre .1 .2),
+      index-lines-fit (a .out .now) (s .pre .0 .0) (λ i. omega (
+        arith,
+        c .before .before .before .before .before .before .before .before .before .before .before .before .before
+            .shared-slice-known3 .given i,
+      )) (s .pre .1 .0) (s .pre .1 .2),
     )
 
 -- what is left to print after the lines of the index

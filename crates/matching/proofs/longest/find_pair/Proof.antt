@@ -27,12 +27,6 @@ returns-2 c =
     pair-missing (start .args .chars .now) (start .args .lengths .now) (start .pre .0 .words .dictionary) (start .args .text .now)
     (start .args .at) (start .args .end) (c .before .walk-pair .ensures) 0 (c .if2 .taken)
 
-mul-len : tie.Need-mul-len
-mul-len c = omega (arith, known c)
-
-shared-slice-read-len : tie.Need-shared-slice-read-len
-shared-slice-read-len c = known (c .before)
-
 cast-len : tie.Need-cast-len
 cast-len c = omega (arith, c .shared-slice-known7 .given (c .before .before .walk-pair .result - 1))
 
@@ -55,5 +49,5 @@ pub find-pair-spec : {M : Type 1} → statement M
 find-pair-spec =
     tie.close
     (tie.spec
-    (λ c. search needs) returns (λ c κs. search needs) returns-2 (λ c. search needs) mul-len shared-slice-read-len cast-len add-if3
-    returns-3 returns-4)
+    (λ c. search needs) returns (λ c κs. search needs) returns-2 (λ c. search needs) (λ c. omega (arith, known c)) (λ c. known (c .before))
+    cast-len add-if3 returns-3 returns-4)

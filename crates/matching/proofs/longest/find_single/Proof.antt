@@ -32,12 +32,6 @@ loop-holds c =
     rw (c .before .bucket-of-char .ensures .0)
     (single-start (start .pre .0) (start .args .text .now) (start .args .at))
 
-mul-start : tie.Need-mul-start Inv-loop μ-loop
-mul-start c = omega (arith, known c)
-
-shared-slice-read-start : tie.Need-shared-slice-read-start Inv-loop μ-loop
-shared-slice-read-start c = omega (arith, known (c .before))
-
 cast-start : tie.Need-cast-start Inv-loop μ-loop
 cast-start c = omega (arith, c .shared-slice-known9 .given (c .before .before .loop .next - 1))
 
@@ -62,12 +56,6 @@ returns c =
     single-hit (start .pre .0) (start .args .text .now) (start .args .at)
     (c .before .before .before .before .loop .next) (c .before .before .before .before .loop .inv)
     (c .before .before .before .loop-test .taken) (start .pre .1) (c .if1 .taken)
-
-mul-next-2 : tie.Need-mul-next-2 Inv-loop μ-loop
-mul-next-2 c = omega (arith, known (c .before .before .before))
-
-shared-slice-read-next-2 : tie.Need-shared-slice-read-next-2 Inv-loop μ-loop
-shared-slice-read-next-2 c = omega (arith, known (c .before .before .before .before))
 
 cast-next-2 : tie.Need-cast-next-2 Inv-loop μ-loop
 cast-next-2 c = omega (arith, c .shared-slice-known11 .given (c .before .before .before .before .before .loop .next - 1))
@@ -97,5 +85,6 @@ find-single-spec =
     tie.close
     (tie.spec
     Inv-loop μ-loop (λ c. search needs) (λ c. search needs) (λ c κs. search needs) (λ c. omega arith) (λ c. omega arith) cast-next
-    loop-holds (λ c. omega arith) mul-start shared-slice-read-start cast-start mul-if1 shared-slice-read-if1 returns mul-next-2
-    shared-slice-read-next-2 cast-next-2 loop-less loop-again returns-2)
+    loop-holds (λ c. omega arith) (λ c. omega (arith, known c)) (λ c. omega (arith, known (c .before))) cast-start mul-if1
+    shared-slice-read-if1 returns (λ c. omega (arith, known (c .before .before .before)))
+    (λ c. omega (arith, known (c .before .before .before .before))) cast-next-2 loop-less loop-again returns-2)

@@ -48,9 +48,6 @@ stop c =
 shared-slice-read-y : tie.Need-shared-slice-read-y Inv-loop μ-loop
 shared-slice-read-y c = c .before .before .before .before .before .before .before .before .pre .1
 
-bucket-of-pair-requires : tie.Need-bucket-of-pair-requires Inv-loop μ-loop
-bucket-of-pair-requires c κs = tt
-
 cast-next : tie.Need-cast-next Inv-loop μ-loop
 cast-next c = omega (arith, c .shared-slice-known9 .given (c .before .bucket-of-pair .result))
 
@@ -86,17 +83,8 @@ returns-2 c =
     (c .before .before .before .before .loop .inv) (c .before .before .before .loop-test .taken) (c .before .stands-after .ensures)
     (c .if2 .taken)
 
-mul-next-2 : tie.Need-mul-next-2 Inv-loop μ-loop
-mul-next-2 c = omega (arith, known (c .before .before .before))
-
-shared-slice-read-next-2 : tie.Need-shared-slice-read-next-2 Inv-loop μ-loop
-shared-slice-read-next-2 c = omega (arith, known (c .before .before .before .before))
-
 cast-next-2 : tie.Need-cast-next-2 Inv-loop μ-loop
 cast-next-2 c = omega (arith, c .shared-slice-known10 .given (c .before .before .before .before .before .loop .next - 1))
-
-loop-less : tie.Need-loop-less Inv-loop μ-loop
-loop-less c = stop (c .before .before .before .before) .falls
 
 loop-again : tie.Need-loop-again Inv-loop μ-loop
 loop-again c =
@@ -116,6 +104,8 @@ pub walk-pair-spec : {M : Type 1} → statement M
 walk-pair-spec =
     tie.close
     (tie.spec
-    Inv-loop μ-loop (λ c. omega arith) (λ c. omega arith) (λ c. omega arith) (λ c. omega arith) shared-slice-read-y bucket-of-pair-requires
+    Inv-loop μ-loop (λ c. omega arith) (λ c. omega arith) (λ c. omega arith) (λ c. omega arith) shared-slice-read-y (λ c κs. tt)
     (λ c. omega arith) (λ c. omega arith) cast-next loop-holds find-last-standing-requires returns (λ c. omega arith) (λ c. omega arith)
-    stands-after-requires returns-2 mul-next-2 shared-slice-read-next-2 cast-next-2 loop-less loop-again returns-3)
+    stands-after-requires returns-2 (λ c. omega (arith, known (c .before .before .before)))
+    (λ c. omega (arith, known (c .before .before .before .before))) cast-next-2 (λ c. stop (c .before .before .before .before) .falls)
+    loop-again returns-3)

@@ -3,8 +3,10 @@
 use mathlib.Core.Path.{ap, _≡_}
 use Prim.Native.Nat.{ℕ, _+_, _-_, _<_}
 use native.Mathlib.Omega.{arith}
+use borrow.Author.Needs.{needs}
 use lib.ListN.{length, getD}
 use Rattle.spec.specs.Dictionary.{lexicon}
+use Rattle.basics.specs.LowerBound.{bound-first, bound-last}
 use Rattle.laws.specs.Match.Columns.{Column, column-part, run-known, run-hit, run-deep, run-column, run-stop, run-step}
 use Rattle.laws.specs.Match.MatchTable.{many-words}
 use Rattle.laws.specs.Match.PrefixRanges.{Prefix-range, prefix-range-start, prefix-range-end}
@@ -53,17 +55,8 @@ loop-holds c =
     prefix-range-start (lexicon chars lengths .words) (start .args .text .now) (start .args .at + 1) (start .args .count)
     (omega (arith, many-words chars lengths (start .pre .0 .dictionary))) (omega arith) (omega arith)
 
-mul-if1 : tie.Need-mul-if1 Inv-loop μ-loop
-mul-if1 c = omega (arith, known c)
-
-shared-slice-read-if1 : tie.Need-shared-slice-read-if1 Inv-loop μ-loop
-shared-slice-read-if1 c = known (c .before)
-
 cast-if1 : tie.Need-cast-if1 Inv-loop μ-loop
 cast-if1 c = omega (arith, c .shared-slice-known5 .given (c .before .before .loop .low))
-
-add-low : tie.Need-add-low Inv-loop μ-loop
-add-low c = omega (arith, known (c .before .before))
 
 loop-again : tie.Need-loop-again Inv-loop μ-loop
 loop-again c =
@@ -71,49 +64,76 @@ loop-again c =
     let turn = c .before .before .before .loop in
     run-hit (start .pre .0) (turn .inv) (c .before .before .loop-test .taken) (c .if1 .taken)
 
-add-if2 : tie.Need-add-if2 Inv-loop μ-loop
-add-if2 c = omega (arith, deep c)
-
 returns : tie.Need-returns Inv-loop μ-loop
 returns c =
     let start = c .before .before .before .before .before .before .before .before .before in
     let turn = c .before .before .before .before .loop in
     run-stop (start .pre .0) (turn .inv) (c .before .before .before .loop-test .taken) (c .before .if1 .left) (omega arith)
 
-add-c : tie.Need-add-c Inv-loop μ-loop
-add-c c = omega (arith, deep (c .before))
-
 cast-c : tie.Need-cast-c Inv-loop μ-loop
 cast-c c =
     let start = c .before .before .before .before .before .before .before .before .before .before in
     omega (arith, c .shared-slice-known6 .given (start .args .at + c .before .before .before .before .before .loop .depth))
 
-lower-bound-requires : tie.Need-lower-bound-requires Inv-loop μ-loop
-lower-bound-requires c κs = column (c .before .before)
+char-at-requires : tie.Need-char-at-requires Inv-loop μ-loop
+char-at-requires c κs =
+    let turn = c .before .before .before .before .before .loop in
+    let column-here = column (c .before .before) in
+    (omega arith, column-here .room (turn .low) (omega arith) (omega arith))
 
-add-lower-bound : tie.Need-add-lower-bound Inv-loop μ-loop
-add-lower-bound c =
-    let start = c .before .before .before .before .before .before .before .before .before .before .before in
-    omega (arith, c .before .shared-slice-known6 .given (start .args .at + c .before .before .before .before .before .before .loop .depth))
+cast-if3 : tie.Need-cast-if3 Inv-loop μ-loop
+cast-if3 c = search needs
 
-lower-bound-requires-2 : tie.Need-lower-bound-requires-2 Inv-loop μ-loop
-lower-bound-requires-2 c κs =
-    column-part (column (c .before .before .before)) (c .lower-bound .ensures .from) (c .lower-bound .ensures .to)
-
-add-depth : tie.Need-add-depth Inv-loop μ-loop
-add-depth c = omega (arith, deep (c .before .before .before .before))
-
-loop-less-2 : tie.Need-loop-less-2 Inv-loop μ-loop
-loop-less-2 c = omega (arith, deep (c .before .before .before .before))
+char-at-requires-2 : tie.Need-char-at-requires-2 Inv-loop μ-loop
+char-at-requires-2 c κs =
+    let turn = c .before .before .before .before .before .before .before .loop in
+    let column-here = column (c .before .before .before .before) in
+    (omega arith, column-here .room (turn .high - 1) (omega arith) (omega arith))
 
 loop-again-2 : tie.Need-loop-again-2 Inv-loop μ-loop
 loop-again-2 c =
-    let start = c .before .before .before .before .before .before .before .before .before .before .before .before in
-    let turn = c .before .before .before .before .before .before .before .loop in
+    let longer = c .before .before .before .before .before .before in
+    let turn = longer .before .before .before .loop in
+    let start = longer .before .before .before .before .before .before .before .before in
+    let here = getD (start .args .text .now) (start .args .at + turn .depth) 0 in
     let position : start .args .at + turn .depth ≡ start .args .at + 1 + turn .depth - 1 = omega arith in
-    let longer = c .before .before .before .before in
+    let rising = column longer .rising in
+    run-step (start .pre .0) (turn .inv) (longer .before .before .loop-test .taken) (longer .if1 .left)
+    (ap (λ (i : ℕ). getD (start .args .text .now) i 0) position) (omega arith) (bound-first rising here (omega arith) (omega arith))
+    (bound-last rising (here + 1) (omega arith) (omega arith))
+
+lower-bound-requires : tie.Need-lower-bound-requires Inv-loop μ-loop
+lower-bound-requires c κs = column (c .before .before .before .before)
+
+add-lower-bound : tie.Need-add-lower-bound Inv-loop μ-loop
+add-lower-bound c =
+    let longer = c .before .before .before .before .before in
+    let start = longer .before .before .before .before .before .before .before .before in
+    omega (arith, c .before .before .before .shared-slice-known6 .given (start .args .at + longer .before .before .before .loop .depth))
+
+lower-bound-requires-2 : tie.Need-lower-bound-requires-2 Inv-loop μ-loop
+lower-bound-requires-2 c κs = column-part (column (c .before .before .before .before .before)) (c .lower-bound .ensures .from) (c .lower-bound .ensures .to)
+
+add-depth-2 : tie.Need-add-depth-2 Inv-loop μ-loop
+add-depth-2 c = omega (arith, deep (c .before .before .before .before .before .before))
+
+loop-less-3 : tie.Need-loop-less-3 Inv-loop μ-loop
+loop-less-3 c = omega (arith, deep (c .before .before .before .before .before .before))
+
+loop-again-3 : tie.Need-loop-again-3 Inv-loop μ-loop
+loop-again-3 c =
+    let longer = c .before .before .before .before .before .before in
+    let turn = longer .before .before .before .loop in
+    let start = longer .before .before .before .before .before .before .before .before in
+    let position : start .args .at + turn .depth ≡ start .args .at + 1 + turn .depth - 1 = omega arith in
     run-step (start .pre .0) (turn .inv) (longer .before .before .loop-test .taken) (longer .if1 .left)
     (ap (λ (i : ℕ). getD (start .args .text .now) i 0) position) (omega arith) (c .before .lower-bound .ensures) (c .lower-bound2 .ensures)
+
+add-depth : tie.Need-add-depth Inv-loop μ-loop
+add-depth c = omega (arith, deep (c .before .before .before .before .before .before))
+
+loop-less-2 : tie.Need-loop-less-2 Inv-loop μ-loop
+loop-less-2 c = omega (arith, deep (c .before .before .before .before .before .before))
 
 returns-2 : tie.Need-returns-2 Inv-loop μ-loop
 returns-2 c =
@@ -126,6 +146,8 @@ pub find-last-standing-spec : {M : Type 1} → statement M
 find-last-standing-spec =
     tie.close
     (tie.spec
-    Inv-loop μ-loop loop-holds mul-if1 shared-slice-read-if1 cast-if1 add-low (λ c. omega arith) loop-again add-if2 returns add-c
-    (λ c. omega arith) (λ c. omega arith) cast-c lower-bound-requires add-lower-bound lower-bound-requires-2 add-depth loop-less-2
-    loop-again-2 returns-2)
+    Inv-loop μ-loop loop-holds (λ c. omega (arith, known c)) (λ c. known (c .before)) cast-if1
+    (λ c. omega (arith, known (c .before .before))) (λ c. omega arith) loop-again (λ c. omega (arith, deep c)) returns
+    (λ c. omega (arith, deep (c .before))) (λ c. omega arith) (λ c. omega arith) cast-c char-at-requires cast-if3
+    (λ c. omega arith) char-at-requires-2 (λ c. search needs) add-depth loop-less-2 loop-again-2 lower-bound-requires
+    add-lower-bound lower-bound-requires-2 add-depth-2 loop-less-3 loop-again-3 returns-2)

@@ -98,15 +98,6 @@ cast-word-starts-2 c =
           (turn .loop .word-starts) (turn .loop .inv .0) (start .pre .dictionary),
     )
 
-same-length : tie.Need-same-length Inv-loop μ-loop
-same-length c = c .before .loop .inv .1
-
-same-length-2 : tie.Need-same-length-2 Inv-loop μ-loop
-same-length-2 c = c .before .loop .inv .2
-
-same-length-3 : tie.Need-same-length-3 Inv-loop μ-loop
-same-length-3 c = simp length-set (c .before .loop .inv .3)
-
 returns : tie.Need-returns Inv-loop μ-loop
 returns c =
     let start = c .before .before .before .before .before .before .before in
@@ -118,7 +109,8 @@ pub fill-match-table-spec : {M : Type 1} → statement M
 fill-match-table-spec =
     tie.close
     (tie.spec
-    Inv-loop μ-loop loop-holds (λ c. search needs) (λ c. search needs) cast-len bucket-of-word-requires cast-word-starts (λ c. search needs)
-    (λ c. omega arith) (λ c. omega arith) (λ c. omega arith) (λ c. search needs) (λ c. omega arith) (λ c. search needs) cast-heads
-    (λ c. omega arith) (λ c. omega arith) add-at (λ c. search needs) (λ c. search needs) loop-again cast-word-starts-2 (λ c. search needs)
-    (λ c. omega arith) same-length same-length-2 same-length-3 returns)
+    Inv-loop μ-loop loop-holds (λ c. search needs) (λ c. search needs) cast-len bucket-of-word-requires cast-word-starts
+    (λ c. search needs) (λ c. omega arith) (λ c. omega arith) (λ c. omega arith) (λ c. search needs) (λ c. omega arith) (λ c. search needs)
+    cast-heads (λ c. omega arith) (λ c. omega arith) add-at (λ c. search needs) (λ c. search needs) loop-again cast-word-starts-2
+    (λ c. search needs) (λ c. omega arith) (λ c. c .before .loop .inv .1) (λ c. c .before .loop .inv .2)
+    (λ c. simp length-set (c .before .loop .inv .3)) returns)

@@ -22,15 +22,6 @@ shared-slice-read-keys c =
     (sym (c .before .before .refusal-of .ensures) ∙ c .before .if1 .left) in
     omega (arith, readable-fits longest-text (lexicon (a .chars .now) (a .lengths .now)) (a .index .now) (ok .is-readable) .has-header)
 
-cast-keys : tie.Need-cast-keys
-cast-keys c = omega (arith, c .shared-slice-known4 .given 1)
-
-mul-t9 : tie.Need-mul-t9
-mul-t9 c = omega (arith, c .shared-slice-known4 .given 1)
-
-add-t10 : tie.Need-add-t10
-add-t10 c = omega (arith, c .shared-slice-known4 .given 1)
-
 returns-2 : tie.Need-returns-2
 returns-2 c =
     let a = c .before .before .before .before .before .before .args in
@@ -41,4 +32,5 @@ pub bounds-of-spec : {M : Type 1} → statement M
 bounds-of-spec =
     tie.close
     (tie.spec
-    (λ c κs. search needs) returns shared-slice-read-keys cast-keys mul-t9 add-t10 returns-2)
+    (λ c κs. search needs) returns shared-slice-read-keys (λ c. omega (arith, c .shared-slice-known4 .given 1))
+    (λ c. omega (arith, c .shared-slice-known4 .given 1)) (λ c. omega (arith, c .shared-slice-known4 .given 1)) returns-2)

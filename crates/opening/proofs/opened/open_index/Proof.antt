@@ -167,8 +167,7 @@ module _ {M : Type 1} (𝓤 : URA M) (H : Heap 𝓤) (A : Atoms 𝓤) (W : Given
       (((κ, tt), (q, tt), tt, (x, (y, (z, tt))), at), tt) u r (tt, (tt, (tt, tt))) (tt, (tt, (tt, tt)))) $
       says ! (
         m .0,
-        same-bounds (now x) (now y) (now z) (b .refusal) (b .keys) (b .first) (r .refusal) (r .keys) (r .first) (m .1) (m .2)
-            (m .3) e,
+        same-bounds (now x) (now y) (now z) (b .refusal) (b .keys) (b .first) (r .refusal) (r .keys) (r .first) (m .1) (m .2) (m .3) e,
       ) $
       move ! (1 ∷ []) $ frame ! $ move ! (1 ∷ []) $ frame ! $ done !
 
@@ -231,8 +230,7 @@ open-index-meets : {M : Type 1} (𝓤 : URA M) (H : Heap 𝓤) (A : Atoms 𝓤) 
 open-index-meets 𝓤 H A W mem run 𝓣 known-test known-make = walk-meets 𝓤 H A opener.ended stayed W (
   goes-none-slice 𝓤 H A W 1 (0 ∷ []) tt (plain (λ _. u16)) yes,
   (goes-none-slice 𝓤 H A W 1 (0 ∷ []) tt (plain (λ _. u16)) yes, (goes-none-slice 𝓤 H A W 1 (0 ∷ []) tt (plain (λ _. u16)) yes, tt)),
-)
-    (opener.clauses 𝓤 H A mem run) (WpFn 𝓤 H (𝓣 .C) (𝓣 .Λ) code.function) (WpFn-mono 𝓤 H (W .laws) 𝓣 code.function)
+) (opener.clauses 𝓤 H A mem run) (WpFn 𝓤 H (𝓣 .C) (𝓣 .Λ) code.function) (WpFn-mono 𝓤 H (W .laws) 𝓣 code.function)
     (open-index-walks 𝓤 H A W mem run (𝓣 .C) (𝓣 .Λ) (fmOf 𝓤 H (W .laws) 𝓣) known-test known-make)
 
 pub open-index-spec : {M : Type 1} → stated.statement M

@@ -15,9 +15,6 @@ returns-2 c =
     let a = c .before .before .before .before .args in
     apart-empty (a .first .now) (a .second .now) (a .at) (c .if2 .taken)
 
-same-run-requires : tie.Need-same-run-requires
-same-run-requires c κs = (omega arith, omega arith)
-
 returns-3 : tie.Need-returns-3
 returns-3 c =
     let a = c .before .before .before .before .before .before .args in
@@ -28,4 +25,4 @@ pub agrees-after-spec : {M : Type 1} → statement M
 agrees-after-spec =
     tie.close
     (tie.spec
-    returns returns-2 (λ c. search needs) (λ c κs. search needs) same-run-requires returns-3)
+    returns returns-2 (λ c. search needs) (λ c κs. search needs) (λ c κs. (omega arith, omega arith)) returns-3)

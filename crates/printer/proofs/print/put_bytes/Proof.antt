@@ -35,9 +35,6 @@ loop-again c = (
       (c .before .before .loop .inv .1) (c .before .loop-test .taken),
 )
 
-same-length : tie.Need-same-length Inv-loop μ-loop
-same-length c = c .before .loop .inv .1 .len
-
 returns : tie.Need-returns Inv-loop μ-loop
 returns c = copy-end (c .before .before .args .bytes .now) (c .before .loop .i) (c .before .loop .inv .1) (c .loop-test .left)
 
@@ -45,5 +42,5 @@ pub put-bytes-spec : {M : Type 1} → statement M
 put-bytes-spec =
     tie.close
     (tie.spec
-    Inv-loop μ-loop loop-holds (λ c. omega arith) slice-write-out add-end (λ c. omega arith) (λ c. omega arith) loop-again same-length
-    returns)
+    Inv-loop μ-loop loop-holds (λ c. omega arith) slice-write-out add-end (λ c. omega arith) (λ c. omega arith) loop-again
+    (λ c. c .before .loop .inv .1 .len) returns)

@@ -44,9 +44,6 @@ put-decimal-requires c κs =
     let s = c .before .before .before .before .before .before .before .before in
     writing-room (decimal (length (s .args .positions .now))) (listed (s .args .positions .now)) (at-count (c .before .before .before))
 
-put-list-requires : tie.Need-put-list-requires
-put-list-requires c κs = at-list (c .before .before .before) .room
-
 returns : tie.Need-returns
 returns c =
     let s = c .before .before .before .before .before .before .before .before .before .before .before .before .before .before .before in
@@ -57,4 +54,5 @@ pub put-found-line-spec : {M : Type 1} → statement M
 put-found-line-spec =
     tie.close
     (tie.spec
-    (λ c. search needs) put-bytes-requires put-decimal-requires put-list-requires (λ c. search needs) returns)
+    (λ c. search needs) put-bytes-requires put-decimal-requires (λ c κs. at-list (c .before .before .before) .room) (λ c. search needs)
+    returns)

@@ -76,9 +76,6 @@ put-next-decimal-requires-2 c κs =
     let s = c .before .before .before .before .before .before .before .before .before .before .before .before .before .before .before in
     writing-room ((gap ++ decimal (s .args .m))) ending (at-third (c .before .before .before))
 
-put-bytes-requires-2 : tie.Need-put-bytes-requires-2
-put-bytes-requires-2 c κs = at-end (c .before .before .before .before) .room
-
 returns : tie.Need-returns
 returns c =
     writing-last ending (at-end (c .before .before .before .before .before .before .before)) (c .before .before .put-bytes2 .ensures)
@@ -88,4 +85,4 @@ put-index-line-spec =
     tie.close
     (tie.spec
     (λ c. search needs) put-bytes-requires put-decimal-requires put-next-decimal-requires put-next-decimal-requires-2 (λ c. search needs)
-    put-bytes-requires-2 (λ c. search needs) returns)
+    (λ c κs. at-end (c .before .before .before .before) .room) (λ c. search needs) returns)

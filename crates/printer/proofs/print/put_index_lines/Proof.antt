@@ -31,9 +31,6 @@ at-keys c =
     writing-step (first-line (s .args .numbers .now)) (key-lines (lines-in (s .args .numbers .now))) (at-first s)
     (c .put-index-line .ensures)
 
-cast-n : tie.Need-cast-n
-cast-n c = omega (arith, c .shared-slice-known2 .given 0)
-
 put-index-line-requires : tie.Need-put-index-line-requires
 put-index-line-requires c κs =
     let s = c .before .before .before .before .before in writing-room (first-line (s .args .numbers .now))
@@ -53,5 +50,5 @@ pub put-index-lines-spec : {M : Type 1} → statement M
 put-index-lines-spec =
     tie.close
     (tie.spec
-    (λ c. search needs) cast-n (λ c. search needs) (λ c. search needs) (λ c. search needs) (λ c. search needs) (λ c. search needs)
-    put-index-line-requires put-key-lines-requires (λ c. search needs) returns)
+    (λ c. search needs) (λ c. omega (arith, c .shared-slice-known2 .given 0)) (λ c. search needs) (λ c. search needs) (λ c. search needs)
+    (λ c. search needs) (λ c. search needs) put-index-line-requires put-key-lines-requires (λ c. search needs) returns)

@@ -31,9 +31,6 @@ put-key-name-requires c κs =
     let s = c .before .before .before in
     writing-room (key-name (key (s .args .kind) (s .args .value))) (listed (s .args .positions .now)) (at-name s)
 
-put-list-requires : tie.Need-put-list-requires
-put-list-requires c κs = at-list (c .before .before .before) .room
-
 returns : tie.Need-returns
 returns c =
     let s = c .before .before .before .before .before .before .before .before .before .before in
@@ -44,4 +41,4 @@ pub put-key-line-spec : {M : Type 1} → statement M
 put-key-line-spec =
     tie.close
     (tie.spec
-    put-key-name-requires put-list-requires (λ c. search needs) returns)
+    put-key-name-requires (λ c κs. at-list (c .before .before .before) .room) (λ c. search needs) returns)

@@ -15,15 +15,6 @@ Inv-loop out₀ at numbers keys position₀ end₀ i₀ out position end i = (ke
 abbrev μ-loop : tie.MeasureT-loop
 μ-loop out₀ at numbers keys position₀ end₀ i₀ out position end i = keys-of numbers - i
 
-cast-keys : tie.Need-cast-keys Inv-loop μ-loop
-cast-keys c = omega (arith, c .shared-slice-known2 .given 1)
-
-mul-position : tie.Need-mul-position Inv-loop μ-loop
-mul-position c = omega (arith, c .shared-slice-known2 .given 1)
-
-add-position : tie.Need-add-position Inv-loop μ-loop
-add-position c = omega (arith, c .shared-slice-known2 .given 1)
-
 loop-holds : tie.Need-loop-holds Inv-loop μ-loop
 loop-holds c = (
   refl,
@@ -69,19 +60,14 @@ loop-again c = (
       (c .before .before .before .before .before .before .before .before .loop-test .taken) (c .before .before .put-key-line .ensures),
 )
 
-same-length : tie.Need-same-length Inv-loop μ-loop
-same-length c = c .before .loop .inv .2 .writing .len
-
-returns : tie.Need-returns Inv-loop μ-loop
-returns c =
-    keys-end (c .before .loop .inv .2) (c .loop-test .left)
-
 pub put-key-lines-spec : {M : Type 1} → statement M
 put-key-lines-spec =
     tie.close
     (tie.spec
-    Inv-loop μ-loop (λ c. omega arith) cast-keys mul-position add-position loop-holds (λ c. omega arith) (λ c. omega arith)
+    Inv-loop μ-loop (λ c. omega arith) (λ c. omega (arith, c .shared-slice-known2 .given 1))
+    (λ c. omega (arith, c .shared-slice-known2 .given 1)) (λ c. omega (arith, c .shared-slice-known2 .given 1)) loop-holds
     (λ c. omega arith) (λ c. omega arith) (λ c. omega arith) (λ c. omega arith) (λ c. omega arith) (λ c. omega arith) (λ c. omega arith)
-    (λ c. omega arith) (λ c. omega arith) (λ c. omega arith) (λ c. omega arith) (λ c. omega arith) cast-next add-next-3 mul-put-key-line
-    (λ c. omega arith) part-put-key-line-start part-put-key-line-end put-key-line-requires (λ c. omega arith) (λ c. omega arith) loop-again
-    same-length returns)
+    (λ c. omega arith) (λ c. omega arith) (λ c. omega arith) (λ c. omega arith) (λ c. omega arith) (λ c. omega arith) (λ c. omega arith)
+    cast-next add-next-3 mul-put-key-line (λ c. omega arith) part-put-key-line-start part-put-key-line-end put-key-line-requires
+    (λ c. omega arith) (λ c. omega arith) loop-again (λ c. c .before .loop .inv .2 .writing .len)
+    (λ c. keys-end (c .before .loop .inv .2) (c .loop-test .left)))

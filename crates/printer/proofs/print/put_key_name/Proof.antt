@@ -47,10 +47,6 @@ put-bytes-requires c κs =
     writing-room key-word-head (decimal (c .before .before .before .before .args .value))
     (at-word (c .before .before .before .before) (c .before .before .if1 .taken))
 
-put-decimal-requires : tie.Need-put-decimal-requires
-put-decimal-requires c κs =
-    at-number (c .before .before .before) .room
-
 returns : tie.Need-returns
 returns c =
     let s = c .before .before .before .before .before .before .before .before .before .before .before in
@@ -80,5 +76,5 @@ pub put-key-name-spec : {M : Type 1} → statement M
 put-key-name-spec =
     tie.close
     (tie.spec
-    (λ c. search needs) put-bytes-requires put-decimal-requires (λ c. search needs) returns (λ c. search needs) put-bytes-requires-2
-    put-hexadecimal-requires (λ c. search needs) returns-2)
+    (λ c. search needs) put-bytes-requires (λ c κs. at-number (c .before .before .before) .room) (λ c. search needs) returns
+    (λ c. search needs) put-bytes-requires-2 put-hexadecimal-requires (λ c. search needs) returns-2)

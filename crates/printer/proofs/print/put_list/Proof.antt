@@ -42,9 +42,6 @@ put-positions-requires c κs =
     let s = c .before .before .before .before .before .before .before .before in
     writing-room (spaced (s .args .positions .now)) ending-list (at-positions (c .before .before .before))
 
-put-bytes-requires-2 : tie.Need-put-bytes-requires-2
-put-bytes-requires-2 c κs = at-ending (c .before .before .before .before) .room
-
 returns : tie.Need-returns
 returns c =
     writing-last ending-list (at-ending (c .before .before .before .before .before .before .before))
@@ -54,4 +51,5 @@ pub put-list-spec : {M : Type 1} → statement M
 put-list-spec =
     tie.close
     (tie.spec
-    (λ c. search needs) put-bytes-requires put-positions-requires (λ c. search needs) put-bytes-requires-2 (λ c. search needs) returns)
+    (λ c. search needs) put-bytes-requires put-positions-requires (λ c. search needs)
+    (λ c κs. at-ending (c .before .before .before .before) .room) (λ c. search needs) returns)

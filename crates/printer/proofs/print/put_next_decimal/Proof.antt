@@ -23,9 +23,6 @@ put-bytes-requires : tie.Need-put-bytes-requires
 put-bytes-requires c κs =
     let s = c .before .before .before in writing-room gap (decimal (s .args .n)) (at-space s)
 
-put-decimal-requires : tie.Need-put-decimal-requires
-put-decimal-requires c κs = at-number (c .before .before .before) .room
-
 returns : tie.Need-returns
 returns c =
     let s = c .before .before .before .before .before .before .before .before .before .before in
@@ -36,4 +33,4 @@ pub put-next-decimal-spec : {M : Type 1} → statement M
 put-next-decimal-spec =
     tie.close
     (tie.spec
-    (λ c. search needs) put-bytes-requires put-decimal-requires (λ c. search needs) returns)
+    (λ c. search needs) put-bytes-requires (λ c κs. at-number (c .before .before .before) .room) (λ c. search needs) returns)

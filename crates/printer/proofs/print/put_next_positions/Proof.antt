@@ -26,17 +26,8 @@ loop-holds c = (
       (c .before .before .args .out .now) (c .before .before .pre),
 )
 
-mul-put-next-decimal : tie.Need-mul-put-next-decimal Inv-loop μ-loop
-mul-put-next-decimal c =
-    search needs
-
-shared-slice-read-put-next-decimal : tie.Need-shared-slice-read-put-next-decimal Inv-loop μ-loop
-shared-slice-read-put-next-decimal c =
-    search needs
-
 cast-put-next-decimal : tie.Need-cast-put-next-decimal Inv-loop μ-loop
-cast-put-next-decimal c =
-    omega (arith, c .shared-slice-known2 .given (c .before .before .before .loop .i))
+cast-put-next-decimal c = omega (arith, c .shared-slice-known2 .given (c .before .before .before .loop .i))
 
 put-next-decimal-requires : tie.Need-put-next-decimal-requires Inv-loop μ-loop
 put-next-decimal-requires c κs =
@@ -44,14 +35,6 @@ put-next-decimal-requires c κs =
     let i = c .before .before .before .loop .i in
     writing-room (gap ++ decimal (getD ps i 0)) (each-spaced (drop (i + 1) ps))
     (writing-as (each-next ps i (c .before .before .loop-test .taken)) (c .before .before .before .loop .inv .1))
-
-add-i : tie.Need-add-i Inv-loop μ-loop
-add-i c =
-    search needs
-
-loop-less : tie.Need-loop-less Inv-loop μ-loop
-loop-less c =
-    search needs
 
 loop-again : tie.Need-loop-again Inv-loop μ-loop
 loop-again c =
@@ -64,10 +47,6 @@ loop-again c =
           (c .before .before .put-next-decimal .ensures),
     )
 
-same-length : tie.Need-same-length Inv-loop μ-loop
-same-length c =
-    c .before .loop .inv .1 .len
-
 returns : tie.Need-returns Inv-loop μ-loop
 returns c =
     writing-end (writing-as (each-end (c .before .before .before .before .args .positions .now) (c .before .loop .i) (c .loop-test .left))
@@ -77,15 +56,5 @@ pub put-next-positions-spec : {M : Type 1} → statement M
 put-next-positions-spec =
     tie.close
     (tie.spec
-    Inv-loop
-    μ-loop
-    loop-holds
-    mul-put-next-decimal
-    shared-slice-read-put-next-decimal
-    cast-put-next-decimal
-    put-next-decimal-requires
-    add-i
-    loop-less
-    loop-again
-    same-length
-    returns)
+    Inv-loop μ-loop loop-holds (λ c. search needs) (λ c. search needs) cast-put-next-decimal put-next-decimal-requires (λ c. search needs)
+    (λ c. search needs) loop-again (λ c. c .before .loop .inv .1 .len) returns)

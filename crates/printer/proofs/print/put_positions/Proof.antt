@@ -38,18 +38,10 @@ returns c =
     (writing-as (spaced-none (s .args .positions .now) (c .if1 .taken))
     (writing-start (spaced (s .args .positions .now)) (s .args .at) (s .args .out .now) (s .pre)))
 
-cast-put-decimal : tie.Need-cast-put-decimal
-cast-put-decimal c =
-    omega (arith, c .shared-slice-known2 .given 0)
-
 put-decimal-requires : tie.Need-put-decimal-requires
 put-decimal-requires c κs =
     let s = c .before .before .before .before .before in
     writing-room (decimal (getD (s .args .positions .now) 0 0)) (others (s .args .positions .now)) (at-first s (omega arith))
-
-put-next-positions-requires : tie.Need-put-next-positions-requires
-put-next-positions-requires c κs =
-    at-others (c .before .before .before .before) .room
 
 returns-2 : tie.Need-returns-2
 returns-2 c =
@@ -61,5 +53,5 @@ pub put-positions-spec : {M : Type 1} → statement M
 put-positions-spec =
     tie.close
     (tie.spec
-    returns (λ c. search needs) cast-put-decimal put-decimal-requires (λ c. search needs) (λ c. search needs) (λ c. search needs)
-    put-next-positions-requires (λ c. search needs) returns-2)
+    returns (λ c. search needs) (λ c. omega (arith, c .shared-slice-known2 .given 0)) put-decimal-requires (λ c. search needs)
+    (λ c. search needs) (λ c. search needs) (λ c κs. at-others (c .before .before .before .before) .room) (λ c. search needs) returns-2)

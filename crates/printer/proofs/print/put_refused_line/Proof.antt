@@ -36,9 +36,6 @@ put-decimal-requires c κs =
     let s = c .before .before .before .before .before .before .before in
     writing-room (decimal (s .args .refusal)) ending (at-number (c .before .before .before))
 
-put-bytes-requires-2 : tie.Need-put-bytes-requires-2
-put-bytes-requires-2 c κs = at-end (c .before .before .before .before) .room
-
 returns : tie.Need-returns
 returns c = writing-last ending (at-end (c .before .before .before .before .before .before .before))
     (c .before .before .put-bytes2 .ensures)
@@ -47,4 +44,5 @@ pub put-refused-line-spec : {M : Type 1} → statement M
 put-refused-line-spec =
     tie.close
     (tie.spec
-    (λ c. search needs) put-bytes-requires put-decimal-requires (λ c. search needs) put-bytes-requires-2 (λ c. search needs) returns)
+    (λ c. search needs) put-bytes-requires put-decimal-requires (λ c. search needs)
+    (λ c κs. at-end (c .before .before .before .before) .room) (λ c. search needs) returns)

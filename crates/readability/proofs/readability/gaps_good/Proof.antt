@@ -14,9 +14,6 @@ Inv-loop gaps n len good₀ sum₀ i₀ good sum i = Summed gaps good sum i
 abbrev μ-loop : tie.MeasureT-loop
 μ-loop gaps n len good₀ sum₀ i₀ good sum i = length gaps - i
 
-loop-holds : tie.Need-loop-holds Inv-loop μ-loop
-loop-holds c = summed-start (c .args .gaps .now)
-
 cast-sum : tie.Need-cast-sum Inv-loop μ-loop
 cast-sum c = omega (arith, c .shared-slice-known .given (c .before .before .loop .i))
 
@@ -49,5 +46,5 @@ pub gaps-good-spec : {M : Type 1} → statement M
 gaps-good-spec =
     tie.close
     (tie.spec
-    Inv-loop μ-loop loop-holds (λ c. search needs) (λ c. search needs) cast-sum add-sum (λ c. search needs) (λ c. search needs) loop-again
-    (λ c. search needs) (λ c. search needs) (λ c. search needs) returns returns-2)
+    Inv-loop μ-loop (λ c. summed-start (c .args .gaps .now)) (λ c. search needs) (λ c. search needs) cast-sum add-sum (λ c. search needs)
+    (λ c. search needs) loop-again (λ c. search needs) (λ c. search needs) (λ c. search needs) returns returns-2)

@@ -19,12 +19,6 @@ Inv-loop chars lengths index as-gaps n keys at₀ least₀ i₀ at least i =
 abbrev μ-loop : tie.MeasureT-loop
 μ-loop chars lengths index as-gaps n keys at₀ least₀ i₀ at least i = keys - i
 
-cast-n : tie.Need-cast-n Inv-loop μ-loop
-cast-n c = omega (arith, c .shared-slice-known4 .given 0)
-
-cast-keys : tie.Need-cast-keys Inv-loop μ-loop
-cast-keys c = omega (arith, c .shared-slice-known5 .given 1)
-
 loop-holds : tie.Need-loop-holds Inv-loop μ-loop
 loop-holds c =
     let start = c .before .before .before .before .before in
@@ -43,9 +37,6 @@ lone-lines-requires c κs =
       lines-extend (read-as (args .as-gaps)) lex (args .index .now) (walk .i) (walk .at) (walk .least) (walk .inv .0)
           (c .before .before .loop-test .taken) (omega arith) (walk .inv .1),
     )
-
-returns : tie.Need-returns Inv-loop μ-loop
-returns c = c .lone-lines .ensures
 
 cast-value : tie.Need-cast-value Inv-loop μ-loop
 cast-value c = omega (arith, c .shared-slice-known7 .given (2 + 3 * c .before .before .before .before .loop .i + 1))
@@ -89,8 +80,7 @@ add-at-2 c =
 add-least : tie.Need-add-least Inv-loop μ-loop
 add-least c = omega (
   arith,
-  c .before .before .shared-slice-known8 .given
-      (2 + 3 * c .before .before .before .before .before .before .before .loop .i + 1),
+  c .before .before .shared-slice-known8 .given (2 + 3 * c .before .before .before .before .before .before .before .loop .i + 1),
 )
 
 loop-again : tie.Need-loop-again Inv-loop μ-loop
@@ -118,8 +108,9 @@ pub lines-good-spec : {M : Type 1} → statement M
 lines-good-spec =
     tie.close
     (tie.spec
-    Inv-loop μ-loop (λ c. omega arith) cast-n (λ c. omega arith) cast-keys (λ c. search needs) (λ c. omega arith) loop-holds
-    (λ c. search needs) (λ c. omega arith) (λ c. search needs) (λ c. omega arith) lone-lines-requires returns (λ c. search needs)
+    Inv-loop μ-loop (λ c. omega arith) (λ c. omega (arith, c .shared-slice-known4 .given 0)) (λ c. omega arith)
+    (λ c. omega (arith, c .shared-slice-known5 .given 1)) (λ c. search needs) (λ c. omega arith) loop-holds (λ c. search needs)
+    (λ c. omega arith) (λ c. search needs) (λ c. omega arith) lone-lines-requires (λ c. c .lone-lines .ensures) (λ c. search needs)
     (λ c. omega arith) (λ c. omega arith) (λ c. search needs) (λ c. omega arith) cast-value (λ c. search needs) (λ c. omega arith)
     (λ c. omega arith) (λ c. search needs) (λ c. omega arith) cast-count word-line-good-requires returns-2 add-at-2 add-least
     (λ c. omega arith) (λ c. omega arith) loop-again returns-3)

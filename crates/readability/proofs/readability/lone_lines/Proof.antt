@@ -22,12 +22,6 @@ Inv-loop chars lengths index from start as-gaps n keys at₀ least₀ words₀ i
 abbrev μ-loop : tie.MeasureT-loop
 μ-loop chars lengths index from start as-gaps n keys at₀ least₀ words₀ i₀ at least words i = keys - i
 
-cast-n : tie.Need-cast-n Inv-loop μ-loop
-cast-n c = omega (arith, c .shared-slice-known4 .given 0)
-
-cast-keys : tie.Need-cast-keys Inv-loop μ-loop
-cast-keys c = omega (arith, c .shared-slice-known5 .given 1)
-
 loop-holds : tie.Need-loop-holds Inv-loop μ-loop
 loop-holds c = (
   c .before .before .before .before .before .pre .2,
@@ -68,9 +62,6 @@ skip-below-requires c κs =
     let start = c .before .before .before .before .before .before .before .before .before .before .before .before in
     let walk = c .before .before .before .before .before .before .loop in
     passed-raise (getD (start .args .index .now) (2 + 3 * walk .i + 1) 0) (c .if2 .left) (walk .inv .1)
-
-is-reached-requires : tie.Need-is-reached-requires Inv-loop μ-loop
-is-reached-requires c κs = c .skip-below .ensures
 
 returns-3 : tie.Need-returns-3 Inv-loop μ-loop
 returns-3 c =
@@ -170,8 +161,9 @@ pub lone-lines-spec : {M : Type 1} → statement M
 lone-lines-spec =
     tie.close
     (tie.spec
-    Inv-loop μ-loop (λ c. omega arith) cast-n (λ c. omega arith) cast-keys loop-holds (λ c. search needs) (λ c. omega arith)
-    (λ c. search needs) (λ c. omega arith) (λ c. search needs) (λ c. omega arith) (λ c. omega arith) (λ c. search needs) (λ c. omega arith)
-    (λ c. search needs) (λ c. omega arith) (λ c. omega arith) (λ c. search needs) (λ c. omega arith) cast-count returns cast-if2 returns-2
-    skip-below-requires is-reached-requires returns-3 line-list-good-requires returns-4 add-at cast-least add-least (λ c. omega arith)
+    Inv-loop μ-loop (λ c. omega arith) (λ c. omega (arith, c .shared-slice-known4 .given 0)) (λ c. omega arith)
+    (λ c. omega (arith, c .shared-slice-known5 .given 1)) loop-holds (λ c. search needs) (λ c. omega arith) (λ c. search needs)
+    (λ c. omega arith) (λ c. search needs) (λ c. omega arith) (λ c. omega arith) (λ c. search needs) (λ c. omega arith) (λ c. search needs)
+    (λ c. omega arith) (λ c. omega arith) (λ c. search needs) (λ c. omega arith) cast-count returns cast-if2 returns-2 skip-below-requires
+    (λ c κs. c .skip-below .ensures) returns-3 line-list-good-requires returns-4 add-at cast-least add-least (λ c. omega arith)
     (λ c. omega arith) loop-again returns-5)

@@ -17,15 +17,6 @@ returns c =
     header-missing (read-as (args .as-gaps)) (read-keeps (args .as-gaps)) longest-text (lexicon (args .chars .now) (args .lengths .now))
     (args .index .now) (c .if1 .taken)
 
-cast-keys : tie.Need-cast-keys
-cast-keys c = omega (arith, c .shared-slice-known4 .given 1)
-
-mul-if2 : tie.Need-mul-if2
-mul-if2 c = omega (arith, c .shared-slice-known4 .given 1)
-
-add-if2 : tie.Need-add-if2
-add-if2 c = omega (arith, c .shared-slice-known4 .given 1)
-
 returns-2 : tie.Need-returns-2
 returns-2 c =
     let args = c .before .before .before .before .before .before .args in
@@ -45,4 +36,5 @@ pub readable-spec : {M : Type 1} → statement M
 readable-spec =
     tie.close
     (tie.spec
-    returns (λ c. search needs) cast-keys mul-if2 add-if2 returns-2 (λ c κs. search needs) returns-3)
+    returns (λ c. search needs) (λ c. omega (arith, c .shared-slice-known4 .given 1)) (λ c. omega (arith, c .shared-slice-known4 .given 1))
+    (λ c. omega (arith, c .shared-slice-known4 .given 1)) returns-2 (λ c κs. search needs) returns-3)

@@ -13,17 +13,12 @@ Inv-loop positions good₀ last₀ i₀ good last i = Rises positions good last 
 abbrev μ-loop : tie.MeasureT-loop
 μ-loop positions good₀ last₀ i₀ good last i = length positions - i
 
-loop-holds : tie.Need-loop-holds Inv-loop μ-loop
-loop-holds c = rises-start (c .args .positions .now)
-
 loop-again : tie.Need-loop-again Inv-loop μ-loop
 loop-again c = rises-step (c .before .before .loop .inv) (c .before .loop-test .taken)
-
-returns : tie.Need-returns Inv-loop μ-loop
-returns c = rises-end (c .before .loop .inv) (c .loop-test .left)
 
 pub rise-spec : {M : Type 1} → statement M
 rise-spec =
     tie.close
     (tie.spec
-    Inv-loop μ-loop loop-holds (λ c. search needs) (λ c. search needs) (λ c. search needs) (λ c. search needs) loop-again returns)
+    Inv-loop μ-loop (λ c. rises-start (c .args .positions .now)) (λ c. search needs) (λ c. search needs) (λ c. search needs)
+    (λ c. search needs) loop-again (λ c. rises-end (c .before .loop .inv) (c .loop-test .left)))

@@ -14,9 +14,6 @@ Inv-loop chars lengths value word₀ at₀ word at = Passed chars lengths word a
 abbrev μ-loop : tie.MeasureT-loop
 μ-loop chars lengths value word₀ at₀ word at = length lengths - word
 
-loop-holds : tie.Need-loop-holds Inv-loop μ-loop
-loop-holds c = c .pre
-
 shared-slice-read-if1 : tie.Need-shared-slice-read-if1 Inv-loop μ-loop
 shared-slice-read-if1 c = word-some (c .before .before .before .args .chars .now) (c .before .before .before .args .lengths .now)
     (c .before .before .loop .word) (c .before .before .loop .at) (c .before .before .before .args .value) (c .before .before .loop .inv)
@@ -50,5 +47,5 @@ pub skip-below-spec : {M : Type 1} → statement M
 skip-below-spec =
     tie.close
     (tie.spec
-    Inv-loop μ-loop loop-holds (λ c. search needs) shared-slice-read-if1 returns (λ c. search needs) (λ c. search needs) cast-at add-at
+    Inv-loop μ-loop (λ c. c .pre) (λ c. search needs) shared-slice-read-if1 returns (λ c. search needs) (λ c. search needs) cast-at add-at
     (λ c. search needs) (λ c. search needs) loop-again returns-2)

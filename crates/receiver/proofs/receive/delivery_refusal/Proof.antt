@@ -9,15 +9,6 @@ returns c =
     let start = c .before in
     short-refused (start .args .refusal) (start .args .index .now) (start .args .work) (c .if1 .taken)
 
-shared-slice-read-if2 : tie.Need-shared-slice-read-if2
-shared-slice-read-if2 c = c .before .before .pre (c .before .if1 .left)
-
-cast-if2 : tie.Need-cast-if2
-cast-if2 c = omega (arith, c .shared-slice-known .given 0)
-
-mul-if2 : tie.Need-mul-if2
-mul-if2 c = omega (arith, c .shared-slice-known .given 0)
-
 returns-2 : tie.Need-returns-2
 returns-2 c =
     let start = c .before .before .before in
@@ -32,9 +23,5 @@ pub delivery-refusal-spec : {M : Type 1} → statement M
 delivery-refusal-spec =
     tie.close
     (tie.spec
-    returns
-    shared-slice-read-if2
-    cast-if2
-    mul-if2
-    returns-2
-    returns-3)
+    returns (λ c. c .before .before .pre (c .before .if1 .left)) (λ c. omega (arith, c .shared-slice-known .given 0))
+    (λ c. omega (arith, c .shared-slice-known .given 0)) returns-2 returns-3)

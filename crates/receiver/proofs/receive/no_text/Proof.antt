@@ -3,11 +3,8 @@ use borrow.Author.Needs.{needs}
 use Rattle.receiver.proofs.receive.no_text.Statement.{statement}
 use Rattle.receiver.proofs.receive.no_text.Tie as tie
 
-returns : tie.Need-returns
-returns c = c .before .before .refuse .ensures
-
 pub no-text-spec : {M : Type 1} → statement M
 no-text-spec =
     tie.close
     (tie.spec
-    (λ c κs. search needs) (λ c. search needs) returns)
+    (λ c κs. search needs) (λ c. search needs) (λ c. c .before .before .refuse .ensures))

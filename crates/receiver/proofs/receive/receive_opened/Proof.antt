@@ -67,9 +67,6 @@ shared-slice-read-t20 c =
           c .before .before .before .before .before .before .before .before .before .before .if1 .left) .fits .has-header,
     )
 
-cast-t7 : tie.Need-cast-t7
-cast-t7 c = omega (arith, c .shared-slice-known4 .given 0)
-
 returns-3 : tie.Need-returns-3
 returns-3 c =
     let start =
@@ -92,5 +89,6 @@ pub receive-opened-spec : {M : Type 1} → statement M
 receive-opened-spec =
     tie.close
     (tie.spec
-    delivery-refusal-requires (λ c κs. search needs) (λ c. search needs) returns text-of-requires (λ c κs. search needs) (λ c. search needs)
-    returns-2 (λ c κs. search needs) shared-slice-read-t20 cast-t7 (λ c. search needs) returns-3)
+    delivery-refusal-requires (λ c κs. search needs) (λ c. search needs) returns text-of-requires (λ c κs. search needs)
+    (λ c. search needs) returns-2 (λ c κs. search needs) shared-slice-read-t20 (λ c. omega (arith, c .shared-slice-known4 .given 0))
+    (λ c. search needs) returns-3)

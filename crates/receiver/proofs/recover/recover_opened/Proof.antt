@@ -68,9 +68,6 @@ shared-slice-read-give-text c =
           c .before .before .before .before .before .before .if1 .left) .fits .has-header,
     )
 
-cast-give-text : tie.Need-cast-give-text
-cast-give-text c = omega (arith, c .shared-slice-known4 .given 0)
-
 give-text-requires : tie.Need-give-text-requires
 give-text-requires c κs =
     let start = c .before .before .before .before .before .before .before .before .before .before .before .before .before .before .before in
@@ -110,5 +107,6 @@ pub recover-opened-spec : {M : Type 1} → statement M
 recover-opened-spec =
     tie.close
     (tie.spec
-    delivery-refusal-requires (λ c κs. search needs) (λ c. search needs) returns text-of-requires (λ c κs. search needs) (λ c. search needs)
-    returns-2 shared-slice-read-give-text cast-give-text give-text-requires (λ c. search needs) (λ c. search needs) returns-3)
+    delivery-refusal-requires (λ c κs. search needs) (λ c. search needs) returns text-of-requires (λ c κs. search needs)
+    (λ c. search needs) returns-2 shared-slice-read-give-text (λ c. omega (arith, c .shared-slice-known4 .given 0)) give-text-requires
+    (λ c. search needs) (λ c. search needs) returns-3)

@@ -21,9 +21,6 @@ shared-slice-read-n c =
           (start .pre .0) .fits .has-header,
     )
 
-cast-n : tie.Need-cast-n
-cast-n c = omega (arith, c .shared-slice-known7 .given 0)
-
 reconstruct-front-requires : tie.Need-reconstruct-front-requires
 reconstruct-front-requires c κs =
     let start = c .before .before .before .before .before .before .before .before .before in
@@ -90,4 +87,5 @@ pub is-index-of-text-spec : {M : Type 1} → statement M
 is-index-of-text-spec =
     tie.close
     (tie.spec
-    shared-slice-read-n cast-n reconstruct-front-requires fill-line-map-behind-requires test-parts-requires (λ c. search needs) returns)
+    shared-slice-read-n (λ c. omega (arith, c .shared-slice-known7 .given 0)) reconstruct-front-requires fill-line-map-behind-requires
+    test-parts-requires (λ c. search needs) returns)

@@ -41,12 +41,6 @@ shared-slice-read-n c =
           (start .pre .0) .fits .has-header,
     )
 
-cast-n : tie.Need-cast-n
-cast-n c = omega (arith, c .shared-slice-known7 .given 0)
-
-slice-reshare-prefix-holds-full-width : tie.Need-slice-reshare-prefix-holds-full-width
-slice-reshare-prefix-holds-full-width c = room c
-
 slice-aggregate-holds-full-width : tie.Need-slice-aggregate-holds-full-width
 slice-aggregate-holds-full-width c =
     let start = c .before .before .before .before .before .before .before .before .before .before .before .before .before .before in
@@ -66,5 +60,5 @@ pub text-by-spec : {M : Type 1} → statement M
 text-by-spec =
     tie.close
     (tie.spec
-    (λ c κs. search needs) (λ c. search needs) returns shared-slice-read-n cast-n slice-reshare-prefix-holds-full-width
-    slice-aggregate-holds-full-width (λ c κs. search needs) (λ c. search needs) returns-2)
+    (λ c κs. search needs) (λ c. search needs) returns shared-slice-read-n (λ c. omega (arith, c .shared-slice-known7 .given 0))
+    (λ c. room c) slice-aggregate-holds-full-width (λ c κs. search needs) (λ c. search needs) returns-2)

@@ -18,29 +18,12 @@ Inv-loop chars lengths word-starts index text₀ keys begin₀ line₀ text begi
 abbrev μ-loop : tie.MeasureT-loop
 μ-loop chars lengths word-starts index text₀ keys begin₀ line₀ text begin line = keys - line
 
-shared-slice-read-keys : tie.Need-shared-slice-read-keys Inv-loop μ-loop
-shared-slice-read-keys c =
-    omega arith
-
-cast-keys : tie.Need-cast-keys Inv-loop μ-loop
-cast-keys c = omega (arith, c .shared-slice-known5 .given 1)
-
-mul-begin : tie.Need-mul-begin Inv-loop μ-loop
-mul-begin c = omega (arith, c .shared-slice-known5 .given 1)
-
-add-begin : tie.Need-add-begin Inv-loop μ-loop
-add-begin c = omega (arith, c .shared-slice-known5 .given 1)
-
 loop-holds : tie.Need-loop-holds Inv-loop μ-loop
 loop-holds c =
     let s = c .before .before .before .before .before .before in (
       s .pre .0,
       reconstructing-start (lexicon (s .args .chars .now) (s .args .lengths .now)) (s .args .index .now) (s .args .text .now),
     )
-
-shared-slice-read-end : tie.Need-shared-slice-read-end Inv-loop μ-loop
-shared-slice-read-end c =
-    omega arith
 
 cast-end : tie.Need-cast-end Inv-loop μ-loop
 cast-end c = omega (arith, c .shared-slice-known6 .given (2 + 3 * c .before .before .loop .line + 2))
@@ -66,10 +49,6 @@ reconstruct-line-requires c κs =
       l .inv .1 .len ∙ s .pre .2,
     )
 
-add-line : tie.Need-add-line Inv-loop μ-loop
-add-line c =
-    omega arith
-
 loop-again : tie.Need-loop-again Inv-loop μ-loop
 loop-again c =
     let s = c .before .before .before .before .before .before .before .before .before .before .before .before .before in
@@ -82,9 +61,6 @@ loop-again c =
           (c .before .before .reconstruct-line .last .1 .1 .1 .1 .1 .1 .1 .0) (c .before .before .reconstruct-line .ensures),
     )
 
-same-length : tie.Need-same-length Inv-loop μ-loop
-same-length c = c .before .loop .inv .1 .len
-
 returns : tie.Need-returns Inv-loop μ-loop
 returns c =
     let s = c .before .before .before .before .before .before .before .before in
@@ -96,6 +72,7 @@ pub reconstruct-entries-spec : {M : Type 1} → statement M
 reconstruct-entries-spec =
     tie.close
     (tie.spec
-    Inv-loop μ-loop shared-slice-read-keys cast-keys mul-begin add-begin loop-holds (λ c. omega arith) (λ c. omega arith) (λ c. omega arith)
-    (λ c. omega arith) shared-slice-read-end cast-end add-end-3 reconstruct-line-requires add-line (λ c. omega arith) loop-again same-length
-    returns)
+    Inv-loop μ-loop (λ c. omega arith) (λ c. omega (arith, c .shared-slice-known5 .given 1))
+    (λ c. omega (arith, c .shared-slice-known5 .given 1)) (λ c. omega (arith, c .shared-slice-known5 .given 1)) loop-holds
+    (λ c. omega arith) (λ c. omega arith) (λ c. omega arith) (λ c. omega arith) (λ c. omega arith) cast-end add-end-3
+    reconstruct-line-requires (λ c. omega arith) (λ c. omega arith) loop-again (λ c. c .before .loop .inv .1 .len) returns)

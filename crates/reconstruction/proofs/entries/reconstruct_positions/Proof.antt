@@ -43,9 +43,6 @@ loop-again c =
     (c .before .before .before .before .before .loop-test .taken)
     (c .before .before .reconstruct-string .last .1 .1 .0) (c .before .before .reconstruct-string .ensures)
 
-same-length : tie.Need-same-length Inv-loop μ-loop
-same-length c = c .before .loop .inv .len
-
 returns : tie.Need-returns Inv-loop μ-loop
 returns c =
     let s = c .before .before .before .before .before in
@@ -57,4 +54,4 @@ reconstruct-positions-spec =
     tie.close
     (tie.spec
     Inv-loop μ-loop loop-holds (λ c. search needs) (λ c. search needs) cast-reconstruct-string sub-reconstruct-string
-    reconstruct-string-requires (λ c. search needs) (λ c. search needs) loop-again same-length returns)
+    reconstruct-string-requires (λ c. search needs) (λ c. search needs) loop-again (λ c. c .before .loop .inv .len) returns)

@@ -15,15 +15,6 @@ Inv-loop index line-map₀ keys begin₀ line₀ line-map begin line = Filling-l
 abbrev μ-loop : tie.MeasureT-loop
 μ-loop index line-map₀ keys begin₀ line₀ line-map begin line = keys - line
 
-cast-keys : tie.Need-cast-keys Inv-loop μ-loop
-cast-keys c = omega (arith, c .shared-slice-known2 .given 1)
-
-mul-begin : tie.Need-mul-begin Inv-loop μ-loop
-mul-begin c = omega (arith, c .shared-slice-known2 .given 1)
-
-add-begin : tie.Need-add-begin Inv-loop μ-loop
-add-begin c = omega (arith, c .shared-slice-known2 .given 1)
-
 loop-holds : tie.Need-loop-holds Inv-loop μ-loop
 loop-holds c =
     let a = c .before .before .before .args in
@@ -40,10 +31,6 @@ add-end-2 c = omega (arith, c .before .before .shared-slice-known2 .given 1)
 
 mul-end-2 : tie.Need-mul-end-2 Inv-loop μ-loop
 mul-end-2 c = omega (arith, c .before .before .shared-slice-known2 .given 1)
-
-shared-slice-read-end : tie.Need-shared-slice-read-end Inv-loop μ-loop
-shared-slice-read-end c =
-    omega arith
 
 cast-end : tie.Need-cast-end Inv-loop μ-loop
 cast-end c = omega (arith, c .shared-slice-known3 .given (2 + 3 * c .before .before .loop .line + 2))
@@ -97,9 +84,6 @@ loop-again c =
     (c .before .before .before .before .before .before .loop-test .taken))
     (c .before .before .fill-at .last .1 .1 .0) (c .before .before .fill-at .ensures)
 
-same-length : tie.Need-same-length Inv-loop μ-loop
-same-length c = c .before .loop .inv .len
-
 returns : tie.Need-returns Inv-loop μ-loop
 returns c =
     let s = c .before .before .before .before .before in
@@ -110,6 +94,7 @@ pub fill-line-map-spec : {M : Type 1} → statement M
 fill-line-map-spec =
     tie.close
     (tie.spec
-    Inv-loop μ-loop (λ c. omega arith) cast-keys mul-begin add-begin loop-holds mul-end add-end add-end-2 mul-end-2 shared-slice-read-end
-    cast-end add-end-3 add-number cast-fill-at mul-fill-at (λ c. omega arith) (λ c. search needs) part-fill-at-end fill-at-requires
-    (λ c. omega arith) loop-again same-length returns)
+    Inv-loop μ-loop (λ c. omega arith) (λ c. omega (arith, c .shared-slice-known2 .given 1))
+    (λ c. omega (arith, c .shared-slice-known2 .given 1)) (λ c. omega (arith, c .shared-slice-known2 .given 1)) loop-holds mul-end add-end
+    add-end-2 mul-end-2 (λ c. omega arith) cast-end add-end-3 add-number cast-fill-at mul-fill-at (λ c. omega arith) (λ c. search needs)
+    part-fill-at-end fill-at-requires (λ c. omega arith) loop-again (λ c. c .before .loop .inv .len) returns)

@@ -18,15 +18,6 @@ Inv-loop chars lengths word-starts index text keys begin₀ line₀ begin line =
 abbrev μ-loop : tie.MeasureT-loop
 μ-loop chars lengths word-starts index text keys begin₀ line₀ begin line = keys - line
 
-cast-keys : tie.Need-cast-keys Inv-loop μ-loop
-cast-keys c = omega (arith, c .shared-slice-known6 .given 1)
-
-mul-begin : tie.Need-mul-begin Inv-loop μ-loop
-mul-begin c = omega (arith, c .shared-slice-known6 .given 1)
-
-add-begin : tie.Need-add-begin Inv-loop μ-loop
-add-begin c = omega (arith, c .shared-slice-known6 .given 1)
-
 loop-holds : tie.Need-loop-holds Inv-loop μ-loop
 loop-holds c = let a = c .before .before .before .before .before .before .args in matching-start
     (lexicon (a .chars .now) (a .lengths .now)) (a .index .now) (a .text .now)
@@ -86,6 +77,7 @@ pub entries-match-spec : {M : Type 1} → statement M
 entries-match-spec =
     tie.close
     (tie.spec
-    Inv-loop μ-loop (λ c. omega arith) cast-keys mul-begin add-begin loop-holds (λ c. search needs) (λ c. search needs) (λ c. search needs)
-    (λ c. search needs) (λ c. search needs) cast-end add-end-3 line-stands-requires returns (λ c. search needs) (λ c. search needs)
-    loop-again returns-2)
+    Inv-loop μ-loop (λ c. omega arith) (λ c. omega (arith, c .shared-slice-known6 .given 1))
+    (λ c. omega (arith, c .shared-slice-known6 .given 1)) (λ c. omega (arith, c .shared-slice-known6 .given 1)) loop-holds
+    (λ c. search needs) (λ c. search needs) (λ c. search needs) (λ c. search needs) (λ c. search needs) cast-end add-end-3
+    line-stands-requires returns (λ c. search needs) (λ c. search needs) loop-again returns-2)

@@ -20,12 +20,6 @@ Inv-loop string positions text period₀ i₀ period i = (1 ≤ i) × Period str
 abbrev μ-loop : tie.MeasureT-loop
 μ-loop string positions text period₀ i₀ period i = length positions - i
 
-shared-slice-read-equal-from : tie.Need-shared-slice-read-equal-from Inv-loop μ-loop
-shared-slice-read-equal-from c = c .before .before .before .before .pre .1
-
-cast-equal-from : tie.Need-cast-equal-from Inv-loop μ-loop
-cast-equal-from c = omega (arith, c .shared-slice-known4 .given 0)
-
 sub-equal-from : tie.Need-sub-equal-from Inv-loop μ-loop
 sub-equal-from c = c .before .before .before .before .pre .0 .from 0 (c .before .before .before .before .pre .1)
 
@@ -66,9 +60,6 @@ sub-step-2 c =
     let s = c .before .before .before .before .before .before .before .before .before .before in
     let l = c .before .before .before .loop in
     omega (arith, rise-after 1 (s .args .positions .now) (s .pre .2) (l .i) (l .inv .0) (c .before .before .loop-test .taken))
-
-period-of-requires : tie.Need-period-of-requires Inv-loop μ-loop
-period-of-requires c κs = c .before .before .before .loop .inv .1
 
 stands-again-requires : tie.Need-stands-again-requires Inv-loop μ-loop
 stands-again-requires c κs =
@@ -111,6 +102,7 @@ pub stands-at-each-spec : {M : Type 1} → statement M
 stands-at-each-spec =
     tie.close
     (tie.spec
-    Inv-loop μ-loop shared-slice-read-equal-from cast-equal-from sub-equal-from equal-from-requires returns loop-holds (λ c. search needs)
-    (λ c. search needs) cast-position (λ c. search needs) (λ c. search needs) (λ c. search needs) cast-step sub-step-2 period-of-requires
-    stands-again-requires returns-2 (λ c. search needs) (λ c. search needs) loop-again returns-3)
+    Inv-loop μ-loop (λ c. c .before .before .before .before .pre .1) (λ c. omega (arith, c .shared-slice-known4 .given 0)) sub-equal-from
+    equal-from-requires returns loop-holds (λ c. search needs) (λ c. search needs) cast-position (λ c. search needs) (λ c. search needs)
+    (λ c. search needs) cast-step sub-step-2 (λ c κs. c .before .before .before .loop .inv .1) stands-again-requires returns-2
+    (λ c. search needs) (λ c. search needs) loop-again returns-3)

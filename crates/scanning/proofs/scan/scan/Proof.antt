@@ -22,10 +22,6 @@ loop-holds c =
     let start = c .before .before .before .before .before .before in
     behind-start (lexicon (start .args .chars .now) (start .args .lengths .now)) (start .args .work .now) (start .args .n) (start .pre .1)
 
-part-step-end : tie.Need-part-step-end Inv-loop μ-loop
-part-step-end c =
-    omega arith
-
 step-requires : tie.Need-step-requires Inv-loop μ-loop
 step-requires c κs =
     let turn = c .before .before .before .loop in
@@ -52,9 +48,6 @@ loop-again c =
     (c .before .before .before .loop-test .taken)
     (c .step .ensures)
 
-same-length : tie.Need-same-length Inv-loop μ-loop
-same-length c = c .before .loop .inv .size
-
 returns : tie.Need-returns Inv-loop μ-loop
 returns c =
     let turn = c .before .loop in
@@ -68,5 +61,6 @@ pub scan-spec : {M : Type 1} → statement M
 scan-spec =
     tie.close
     (tie.spec
-    Inv-loop μ-loop (λ c. search needs) loop-holds (λ c. search needs) (λ c. search needs) (λ c. search needs) part-step-end step-requires
-    (λ c. search needs) slice-write-work (λ c. search needs) (λ c. search needs) loop-again same-length returns)
+    Inv-loop μ-loop (λ c. search needs) loop-holds (λ c. search needs) (λ c. search needs) (λ c. search needs) (λ c. omega arith)
+    step-requires (λ c. search needs) slice-write-work (λ c. search needs) (λ c. search needs) loop-again (λ c. c .before .loop .inv .size)
+    returns)

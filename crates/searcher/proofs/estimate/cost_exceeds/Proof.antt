@@ -26,9 +26,6 @@ estimate-words-requires c κs = let s = c .before .before .before .before .befor
 loop-holds : tie.Need-loop-holds Inv-loop μ-loop
 loop-holds c = let s = c .before .before .before .before .before .before in (omega arith, omega arith, omega arith, omega arith)
 
-returns : tie.Need-returns Inv-loop μ-loop
-returns c = tt
-
 count-keys-requires : tie.Need-count-keys-requires Inv-loop μ-loop
 count-keys-requires c κs = let s = c .before .before .before .before .before .before .before .before .before in (
   s .pre .0,
@@ -56,12 +53,6 @@ add-sum c =
     mul-le-mul {n₂ = 9} {m₂ = 562949953486847} (l .inv .1) (c .count-keys .ensures) in
     omega (arith, times)
 
-add-at : tie.Need-add-at Inv-loop μ-loop
-add-at c = let l = c .before .before .before .loop in omega arith
-
-loop-less : tie.Need-loop-less Inv-loop μ-loop
-loop-less c = let l = c .before .before .before .loop in omega arith
-
 loop-again : tie.Need-loop-again Inv-loop μ-loop
 loop-again c =
     let s = c .before .before .before .before .before .before .before .before .before .before in
@@ -76,12 +67,10 @@ loop-again c =
       omega (arith, times, limit),
     )
 
-returns-2 : tie.Need-returns-2 Inv-loop μ-loop
-returns-2 c = tt
-
 pub cost-exceeds-spec : {M : Type 1} → statement M
 cost-exceeds-spec =
     tie.close
     (tie.spec
-    Inv-loop μ-loop (λ c. omega arith) estimate-words-requires loop-holds returns count-keys-requires mul-sum add-sum add-at loop-less
-    loop-again returns-2)
+    Inv-loop μ-loop (λ c. omega arith) estimate-words-requires loop-holds (λ c. tt) count-keys-requires mul-sum add-sum
+    (λ c. let l = c .before .before .before .loop in omega arith) (λ c. let l = c .before .before .before .loop in omega arith) loop-again
+    (λ c. tt))

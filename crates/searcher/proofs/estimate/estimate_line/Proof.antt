@@ -15,8 +15,7 @@ mul-result c =
     let a = c .before .before .before .before .before .args in
     let len : c .word-length .result ≤ 65535 = omega (
       arith,
-      c .before .before .before .before .shared-slice-known .given
-          (getD (a .index .now) (2 + 3 * a .line + 1) 0),
+      c .before .before .before .before .shared-slice-known .given (getD (a .index .now) (2 + 3 * a .line + 1) 0),
     ) in
     let times : getD (a .index .now) (2 + 3 * a .line + 2) 0 * c .word-length .result ≤ 65535 * 65535 =
     mul-le-mul {n₂ = 65535} {m₂ = 65535} (omega (arith, c .before .before .shared-slice-known3 .given (2 + 3 * a .line + 2))) len in
@@ -27,8 +26,7 @@ returns c =
     let a = c .before .before .before .before .before .args in
     let len : c .word-length .result ≤ 65535 = omega (
       arith,
-      c .before .before .before .before .shared-slice-known .given
-          (getD (a .index .now) (2 + 3 * a .line + 1) 0),
+      c .before .before .before .before .shared-slice-known .given (getD (a .index .now) (2 + 3 * a .line + 1) 0),
     ) in
     let times : getD (a .index .now) (2 + 3 * a .line + 2) 0 * c .word-length .result ≤ 65535 * 65535 =
     mul-le-mul {n₂ = 65535} {m₂ = 65535} (omega (arith, c .before .before .shared-slice-known3 .given (2 + 3 * a .line + 2))) len in

@@ -11,21 +11,15 @@ Inv-loop lengths index from to whole sum₀ line₀ sum line = (line ≤ to) × 
 abbrev μ-loop : tie.MeasureT-loop
 μ-loop lengths index from to whole sum₀ line₀ sum line = to - line
 
-loop-holds : tie.Need-loop-holds Inv-loop μ-loop
-loop-holds c = (c .before .before .pre .0, omega arith)
-
 estimate-line-requires : tie.Need-estimate-line-requires Inv-loop μ-loop
 estimate-line-requires c κs =
     let s = c .before .before .before .before in
     let below = c .loop-test .taken in
     (omega arith, s .pre .3 (c .before .loop .line) below, omega arith)
 
-loop-again : tie.Need-loop-again Inv-loop μ-loop
-loop-again c = (omega arith, omega arith)
-
 pub estimate-lines-spec : {M : Type 1} → statement M
 estimate-lines-spec =
     tie.close
     (tie.spec
-    Inv-loop μ-loop loop-holds estimate-line-requires (λ c. omega arith) (λ c. omega arith) (λ c. omega arith) loop-again
-    (λ c. omega arith))
+    Inv-loop μ-loop (λ c. (c .before .before .pre .0, omega arith)) estimate-line-requires (λ c. omega arith) (λ c. omega arith)
+    (λ c. omega arith) (λ c. (omega arith, omega arith)) (λ c. omega arith))

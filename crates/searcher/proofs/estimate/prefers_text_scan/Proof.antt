@@ -9,9 +9,6 @@ use Rattle.searcher.proofs.estimate.prefers_text_scan.Tie as tie
 use Rattle.directory.proofs.ranges.count_word_lines.Reads as words-end-reads
 use Rattle.searcher.proofs.estimate.cost_exceeds.Reads as visits-more-reads
 
-returns : tie.Need-returns
-returns c = λ t. clash t refl
-
 count-word-lines-requires : tie.Need-count-word-lines-requires
 count-word-lines-requires c κs =
     let s = c .before .before .before .before .before .before .before in
@@ -32,5 +29,5 @@ pub prefers-text-scan-spec : {M : Type 1} → statement M
 prefers-text-scan-spec =
     tie.close
     (tie.spec
-    (λ c. search needs) (λ c. search needs) (λ c. search needs) (λ c. search needs) returns count-word-lines-requires (λ c. search needs)
-    cost-exceeds-requires (λ c. search needs))
+    (λ c. search needs) (λ c. search needs) (λ c. search needs) (λ c. search needs) (λ c. λ t. clash t refl) count-word-lines-requires
+    (λ c. search needs) cost-exceeds-requires (λ c. search needs))

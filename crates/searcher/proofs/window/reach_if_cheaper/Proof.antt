@@ -8,21 +8,17 @@ use Rattle.searcher.proofs.window.reach_if_cheaper.Tie as tie
 use Rattle.searcher.proofs.estimate.prefers_text_scan.Reads as is-dense-reads
 use Rattle.searcher.proofs.window.reach_by_text.Reads as reach-by-text-reads
 
-returns : tie.Need-returns
-returns c = (λ t. clash t refl, λ t. refl)
-
 reach-by-text-requires : tie.Need-reach-by-text-requires
 reach-by-text-requires c κs =
     let s = c .before .before .before .before .before .before .before .before .before in (
       s .pre .0,
       s .pre .1,
       s .pre .2 .short,
-      c .before .before .prefers-text-scan .ensures
-          (not-false (c .before .before .prefers-text-scan .result) (c .before .if1 .left)),
+      c .before .before .prefers-text-scan .ensures (not-false (c .before .before .prefers-text-scan .result) (c .before .if1 .left)),
     )
 
 pub reach-if-cheaper-spec : {M : Type 1} → statement M
 reach-if-cheaper-spec =
     tie.close
     (tie.spec
-    (λ c κs. search needs) returns reach-by-text-requires (λ c. search needs) (λ c. search needs))
+    (λ c κs. search needs) (λ c. (λ t. clash t refl, λ t. refl)) reach-by-text-requires (λ c. search needs) (λ c. search needs))

@@ -45,5 +45,5 @@ pub search-cleared-spec : {M : Type 1} → statement M
 search-cleared-spec =
     tie.close
     (tie.spec
-    (λ c κs. search needs) (λ c κs. search needs) (λ c. search needs) (λ c. search needs) returns search-window-requires (λ c. search needs)
-    (λ c. search needs) returns-2)
+    (λ c κs. search needs) (λ c κs. search needs) (λ c. search needs) (λ c. search needs) returns search-window-requires
+    (λ c. search needs) (λ c. search needs) returns-2)

@@ -66,16 +66,10 @@ loop-again-2 c =
     len (l .inv) (omega (arith, below))
     end
 
-same-length : tie.Need-same-length Inv-loop μ-loop
-same-length c = c .before .loop .inv .len
-
-returns : tie.Need-returns Inv-loop μ-loop
-returns c = λ j b. c .before .loop .inv .told j (omega (arith, b))
-
 pub fill-prefix-lengths-spec : {M : Type 1} → statement M
 fill-prefix-lengths-spec =
     tie.close
     (tie.spec
     Inv-loop μ-loop loop-holds known-from-requires extend-requires (λ c. search needs) (λ c. search needs) (λ c. search needs)
-    (λ c. search needs) (λ c. search needs) (λ c. search needs) (λ c. search needs) loop-again (λ c. search needs) loop-again-2 same-length
-    returns)
+    (λ c. search needs) (λ c. search needs) (λ c. search needs) (λ c. search needs) loop-again (λ c. search needs) loop-again-2
+    (λ c. c .before .loop .inv .len) (λ c. λ j b. c .before .loop .inv .told j (omega (arith, b))))

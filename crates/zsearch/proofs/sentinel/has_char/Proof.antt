@@ -18,9 +18,6 @@ Inv-loop string character i₀ i =
 abbrev μ-loop : tie.MeasureT-loop
 μ-loop string character i₀ i = length string - i
 
-loop-holds : tie.Need-loop-holds Inv-loop μ-loop
-loop-holds c = (omega arith, λ k h. absurd (omega arith))
-
 returns : tie.Need-returns Inv-loop μ-loop
 returns c =
     let s = c .before .before .before .before in
@@ -44,4 +41,5 @@ pub has-char-spec : {M : Type 1} → statement M
 has-char-spec =
     tie.close
     (tie.spec
-    Inv-loop μ-loop loop-holds (λ c. search needs) (λ c. search needs) returns (λ c. search needs) (λ c. search needs) loop-again returns-2)
+    Inv-loop μ-loop (λ c. (omega arith, λ k h. absurd (omega arith))) (λ c. search needs) (λ c. search needs) returns (λ c. search needs)
+    (λ c. search needs) loop-again returns-2)

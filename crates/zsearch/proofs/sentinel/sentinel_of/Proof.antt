@@ -14,9 +14,6 @@ Inv-loop string sentinel₀ sentinel = Lower-in string sentinel
 abbrev μ-loop : tie.MeasureT-loop
 μ-loop string sentinel₀ sentinel = suc (length string) - sentinel
 
-loop-holds : tie.Need-loop-holds Inv-loop μ-loop
-loop-holds c = lower-none (c .before .args .string .now)
-
 -- every number below the next one is a character too
 more :
     (c : tie.Then1 Inv-loop μ-loop) → Lower-in (c .before .before .before .before .args .string .now)
@@ -35,15 +32,11 @@ loop-less c =
     let s = c .before .before .before .before in
     omega (arith, lower-few (s .args .string .now) (c .before .before .loop .sentinel + 1) (more c))
 
-loop-again : tie.Need-loop-again Inv-loop μ-loop
-loop-again c = more c
-
 returns : tie.Need-returns Inv-loop μ-loop
-returns c =
-    record { absent = c .before .has-char .ensures .fails (c .if1 .left); lower = c .before .before .loop .inv }
+returns c = record { absent = c .before .has-char .ensures .fails (c .if1 .left); lower = c .before .before .loop .inv }
 
 pub sentinel-of-spec : {M : Type 1} → statement M
 sentinel-of-spec =
     tie.close
     (tie.spec
-    Inv-loop μ-loop loop-holds (λ c κs. search needs) add-sentinel loop-less loop-again returns)
+    Inv-loop μ-loop (λ c. lower-none (c .before .args .string .now)) (λ c κs. search needs) add-sentinel loop-less (λ c. more c) returns)

@@ -67,9 +67,6 @@ loop-again-2 c =
       λ more. omega (arith, below),
     )
 
-same-length : tie.Need-same-length Inv-loop μ-loop
-same-length c = c .before .loop .inv .0 .len
-
 returns : tie.Need-returns Inv-loop μ-loop
 returns c =
     let l = c .before .loop in (
@@ -83,4 +80,4 @@ fill-zarray-spec =
     (tie.spec
     Inv-loop μ-loop loop-holds known-from-requires (λ c. search needs) extend-requires (λ c. search needs) (λ c. search needs)
     (λ c. search needs) (λ c. search needs) (λ c. search needs) (λ c. search needs) (λ c. search needs) loop-again (λ c. search needs)
-    loop-again-2 same-length returns)
+    loop-again-2 (λ c. c .before .loop .inv .0 .len) returns)

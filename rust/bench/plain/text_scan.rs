@@ -7,14 +7,14 @@ use super::directory::Directory;
 /// Whether extending reaches would visit many positions, so that a text scan
 /// costs less: an estimate, from the keys that agree with the string at every so
 /// many of its offsets.
-pub fn is_dense(directory: &Directory, n: usize, string: &[u16]) -> bool {
+pub fn prefers_text_scan(directory: &Directory, n: usize, string: &[u16]) -> bool {
     let lines = &directory.lines;
     let stride = 1 + string.len() / 32;
     let mut visits = 0;
     // At the string's start a word may agree at as many offsets as it has
     // characters.
-    lines.each_that_starts(string, |line, long| {
-        visits += directory.count(line) * long;
+    lines.each_that_starts(string, |line, len| {
+        visits += directory.count(line) * len;
     });
     for at in (0..string.len()).step_by(stride) {
         if 6 * n < visits {
@@ -31,25 +31,30 @@ pub fn is_dense(directory: &Directory, n: usize, string: &[u16]) -> bool {
 /// at each start of the reconstructed text of `n` characters, or answers that
 /// entries contradict one another. The text is reconstructed over a sentinel, a
 /// character absent from the string.
-pub fn reach_painted(directory: &Directory, n: usize, string: &[u16], reach: &mut [u16]) -> bool {
-    let Some(ground) = (0..=256).find(|ground| !string.contains(ground)) else {
+pub fn reach_reconstructed(
+    directory: &Directory,
+    n: usize,
+    string: &[u16],
+    reach: &mut [u16],
+) -> bool {
+    let Some(sentinel) = (0..=256).find(|sentinel| !string.contains(sentinel)) else {
         return false;
     };
     let mut text = [0; 65_535];
     let text = &mut text[..n];
-    text.fill(ground);
-    paint(directory, text);
-    if !shows(directory, text) {
+    text.fill(sentinel);
+    reconstruct(directory, text);
+    if !entries_match(directory, text) {
         return false;
     }
-    let mut repeats = [0; 256];
-    fill_standing(string, string, 1, &[], &mut repeats[..string.len()]);
-    fill_standing(text, string, 0, &repeats, reach);
+    let mut zarray = [0; 256];
+    fill_prefix_lengths(string, string, 1, &[], &mut zarray[..string.len()]);
+    fill_prefix_lengths(text, string, 0, &zarray, reach);
     true
 }
 
 /// Reconstructs the text: each entry's characters at its position.
-fn paint(directory: &Directory, text: &mut [u16]) {
+fn reconstruct(directory: &Directory, text: &mut [u16]) {
     let mut rest = directory.positions;
     for (spelt, count) in directory.lines.keys() {
         let (places, after) = rest.split_at(count);
@@ -64,7 +69,7 @@ fn paint(directory: &Directory, text: &mut [u16]) {
 }
 
 /// Whether every entry stands in the text.
-fn shows(directory: &Directory, text: &[u16]) -> bool {
+fn entries_match(directory: &Directory, text: &[u16]) -> bool {
     let mut rest = directory.positions;
     directory.lines.keys().all(|(spelt, count)| {
         let (places, after) = rest.split_at(count);
@@ -76,39 +81,45 @@ fn shows(directory: &Directory, text: &[u16]) -> bool {
 /// Where the distance to the next position is a period of the key, only the
 /// characters beyond the overlap are compared there.
 fn stands_at_all(spelt: &[u16], places: &[u16], text: &[u16]) -> bool {
-    let long = spelt.len();
-    let mut gap = long;
+    let len = spelt.len();
+    let mut gap = len;
     let mut last = None;
     places.iter().all(|&place| {
         let start = usize::from(place) - 1;
-        let step = last.map_or(long, |last| start - last);
+        let step = last.map_or(len, |last| start - last);
         last = Some(start);
-        if step < long && step != gap && spelt[step..] == spelt[..long - step] {
+        if step < len && step != gap && spelt[step..] == spelt[..len - step] {
             gap = step;
         }
-        let known = if step == gap { long - step } else { 0 };
-        (known..long).all(|at| text[start + at] == spelt[at])
+        let known = if step == gap { len - step } else { 0 };
+        (known..len).all(|at| text[start + at] == spelt[at])
     })
 }
 
 /// For each start of the text from `from` on, the length of the longest prefix
 /// of the string that matches there. Within the Z-box, the match that reaches
-/// furthest, the string's Z-array tells what is known: `repeats`, or if that is
+/// furthest, the string's Z-array tells what is known: `zarray`, or if that is
 /// empty the one being filled, where the text is the string itself.
-fn fill_standing(text: &[u16], string: &[u16], from: usize, repeats: &[u16], reach: &mut [u16]) {
+fn fill_prefix_lengths(
+    text: &[u16],
+    string: &[u16],
+    from: usize,
+    zarray: &[u16],
+    reach: &mut [u16],
+) {
     let (mut left, mut right) = (0, 0);
     for at in from..reach.len() {
-        let mut long = 0;
+        let mut len = 0;
         if at < right {
-            let table = if repeats.is_empty() { &*reach } else { repeats };
-            long = usize::from(table[at - left]).min(right - at);
+            let table = if zarray.is_empty() { &*reach } else { zarray };
+            len = usize::from(table[at - left]).min(right - at);
         }
-        while long < string.len() && at + long < text.len() && text[at + long] == string[long] {
-            long += 1;
+        while len < string.len() && at + len < text.len() && text[at + len] == string[len] {
+            len += 1;
         }
-        reach[at] = long as u16;
-        if right < at + long {
-            (left, right) = (at, at + long);
+        reach[at] = len as u16;
+        if right < at + len {
+            (left, right) = (at, at + len);
         }
     }
 }

@@ -53,12 +53,12 @@ pub fn tally(chars: &[u16], lengths: &[u16], index: &[u16]) -> Result<([u64; 32]
     let keys = usize::from(index[1]);
     let mut by_length = [0; 32];
     for line in index[2..2 + 3 * keys].chunks_exact(3) {
-        let long = if line[0] == 0 {
+        let len = if line[0] == 0 {
             lengths[usize::from(line[1])]
         } else {
             1
         };
-        by_length[usize::from(long - 1) % 32] += u64::from(line[2]);
+        by_length[usize::from(len - 1) % 32] += u64::from(line[2]);
     }
     Ok((by_length, index.len() - 2 - 3 * keys))
 }
@@ -80,10 +80,10 @@ fn readable(chars: &[u16], lengths: &[u16], index: &[u16], as_gaps: bool) -> boo
             let directory = &directory[3 * place..];
             return lone_lines_good(chars, lengths, n, directory, rest, as_gaps);
         }
-        let Some(&long) = lengths.get(usize::from(value)) else {
+        let Some(&len) = lengths.get(usize::from(value)) else {
             return false;
         };
-        if usize::from(value) < least || !places_good(&mut rest, count, n, long, as_gaps) {
+        if usize::from(value) < least || !list_good(&mut rest, count, n, len, as_gaps) {
             return false;
         }
         least = usize::from(value) + 1;
@@ -119,7 +119,7 @@ fn lone_lines_good(
         if word < lengths.len() && chars[at] == value && lengths[word] == 1 {
             return false;
         }
-        if !places_good(&mut rest, count, n, 1, as_gaps) {
+        if !list_good(&mut rest, count, n, 1, as_gaps) {
             return false;
         }
         least = usize::from(value) + 1;
@@ -127,47 +127,47 @@ fn lone_lines_good(
     rest.is_empty()
 }
 
-/// Takes the positions of a key of `long` characters off the rest, and says
+/// Takes the positions of a key of `len` characters off the rest, and says
 /// whether they are there and good. Most lists have one number, which is a
 /// position and its gap.
 #[inline]
-fn places_good(rest: &mut &[u16], count: u16, n: u16, long: u16, as_gaps: bool) -> bool {
-    let Some((places, after)) = rest.split_at_checked(usize::from(count)) else {
+fn list_good(rest: &mut &[u16], count: u16, n: u16, len: u16, as_gaps: bool) -> bool {
+    let Some((positions, after)) = rest.split_at_checked(usize::from(count)) else {
         return false;
     };
     *rest = after;
-    let Some(&last) = places.last() else {
+    let Some(&last) = positions.last() else {
         return false;
     };
-    let (n, long) = (usize::from(n), usize::from(long));
+    let (n, len) = (usize::from(n), usize::from(len));
     if count == 1 {
-        return (usize::from(last) + long <= n + 1) & (last > 0);
+        return (usize::from(last) + len <= n + 1) & (last > 0);
     }
     if as_gaps {
-        return gaps_good(places, n, long);
+        return gaps_good(positions, n, len);
     }
-    usize::from(last) + long <= n + 1 && rise(places)
+    usize::from(last) + len <= n + 1 && rise(positions)
 }
 
 /// Whether positions ascend strictly from 1 or more.
-fn rise(places: &[u16]) -> bool {
+fn rise(positions: &[u16]) -> bool {
     let mut good = true;
     let mut last = 0;
-    for &place in places {
+    for &place in positions {
         good &= last < place;
         last = place;
     }
     good
 }
 
-/// Whether every gap is at least 1, and a key of `long` characters ends by n at
+/// Whether every gap is at least 1, and a key of `len` characters ends by n at
 /// their sum. A count is at most 65,535, so no sum wraps.
-fn gaps_good(gaps: &[u16], n: usize, long: usize) -> bool {
+fn gaps_good(gaps: &[u16], n: usize, len: usize) -> bool {
     let mut good = true;
     let mut sum: u32 = 0;
     for &gap in gaps {
         good &= gap != 0;
         sum += u32::from(gap);
     }
-    good & (sum as usize + long <= n + 1)
+    good & (sum as usize + len <= n + 1)
 }
