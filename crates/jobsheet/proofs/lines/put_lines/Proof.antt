@@ -65,25 +65,11 @@ abbrev Asked : (cs ls xs fs ks found out : List ℕ) → Type 0
 Asked cs ls xs fs ks found out = Usable cs ls xs × Strings-good fs ks × (2000 ≤ length found) × (700000 ≤ length out)
 
 abbrev stayed : Stays (itself.ended .signature .params) (itself.ended .kept)
-stayed = (
-  stay-none-slice (0 ∷ []) tt (plain (λ _. u16)) yes,
-  (
-    stay-none-slice (0 ∷ []) tt (plain (λ _. u16)) yes,
-    (
-      stay-none-slice (0 ∷ []) tt (plain (λ _. u16)) yes,
-      (
-        stay-none-slice (0 ∷ []) tt (plain (λ _. u16)) yes,
-        (
-          stay-none-slice (0 ∷ []) tt (plain (λ _. u16)) yes,
-          (
-            gave-slice (1 ∷ []) tt (plain (λ _. u16)),
-            (gave-slice (2 ∷ []) tt (plain (λ _. u8)), tt),
-          ),
-        ),
-      ),
-    ),
-  ),
-)
+stayed =
+    let shared = stay-none-slice (0 ∷ []) tt (plain (λ _. u16)) yes in
+    let found = gave-slice (1 ∷ []) tt (plain (λ _. u16)) in
+    let out = gave-slice (2 ∷ []) tt (plain (λ _. u8)) in
+    (shared, (shared, (shared, (shared, (shared, (found, (out, tt)))))))
 
 module _ {M : Type 1} (𝓤 : URA M) (H : Heap 𝓤) (A : Atoms 𝓤) (mem : Memory → SProp 𝓤) (run : Routine → Fun 𝓤) where
   -- the contract of the covered function
@@ -197,8 +183,7 @@ module _ {M : Type 1} (𝓤 : URA M) (H : Heap 𝓤) (A : Atoms 𝓤) (W : Given
       (fins .1 .1 .1 .1 .1 .1 .0, fins .1 .1 .1 .1 .1 .1 .1 .0) $
       move ! (1 ∷ []) $ heard ! (Wrote (shown (now x) (now y) (now z) (now s) (now k)) 0 old′ e (fins .1 .1 .1 .1 .1 .1 .1 .0)) (λ h.
       fsplit ! $ drop ! $ fsplit ! $ drop ! $ fsplit ! $ drop ! $ fsplit ! $ drop ! $ fsplit ! $ drop ! $ fsplit ! $ drop ! $ fsplit ! $
-      fsplit ! $ move ! (1 ∷ []) $ feqL ! (λ l.
-      move ! (1 ∷ []) $ fsplit ! $ fsplit ! $ move ! (1 ∷ []) $ feqL !
+      fsplit ! $ move ! (1 ∷ []) $ feqL ! (λ l. move ! (1 ∷ []) $ fsplit ! $ fsplit ! $ move ! (1 ∷ []) $ feqL !
       (λ l′. says ! (h, l, l′) $ move ! (2 ∷ 0 ∷ []) $ fjoin ! $ keep ! (0 ∷ []) $ done !))))
 
   exits : (e : ℕ) (u : Val) (ws : List ℕ × List ℕ) → Answered e ws →
@@ -223,10 +208,8 @@ module _ {M : Type 1} (𝓤 : URA M) (H : Heap 𝓤) (A : Atoms 𝓤) (W : Given
         (val x ∷ val y ∷ val z ∷ val s ∷ val k ∷ val t ∷ val d ∷ []) Post)
     walk px py pz ps pk room room′ =
         qed W (raw (onEntry 𝓤 H A itself.signature κs qs a at) ∷ []) ∵ enter ! C Λ code.function
-        (val x ∷ val y ∷ val z ∷ val s ∷ val k ∷ val t ∷ val d ∷ []) _ $
-        alloc1 ! (λ l₀. alloc1 ! (λ l₁. alloc1 ! (λ l₂. alloc1 !
-        (λ l₃. alloc1 ! (λ l₄. alloc1 ! (λ l₅. alloc1 ! (λ l₆. alloc1 !
-        (λ l₇. alloc1 ! (λ l₈. alloc1 ! (λ l₉. alloc1 ! (λ l₁₀. alloc1 !
+        (val x ∷ val y ∷ val z ∷ val s ∷ val k ∷ val t ∷ val d ∷ []) _ $ alloc1 ! (λ l₀. alloc1 ! (λ l₁. alloc1 ! (λ l₂. alloc1 !
+        (λ l₃. alloc1 ! (λ l₄. alloc1 ! (λ l₅. alloc1 ! (λ l₆. alloc1 ! (λ l₇. alloc1 ! (λ l₈. alloc1 ! (λ l₉. alloc1 ! (λ l₁₀. alloc1 !
         (λ l₁₁. alloc1 ! (λ l₁₂. alloc1 ! (λ l₁₃. alloc1 ! (λ l₁₄. alloc0 ! $ params1 ! $
         pass1 ! (init ! 26 refl (shr-slice-lawful 𝓤 H A W (named 0) κ u16 .typed x (val x ∷ []) px .0)) $ pass1 !
         (init ! 24 refl (shr-slice-lawful 𝓤 H A W (named 0) κ u16 .typed y (val y ∷ []) py .0)) $ pass1 !
@@ -248,25 +231,20 @@ module _ {M : Type 1} (𝓤 : URA M) (H : Heap 𝓤) (A : Atoms 𝓤) (W : Given
         assigns ! (of-opd ! (load ! (from ! (fld ! refl (stop !))) (look-in ! 15 (sub ! 2 refl (whole !))))) (from ! (stop !))
         (init ! 11 refl (tt, h .typed .1 .1 .1 .0)) $
         assigns ! (addr ! (from ! (fld ! refl (hop ! (look-in ! 19 (sub ! 0 refl (whole !))) (stop !))))) (from ! (stop !))
-        (init ! 9 refl (tt, tt)) $
-        assigns ! (agg ! (and-then ! (load ! (from ! (stop !)) (look ! 9 refl))
+        (init ! 9 refl (tt, tt)) $ assigns ! (agg ! (and-then ! (load ! (from ! (stop !)) (look ! 9 refl))
         (and-then ! (load ! (from ! (fld ! refl (stop !))) (look-in ! 19 (sub ! 1 refl (whole !)))) (no-more !)))) (from ! (stop !))
         (init ! 7 refl (tt, (tt, (record { fits = room .0 }, tt)))) $
         assigns ! (addr ! (from ! (fld ! refl (hop ! (look-in ! 17 (sub ! 0 refl (whole !))) (stop !))))) (from ! (stop !))
-        (init ! 5 refl (tt, tt)) $
-        assigns ! (agg ! (and-then ! (load ! (from ! (stop !)) (look ! 5 refl))
+        (init ! 5 refl (tt, tt)) $ assigns ! (agg ! (and-then ! (load ! (from ! (stop !)) (look ! 5 refl))
         (and-then ! (load ! (from ! (fld ! refl (stop !))) (look-in ! 17 (sub ! 1 refl (whole !)))) (no-more !)))) (from ! (stop !))
         (init ! 3 refl (tt, (tt, (record { fits = room′ .0 }, tt)))) $
         use2 W (raw (Callee 𝓤 H A mem run .pre (to-callee refusal keys first)))
         (goes-callee refusal keys first (h .bounded) (h .keys-fit)) $
         -- [what the call asks; kept; _14; …; _0; …]
         calls-at ! fm (Callee 𝓤 H A mem run) known-callee (to-callee refusal keys first)
-        (and-then ! (load ! (from ! (stop !)) (look ! 28 refl))
-        (and-then ! (load ! (from ! (stop !)) (look ! 26 refl))
-        (and-then ! (load ! (from ! (stop !)) (look ! 12 refl))
-        (and-then ! (load ! (from ! (stop !)) (look ! 10 refl))
-        (and-then ! (load ! (from ! (stop !)) (look ! 22 refl))
-        (and-then ! (load ! (from ! (stop !)) (look ! 20 refl))
+        (and-then ! (load ! (from ! (stop !)) (look ! 28 refl)) (and-then ! (load ! (from ! (stop !)) (look ! 26 refl))
+        (and-then ! (load ! (from ! (stop !)) (look ! 12 refl)) (and-then ! (load ! (from ! (stop !)) (look ! 10 refl))
+        (and-then ! (load ! (from ! (stop !)) (look ! 22 refl)) (and-then ! (load ! (from ! (stop !)) (look ! 20 refl))
         (and-then ! (load ! (from ! (stop !)) (look ! 6 refl))
         (and-then ! (load ! (from ! (stop !)) (look ! 2 refl)) (no-more !))))))))) (λ v.
         use1 W (later (some (λ (c : ℕ). ((‵ (flft κ q) ⊛ ‵ (flft ν p) ⊛ ‵ (flft μ m) ⊛ ‵ ftrue) ⊛ ‵ (usize .own c (v ∷ []))) ⊛ raw
@@ -294,25 +272,11 @@ module _ {M : Type 1} (𝓤 : URA M) (H : Heap 𝓤) (A : Atoms 𝓤) (W : Given
       → Walks 𝓤 H A itself.ended stayed (WpFn 𝓤 H C Λ code.function) (itself.clauses 𝓤 H A mem run)
   walks C Λ fm known-open known-callee = walked 𝓤 H A itself.ended stayed (itself.clauses 𝓤 H A mem run) (WpFn 𝓤 H C Λ code.function)
       (λ κs. (slice-vals, (slice-vals, (slice-vals, (slice-vals, (slice-vals, (slice-vals, (slice-vals, tt))))))))
-      (λ κs. (
-        shr-slice-tells (named 0) (κs .0) u16,
-        (
-          shr-slice-tells (named 0) (κs .0) u16,
-          (
-            shr-slice-tells (named 0) (κs .0) u16,
-            (
-              shr-slice-tells (named 0) (κs .0) u16,
-              (
-                shr-slice-tells (named 0) (κs .0) u16,
-                (
-                  mut-slice-tells (named 1) (κs .1 .0) u16,
-                  (mut-slice-tells (named 2) (κs .1 .1 .0) u8, tt),
-                ),
-              ),
-            ),
-          ),
-        ),
-      ))
+      (λ κs.
+      let shared = shr-slice-tells (named 0) (κs .0) u16 in
+      let found = mut-slice-tells (named 1) (κs .1 .0) u16 in
+      let out = mut-slice-tells (named 2) (κs .1 .1 .0) u8 in
+      (shared, (shared, (shared, (shared, (shared, (found, (out, tt))))))))
       (λ κs qs bounds a g are. needs 𝓤 (Asked (now (a .0)) (now (a .1 .0)) (now (a .1 .1 .0)) (now (a .1 .1 .1 .0))
       (now (a .1 .1 .1 .1 .0)) (now (a .1 .1 .1 .1 .1 .0)) (now (a .1 .1 .1 .1 .1 .1 .0))) _ (λ asked.
       walk 𝓤 H A W mem run (κs .0) (κs .1 .0) (κs .1 .1 .0) (qs .0) (qs .1 .0) (qs .1 .1 .0) (a .0) (a .1 .0) (a .1 .1 .0) (a .1 .1 .1 .0)
@@ -325,22 +289,10 @@ module _ {M : Type 1} (𝓤 : URA M) (H : Heap 𝓤) (A : Atoms 𝓤) (W : Given
   meets : (𝓣 : Tables 𝓤 H) → Triple 𝓤 (𝓣 .C #open-index) (Open 𝓤 H A mem run) → Triple 𝓤 (𝓣 .C #callee) (Callee 𝓤 H A mem run) →
       Meets 𝓤 H A itself.signature (WpFn 𝓤 H (𝓣 .C) (𝓣 .Λ) code.function) (itself.spec 𝓤 H A mem run)
   meets 𝓣 known-open known-callee =
-      walk-meets 𝓤 H A itself.ended stayed W (
-        goes-none-slice 𝓤 H A W 3 (0 ∷ []) tt (plain (λ _. u16)) yes,
-        (
-          goes-none-slice 𝓤 H A W 3 (0 ∷ []) tt (plain (λ _. u16)) yes,
-          (
-            goes-none-slice 𝓤 H A W 3 (0 ∷ []) tt (plain (λ _. u16)) yes,
-            (
-              goes-none-slice 𝓤 H A W 3 (0 ∷ []) tt (plain (λ _. u16)) yes,
-              (
-                goes-none-slice 𝓤 H A W 3 (0 ∷ []) tt (plain (λ _. u16)) yes,
-                (goes-gave-slice 𝓤 H A W 3 1 tt (plain (λ _. u16)), (goes-gave-slice 𝓤 H A W 3 2 tt (plain (λ _. u8)), tt)),
-              ),
-            ),
-          ),
-        ),
-      )
+      let shared = goes-none-slice 𝓤 H A W 3 (0 ∷ []) tt (plain (λ _. u16)) yes in
+      let found = goes-gave-slice 𝓤 H A W 3 1 tt (plain (λ _. u16)) in
+      let out = goes-gave-slice 𝓤 H A W 3 2 tt (plain (λ _. u8)) in
+      walk-meets 𝓤 H A itself.ended stayed W (shared, (shared, (shared, (shared, (shared, (found, (out, tt)))))))
       (itself.clauses 𝓤 H A mem run) (WpFn 𝓤 H (𝓣 .C) (𝓣 .Λ) code.function) (WpFn-mono 𝓤 H (W .laws) 𝓣 code.function)
       (walks (𝓣 .C) (𝓣 .Λ) (fmOf 𝓤 H (W .laws) 𝓣) known-open known-callee)
 

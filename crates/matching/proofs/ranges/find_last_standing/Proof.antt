@@ -112,7 +112,9 @@ add-lower-bound c =
     omega (arith, c .before .before .before .shared-slice-known6 .given (start .args .at + longer .before .before .before .loop .depth))
 
 lower-bound-requires-2 : tie.Need-lower-bound-requires-2 Inv-loop μ-loop
-lower-bound-requires-2 c κs = column-part (column (c .before .before .before .before .before)) (c .lower-bound .ensures .from) (c .lower-bound .ensures .to)
+lower-bound-requires-2 c κs =
+    let found = c .lower-bound .ensures in
+    column-part (column (c .before .before .before .before .before)) (found .from) (found .to)
 
 add-depth-2 : tie.Need-add-depth-2 Inv-loop μ-loop
 add-depth-2 c = omega (arith, deep (c .before .before .before .before .before .before))

@@ -61,19 +61,9 @@ use Rattle.receiver.proofs.recover.recover.Statement as stated
 use Rattle.receiver.proofs.recover.recover.Code as code
 
 abbrev stayed : Stays (taker.ended .signature .params) (taker.ended .kept)
-stayed = (
-  stay-none-slice (0 ∷ []) tt (plain (λ _. u16)) yes,
-  (
-    stay-none-slice (0 ∷ []) tt (plain (λ _. u16)) yes,
-    (
-      stay-none-slice (0 ∷ []) tt (plain (λ _. u16)) yes,
-      (
-        gave-slice (1 ∷ []) tt (plain (λ _. u16)),
-        (gave-slice (2 ∷ []) tt (plain (λ _. u16)), tt),
-      ),
-    ),
-  ),
-)
+stayed =
+    let shared = stay-none-slice (0 ∷ []) tt (plain (λ _. u16)) yes in
+    (shared, (shared, (shared, (gave-slice (1 ∷ []) tt (plain (λ _. u16)), (gave-slice (2 ∷ []) tt (plain (λ _. u16)), tt)))))
 
 module _ {M : Type 1} (𝓤 : URA M) (H : Heap 𝓤) (A : Atoms 𝓤) (mem : Memory → SProp 𝓤) (run : Routine → Fun 𝓤) where
   -- the contract of the covered function
