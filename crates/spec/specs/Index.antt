@@ -14,6 +14,10 @@ use Rattle.spec.specs.Numbers.{key-before, Line, line}
 abbrev pub header : ℕ
 header = 2
 
+-- the greatest number that an index of 16-bit numbers holds
+abbrev pub greatest-number : ℕ
+greatest-number = 65535
+
 -- "The stated length of a delivered index is n, its first number"
 abbrev pub n-of : List ℕ → ℕ
 n-of xs = getD xs 0 0

@@ -8,7 +8,7 @@ use lib.ListN.{length, getD, take, drop, drop-of-length-le}
 use lib.Seq.{drop-drop}
 use Rattle.spec.specs.Dictionary.{words-from, total}
 use Rattle.spec.specs.Numbers.{Line, line}
-use Rattle.spec.specs.Index.{header, keys-of, count-at, key-at, counts-from, entries-of, lines-from, lines-in}
+use Rattle.spec.specs.Index.{header, greatest-number, keys-of, kind-at, value-at, count-at, key-at, counts-from, entries-of, lines-from, lines-in}
 use Rattle.models.specs.Window.{list-start}
 use Rattle.laws.specs.Numbers.Slices.{length-lines-from, Fits}
 
@@ -108,3 +108,13 @@ module _ (xs : List ℕ) (i : ℕ) (below : i < keys-of xs) where
 pub lines-none : (xs : List ℕ) (i : ℕ) → keys-of xs ≤ i → drop i (lines-in xs) ≡ []
 lines-none xs i past =
     let h : length (lines-in xs) ≤ i = omega (arith, length-lines-in xs) in drop-of-length-le (lines-in xs) h
+
+-- line i by value: its key, and from where to where its positions lie
+pub record Is-line (xs : List ℕ) (i kind value from to : ℕ) : Type 0 where
+  pub below : i < keys-of xs
+  pub kind-is : kind ≡ kind-at xs i
+  pub value-is : value ≡ value-at xs i
+  pub value-small : value ≤ greatest-number
+  pub from-is : from ≡ list-start xs i
+  pub to-is : to ≡ from + count-at xs i
+  pub room : to ≤ length xs

@@ -1,0 +1,33 @@
+// The header and a directory line, written.
+ghost use mathlib.Core.Path.{_≡_};
+ghost use mathlib.Core.List.{[], _∷_, _++_};
+ghost use Prim.Native.Nat.{_+_, _*_, _≤_};
+ghost use lib.ListN.{length, take};
+ghost use Rattle.basics.specs.Writing.{over};
+ghost use Rattle.spec.specs.Index.{header, greatest-number};
+use crate::fields::HEADER;
+use width::Number;
+
+// Writes n and K.
+pub fn write_header(output: &mut [Number], n: usize, keys: usize)
+    requires { ⌜ (header ≤ length (now output)) × (n ≤ greatest-number) × (keys ≤ greatest-number) ⌝ }
+    ensures { λ _. ⌜ now (output .exit) ≡ over (n ∷ keys ∷ []) (now (output .entry)) ⌝ }
+{
+    output[0] = n as Number;
+    output[1] = keys as Number;
+}
+
+// Writes the kind, value and count of a line.
+pub fn write_line(output: &mut [Number], line: usize, kind: usize, value: usize, count: usize)
+    requires { ⌜
+        (header + 3 * line + 3 ≤ length (now output)) × (kind ≤ greatest-number) × (value ≤ greatest-number) ×
+        (count ≤ greatest-number) ⌝ }
+    ensures { λ _. ⌜
+        now (output .exit) ≡ over (take (header + 3 * line) (now (output .entry)) ++ (kind ∷ value ∷ count ∷ []))
+        (now (output .entry)) ⌝ }
+{
+    let at = HEADER + 3 * line;
+    output[at] = kind as Number;
+    output[at + 1] = value as Number;
+    output[at + 2] = count as Number;
+}

@@ -1,0 +1,24 @@
+// The width of an index: the type of its numbers, the type of sums of its counts, and the greatest length of a text that it states.
+//
+// An index's number is a `usize` where it is read, and cast where it is stored. What differs between widths stands here alone.
+ghost use mathlib.Core.Path.{_≡_};
+ghost use Prim.Native.Nat.{_≤_, _<_};
+ghost use lib.ListN.{length, getD};
+ghost use Rattle.spec.specs.Index.{greatest-number};
+
+// A number of an index, of a position list, or of the work slice.
+pub type Number = u16;
+
+// A sum of counts: where a position list starts, counted from the first list.
+pub type Sum = u32;
+
+// The greatest length of a text.
+pub const LONGEST: usize = 65535;
+
+// The number at an index of a slice.
+pub fn number_at(numbers: &[Number], at: usize) -> usize
+    requires { ⌜ at < length (now numbers) ⌝ }
+    ensures { λ r. ⌜ (r ≡ getD (now (numbers .entry)) at 0) × (r ≤ greatest-number) ⌝ }
+{
+    numbers[at] as usize
+}
