@@ -1,4 +1,5 @@
 -- Models: the list functions that loops are proved to compute, and what is claimed of the two algorithms.
+pub mod WordStarts
 pub mod Entries
 pub mod Scan
 pub mod Reach

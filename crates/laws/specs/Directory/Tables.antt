@@ -1,4 +1,4 @@
--- An accepted index with its tables of starts: what a directory line's key spells and where its positions are. Assumes nothing.
+-- A readable index with its tables of starts: what a directory line's key spells and where its positions are. Assumes nothing.
 use mathlib.Core.Path.{_≡_, refl, sym, ap, _∙_}
 use mathlib.Core.Bool.{true, _&&_}
 use mathlib.Core.Logic.{inl, inr, ⊎-elim}
@@ -7,7 +7,7 @@ use Prim.Native.Nat.{ℕ, zero, suc, _+_, _*_, _-_, _≤_, _<_}
 use native.Mathlib.Omega.{arith}
 use lib.Dec.{leb}
 use lib.ListN.{length, getD, take, drop, set, length-set}
-use lib.Seq.{drop-nil, drop-cons, getD-set-same, getD-set-other}
+use lib.Seq.{drop-nil, getD-set-same, getD-set-other}
 use borrow.Author.Count.{below-more}
 use Rattle.basics.specs.Bools.{and-left}
 use Rattle.basics.specs.Member.{In}
@@ -18,15 +18,17 @@ use Rattle.spec.specs.Index.{header, n-of, keys-of, kind-at, value-at, count-at
 use Rattle.spec.specs.Index.{lines-good, lengths-fit, readable}
 use Rattle.spec.specs.Calls.{index-refusal}
 use Rattle.models.specs.Window.{list-start}
+use Rattle.models.specs.WordStarts.{lengths-of, lexicon-at}
 use Rattle.laws.specs.Text.Facts.{Good-lexicon, Is-key, Good-line, Good-lines}
-use Rattle.laws.specs.Dictionary.Keys.{Is-word-key, Is-lone-key, key-kinds, spells-word, spells-lone, spells-short, spells-some}
+use Rattle.laws.specs.Dictionary.Keys.{Is-word-key, Is-lone-key, key-kinds, spells-word, spells-short, spells-some}
 use Rattle.laws.specs.Dictionary.Lexicon.{Is-admitted, length-words, admitted-lexicon, admitted-ascend}
 use Rattle.laws.specs.Dictionary.WordCode.{Small}
 use Rattle.laws.specs.Readable.KeyTests.{no-refusal, dictionary-read}
 use Rattle.laws.specs.Readable.IndexRefusal.{Accepted, index-accepted}
 use Rattle.laws.specs.Readable.Readable.{readable-get}
 use Rattle.laws.specs.Numbers.Slices.{Fits, lengths-fit-get}
-use Rattle.laws.specs.Directory.Opened.{word-start, word-there, word-start-room, line-of, lines-next, list-room}
+use Rattle.laws.specs.Directory.Opened.{line-of, lines-next, list-room}
+use Rattle.laws.specs.Directory.WordStarts.{Word-starts, word-long}
 
 -- what holds if 1, 2, 3 and 5 are not met
 pub record Can-read (cs ls xs : List ℕ) : Type 0 where
@@ -40,11 +42,10 @@ pub record Can-read (cs ls xs : List ℕ) : Type 0 where
   pub n-small : n-of xs ≤ 65535
   pub keys-small : keys-of xs ≤ 65535
 
--- the table has the starts of the first n words
-pub record Word-starts (ls : List ℕ) (n : ℕ) (ws : List ℕ) : Type 0 where
-  pub within : n ≤ length ls
-  pub room : length ls ≤ length ws
-  pub at : (w : ℕ) → w < n → getD ws w 0 ≡ word-start ls w
+-- a readable index, and the table of its dictionary's word starts
+pub record Reads (cs ws xs : List ℕ) : Type 0 where
+  pub can : Can-read cs (lengths-of ws) xs
+  pub words : Word-starts cs ws
 
 -- the table has the starts of the first n lists, counted from the end of the directory
 pub record List-starts (xs : List ℕ) (n : ℕ) (ts : List ℕ) : Type 0 where
@@ -80,62 +81,29 @@ module _ {cs ls xs : List ℕ} (can : Can-read cs ls xs) (i : ℕ) (below : i < 
         (λ (l : Is-lone-key (lexicon cs ls) (key-at xs i)). absurd (omega arith))
         (key-kinds (lexicon cs ls) (key-at xs i) key-is)
 
-    module _ {ws : List ℕ} (table : Word-starts ls (length ls) ws) where
-      start-is : getD ws (value-at xs i) 0 ≡ word-start ls (value-at xs i)
-      start-is = table .at (value-at xs i) word-below
-
-      pub word-room : getD ws (value-at xs i) 0 + getD ls (value-at xs i) 0 ≤ length cs
-      word-room = omega (arith, start-is, word-start-room ls (value-at xs i) word-below)
-
-      pub word-spelt :
-          take (getD ws (value-at xs i) 0 + getD ls (value-at xs i) 0 - getD ws (value-at xs i) 0)
-          (drop (getD ws (value-at xs i) 0) cs)
-          ≡ spells (lexicon cs ls) (key-at xs i)
-      unfolding key lexicon
-      word-spelt =
-          let z : getD ws (value-at xs i) 0 + getD ls (value-at xs i) 0 - getD ws (value-at xs i) 0 ≡ getD ls (value-at xs i) 0 =
-          omega arith in
-          rw (z, start-is)
-          (sym (word-there ls cs (value-at xs i) word-below) ∙ sym (spells-word (lexicon cs ls) (key-at xs i) kind))
-
-  pub lone-spelt :
-      (kind-at xs i ≡ 0 → ⊥) →
-      take (header + 3 * i + 2 - (header + 3 * i + 1)) (drop (header + 3 * i + 1) xs) ≡ spells (lexicon cs ls) (key-at xs i)
-  unfolding key
-  lone-spelt other =
-      let kind : kind-at xs i ≡ 1 = omega (arith, key-is .kind-small, other) in
-      let one : header + 3 * i + 2 - (header + 3 * i + 1) ≡ 1 = omega arith in
-      rw one
-      (ap (λ (d : List ℕ). take 1 d) (drop-cons xs (header + 3 * i + 1) 0 (omega (arith, line-room)))
-      ∙ sym (spells-lone (lexicon cs ls) (key-at xs i) kind))
-
   pub key-short : length (spells (lexicon cs ls) (key-at xs i)) ≤ 32
   key-short = spells-short (can .lexicon-good) (key-at xs i) key-is
 
   pub spelt-short : (k : List ℕ) → k ≡ spells (lexicon cs ls) (key-at xs i) → length k ≤ 32
   spelt-short k e = rw e key-short
 
--- FILLING THE TABLES
+-- the word of line i
+module _ {cs ws xs : List ℕ} (reads : Reads cs ws xs) (i : ℕ) (below : i < keys-of xs) (kind : kind-at xs i ≡ 0) where
+  pub line-word : value-at xs i < length (lengths-of ws)
+  line-word = word-below (reads .can) i below kind
 
-module _ (ls : List ℕ) where
-  pub word-starts-none : (ws : List ℕ) → length ls ≤ length ws → Word-starts ls 0 ws
-  word-starts-none ws h = record { within = omega arith; room = h; at = λ w b. absurd (omega arith) }
+  abbrev word : List ℕ
+  word = spells (lexicon-at cs ws) (key-at xs i)
 
-  pub word-starts-first : 0 ≡ word-start ls 0
-  unfolding total
-  word-starts-first = refl
+  -- it is that number of the dictionary
+  pub line-spells : getD (lexicon-at cs ws .words) (value-at xs i) [] ≡ word
+  unfolding key
+  line-spells = sym (spells-word (lexicon-at cs ws) (key-at xs i) kind)
 
-  pub word-starts-next :
-      {n : ℕ} {ws : List ℕ} → Word-starts ls n ws → n < length ls → (v : ℕ) → v ≡ word-start ls n → Word-starts ls (n + 1) (set ws n v)
-  word-starts-next {n} {ws} h below v e =
-      record {
-        within = omega arith;
-        room = omega (arith, length-set ws n v);
-        at =
-            below-more (λ (w : ℕ). getD (set ws n v) w 0 ≡ word-start ls w) n
-            (λ w b. getD-set-other ws n w v 0 (λ (z : w ≡ n). omega arith) ∙ h .at w b)
-            (getD-set-same ws n v 0 (omega arith) ∙ e);
-      }
+  pub line-long : getD ws (value-at xs i + 1) 0 ≡ getD ws (value-at xs i) 0 + length word
+  line-long = omega (arith, word-long (reads .words) (value-at xs i) line-word, ap length line-spells)
+
+-- FILLING THE TABLE OF LISTS
 
 module _ (xs : List ℕ) where
   pub list-starts-none : (ts : List ℕ) → keys-of xs ≤ length ts → List-starts xs 0 ts
@@ -176,16 +144,12 @@ module _ {xs : List ℕ} (fits : Fits xs) (i : ℕ) (below : i < keys-of xs) {ts
       omega arith in
       rw (z, starts-at)
 
-pub word-starts-all : {ls : List ℕ} {n : ℕ} {ws : List ℕ} → Word-starts ls n ws → length ls ≤ n → Word-starts ls (length ls) ws
-word-starts-all {ls} {n} h past = let e : n ≡ length ls = omega arith in rw e at h
-
 pub list-starts-all : {xs : List ℕ} {n : ℕ} {ts : List ℕ} → List-starts xs n ts → keys-of xs ≤ n → List-starts xs (keys-of xs) ts
 list-starts-all {xs} {n} h past = let e : n ≡ keys-of xs = omega arith in rw e at h
 
--- an accepted index with both tables
-pub record Opened (cs ls xs ws ts : List ℕ) : Type 0 where
-  pub can : Can-read cs ls xs
-  pub word-starts : Word-starts ls (length ls) ws
+-- a readable index with both tables
+pub record Opened (cs ws xs ts : List ℕ) : Type 0 where
+  pub reads : Reads cs ws xs
   pub list-starts : List-starts xs (keys-of xs) ts
 
 -- what holds for an accepted index

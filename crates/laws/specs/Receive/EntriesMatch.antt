@@ -20,9 +20,9 @@ use Rattle.laws.specs.Text.Strings.{Stand}
 use Rattle.laws.specs.Text.Overlaps.{stand-at, stand-put, stand-char}
 use Rattle.laws.specs.Text.Facts.{Rise, All-stand}
 use Rattle.laws.specs.Numbers.Flat.{posting, entries-at-get, flat-put}
-use Rattle.laws.specs.Directory.Opened.{line-of, lines-next, lines-none, counts-next}
+use Rattle.laws.specs.Directory.Opened.{line-of, lines-next, lines-none, counts-next, Is-line}
 use Rattle.laws.specs.Numbers.LineNumbers.{line-of-is, line-of-in}
-use Rattle.laws.specs.Receive.LinePass.{Line-lies, lies-positions}
+use Rattle.laws.specs.Receive.LinePass.{line-positions}
 
 -- ONE POSITION
 
@@ -163,22 +163,19 @@ module _ (lex : Lexicon) (xs ts : List ℕ) where
   matching-start = record { within = omega arith; at-is = omega arith; left = λ h. h }
 
   module _ {at i : ℕ} (h : Matching lex xs ts at i) where
-    pub matching-lies : i < keys-of xs → Line-lies xs i at (at + count-at xs i)
-    matching-lies below = record { below = below; begin-is = h .at-is; end-is = refl }
-
     pub matching-step :
-        {end : ℕ} → Line-lies xs i at end → Stand-each (spells lex (key-at xs i)) ts (take (end - at) (drop at xs)) →
-        Matching lex xs ts end (i + 1)
+        {kind value to : ℕ} → Is-line xs i kind value at to →
+        Stand-each (spells lex (key-at xs i)) ts (take (to - at) (drop at xs)) → Matching lex xs ts to (i + 1)
     unfolding line
-    matching-step {end} lies here =
+    matching-step is here =
         record {
           within = omega arith;
           at-is = omega (arith, counts-next i xs);
           left =
               λ later.
               h .left
-              (rw (lines-next xs i (lies .below))
-              (all-stand-line lex ts (line-of xs i) (drop (i + 1) (lines-in xs)) (rw (lies-positions lies) at here) later));
+              (rw (lines-next xs i (is .below))
+              (all-stand-line lex ts (line-of xs i) (drop (i + 1) (lines-in xs)) (rw (line-positions is) at here) later));
         }
 
     pub matching-end : keys-of xs ≤ i → All-stand lex (lines-in xs) ts
@@ -187,13 +184,13 @@ module _ (lex : Lexicon) (xs ts : List ℕ) where
 
 -- the entries of one line, if all stand
 pub line-matches :
-    (lex : Lexicon) {xs : List ℕ} (ts : List ℕ) {at i end : ℕ} → Line-lies xs i at end → All-stand lex (lines-in xs) ts →
-    Stand-each (spells lex (key-at xs i)) ts (take (end - at) (drop at xs))
+    (lex : Lexicon) {xs : List ℕ} (ts : List ℕ) {i kind value from to : ℕ} → Is-line xs i kind value from to →
+    All-stand lex (lines-in xs) ts → Stand-each (spells lex (key-at xs i)) ts (take (to - from) (drop from xs))
 unfolding line
-line-matches lex {xs} ts {at} {i} {end} lies all =
+line-matches lex {xs} ts {i} is all =
     let here : In (line-of xs i) (lines-in xs) =
-    subst (λ (l : Line). In l (lines-in xs)) (line-of-is xs i (lies .below)) (line-of-in xs i (lies .below)) in
-    rw (lies-positions lies)
+    subst (λ (l : Line). In l (lines-in xs)) (line-of-is xs i (is .below)) (line-of-in xs i (is .below)) in
+    rw (line-positions is)
     (λ j b.
     let p : ℕ = getD (line-of xs i .positions) j 0 in
     all (posting lex (key-at xs i) p)

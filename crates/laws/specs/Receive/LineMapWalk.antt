@@ -17,11 +17,11 @@ use Rattle.laws.specs.Numbers.Slices.{Fits}
 use Rattle.laws.specs.Readable.Readable.{readable-get}
 use Rattle.laws.specs.Readable.LineWalk.{readable-fits}
 use Rattle.laws.specs.Numbers.LineNumbers.{line-of-is, line-of-in}
-use Rattle.laws.specs.Directory.Opened.{line-of}
+use Rattle.laws.specs.Directory.Opened.{line-of, Is-line}
 use Rattle.laws.specs.Receive.LineMapFill.{length-fill-positions}
 use Rattle.laws.specs.Receive.PositionWalk.{Lie-within}
 use Rattle.laws.specs.Receive.ReconstructionWalk.{good-lie}
-use Rattle.laws.specs.Receive.LinePass.{Line-lies, lies-positions, Passing, passing-start, passing-step, passing-end}
+use Rattle.laws.specs.Receive.LinePass.{line-positions, Passing, passing-start, passing-step, passing-end}
 
 -- WHAT CAN BE MAPPED
 
@@ -59,21 +59,19 @@ module _ (xs old : List ℕ) where
   pub mapping-start : Filling-lines xs old old (header + 3 * keys-of xs) 0
   mapping-start = passing-start fill-line-map xs old
 
-  module _ (now : List ℕ) (at i : ℕ) (h : Filling-lines xs old now at i) where
-    pub mapping-room : Can-map xs (length old) → {end : ℕ} → Line-lies xs i at end →
-        Lie-within 1 (length now) (take (end - at) (drop at xs))
-    mapping-room can {end} lies = rw (h .len, lies-positions lies) (can .each i (lies .below))
+  module _ {now : List ℕ} {at i : ℕ} (h : Filling-lines xs old now at i) where
+    module _ {kind value to : ℕ} (is : Is-line xs i kind value at to) where
+      pub mapping-room : Can-map xs (length old) → Lie-within 1 (length now) (take (to - at) (drop at xs))
+      mapping-room can = rw (h .len, line-positions is) (can .each i (is .below))
 
-    pub mapping-step :
-        {end : ℕ} → Line-lies xs i at end → (next : List ℕ) → next ≡ fill-positions (i + 1) (take (end - at) (drop at xs)) now →
-        Filling-lines xs old next end (i + 1)
-    unfolding fill-line-map line
-    mapping-step {end} lies next e =
-        let positions : take (end - at) (drop at xs) ≡ line-of xs i .positions = lies-positions lies in
-        rw (lies .end-is)
-        (passing-step fill-line-map xs old h (lies .below) next
-        (ap length e ∙ length-fill-positions (i + 1) (take (end - at) (drop at xs)) now)
-        (rw (e, positions, add-one i)))
+      pub mapping-step :
+          {next : List ℕ} → next ≡ fill-positions (i + 1) (take (to - at) (drop at xs)) now → Filling-lines xs old next to (i + 1)
+      unfolding fill-line-map line
+      mapping-step {next} e =
+          let positions : take (to - at) (drop at xs) ≡ line-of xs i .positions = line-positions is in
+          passing-step fill-line-map xs old h is next
+          (ap length e ∙ length-fill-positions (i + 1) (take (to - at) (drop at xs)) now)
+          (rw (e, positions, add-one i))
 
     pub mapping-end : keys-of xs ≤ i → now ≡ fill-line-map 0 (lines-in xs) old
     unfolding fill-line-map

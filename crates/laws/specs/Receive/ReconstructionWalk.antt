@@ -3,6 +3,7 @@ use mathlib.Core.Path.{_≡_, refl, sym, ap, _∙_}
 use mathlib.Core.Bool.{Bool, true}
 use mathlib.Core.List.{List, [], _∷_, _++_}
 use Prim.Native.Nat.{ℕ, _+_, _*_, _-_, _≤_, _<_}
+use native.Mathlib.Numerals.{add-one}
 use native.Mathlib.Omega.{arith}
 use lib.ListN.{length, getD, take, drop}
 use lib.Seq.{sets}
@@ -11,9 +12,10 @@ use Rattle.basics.specs.Member.{in-getD}
 use Rattle.spec.specs.Dictionary.{Lexicon, longest-text, lexicon}
 use Rattle.spec.specs.Words.{Key, key, spells, Entry, entry}
 use Rattle.spec.specs.Numbers.{Line, line}
-use Rattle.spec.specs.Index.{header, n-of, keys-of, kind-at, value-at, count-at, key-at, lines-in, readable}
+use Rattle.spec.specs.Index.{header, greatest-number, n-of, keys-of, kind-at, key-at, lines-in, readable}
 use Rattle.models.specs.Entries.{entries-at, flat}
 use Rattle.models.specs.MatchTable.{start-of}
+use Rattle.models.specs.WordStarts.{starts-from, lengths-of, lexicon-at}
 use Rattle.models.specs.Reception.{reconstruct, fill-positions, reconstruct-positions}
 use Rattle.laws.specs.Text.Facts.{Good-line, Rise}
 use Rattle.laws.specs.Dictionary.Keys.{spells-lone}
@@ -22,38 +24,51 @@ use Rattle.laws.specs.Dictionary.Lexicon.{Is-admitted, admitted-get, adm
 use Rattle.laws.specs.Match.MatchTable.{Started}
 use Rattle.laws.specs.Readable.Readable.{readable-get}
 use Rattle.laws.specs.Readable.LineWalk.{readable-fits}
-use Rattle.laws.specs.Directory.Opened.{line-of}
-use Rattle.laws.specs.Directory.Tables.{Can-read, Word-starts, line-is-good, key-is, word-spelt}
+use Rattle.laws.specs.Directory.Opened.{line-of, Is-line}
+use Rattle.laws.specs.Directory.WordStarts.{Word-starts, starts-front, lengths-of-starts}
+use Rattle.laws.specs.Directory.Tables.{Can-read, Reads, line-is-good, key-is, line-word, line-spells}
 use Rattle.laws.specs.Receive.PositionWalk.{length-reconstruct-positions, reconstruct-character, Lie-within}
 use Rattle.laws.specs.Receive.EntriesMatch.{Stand-each}
-use Rattle.laws.specs.Receive.LinePass.{Line-lies, lies-positions, Passing, passing-start, passing-lies, passing-step, passing-end}
+use Rattle.laws.specs.Receive.LinePass.{line-positions, Passing, passing-start, passing-step, passing-end}
 
 -- WHAT IS READ
 
--- a readable index and an admitted dictionary, with the table of starts
+-- a readable index and an admitted dictionary, with its word starts at the front of a table
 module _ {cs ls starts : List ℕ} (started : Started cs ls starts) where
-  pub started-words : Word-starts ls (length ls) starts
-  unfolding start-of
-  started-words =
-      record { within = omega arith; room = omega arith; at = λ w b. started .started w (omega arith) }
+  abbrev front : List ℕ
+  front = take (length ls + 1) starts
 
-  pub started-read :
-      (xs : List ℕ) → readable longest-text (lexicon cs ls) xs ≡ true → keys-of xs ≤ 65535 → Can-read cs ls xs
-  started-read xs can keys =
+  front-is : front ≡ starts-from 0 ls
+  unfolding start-of
+  front-is =
+      rw (add-one (length ls)) (starts-front 0 ls starts (started .starts-long) (λ i b. omega (arith, started .started i b)))
+
+  pub started-lengths : lengths-of front ≡ ls
+  started-lengths = ap lengths-of front-is ∙ lengths-of-starts ls
+
+  pub started-reads : (xs : List ℕ) → readable longest-text (lexicon cs ls) xs ≡ true → keys-of xs ≤ greatest-number → Reads cs front xs
+  started-reads xs can keys =
       record {
-        few-words = facts .few;
-        few-chars = facts .small;
-        sum = facts .sum;
-        lexicon-good = admitted-lexicon cs ls (started .dictionary);
-        words-rise = admitted-ascend cs ls (started .dictionary);
-        fits = readable-fits longest-text (lexicon cs ls) xs can;
-        lines = readable-get longest-text (lexicon cs ls) xs can .lines;
-        n-small = readable-get longest-text (lexicon cs ls) xs can .length-allowed;
-        keys-small = keys;
+        can = rw started-lengths can-read;
+        words = record { are = rw started-lengths front-is; room = rw started-lengths (omega (arith, facts .sum)) };
       }
     where
       facts : Is-admitted cs ls
       facts = admitted-get cs ls (started .dictionary)
+
+      can-read : Can-read cs ls xs
+      can-read =
+          record {
+            few-words = facts .few;
+            few-chars = facts .small;
+            sum = facts .sum;
+            lexicon-good = admitted-lexicon cs ls (started .dictionary);
+            words-rise = admitted-ascend cs ls (started .dictionary);
+            fits = readable-fits longest-text (lexicon cs ls) xs can;
+            lines = readable-get longest-text (lexicon cs ls) xs can .lines;
+            n-small = readable-get longest-text (lexicon cs ls) xs can .length-allowed;
+            keys-small = keys;
+          }
 
 -- a good line's key fits at each of its positions
 pub good-lie :
@@ -80,69 +95,72 @@ pub reconstruct-line :
 unfolding flat
 reconstruct-line lex l ls us = reconstruct-run lex (l .key-of) (l .positions) (flat lex ls) us
 
-module _ {cs ls xs : List ℕ} (can : Can-read cs ls xs) {i begin end : ℕ} (lies : Line-lies xs i begin end) (us : List ℕ)
+module _
+    {cs ws xs : List ℕ} (reads : Reads cs ws xs) {i kind value from to : ℕ} (is : Is-line xs i kind value from to) (us : List ℕ)
     (len : length us ≡ n-of xs) where
+  abbrev lex : Lexicon
+  lex = lexicon-at cs ws
+
+  abbrev positions : List ℕ
+  positions = take (to - from) (drop from xs)
+
+  good : Good-line lex (n-of xs) (line-of xs i)
+  good = line-is-good (reads .can) i (is .below)
+
   -- the key of line i fits at each of its positions
-  key-room :
-      Lie-within (length (spells (lexicon cs ls) (key-at xs i))) (length us) (take (end - begin) (drop begin xs))
+  key-room : Lie-within (length (spells lex (key-at xs i))) (length us) positions
   unfolding line
-  key-room =
-      rw (lies-positions lies, len)
-      (good-lie (lexicon cs ls) (n-of xs) (line-of xs i) (line-is-good can i (lies .below)))
+  key-room = rw (line-positions is, len) (good-lie lex (n-of xs) (line-of xs i) good)
 
-  line-good : Good-line (lexicon cs ls) (n-of xs) (line-of xs i)
-  line-good = line-is-good can i (lies .below)
-
-  pub positions-some : 1 ≤ length (take (end - begin) (drop begin xs))
+  pub positions-some : 1 ≤ length positions
   unfolding line
-  positions-some = rw (lies-positions lies) (line-good .some)
+  positions-some = rw (line-positions is) (good .some)
 
-  pub positions-rise : Rise 1 (take (end - begin) (drop begin xs))
+  pub positions-rise : Rise 1 positions
   unfolding line
-  positions-rise = rw (lies-positions lies) (line-good .rise)
+  positions-rise = rw (line-positions is) (good .rise)
 
-  -- a word, read from its part of the dictionary's characters
-  module _ (word : kind-at xs i ≡ 0) {ws : List ℕ} (table : Word-starts ls (length ls) ws) where
-    abbrev part : List ℕ
-    part =
-        take (getD ws (value-at xs i) 0 + getD ls (value-at xs i) 0 - getD ws (value-at xs i) 0) (drop (getD ws (value-at xs i) 0) cs)
+  -- a word, by its number in the dictionary
+  module _ (word : kind ≡ 0) where
+    kind-is : kind-at xs i ≡ 0
+    kind-is = omega arith
 
-    spelt : part ≡ spells (lexicon cs ls) (key-at xs i)
-    spelt = word-spelt can i (lies .below) word table
+    pub word-there : value < length (lengths-of ws)
+    word-there = omega (arith, line-word reads i (is .below) kind-is)
 
-    pub word-reconstructs : Lie-within (length part) (length us) (take (end - begin) (drop begin xs))
-    word-reconstructs = rw spelt key-room
+    module _ {k : List ℕ} (e : k ≡ getD (lex .words) value []) where
+      spelt : k ≡ spells lex (key-at xs i)
+      spelt = e ∙ ap (λ (v : ℕ). getD (lex .words) v []) (is .value-is) ∙ line-spells reads i (is .below) kind-is
 
-    pub word-reconstructed :
-        (next : List ℕ) → next ≡ reconstruct-positions part (take (end - begin) (drop begin xs)) us →
-        next ≡ reconstruct-positions (spells (lexicon cs ls) (key-at xs i)) (take (end - begin) (drop begin xs)) us
-    word-reconstructed next e = e ∙ ap (λ (s : List ℕ). reconstruct-positions s (take (end - begin) (drop begin xs)) us) spelt
+      pub word-reconstructs : Lie-within (length k) (length us) positions
+      word-reconstructs = rw spelt key-room
 
-    pub word-stood :
-        (ts : List ℕ) {r : Bool} → Reflects r (Stand-each part ts (take (end - begin) (drop begin xs))) →
-        Reflects r (Stand-each (spells (lexicon cs ls) (key-at xs i)) ts (take (end - begin) (drop begin xs)))
-    word-stood ts h = rw spelt at h
+      pub word-reconstructed :
+          {next : List ℕ} → next ≡ reconstruct-positions k positions us →
+          next ≡ reconstruct-positions (spells lex (key-at xs i)) positions us
+      word-reconstructed h = h ∙ ap (λ (s : List ℕ). reconstruct-positions s positions us) spelt
+
+      pub word-stood : {r : Bool} → Reflects r (Stand-each k us positions) → Reflects r (Stand-each (spells lex (key-at xs i)) us positions)
+      word-stood h = rw spelt at h
 
   -- a lone character, which is a single value
-  module _ (lone : kind-at xs i ≡ 0 → ⊥) where
-    spelt-lone : spells (lexicon cs ls) (key-at xs i) ≡ value-at xs i ∷ []
+  module _ (lone : kind ≡ 0 → ⊥) where
+    spelt-lone : spells lex (key-at xs i) ≡ value ∷ []
     unfolding key
     spelt-lone =
-        let kind : kind-at xs i ≡ 1 = omega (arith, key-is can i (lies .below) .kind-small, lone) in
-        spells-lone (lexicon cs ls) (key-at xs i) kind
+        let one : kind-at xs i ≡ 1 = omega (arith, key-is (reads .can) i (is .below) .kind-small, lone) in
+        rw (is .value-is) (spells-lone lex (key-at xs i) one)
 
-    pub lone-reconstructs : Lie-within 1 (length us) (take (end - begin) (drop begin xs))
+    pub lone-reconstructs : Lie-within 1 (length us) positions
     lone-reconstructs = rw spelt-lone at key-room
 
     pub lone-reconstructed :
-        (next : List ℕ) → next ≡ fill-positions (value-at xs i) (take (end - begin) (drop begin xs)) us →
-        next ≡ reconstruct-positions (spells (lexicon cs ls) (key-at xs i)) (take (end - begin) (drop begin xs)) us
-    lone-reconstructed next e = rw spelt-lone (e ∙ sym (reconstruct-character (value-at xs i) (take (end - begin) (drop begin xs)) us))
+        {next : List ℕ} → next ≡ fill-positions value positions us → next ≡ reconstruct-positions (spells lex (key-at xs i)) positions us
+    lone-reconstructed h = rw spelt-lone (h ∙ sym (reconstruct-character value positions us))
 
     pub lone-stood :
-        (ts : List ℕ) {r : Bool} → Reflects r (Stand-each (value-at xs i ∷ []) ts (take (end - begin) (drop begin xs))) →
-        Reflects r (Stand-each (spells (lexicon cs ls) (key-at xs i)) ts (take (end - begin) (drop begin xs)))
-    lone-stood ts h = rw spelt-lone h
+        {r : Bool} → Reflects r (Stand-each (value ∷ []) us positions) → Reflects r (Stand-each (spells lex (key-at xs i)) us positions)
+    lone-stood h = rw spelt-lone h
 
 -- THE LINES
 
@@ -158,22 +176,18 @@ module _ (lex : Lexicon) (xs old : List ℕ) where
   pub reconstructing-start : Reconstructing-lines lex xs old old (header + 3 * keys-of xs) 0
   reconstructing-start = passing-start (reconstruct-lines lex) xs old
 
-  module _ (now : List ℕ) (at i : ℕ) (h : Reconstructing-lines lex xs old now at i) where
-    pub reconstructing-lies : i < keys-of xs → Line-lies xs i at (at + count-at xs i)
-    reconstructing-lies below = passing-lies (reconstruct-lines lex) xs old h below
-
+  module _ {now : List ℕ} {at i : ℕ} (h : Reconstructing-lines lex xs old now at i) where
     pub reconstructing-step :
-        {end : ℕ} → Line-lies xs i at end → (next : List ℕ) →
-        next ≡ reconstruct-positions (spells lex (key-at xs i)) (take (end - at) (drop at xs)) now →
-        Reconstructing-lines lex xs old next end (i + 1)
+        {kind value to : ℕ} → Is-line xs i kind value at to → {next : List ℕ} →
+        next ≡ reconstruct-positions (spells lex (key-at xs i)) (take (to - at) (drop at xs)) now →
+        Reconstructing-lines lex xs old next to (i + 1)
     unfolding line
-    reconstructing-step {end} lies next e =
-        rw (lies .end-is)
-        (passing-step (reconstruct-lines lex) xs old h (lies .below) next
-        (ap length e ∙ length-reconstruct-positions (spells lex (key-at xs i)) (take (end - at) (drop at xs)) now)
+    reconstructing-step {to} is {next} e =
+        passing-step (reconstruct-lines lex) xs old h is next
+        (ap length e ∙ length-reconstruct-positions (spells lex (key-at xs i)) (take (to - at) (drop at xs)) now)
         (reconstruct-line lex (line-of xs i) (drop (i + 1) (lines-in xs)) now
         ∙ ap (λ (us : List ℕ). reconstruct lex (flat lex (drop (i + 1) (lines-in xs))) us)
-        (sym (e ∙ ap (λ (ps : List ℕ). reconstruct-positions (spells lex (key-at xs i)) ps now) (lies-positions lies)))))
+        (sym (e ∙ ap (λ (ps : List ℕ). reconstruct-positions (spells lex (key-at xs i)) ps now) (line-positions is))))
 
     pub reconstructing-end : keys-of xs ≤ i → now ≡ reconstruct lex (flat lex (lines-in xs)) old
     unfolding reconstruct flat

@@ -6,18 +6,20 @@ use mathlib.Core.Logic.{_⊎_, ⊎-elim}
 use mathlib.Core.List.{List}
 use Prim.Native.Nat.{ℕ, _+_, _*_, _-_, _≤_, _<_}
 use native.Mathlib.Omega.{arith}
-use lib.ListN.{length, getD, take, drop, length-drop}
-use lib.Seq.{getD-take, getD-drop, length-take-le}
+use lib.ListN.{length, getD, drop}
+use lib.Seq.{getD-take, getD-drop}
 use Rattle.basics.specs.Bools.{false-put, le-or-lt}
-use Rattle.spec.specs.Dictionary.{lexicon}
+use Rattle.spec.specs.Dictionary.{Lexicon}
 use Rattle.spec.specs.Words.{spells}
-use Rattle.spec.specs.Index.{header, keys-of, value-at, key-at}
+use Rattle.spec.specs.Index.{header, keys-of, kind-at, value-at, key-at}
 use Rattle.spec.specs.Search.{agrees}
 use Rattle.models.specs.Window.{offset-at}
+use Rattle.models.specs.WordStarts.{lengths-of, lexicon-at}
 use Rattle.laws.specs.Search.Agree.{Agree, agrees-get}
 use Rattle.laws.specs.Search.AgreeWalk.{together}
 use Rattle.laws.specs.Match.PrefixRanges.{prefix-not-before, next-rises}
-use Rattle.laws.specs.Directory.Tables.{Can-read, Word-starts, line-room, word-below, word-room, word-spelt, key-short, key-some}
+use Rattle.laws.specs.Directory.WordStarts.{starts-long, end-room, word-lies}
+use Rattle.laws.specs.Directory.Tables.{Can-read, Reads, line-room, line-word, line-spells, line-long, key-short, key-some}
 use Rattle.basics.specs.LowerBound.{Rising, Lower-bound, rising-part}
 use Rattle.laws.specs.Window.LineSteps.{Unchanged, offset-apart}
 use Rattle.laws.specs.Window.LineRanges.{Split, word-lines-rise}
@@ -49,14 +51,14 @@ column-part h l r =
     }
 
 -- words lo to hi − 1, of the first w lines, have at least d characters, and share these with the string from o on
-pub record Shared-prefix (cs ls xs s : List ℕ) (o w lo hi d : ℕ) : Type 0 where
+pub record Shared-prefix (lex : Lexicon) (xs s : List ℕ) (o w lo hi d : ℕ) : Type 0 where
   pub order : lo ≤ hi
   pub within : hi ≤ w
-  pub len : (i : ℕ) → lo ≤ i → i < hi → d ≤ length (spells (lexicon cs ls) (key-at xs i))
-  pub share : (i j : ℕ) → lo ≤ i → i < hi → j < d → getD (spells (lexicon cs ls) (key-at xs i)) j 0 ≡ getD s (o + j) 0
+  pub len : (i : ℕ) → lo ≤ i → i < hi → d ≤ length (spells lex (key-at xs i))
+  pub share : (i j : ℕ) → lo ≤ i → i < hi → j < d → getD (spells lex (key-at xs i)) j 0 ≡ getD s (o + j) 0
 
-pub shared-prefix-start : (cs ls xs s : List ℕ) (o w : ℕ) → Shared-prefix cs ls xs s o w 0 w 0
-shared-prefix-start cs ls xs s o w =
+pub shared-prefix-start : (lex : Lexicon) (xs s : List ℕ) (o w : ℕ) → Shared-prefix lex xs s o w 0 w 0
+shared-prefix-start lex xs s o w =
     record {
       order = omega arith;
       within = omega arith;
@@ -65,13 +67,16 @@ shared-prefix-start cs ls xs s o w =
     }
 
 module _
-    {cs ls xs : List ℕ} (can : Can-read cs ls xs) {w : ℕ} (split : Split xs w) {ws : List ℕ} (table : Word-starts ls (length ls) ws)
-    {s : List ℕ} {o lo hi d : ℕ} (h : Shared-prefix cs ls xs s o w lo hi d) where
+    {cs ws xs : List ℕ} (reads : Reads cs ws xs) {w : ℕ} (split : Split xs w) {s : List ℕ} {o lo hi d : ℕ}
+    (h : Shared-prefix (lexicon-at cs ws) xs s o w lo hi d) where
+  can : Can-read cs (lengths-of ws) xs
+  can = reads .can
+
   abbrev word-of : ℕ → List ℕ
-  word-of i = spells (lexicon cs ls) (key-at xs i)
+  word-of i = spells (lexicon-at cs ws) (key-at xs i)
 
   -- the same range without its first word
-  pub shared-prefix-next : lo < hi → Shared-prefix cs ls xs s o w (lo + 1) hi d
+  pub shared-prefix-next : lo < hi → Shared-prefix (lexicon-at cs ws) xs s o w (lo + 1) hi d
   shared-prefix-next some =
       record {
         order = omega arith;
@@ -84,56 +89,44 @@ module _
     pub shared-line : i < keys-of xs
     shared-line = omega arith
 
-    pub shared-word : value-at xs i < length ls
-    shared-word = word-below can i shared-line (split .words i (omega arith))
+    kind : kind-at xs i ≡ 0
+    kind = split .words i (omega arith)
 
-    spelt :
-        take (getD ws (value-at xs i) 0 + getD ls (value-at xs i) 0 - getD ws (value-at xs i) 0) (drop (getD ws (value-at xs i) 0) cs)
-        ≡ word-of i
-    spelt = word-spelt can i shared-line (split .words i (omega arith)) table
+    pub shared-word : value-at xs i < length (lengths-of ws)
+    shared-word = line-word reads i shared-line kind
 
-    room : getD ws (value-at xs i) 0 + getD ls (value-at xs i) 0 ≤ length cs
-    room = word-room can i shared-line (split .words i (omega arith)) table
-
-    -- its length is in the list of lengths
-    pub shared-long : length (word-of i) ≡ getD ls (value-at xs i) 0
-    shared-long =
-        sym (ap length spelt)
-        ∙ length-take-le (getD ws (value-at xs i) 0 + getD ls (value-at xs i) 0 - getD ws (value-at xs i) 0)
-        (drop (getD ws (value-at xs i) 0) cs) (omega (arith, room, length-drop (getD ws (value-at xs i) 0) cs))
-        ∙ size
-      where
-        size : getD ws (value-at xs i) 0 + getD ls (value-at xs i) 0 - getD ws (value-at xs i) 0 ≡ getD ls (value-at xs i) 0
-        size = omega arith
+    room : getD ws (value-at xs i) 0 + length (word-of i) ≤ length cs
+    room = omega (arith, line-long reads i shared-line kind, end-room (reads .words) (value-at xs i) shared-word)
 
     char-at : (j : ℕ) → j < length (word-of i) → word-char cs xs ws j i ≡ getD (word-of i) j 0
     char-at j b =
         sym (getD-drop (getD ws (value-at xs i) 0) cs j 0)
         ∙ sym
-        (getD-take (getD ws (value-at xs i) 0 + getD ls (value-at xs i) 0 - getD ws (value-at xs i) 0)
-        (drop (getD ws (value-at xs i) 0) cs) j 0 (omega (arith, shared-long)))
-        ∙ ap (λ (k : List ℕ). getD k j 0) spelt
+        (getD-take (getD ws (value-at xs i + 1) 0 - getD ws (value-at xs i) 0) (drop (getD ws (value-at xs i) 0) cs) j 0
+        (omega (arith, line-long reads i shared-line kind)))
+        ∙ ap (λ (k : List ℕ). getD k j 0)
+        (word-lies (reads .words) (value-at xs i) shared-word ∙ line-spells reads i shared-line kind)
 
   -- words that end at depth d, or all if the string ends there, agree
   pub shared-prefix-agrees :
-      o < length s → (i : ℕ) → lo ≤ i → i < hi → (length s ≤ o + d) ⊎ (getD ls (value-at xs i) 0 ≡ d) →
-      agrees s 0 (spells (lexicon cs ls) (key-at xs i)) o ≡ true
+      o < length s → (i : ℕ) → lo ≤ i → i < hi → (length s ≤ o + d) ⊎ (length (word-of i) ≡ d) →
+      agrees s 0 (spells (lexicon-at cs ws) (key-at xs i)) o ≡ true
   shared-prefix-agrees below i a b done =
       sym
       (together s (word-of i) o d below
       (λ (z : length (word-of i) ≡ 0). omega (arith, key-some can i (shared-line i a b)))
       (⊎-elim (λ (p : length s ≤ o + d). omega arith)
-      (λ (p : getD ls (value-at xs i) 0 ≡ d). omega (arith, shared-long i a b)) done)
+      (λ (p : length (word-of i) ≡ d). omega arith) done)
       (λ j l. sym (h .share i j a b l)))
 
   -- if the first has more than d characters, so have all
-  module _ (some : lo < hi) (more : getD ls (value-at xs lo) 0 ≡ d → ⊥) where
+  module _ (some : lo < hi) (more : length (word-of lo) ≡ d → ⊥) where
     longer : (i : ℕ) → lo ≤ i → i < hi → d < length (word-of i)
     longer i a b =
         ⊎-elim (λ (l : length (word-of i) ≤ d). absurd (no l)) (λ (l : d < length (word-of i)). l) (le-or-lt (length (word-of i)) d)
       where
         first : d < length (word-of lo)
-        first = omega (arith, more, shared-long lo (omega arith) some, h .len lo (omega arith) some)
+        first = omega (arith, more, h .len lo (omega arith) some)
 
         no : length (word-of i) ≤ d → ⊥
         no l =
@@ -177,8 +170,8 @@ module _
           reads =
               λ i a b. (
                 line-room can i (shared-line i a b),
-                omega (arith, shared-word i a b),
-                omega (arith, room i a b, shared-long i a b, longer i a b),
+                omega (arith, shared-word i a b, starts-long (reads .words)),
+                omega (arith, room i a b, longer i a b),
               );
         }
 
@@ -186,7 +179,7 @@ module _
     module _
         {c from to : ℕ} (is : c ≡ getD s (o + d) 0) (below : o + d < length s)
         (low : Lower-bound (word-char cs xs ws d) lo hi c from) (high : Lower-bound (word-char cs xs ws d) from hi (c + 1) to) where
-      pub shared-prefix-deeper : Shared-prefix cs ls xs s o w from to (d + 1)
+      pub shared-prefix-deeper : Shared-prefix (lexicon-at cs ws) xs s o w from to (d + 1)
       shared-prefix-deeper =
           record {
             order = high .from;
@@ -216,24 +209,15 @@ module _
           ∙ sym (agree-deep d (agrees-get s 0 (word-of i) o t) (longer i a b) below)
           ∙ sym is))
 
-      pub apart-front : (i : ℕ) → lo ≤ i → i < from → agrees s 0 (spells (lexicon cs ls) (key-at xs i)) o ≡ false
+      pub apart-front : (i : ℕ) → lo ≤ i → i < from → agrees s 0 (spells (lexicon-at cs ws) (key-at xs i)) o ≡ false
       apart-front i a b = apart i a (omega arith) (λ e. omega (arith, low .below i a b))
 
-      pub apart-back : (i : ℕ) → to ≤ i → i < hi → agrees s 0 (spells (lexicon cs ls) (key-at xs i)) o ≡ false
+      pub apart-back : (i : ℕ) → to ≤ i → i < hi → agrees s 0 (spells (lexicon-at cs ws) (key-at xs i)) o ≡ false
       apart-back i a b = apart i (omega arith) b (λ e. omega (arith, high .above i a b))
 
       module _ (q : ℕ) where
-        pub unchanged-front : Unchanged (offset-at o (lexicon cs ls) xs s q) lo from
-        unchanged-front i a b = offset-apart (lexicon cs ls) xs s q o i (apart-front i a b)
+        pub unchanged-front : Unchanged (offset-at o (lexicon-at cs ws) xs s q) lo from
+        unchanged-front i a b = offset-apart (lexicon-at cs ws) xs s q o i (apart-front i a b)
 
-        pub unchanged-back : Unchanged (offset-at o (lexicon cs ls) xs s q) to hi
-        unchanged-back i a b = offset-apart (lexicon cs ls) xs s q o i (apart-back i a b)
-
--- ALL WORDS
-
--- the words of the first w lines are in the dictionary
-abbrev pub Words-at : (lengths numbers : List ℕ) → (w : ℕ) → Type 0
-Words-at ls xs w = (i : ℕ) → i < w → value-at xs i < length ls
-
-pub words-at : {cs ls xs : List ℕ} → Can-read cs ls xs → {w : ℕ} → Split xs w → Words-at ls xs w
-words-at {cs} {ls} {xs} can split i b = word-below can i (omega arith) (split .words i b)
+        pub unchanged-back : Unchanged (offset-at o (lexicon-at cs ws) xs s q) to hi
+        unchanged-back i a b = offset-apart (lexicon-at cs ws) xs s q o i (apart-back i a b)
