@@ -6,11 +6,15 @@
 ghost use mathlib.Core.Path.{_≡_};
 ghost use Prim.Native.Nat.{_+_, _*_, _≤_, _<_};
 ghost use lib.ListN.{length, getD};
-ghost use Rattle.spec.specs.Index.{keys-of, value-at};
+ghost use Rattle.spec.specs.Index.{header, keys-of, value-at};
+ghost use Rattle.models.specs.Window.{field-at};
 ghost use Rattle.laws.specs.Numbers.Slices.{Fits};
 ghost use Rattle.basics.specs.LowerBound.{Rising, Lower-bound};
-ghost use Rattle.laws.specs.Window.LineRanges.{number-at};
 ghost use Rattle.laws.specs.Window.WordLines.{Word-column, word-char};
+use layout::fields::field_at;
+use layout::fields::key_count;
+use layout::fields::value_at;
+use width::Number;
 
 // Lines `from` to `to` - 1.
 pub struct Range {
@@ -19,15 +23,21 @@ pub struct Range {
 }
 
 // The first of the lines `low` to `high` - 1 whose number at `field` is not below `least`, or `high`.
-pub fn line_lower_bound(index: &[u16], low: usize, high: usize, field: usize, least: usize) -> usize
-    requires { ⌜ (2 + 3 * high ≤ length (now index)) × (field ≤ 2) × Rising (number-at (now index) field) low high ⌝ }
-    ensures { λ r. ⌜ Lower-bound (number-at (now (index .entry)) field) low high least r ⌝ }
+pub fn line_lower_bound(
+    index: &[Number],
+    low: usize,
+    high: usize,
+    field: usize,
+    least: usize,
+) -> usize
+    requires { ⌜ (header + 3 * high ≤ length (now index)) × (field ≤ 2) × Rising (field-at (now index) field) low high ⌝ }
+    ensures { λ r. ⌜ Lower-bound (field-at (now (index .entry)) field) low high least r ⌝ }
 {
     let mut a = low;
     let mut b = high;
     while a < b {
         let middle = a + (b - a) / 2;
-        if (index[2 + 3 * middle + field] as usize) < least {
+        if field_at(index, middle, field) < least {
             a = middle + 1;
         } else {
             b = middle;
@@ -37,29 +47,28 @@ pub fn line_lower_bound(index: &[u16], low: usize, high: usize, field: usize, le
 }
 
 // How many lines are those of words: the lower bound of kind 1.
-pub fn count_word_lines(index: &[u16]) -> usize
-    requires { ⌜ Fits (now index) × Rising (number-at (now index) 0) 0 (keys-of (now index)) ⌝ }
-    ensures { λ r. ⌜ Lower-bound (number-at (now (index .entry)) 0) 0 (keys-of (now (index .entry))) 1 r ⌝ }
+pub fn count_word_lines(index: &[Number]) -> usize
+    requires { ⌜ Fits (now index) × Rising (field-at (now index) 0) 0 (keys-of (now index)) ⌝ }
+    ensures { λ r. ⌜ Lower-bound (field-at (now (index .entry)) 0) 0 (keys-of (now (index .entry))) 1 r ⌝ }
 {
-    line_lower_bound(index, 0, index[1] as usize, 0, 1)
+    line_lower_bound(index, 0, key_count(index), 0, 1)
 }
 
 // The character at `depth` of the word of a line.
-fn char_at(chars: &[u16], index: &[u16], word_starts: &[u16], line: usize, depth: usize) -> u16
+fn char_at(chars: &[u16], index: &[Number], word_starts: &[u16], line: usize, depth: usize) -> u16
     requires { ⌜
-        (2 + 3 * line + 2 < length (now index)) × (value-at (now index) line < length (now «word_starts»)) ×
+        (header + 3 * line + 2 < length (now index)) × (value-at (now index) line < length (now «word_starts»)) ×
         (getD (now «word_starts») (value-at (now index) line) 0 + depth < length (now chars)) ⌝ }
     ensures { λ r. ⌜ r ≡ word-char (now (chars .entry)) (now (index .entry)) (now («word_starts» .entry)) depth line ⌝ }
 {
-    let word = index[2 + 3 * line + 1] as usize;
-    let at = word_starts[word] as usize + depth;
-    chars[at]
+    let start = word_starts[value_at(index, line)] as usize;
+    chars[start + depth]
 }
 
 // The first of the lines `low` to `high` - 1 whose word's character at `depth` is not below `least`, or `high`.
 fn word_lower_bound(
     chars: &[u16],
-    index: &[u16],
+    index: &[Number],
     word_starts: &[u16],
     low: usize,
     high: usize,
@@ -86,7 +95,7 @@ fn word_lower_bound(
 // The equal range among the lines `low` to `high` - 1: those whose word has this character at `depth`.
 pub fn equal_range(
     chars: &[u16],
-    index: &[u16],
+    index: &[Number],
     word_starts: &[u16],
     low: usize,
     high: usize,

@@ -3,6 +3,7 @@ ghost use mathlib.Core.Path.{_≡_};
 ghost use Prim.Native.Nat.{_+_, _*_, _^_, _≤_, _<_};
 ghost use lib.ListN.{length};
 ghost use Rattle.spec.specs.Index.{header, greatest-number, n-of, keys-of, kind-at, value-at, count-at};
+ghost use Rattle.models.specs.Window.{field-at};
 use width::Number;
 use width::number_at;
 
@@ -31,6 +32,14 @@ pub fn line_start(line: usize) -> usize
     ensures { λ r. ⌜ r ≡ header + 3 * line ⌝ }
 {
     HEADER + 3 * line
+}
+
+// A field of a line: 0 its kind, 1 its value, 2 its count.
+pub fn field_at(index: &[Number], line: usize, field: usize) -> usize
+    requires { ⌜ (header + 3 * line + 2 < length (now index)) × (field ≤ 2) ⌝ }
+    ensures { λ r. ⌜ (r ≡ field-at (now (index .entry)) field line) × (r ≤ greatest-number) ⌝ }
+{
+    number_at(index, HEADER + 3 * line + field)
 }
 
 // The kind of a line: 0 for a word, 1 for a lone character.

@@ -3,7 +3,7 @@ use mathlib.Core.Bool.{Bool, cond}
 use mathlib.Core.List.{List, [], _∷_}
 use Prim.Native.Nat.{suc, zero, ℕ, _*_, _+_, _-_}
 use lib.Dec.{leb}
-use lib.ListN.{drop, length, take}
+use lib.ListN.{drop, getD, length, take}
 use Rattle.basics.specs.Steps.{any-from, those-from}
 use Rattle.spec.specs.Dictionary.{Lexicon}
 use Rattle.spec.specs.Index.{count-at, counts-from, header, key-at, keys-of}
@@ -47,6 +47,10 @@ offsets-all n o lex ls s q = extended (λ p r. reach-offsets n o lex ls s p r) q
 unfoldable pub count-in : (m : ℕ) → (reaches : List ℕ) → ℕ
 count-in m [] = 0
 count-in m (r ∷ rs) = cond (leb m r) 1 0 + count-in m rs
+
+-- a field of line i: 0 its kind, 1 its value, 2 its count
+abbrev pub field-at : (numbers : List ℕ) → (field i : ℕ) → ℕ
+field-at xs f i = getD xs (header + 3 * i + f) 0
 
 -- the index at which the positions of line i start
 abbrev pub list-start : (numbers : List ℕ) → (i : ℕ) → ℕ

@@ -17,7 +17,7 @@ use Rattle.spec.specs.Numbers.{Line, line}
 use Rattle.spec.specs.Index.{header, n-of, keys-of, kind-at, value-at, count-at, key-at, counts-from, lines-in, kinds-good, keys-ascend}
 use Rattle.spec.specs.Index.{lines-good, lengths-fit, readable}
 use Rattle.spec.specs.Calls.{index-refusal}
-use Rattle.models.specs.Window.{list-start}
+use Rattle.models.specs.Window.{list-start, positions-at}
 use Rattle.models.specs.WordStarts.{lengths-of, lexicon-at}
 use Rattle.laws.specs.Text.Facts.{Good-lexicon, Is-key, Good-line, Good-lines}
 use Rattle.laws.specs.Dictionary.Keys.{Is-word-key, Is-lone-key, key-kinds, spells-word, spells-short, spells-some}
@@ -135,14 +135,12 @@ module _ {xs : List ℕ} (fits : Fits xs) (i : ℕ) (below : i < keys-of xs) {ts
   positions-room = omega (arith, starts-at, list-room xs i below fits)
 
   pub positions-are :
-      take (header + 3 * keys-of xs + getD ts i 0 + count-at xs i - (header + 3 * keys-of xs + getD ts i 0))
-      (drop (header + 3 * keys-of xs + getD ts i 0) xs)
-      ≡ take (count-at xs i) (drop (list-start xs i) xs)
-  positions-are =
-      let z :
-      header + 3 * keys-of xs + getD ts i 0 + count-at xs i - (header + 3 * keys-of xs + getD ts i 0) ≡ count-at xs i =
-      omega arith in
-      rw (z, starts-at)
+      {start end : ℕ} → start ≡ header + 3 * keys-of xs + getD ts i 0 → end ≡ start + count-at xs i →
+      take (end - start) (drop start xs) ≡ positions-at xs i
+  positions-are {start} {end} from to =
+      let size : end - start ≡ count-at xs i = omega arith in
+      let at : start ≡ list-start xs i = omega (arith, starts-at) in
+      rw (size, at)
 
 pub list-starts-all : {xs : List ℕ} {n : ℕ} {ts : List ℕ} → List-starts xs n ts → keys-of xs ≤ n → List-starts xs (keys-of xs) ts
 list-starts-all {xs} {n} h past = let e : n ≡ keys-of xs = omega arith in rw e at h

@@ -90,6 +90,12 @@ module _ {cs ws : List ℕ} (table : Word-starts cs ws) where
 
 -- FILLING THE TABLE
 
+word-start-total : (ls : List ℕ) (w : ℕ) → w ≤ length ls → word-start ls w ≤ total ls
+unfolding total
+word-start-total ls zero h = omega arith
+word-start-total [] (suc w) h = absurd (omega arith)
+word-start-total (l ∷ ls) (suc w) h = omega (arith, word-start-total ls w (omega arith))
+
 -- the starts of the first i words are written; word i starts at `at`
 pub record Filling-starts (ls old now : List ℕ) (i at : ℕ) : Type 0 where
   pub writing : Writing (starts-from 0 ls) old now (starts-from at (drop i ls)) i
@@ -114,6 +120,9 @@ module _ (ls old : List ℕ) where
     pub filling-room : i < length now
     filling-room =
         omega (arith, h .writing .room, h .writing .len, length-starts at (drop i ls), length-drop i ls)
+
+    pub filling-at : at ≤ total ls
+    filling-at = omega (arith, word-start-total ls i (h .within))
 
     pub filling-step : i < length ls → Filling-starts ls old (set now i at) (i + 1) (at + getD ls i 0)
     filling-step below =

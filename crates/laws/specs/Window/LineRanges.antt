@@ -15,7 +15,7 @@ use Rattle.spec.specs.Words.{key, spells}
 use Rattle.spec.specs.Numbers.{Line, line, key-before}
 use Rattle.spec.specs.Index.{header, keys-of, kind-at, value-at, key-at, lines-in}
 use Rattle.spec.specs.Search.{agrees}
-use Rattle.models.specs.Window.{positions-all, run, positions-at, offset-at}
+use Rattle.models.specs.Window.{field-at, positions-all, run, positions-at, offset-at}
 use Rattle.laws.specs.Text.Facts.{Keys-rise}
 use Rattle.laws.specs.Dictionary.Keys.{spells-word, spells-lone}
 use Rattle.laws.specs.Numbers.KeyOrder.{Key-before, key-before-get}
@@ -41,10 +41,6 @@ rise-at (x ∷ xs) k zero (suc j) l m after later h p q =
     let e : x ≡ l = ap (λ (ys : List Line). getD ys 0 l) p in
     ap (λ (y : Line). key-before (y .key-of) (m .key-of)) (sym e) ∙ k .0 m (in-front-of xs j m later q)
 rise-at (x ∷ xs) k (suc i) (suc j) l m after later h p q = rise-at xs (k .1) i j l m after later (omega arith) p q
-
--- one number of each line: 0 its kind, 1 its value, 2 its count
-abbrev pub number-at : (numbers : List ℕ) → (field i : ℕ) → ℕ
-number-at xs f i = getD xs (header + 3 * i + f) 0
 
 -- the first w lines are words, the others lone characters
 pub record Split (xs : List ℕ) (w : ℕ) : Type 0 where
@@ -74,7 +70,7 @@ module _ {cs ls xs : List ℕ} (can : Can-read cs ls xs) where
       (λ (p : (kind-at xs i ≡ kind-at xs j) × (value-at xs i < value-at xs j)). omega arith) (keys-before i j h b)
 
   -- so binary search by kind finds the first lone character
-  pub kinds-rise : Rising (number-at xs 0) 0 (keys-of xs)
+  pub kinds-rise : Rising (field-at xs 0) 0 (keys-of xs)
   kinds-rise =
       record {
         order = omega arith;
@@ -85,7 +81,7 @@ module _ {cs ls xs : List ℕ} (can : Can-read cs ls xs) where
             (λ (p : i < j). kinds-before i j p c) (le-or-lt j i));
       }
 
-  pub split-found : {w : ℕ} → Lower-bound (number-at xs 0) 0 (keys-of xs) 1 w → Split xs w
+  pub split-found : {w : ℕ} → Lower-bound (field-at xs 0) 0 (keys-of xs) 1 w → Split xs w
   unfolding key
   split-found h =
       record {
@@ -130,7 +126,7 @@ module _ {cs ls xs : List ℕ} (can : Can-read cs ls xs) where
 
     -- LONE CHARACTERS
 
-    pub lone-rise : Rising (number-at xs 1) w (keys-of xs)
+    pub lone-rise : Rising (field-at xs 1) w (keys-of xs)
     lone-rise =
         record {
           order = split .within;
@@ -180,7 +176,7 @@ module _ {cs ls xs : List ℕ} (can : Can-read cs ls xs) where
           (extends-all 0 o s (spells (lexicon cs ls) (key-at xs i)) q bs old (lone-agrees i a b e below)
           (rw (lone-single i a b) r))
 
-      module _ {r : ℕ} (cut : Lower-bound (number-at xs 1) w (keys-of xs) c r) where
+      module _ {r : ℕ} (cut : Lower-bound (field-at xs 1) w (keys-of xs) c r) where
         -- of all these lines only the one found can agree
         pub lone-others :
             (i : ℕ) → w ≤ i → i < keys-of xs → (i ≡ r → ⊥) → agrees s 0 (spells (lexicon cs ls) (key-at xs i)) o ≡ false

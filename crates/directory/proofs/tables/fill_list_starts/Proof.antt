@@ -1,11 +1,11 @@
 -- `fill_list_starts` meets its contract. The invariant: the starts of the first i lines are in the table, and `at` is the next one. The
 -- measure is how many lines are left. Assumes nothing.
-use borrow.Author.Needs.{needs}
 use mathlib.Core.Path.{_≡_, refl, _∙_}
-use Prim.Native.Nat.{_+_, _*_, _-_, _≤_}
+use Prim.Native.Nat.{_*_, _-_, _≤_}
 use native.Mathlib.Omega.{arith}
 use lib.ListN.{length, length-set}
-use Rattle.spec.specs.Index.{keys-of, counts-from}
+use borrow.Author.Needs.{needs}
+use Rattle.spec.specs.Index.{greatest-number, keys-of, counts-from}
 use Rattle.laws.specs.Numbers.Slices.{Fits}
 use Rattle.laws.specs.Directory.Opened.{counts-next}
 use Rattle.laws.specs.Directory.Tables.{List-starts, list-starts-none, list-starts-first, list-starts-next, list-starts-all}
@@ -14,52 +14,42 @@ use Rattle.directory.proofs.tables.fill_list_starts.Tie as tie
 
 abbrev Inv-loop : tie.InvT-loop
 Inv-loop index keys list-starts₀ at₀ i₀ list-starts at i =
-    List-starts index i list-starts × (length list-starts ≡ length list-starts₀) × (at ≡ counts-from i 0 index) × (at ≤ 65535 * i) ×
-    (keys ≡ keys-of index) × (keys ≤ 65535) × Fits index
+    List-starts index i list-starts × (length list-starts ≡ length list-starts₀) × (at ≡ counts-from i 0 index) ×
+    (at ≤ greatest-number * i) × (keys ≡ keys-of index) × (keys ≤ greatest-number) × Fits index
 
 abbrev μ-loop : tie.MeasureT-loop
 μ-loop index keys list-starts₀ at₀ i₀ list-starts at i = keys - i
 
 loop-holds : tie.Need-loop-holds Inv-loop μ-loop
 loop-holds c =
-    let a = c .args in (
+    let s = c .before .before in
+    let a = s .args in (
       list-starts-none (a .index .now) (a .list-starts .now) (omega arith),
       refl,
       list-starts-first (a .index .now),
       omega arith,
-      c .pre .1,
-      c .pre .2,
-      c .pre .0,
+      s .pre .1,
+      s .pre .2,
+      s .pre .0,
     )
-
-cast-at : tie.Need-cast-at Inv-loop μ-loop
-cast-at c = omega (arith, c .shared-slice-known .given (2 + 3 * c .before .before .loop .i + 2))
-
-add-at-3 : tie.Need-add-at-3 Inv-loop μ-loop
-add-at-3 c = omega (arith, c .shared-slice-known .given (2 + 3 * c .before .before .loop .i + 2))
 
 loop-again : tie.Need-loop-again Inv-loop μ-loop
 loop-again c =
-    let a = c .before .before .before .args in
+    let a = c .before .before .before .before .before .args in
     let l = c .before .before .loop in (
       list-starts-next (a .index .now) (l .inv .0) (omega arith) (l .at) (l .inv .2),
       length-set (l .list-starts) (l .i) (l .at) ∙ l .inv .1,
       omega (arith, counts-next (l .i) (a .index .now)),
-      omega (arith, c .shared-slice-known .given (2 + 3 * l .i + 2)),
+      omega arith,
       l .inv .4,
       l .inv .5,
       l .inv .6,
     )
 
-returns : tie.Need-returns Inv-loop μ-loop
-returns c =
-    let l = c .before .loop in
-    list-starts-all (l .inv .0) (omega arith)
-
 pub fill-list-starts-spec : {M : Type 1} → statement M
 fill-list-starts-spec =
     tie.close
     (tie.spec
-    Inv-loop μ-loop loop-holds (λ c. omega arith) (λ c. search needs) (λ c. search needs) (λ c. search needs) (λ c. search needs)
-    (λ c. search needs) (λ c. search needs) (λ c. search needs) cast-at add-at-3 (λ c. search needs) (λ c. search needs) loop-again
-    (λ c. c .before .loop .inv .1) returns)
+    Inv-loop μ-loop loop-holds (λ c. omega arith) (λ c. search needs) (λ c. omega arith) (λ c κs. omega arith) (λ c. omega arith)
+    (λ c. omega arith) (λ c. omega arith) loop-again (λ c. c .before .loop .inv .1)
+    (λ c. list-starts-all (c .before .loop .inv .0) (omega arith)))
