@@ -6,7 +6,9 @@ pub mod ListRange
 pub mod ExtendAtPositions
 pub mod Extending
 pub mod Finding
+pub mod AgreeingLines
 pub mod LeadingLines
 pub mod LineRanges
 pub mod Searching
 pub mod WordLines
+pub mod AgreeingWords

@@ -77,6 +77,14 @@ unfoldable pub leading-at : Lexicon → (numbers string : List ℕ) → (first i
 leading-at lex xs s q i rs =
     back-all (length (spells lex (key-at xs i))) 0 s (spells lex (key-at xs i)) q (positions-at xs i) rs
 
+-- whether the key of line i agrees with the string at the offset o
+abbrev pub agrees-line : (o : ℕ) → Lexicon → (numbers string : List ℕ) → (i : ℕ) → Bool
+agrees-line o lex xs s i = agrees s 0 (spells lex (key-at xs i)) o
+
+-- those of the lines a to b − 1 that do, ascending
+unfoldable pub agreeing-lines : (o : ℕ) → Lexicon → (numbers string : List ℕ) → (a b : ℕ) → List ℕ
+agreeing-lines o lex xs s a b = those-from (b - a) a (agrees-line o lex xs s)
+
 -- whether a key agrees with the string at some offset of 0 or below
 unfoldable pub agrees-leading : (string key : List ℕ) → Bool
 agrees-leading s k = any-from (length k) 0 (λ i. agrees s i k 0)

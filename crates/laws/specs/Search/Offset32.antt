@@ -147,3 +147,10 @@ module _ (b a : ℕ) (small-b : b < 2 ^ 31) (small-a : a < 2 ^ 31) where
   pub offset-held : offset b a ≡ held (toZ w32 b -ℤ toZ w32 a)
   unfolding offset
   offset-held = sym (toZ-ofZ w32 (toZ w32 b -ℤ toZ w32 a) offset-fits32 ∙ difference)
+
+-- an offset from 0 up is a natural number
+pub offset-natural : (b : ℕ) → b < 2 ^ 31 → offset b 0 ≡ toZ w32 b
+unfolding offset
+offset-natural b small =
+    let z : b + 0 ≡ b = omega arith in
+    rw z (sym (toZ-ofZ w32 (pos b) (start-fits b small)))

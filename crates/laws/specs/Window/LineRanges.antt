@@ -48,6 +48,60 @@ pub record Split (xs : List ℕ) (w : ℕ) : Type 0 where
   pub words : (i : ℕ) → i < w → kind-at xs i ≡ 0
   pub lone : (i : ℕ) → w ≤ i → i < keys-of xs → kind-at xs i ≡ 1
 
+-- the values of the lines from w on ascend strictly
+pub record Values-rise (xs : List ℕ) (w : ℕ) : Type 0 where
+  pub within : w ≤ keys-of xs
+  pub rises : (i j : ℕ) → w ≤ i → i < j → j < keys-of xs → value-at xs i < value-at xs j
+
+-- of the lines from w on, r is the one of value c, or none is and r is the number of lines
+pub record Lone-line (xs : List ℕ) (w c r : ℕ) : Type 0 where
+  pub from : w ≤ r
+  pub to : r ≤ keys-of xs
+  pub is : r < keys-of xs → value-at xs r ≡ c
+  pub others : (i : ℕ) → w ≤ i → i < keys-of xs → (i ≡ r → ⊥) → value-at xs i ≡ c → ⊥
+
+module _ {xs : List ℕ} {w : ℕ} (h : Values-rise xs w) where
+  -- so binary search finds a value
+  pub values-order : Rising (field-at xs 1) w (keys-of xs)
+  values-order =
+      record {
+        order = h .within;
+        rises =
+            λ i j a b c.
+            ⊎-elim (λ (p : j ≤ i). let e : i ≡ j = omega arith in omega (arith, ap (value-at xs) e))
+            (λ (p : i < j). omega (arith, h .rises i j a p c)) (le-or-lt j i);
+      }
+
+  module _ {c r : ℕ} (bound : Lower-bound (field-at xs 1) w (keys-of xs) c r) where
+    -- the line at the lower bound has the value
+    pub lone-here : r < keys-of xs → value-at xs r ≡ c → Lone-line xs w c r
+    lone-here below e =
+        record { from = bound .from; to = bound .to; is = λ some. e; others = λ i a b other z. apart i a b other z }
+      where
+        apart : (i : ℕ) → w ≤ i → i < keys-of xs → (i ≡ r → ⊥) → value-at xs i ≡ c → ⊥
+        apart i a b other z =
+            ⊎-elim (λ (l : r ≤ i). omega (arith, other, h .rises r i (bound .from) (omega (arith, other)) b))
+            (λ (l : i < r). omega (arith, h .rises i r a l below)) (le-or-lt r i)
+
+    -- or no line has
+    pub lone-nowhere : (r < keys-of xs → value-at xs r ≡ c → ⊥) → Lone-line xs w c (keys-of xs)
+    lone-nowhere other =
+        record {
+          from = h .within;
+          to = omega arith;
+          is = λ some. absurd (omega arith);
+          others = λ i a b e z. apart i a b z;
+        }
+      where
+        apart : (i : ℕ) → w ≤ i → i < keys-of xs → value-at xs i ≡ c → ⊥
+        apart i a b z =
+            ⊎-elim
+            (λ (l : i ≤ r).
+            ⊎-elim (λ (m : r ≤ i). let e : i ≡ r = omega arith in other (omega arith) (ap (value-at xs) (sym e) ∙ z))
+            (λ (m : i < r). omega (arith, bound .below i a m)) (le-or-lt r i))
+            (λ (l : r < i). omega (arith, h .rises r i (bound .from) l b, bound .above r (omega arith) (omega arith)))
+            (le-or-lt i r)
+
 module _ {cs ls xs : List ℕ} (can : Can-read cs ls xs) where
   keys-before : (i j : ℕ) → i < j → j < keys-of xs → Key-before (key-at xs i) (key-at xs j)
   unfolding line
@@ -126,15 +180,11 @@ module _ {cs ls xs : List ℕ} (can : Can-read cs ls xs) where
 
     -- LONE CHARACTERS
 
-    pub lone-rise : Rising (field-at xs 1) w (keys-of xs)
+    pub lone-rise : Values-rise xs w
     lone-rise =
         record {
-          order = split .within;
-          rises =
-              λ i j a b c.
-              ⊎-elim (λ (p : j ≤ i). let e : i ≡ j = omega arith in omega (arith, ap (value-at xs) e))
-              (λ (p : i < j). omega (arith, values-before i j p c (split .lone i a (omega arith) ∙ sym (split .lone j (omega arith) c))))
-              (le-or-lt j i);
+          within = split .within;
+          rises = λ i j a p c. values-before i j p c (split .lone i a (omega arith) ∙ sym (split .lone j (omega arith) c));
         }
 
     lone-is : (i : ℕ) → w ≤ i → i < keys-of xs → spells (lexicon cs ls) (key-at xs i) ≡ value-at xs i ∷ []
@@ -176,30 +226,11 @@ module _ {cs ls xs : List ℕ} (can : Can-read cs ls xs) where
           (extends-all 0 o s (spells (lexicon cs ls) (key-at xs i)) q bs old (lone-agrees i a b e below)
           (rw (lone-single i a b) r))
 
-      module _ {r : ℕ} (cut : Lower-bound (field-at xs 1) w (keys-of xs) c r) where
-        -- of all these lines only the one found can agree
+      module _ {r : ℕ} (h : Lone-line xs w c r) where
+        -- of all these lines only that of the character can agree
         pub lone-others :
             (i : ℕ) → w ≤ i → i < keys-of xs → (i ≡ r → ⊥) → agrees s 0 (spells (lexicon cs ls) (key-at xs i)) o ≡ false
-        lone-others i a b other =
-            lone-apart i a b
-            (λ e.
-            ⊎-elim
-            (λ (l : r ≤ i).
-            omega (
-              arith,
-              other,
-              cut .above r (omega arith) (omega arith),
-              values-before r i (omega (arith, other)) b (split .lone r (cut .from) (omega arith) ∙ sym (split .lone i a b)),
-            ))
-            (λ (l : i < r). omega (arith, cut .below i a l)) (le-or-lt r i))
-
-        -- and it does not if it has another character
-        pub lone-all :
-            (r < keys-of xs → value-at xs r ≡ c → ⊥) → (i : ℕ) → w ≤ i → i < keys-of xs →
-            agrees s 0 (spells (lexicon cs ls) (key-at xs i)) o ≡ false
-        lone-all other i a b =
-            false-put (agrees s 0 (spells (lexicon cs ls) (key-at xs i)) o)
-            (λ t. clash t (lone-others i a b (λ e. clash t (lone-apart i a b (λ z. other (omega arith) (ap (value-at xs) (sym e) ∙ z))))))
+        lone-others i a b other = lone-apart i a b (h .others i a b other)
 
         module _ (q : ℕ) where
           step : ℕ → List ℕ → List ℕ
@@ -216,7 +247,7 @@ module _ {cs ls xs : List ℕ} (can : Can-read cs ls xs) where
                 is =
                     done .is
                     ∙ sym (run-one step r old)
-                    ∙ sym (run-skip step w r (r + 1) (keys-of xs) (cut .from) (omega arith) (omega arith) before after old);
+                    ∙ sym (run-skip step w r (r + 1) (keys-of xs) (h .from) (omega arith) (omega arith) before after old);
                 bounded = done .bounded;
               }
             where
@@ -230,13 +261,13 @@ module _ {cs ls xs : List ℕ} (can : Can-read cs ls xs) where
 
           -- or it has none
           pub lone-none :
-              (r < keys-of xs → value-at xs r ≡ c → ⊥) → (old : List ℕ) (max-reach : ℕ) → Within max-reach old →
+              keys-of xs ≤ r → (old : List ℕ) (max-reach : ℕ) → Within max-reach old →
               Reaches (run (offset-at o (lexicon cs ls) xs s q) w (keys-of xs) old) old max-reach
-          lone-none other old max-reach within =
+          lone-none past old max-reach within =
               record {
                 is =
                     sym
                     (run-unchanged (offset-at o (lexicon cs ls) xs s q) w (keys-of xs)
-                    (λ i a b. offset-apart (lexicon cs ls) xs s q o i (lone-all other i a b)) old);
+                    (λ i a b. offset-apart (lexicon cs ls) xs s q o i (lone-others i a b (λ e. omega arith))) old);
                 bounded = within;
               }

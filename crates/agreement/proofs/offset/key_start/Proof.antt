@@ -1,8 +1,8 @@
 -- `key_start` meets its contract, by cases on the sign of the offset. Assumes nothing.
 use mathlib.Core.Path.{sym}
 use Rattle.laws.specs.Search.Offset32.{above, not-above}
-use Rattle.postings.proofs.agreement.key_start.Statement.{statement}
-use Rattle.postings.proofs.agreement.key_start.Tie as tie
+use Rattle.agreement.proofs.offset.key_start.Statement.{statement}
+use Rattle.agreement.proofs.offset.key_start.Tie as tie
 
 cast-result : tie.Need-cast-result
 cast-result c =

@@ -1,8 +1,8 @@
 -- `string_start` meets its contract: what is negated is an offset below zero plus 1, which does not overflow. Assumes nothing.
 use mathlib.Core.Path.{sym}
 use Rattle.laws.specs.Search.Offset32.{below, not-below}
-use Rattle.postings.proofs.agreement.string_start.Statement.{statement}
-use Rattle.postings.proofs.agreement.string_start.Tie as tie
+use Rattle.agreement.proofs.offset.string_start.Statement.{statement}
+use Rattle.agreement.proofs.offset.string_start.Tie as tie
 
 add-back : tie.Need-add-back
 add-back c = below (c .before .args .offset) (c .before .fits .offset) (c .if1 .taken) .next-fits

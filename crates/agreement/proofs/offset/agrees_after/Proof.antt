@@ -2,8 +2,8 @@
 use native.Mathlib.Omega.{arith}
 use borrow.Author.Needs.{needs}
 use Rattle.laws.specs.Search.AgreeWalk.{apart-short, apart-empty, agrees-compared}
-use Rattle.postings.proofs.agreement.agrees_after.Statement.{statement}
-use Rattle.postings.proofs.agreement.agrees_after.Tie as tie
+use Rattle.agreement.proofs.offset.agrees_after.Statement.{statement}
+use Rattle.agreement.proofs.offset.agrees_after.Tie as tie
 
 returns : tie.Need-returns
 returns c =

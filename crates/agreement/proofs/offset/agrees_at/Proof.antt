@@ -7,8 +7,8 @@ use mir.ValLaws.{toZ-ofZ}
 use Rattle.spec.specs.Search.{agrees, string-start, key-start}
 use Rattle.laws.specs.Search.Offset32.{above, not-above}
 use Rattle.laws.specs.Search.AgreeWalk.{agrees-string-first, agrees-key-first}
-use Rattle.postings.proofs.agreement.agrees_at.Statement.{statement}
-use Rattle.postings.proofs.agreement.agrees_at.Tie as tie
+use Rattle.agreement.proofs.offset.agrees_at.Statement.{statement}
+use Rattle.agreement.proofs.offset.agrees_at.Tie as tie
 
 returns : tie.Need-returns
 returns c =

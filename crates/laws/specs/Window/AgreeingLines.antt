@@ -1,0 +1,112 @@
+-- The lines whose keys agree with a string at an offset from 0 up, listed: some by number, the others as one range. Assumes nothing.
+use mathlib.Core.Path.{_≡_, refl, sym, ap, _∙_}
+use mathlib.Core.Bool.{Bool, true, false}
+use mathlib.Core.Logic.{_⊎_, inl, inr, ⊎-elim}
+use mathlib.Core.List.{List, [], _∷_, _++_, append-assoc}
+use Prim.Native.Nat.{ℕ, suc, _+_, _-_, _≤_, _<_}
+use native.Mathlib.Numerals.{add-one}
+use native.Mathlib.Omega.{arith}
+use lib.ListN.{length, getD, take, set, length-set}
+use lib.Seq.{take-suc-set, getD-take, length-take-le}
+use Rattle.basics.specs.Member.{In, in-getD, in-append-get, in-append-left}
+use Rattle.basics.specs.Steps.{those-from, those-from-get, those-from-put, those-from-none, those-from-append, those-from-fewer}
+use Rattle.spec.specs.Dictionary.{Lexicon}
+use Rattle.models.specs.Window.{agrees-line, agreeing-lines}
+
+module _ (o : ℕ) (lex : Lexicon) (xs s : List ℕ) where
+  abbrev those : (a b : ℕ) → List ℕ
+  those a b = agreeing-lines o lex xs s a b
+
+  agreeing-yes : (a b : ℕ) → a < b → agrees-line o lex xs s a ≡ true → those a b ≡ a ∷ those (a + 1) b
+  unfolding agreeing-lines those-from
+  agreeing-yes a b some t = let z : b - a ≡ suc (b - suc a) = omega arith in rw (add-one a, z, t)
+
+  agreeing-no : (a b : ℕ) → a < b → agrees-line o lex xs s a ≡ false → those a b ≡ those (a + 1) b
+  unfolding agreeing-lines those-from
+  agreeing-no a b some t = let z : b - a ≡ suc (b - suc a) = omega arith in rw (add-one a, z, t)
+
+  -- lines at both ends that do not agree are left out
+  agreeing-part :
+      (a r t b : ℕ) → a ≤ r → r ≤ t → t ≤ b → ((i : ℕ) → a ≤ i → i < r → agrees-line o lex xs s i ≡ false) →
+      ((i : ℕ) → t ≤ i → i < b → agrees-line o lex xs s i ≡ false) → those a b ≡ those r t
+  unfolding agreeing-lines
+  agreeing-part a r t b p q u front back =
+      let x : b - a ≡ (r - a) + (b - r) = omega arith in
+      let y : a + (r - a) ≡ r = omega arith in
+      let z : b - r ≡ (t - r) + (b - t) = omega arith in
+      rw x
+      (those-from-append (r - a) (b - r) a test
+      ∙ rw (those-from-none (r - a) a test (λ i l m. front i l (omega arith)), y, z)
+      (those-from-fewer (t - r) (b - t) r test (λ i l m. back i (omega arith) (omega arith))))
+    where
+      test : ℕ → Bool
+      test = agrees-line o lex xs s
+
+  -- of the first w lines, those that agree are the first `count` of the list, then those from lo to hi − 1 that agree
+  pub record Agreeing-listed (w : ℕ) (lines : List ℕ) (count lo hi : ℕ) : Type 0 where
+    pub found : those 0 w ≡ take count lines ++ those lo hi
+    pub order : lo ≤ hi
+    pub within : hi ≤ w
+    pub room : count ≤ length lines
+
+  pub agreeing-start : (w : ℕ) (lines : List ℕ) → Agreeing-listed w lines 0 0 w
+  agreeing-start w lines = record { found = refl; order = omega arith; within = omega arith; room = omega arith }
+
+  module _ {w : ℕ} {lines : List ℕ} {count lo hi : ℕ} (h : Agreeing-listed w lines count lo hi) where
+    pub agreeing-push :
+        lo < hi → count < length lines → agrees-line o lex xs s lo ≡ true → Agreeing-listed w (set lines count lo) (count + 1) (lo + 1) hi
+    agreeing-push some free t =
+        let more : take (count + 1) (set lines count lo) ≡ take count lines ++ lo ∷ [] =
+        rw (add-one count) (take-suc-set lines count lo free) in
+        record {
+          found =
+              h .found
+              ∙ ap (λ (is : List ℕ). take count lines ++ is) (agreeing-yes lo hi some t)
+              ∙ sym (append-assoc (take count lines) (lo ∷ []) (those (lo + 1) hi))
+              ∙ ap (λ (is : List ℕ). is ++ those (lo + 1) hi) (sym more);
+          order = omega arith;
+          within = h .within;
+          room = omega (arith, length-set lines count lo);
+        }
+
+    pub agreeing-pass : lo < hi → agrees-line o lex xs s lo ≡ false → Agreeing-listed w lines count (lo + 1) hi
+    agreeing-pass some f =
+        record {
+          found = h .found ∙ ap (λ (is : List ℕ). take count lines ++ is) (agreeing-no lo hi some f);
+          order = omega arith;
+          within = h .within;
+          room = h .room;
+        }
+
+    pub agreeing-range :
+        (r t : ℕ) → lo ≤ r → r ≤ t → t ≤ hi → ((i : ℕ) → lo ≤ i → i < r → agrees-line o lex xs s i ≡ false) →
+        ((i : ℕ) → t ≤ i → i < hi → agrees-line o lex xs s i ≡ false) → Agreeing-listed w lines count r t
+    agreeing-range r t p q u front back =
+        record {
+          found = h .found ∙ ap (λ (is : List ℕ). take count lines ++ is) (agreeing-part lo r t hi p q u front back);
+          order = q;
+          within = omega arith;
+          room = h .room;
+        }
+
+    -- a listed line is one of the first w, and agrees
+    pub listed-agrees : (k : ℕ) → k < count → (getD lines k 0 < w) × (agrees-line o lex xs s (getD lines k 0) ≡ true)
+    unfolding agreeing-lines
+    listed-agrees k b =
+        let short : length (take count lines) ≡ count = length-take-le count lines (h .room) in
+        let here : In (getD (take count lines) k 0) (those 0 w) =
+        rw (h .found) (in-append-left (getD (take count lines) k 0) (take count lines) (those lo hi)
+        (in-getD (take count lines) k 0 (omega arith))) in
+        let there = those-from-get (w - 0) 0 (agrees-line o lex xs s) (getD lines k 0) (rw (getD-take count lines k 0 b) at here) in
+        (omega arith, there .2)
+
+    -- a line that agrees is listed or in the range
+    pub agrees-listed :
+        (i : ℕ) → i < w → agrees-line o lex xs s i ≡ true → In i (take count lines) ⊎ ((lo ≤ i) × (i < hi))
+    unfolding agreeing-lines
+    agrees-listed i b t =
+        let all : In i (those 0 w) = those-from-put (w - 0) 0 (agrees-line o lex xs s) i (omega arith) (omega arith) t in
+        ⊎-elim (λ (l : In i (take count lines)). inl l)
+        (λ (r : In i (those lo hi)).
+        let there = those-from-get (hi - lo) lo (agrees-line o lex xs s) i r in inr (there .0, omega arith))
+        (in-append-get i (take count lines) (those lo hi) (rw (h .found) at all))

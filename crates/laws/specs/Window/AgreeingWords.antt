@@ -1,0 +1,98 @@
+-- The lines of words that agree with a string at an offset, by refining the range of those that share its next characters: a word that ends
+-- on the way is listed, the others are left as one range. Assumes nothing.
+use mathlib.Core.Path.{_≡_, refl, sym, _∙_}
+use mathlib.Core.Bool.{true, false}
+use mathlib.Core.Logic.{inl, inr}
+use mathlib.Core.List.{List}
+use Prim.Native.Nat.{ℕ, _+_, _-_, _≤_, _<_}
+use native.Mathlib.Omega.{arith}
+use lib.ListN.{length, getD, set, length-set}
+use Rattle.basics.specs.LowerBound.{Lower-bound}
+use Rattle.spec.specs.Words.{spells}
+use Rattle.spec.specs.Index.{keys-of, key-at}
+use Rattle.models.specs.WordStarts.{lexicon-at}
+use Rattle.models.specs.Window.{agrees-line}
+use Rattle.laws.specs.Match.PrefixRanges.{prefix-not-before}
+use Rattle.laws.specs.Directory.Tables.{Reads, key-some}
+use Rattle.laws.specs.Window.LineRanges.{Split, word-lines-rise}
+use Rattle.laws.specs.Window.AgreeingLines.{Agreeing-listed, agreeing-start, agreeing-push, agreeing-range}
+use Rattle.laws.specs.Window.WordLines.{Shared-prefix, shared-prefix-start, shared-prefix-next, shared-prefix-agrees, shared-deep}
+use Rattle.laws.specs.Window.WordLines.{Word-column, word-char, shared-prefix-column, shared-prefix-deeper, apart-front, apart-back}
+
+-- lines lo to hi − 1 are left, and their words share d characters with the string from o on; at most d are listed, and one more can be
+pub record Refining (cs ws xs s : List ℕ) (o w : ℕ) (lines : List ℕ) (count lo hi d : ℕ) : Type 0 where
+  pub shared : Shared-prefix (lexicon-at cs ws) xs s o w lo hi d
+  pub listed : Agreeing-listed o (lexicon-at cs ws) xs s w lines count lo hi
+  pub few : count ≤ d
+  pub free : lo < hi → length (spells (lexicon-at cs ws) (key-at xs lo)) ≡ d → count < d
+  pub deep : d ≤ 32
+  pub len : length lines ≡ 36
+
+module _ {cs ws xs : List ℕ} (reads : Reads cs ws xs) {w : ℕ} (split : Split xs w) where
+  abbrev word : ℕ → List ℕ
+  word i = spells (lexicon-at cs ws) (key-at xs i)
+
+  pub refining-start : {s : List ℕ} {o : ℕ} {lines : List ℕ} → length lines ≡ 36 → Refining cs ws xs s o w lines 0 0 w 0
+  refining-start {s} {o} {lines} len =
+      record {
+        shared = shared-prefix-start (lexicon-at cs ws) xs s o w;
+        listed = agreeing-start o (lexicon-at cs ws) xs s w lines;
+        few = omega arith;
+        free = λ some e. absurd (omega (arith, key-some (reads .can) 0 (omega arith)));
+        deep = omega arith;
+        len = len;
+      }
+
+  module _
+      {s : List ℕ} {o : ℕ} {lines : List ℕ} {count lo hi d : ℕ} (h : Refining cs ws xs s o w lines count lo hi d) (some : lo < hi) where
+    -- the first word ends at depth d: it agrees
+    module _ (below : o < length s) (ends : length (word lo) ≡ d) where
+      longer : lo + 1 < hi → length (word (lo + 1)) ≡ d → ⊥
+      longer more same =
+          prefix-not-before (word (lo + 1)) (word lo) (word-lines-rise (reads .can) split lo (lo + 1) (omega arith) (omega arith))
+          (omega arith)
+          (λ j b.
+          h .shared .share lo j (omega arith) some (omega arith) ∙ sym (h .shared .share (lo + 1) j (omega arith) more (omega arith)))
+
+      pub refining-push : Refining cs ws xs s o w (set lines count lo) (count + 1) (lo + 1) hi d
+      refining-push =
+          record {
+            shared = shared-prefix-next reads split (h .shared) some;
+            listed =
+                agreeing-push o (lexicon-at cs ws) xs s (h .listed) some (omega (arith, h .free some ends))
+                (shared-prefix-agrees reads split (h .shared) below lo (omega arith) some (inr ends));
+            few = omega (arith, h .free some ends);
+            free = λ more e. absurd (longer more e);
+            deep = h .deep;
+            len = length-set lines count lo ∙ h .len;
+          }
+
+    -- else all have another character
+    module _ (more : length (word lo) ≡ d → ⊥) where
+      pub refining-deep : d < 32
+      refining-deep = shared-deep reads split (h .shared) some more
+
+      pub refining-column : Word-column cs xs ws lo hi d
+      refining-column = shared-prefix-column reads split (h .shared) some more
+
+      pub refining-step :
+          {c from to : ℕ} → c ≡ getD s (o + d) 0 → o + d < length s → Lower-bound (word-char cs xs ws d) lo hi c from →
+          Lower-bound (word-char cs xs ws d) from hi (c + 1) to → Refining cs ws xs s o w lines count from to (d + 1)
+      refining-step {c} {from} {to} is below low high =
+          record {
+            shared = shared-prefix-deeper reads split (h .shared) some more is below low high;
+            listed =
+                agreeing-range o (lexicon-at cs ws) xs s (h .listed) from to (low .from) (high .from) (high .to)
+                (apart-front reads split (h .shared) some more is below low high)
+                (apart-back reads split (h .shared) some more is below low high);
+            few = omega arith;
+            free = λ rest e. omega arith;
+            deep = omega (arith, refining-deep);
+            len = h .len;
+          }
+
+  -- where the string ends, all that are left agree
+  pub refining-all :
+      {s : List ℕ} {o : ℕ} {lines : List ℕ} {count lo hi d : ℕ} → Refining cs ws xs s o w lines count lo hi d → o < length s →
+      length s ≤ o + d → (i : ℕ) → lo ≤ i → i < hi → agrees-line o (lexicon-at cs ws) xs s i ≡ true
+  refining-all h below past i a b = shared-prefix-agrees reads split (h .shared) below i a b (inl past)
