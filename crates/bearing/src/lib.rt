@@ -1,4 +1,3 @@
 // Which directory lines have keys that bear on a string.
-pub mod bearing;
-mod before;
-mod within;
+mod flags;
+mod offsets;

@@ -7,45 +7,22 @@ use mathlib.Core.List.{List}
 use Prim.Native.Nat.{ℕ, _+_, _-_, _≤_, _<_}
 use native.Mathlib.Omega.{arith}
 use lib.ListN.{length, getD, set}
-use Rattle.basics.specs.Bools.{clash, false-put, le-or-lt}
+use Rattle.basics.specs.Bools.{le-or-lt}
+use Rattle.basics.specs.Member.{In}
+use Rattle.basics.specs.Steps.{any-from-get, any-from-put, those-from-get, those-from-put}
 use Rattle.spec.specs.Dictionary.{Lexicon, lexicon}
 use Rattle.spec.specs.Words.{spells}
 use Rattle.spec.specs.Index.{keys-of, key-at}
 use Rattle.spec.specs.Search.{agrees}
+use Rattle.models.specs.Window.{agrees-leading, is-leading, leading-lines}
 use Rattle.laws.specs.Search.Agree.{Agree, agrees-get, agrees-put, agree-move}
 use Rattle.laws.specs.Cut.Bears.{bears-get}
-use Rattle.laws.specs.Directory.Tables.{Can-read, key-some}
+use Rattle.laws.specs.Directory.Tables.{Can-read, Reads, key-some}
 use Rattle.laws.specs.Window.LineRanges.{Split, lone-single}
 use Rattle.laws.specs.Search.Sizing.{Is-string}
 use Rattle.laws.specs.Cut.ExactFlags.{bears-at, Exact-flags}
-use Rattle.laws.specs.Cut.Flagging.{Ones, ones-one, Flags, Flagging, Flagged, flagging-start, flagging-on, flagging-ones}
-use Rattle.laws.specs.Cut.Flagging.{flagged-kept}
-
--- ONE KEY AT THE OFFSETS BELOW 0
-
--- the key does not agree where the string starts at one of its indexes 1 to n − 1
-pub record Apart-before (k s : List ℕ) (n : ℕ) : Type 0 where
-  pub some : 1 ≤ n
-  pub apart : (p : ℕ) → 1 ≤ p → p < n → agrees s p k 0 ≡ false
-
-module _ (k s : List ℕ) where
-  pub before-start : Apart-before k s 1
-  before-start = record { some = omega arith; apart = λ p some b. absurd (omega arith) }
-
-  module _ {n : ℕ} (h : Apart-before k s n) where
-    pub before-next : agrees s n k 0 ≡ false → Apart-before k s (n + 1)
-    before-next f =
-        record {
-          some = omega arith;
-          apart =
-              λ p some b.
-              ⊎-elim (λ (l : n ≤ p). let e : p ≡ n = omega arith in rw e f) (λ (l : p < n). h .apart p some l) (le-or-lt n p);
-        }
-
-    pub before-end : length k ≤ n → (p : ℕ) → 1 ≤ p → agrees s p k 0 ≡ false
-    before-end past p some =
-        ⊎-elim (λ (l : n ≤ p). false-put (agrees s p k 0) (λ t. let m = agrees-get s p k 0 t in omega arith))
-        (λ (l : p < n). h .apart p some l) (le-or-lt n p)
+use Rattle.laws.specs.Cut.Flagging.{Ones-at, Flags, Flagging, Flagged, flagging-start, flagging-on, flagging-list, flagged-kept}
+use Rattle.laws.specs.Cut.Flagging.{agrees-bears-at}
 
 module _ (lex : Lexicon) (xs s : List ℕ) where
   -- ALL OFFSETS FROM 0 UP
@@ -77,37 +54,33 @@ module _ (lex : Lexicon) (xs s : List ℕ) where
     pub way : Flagging lex xs s old fs
     pub done : (p : ℕ) → 1 ≤ p → Flagged lex xs s p 0 0 n fs
 
-  pub backs-start : {fs : List ℕ} → Flags lex xs s fs → Backs fs fs 0
-  backs-start {fs} h = record { way = flagging-start lex xs s h; done = λ p some i a b. absurd (omega arith) }
+  -- the leading lines have all of these
+  pub backs-leading :
+      {w : ℕ} {is fs now : List ℕ} → is ≡ leading-lines lex xs s w → Flags lex xs s fs → Ones-at is fs now → Backs fs now w
+  unfolding leading-lines agrees-leading
+  backs-leading {w} {is} {fs} {now} e h ones =
+      record { way = flagging-list lex xs s h ones bear; done = λ p some i a b t. omega (arith, ones .listed i (there p i b t)) }
+    where
+      bear : (i : ℕ) → In i is → bears-at lex xs s i ≡ true
+      bear i m =
+          let leading = those-from-get w 0 (is-leading lex xs s) i (rw e at m) in
+          let k = spells lex (key-at xs i) in
+          let some = any-from-get (length k) 0 (λ (p : ℕ). agrees s p k 0) (leading .2) in
+          agrees-bears-at lex xs s (some .0) 0 i (some .3)
 
-  module _ {old fs : List ℕ} {n : ℕ} (h : Backs old fs n) where
-    pub backs-pass : ((p : ℕ) → 1 ≤ p → agrees s p (spells lex (key-at xs n)) 0 ≡ false) → Backs old fs (n + 1)
-    backs-pass none =
-        record {
-          way = h .way;
-          done =
-              λ p some i a b t.
-              ⊎-elim (λ (l : n ≤ i). let e : i ≡ n = omega arith in clash (rw e at t) (none p some))
-              (λ (l : i < n). h .done p some i a l t) (le-or-lt n i);
-        }
+      there : (p i : ℕ) → i < w → agrees s p (spells lex (key-at xs i)) 0 ≡ true → In i is
+      there p i b t =
+          let k = spells lex (key-at xs i) in
+          let overlap = agrees-get s p k 0 t in
+          rw e
+          (those-from-put w 0 (is-leading lex xs s) i (omega arith) (omega arith)
+          (any-from-put (length k) 0 (λ (q : ℕ). agrees s q k 0) p (omega arith) (omega arith) t))
 
-    pub backs-next : n < keys-of xs → bears-at lex xs s n ≡ true → Backs old (set fs n 1) (n + 1)
-    backs-next below bear =
-        record {
-          way = flagging-on lex xs s (h .way) on;
-          done =
-              λ p some i a b t.
-              ⊎-elim (λ (l : n ≤ i). omega (arith, one .inside i l b))
-              (λ (l : i < n). omega (arith, h .done p some i a l t, on .kept i (omega arith))) (le-or-lt n i);
-        }
-      where
-        one : Ones n (n + 1) fs (set fs n 1)
-        one = ones-one n fs (omega arith)
-
-        on : Flagging lex xs s fs (set fs n 1)
-        on =
-            flagging-ones lex xs s (h .way .flags) one
-            (λ i a b. let e : i ≡ n = omega arith in ap (bears-at lex xs s) e ∙ bear)
+-- the index is read by the table of word starts, its first w lines are those of words, and the string may be searched for
+pub record Bears-on (cs ws xs s : List ℕ) (w : ℕ) : Type 0 where
+  pub reads : Reads cs ws xs
+  pub split : Split xs w
+  pub string : Is-string s
 
 module _
     {cs ls xs : List ℕ} (can : Can-read cs ls xs) {w : ℕ} (split : Split xs w) {s : List ℕ} (is : Is-string s) {old mid fs : List ℕ}

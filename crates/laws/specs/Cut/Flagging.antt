@@ -2,19 +2,23 @@
 use mathlib.Core.Path.{_≡_, refl, ap, _∙_}
 use mathlib.Core.Bool.{Bool, true, false, cond}
 use mathlib.Core.Logic.{_⊎_, inl, inr, ⊎-elim}
-use mathlib.Core.List.{List}
+use mathlib.Core.List.{List, [], _∷_, _++_}
 use Prim.Native.Nat.{ℕ, _+_, _≤_, _<_}
+use native.Mathlib.Numerals.{add-one}
 use native.Mathlib.Omega.{arith}
 use lib.Dec.{eqb}
-use lib.ListN.{length, getD, set, replicate, length-set, getD-replicate}
-use lib.Seq.{getD-set-same, getD-set-other}
+use lib.ListN.{length, getD, take, set, replicate, length-set, getD-replicate}
+use lib.Seq.{take-suc, getD-set-same, getD-set-other}
 use borrow.Author.Tests.{eqb-true, eqb-false}
 use Rattle.basics.specs.Bools.{clash, le-or-lt}
+use Rattle.basics.specs.Member.{In, in-getD, in-append-get, in-append-left, in-append-right}
 use Rattle.spec.specs.Dictionary.{Lexicon}
 use Rattle.spec.specs.Words.{spells}
 use Rattle.spec.specs.Index.{keys-of, key-at}
 use Rattle.spec.specs.Search.{agrees}
+use Rattle.models.specs.Window.{agrees-line}
 use Rattle.laws.specs.Search.Agree.{agrees-get}
+use Rattle.laws.specs.Window.AgreeingLines.{Agreeing-listed, listed-agrees, agrees-listed}
 use Rattle.laws.specs.Cut.Bears.{bears-put}
 use Rattle.laws.specs.Cut.ExactFlags.{bears-at}
 
@@ -49,6 +53,63 @@ ones-next {from} {to} {fs} h room =
 
 pub ones-one : (i : ℕ) (fs : List ℕ) → i < length fs → Ones i (i + 1) fs (set fs i 1)
 ones-one i fs room = ones-next (ones-none i fs) room
+
+-- FLAGS OF LISTED LINES
+
+-- every number of a list is below n
+abbrev pub All-below : (is : List ℕ) → (n : ℕ) → Type 0
+All-below is n = (j : ℕ) → j < length is → getD is j 0 < n
+
+-- the flags of the listed lines are 1, the others unchanged
+pub record Ones-at (is old fs : List ℕ) : Type 0 where
+  pub len : length fs ≡ length old
+  pub listed : (i : ℕ) → In i is → getD fs i 0 ≡ 1
+  pub others : (i : ℕ) → In i is ⊎ (getD fs i 0 ≡ getD old i 0)
+
+pub ones-at-none : (is fs : List ℕ) → Ones-at (take 0 is) fs fs
+ones-at-none is fs = record { len = refl; listed = λ i m. absurd m; others = λ i. inr refl }
+
+pub ones-at-next :
+    (is : List ℕ) {old fs : List ℕ} (j : ℕ) → Ones-at (take j is) old fs → j < length is → getD is j 0 < length fs →
+    Ones-at (take (j + 1) is) old (set fs (getD is j 0) 1)
+ones-at-next is {old} {fs} j h below room =
+    rw more
+    (record {
+      len = length-set fs (getD is j 0) 1 ∙ h .len;
+      listed =
+          λ i m.
+          ⊎-elim (λ (p : In i (take j is)). now i (eqb i (getD is j 0)) refl (h .listed i p))
+          (λ (p : In i (getD is j 0 ∷ [])). ⊎-elim (λ (e : i ≡ getD is j 0). rw e same) (λ z. absurd z) p)
+          (in-append-get i (take j is) (getD is j 0 ∷ []) m);
+      others =
+          λ i.
+          ⊎-elim (λ (p : In i (take j is)). inl (in-append-left i (take j is) (getD is j 0 ∷ []) p))
+          (λ (p : getD fs i 0 ≡ getD old i 0). there i (eqb i (getD is j 0)) refl p) (h .others i);
+    })
+  where
+    more : take (j + 1) is ≡ take j is ++ getD is j 0 ∷ []
+    more = rw (add-one j) (take-suc is j 0 below)
+
+    same : getD (set fs (getD is j 0) 1) (getD is j 0) 0 ≡ 1
+    same = getD-set-same fs (getD is j 0) 1 0 room
+
+    now : (i : ℕ) (b : Bool) → eqb i (getD is j 0) ≡ b → getD fs i 0 ≡ 1 → getD (set fs (getD is j 0) 1) i 0 ≡ 1
+    now i true t one = let e : i ≡ getD is j 0 = eqb-true i (getD is j 0) t in rw e same
+    now i false t one = getD-set-other fs (getD is j 0) i 1 0 (eqb-false i (getD is j 0) t) ∙ one
+
+    there :
+        (i : ℕ) (b : Bool) → eqb i (getD is j 0) ≡ b → getD fs i 0 ≡ getD old i 0 →
+        In i (take j is ++ getD is j 0 ∷ []) ⊎ (getD (set fs (getD is j 0) 1) i 0 ≡ getD old i 0)
+    there i true t kept =
+        inl (in-append-right i (take j is) (getD is j 0 ∷ []) (inl (eqb-true i (getD is j 0) t)))
+    there i false t kept = inr (getD-set-other fs (getD is j 0) i 1 0 (eqb-false i (getD is j 0) t) ∙ kept)
+
+-- a run of lines is a list of lines
+pub ones-run : {from to : ℕ} {old fs : List ℕ} → Ones from to old fs → (i : ℕ) → ((from ≤ i) × (i < to)) ⊎ (getD fs i 0 ≡ getD old i 0)
+ones-run {from} {to} h i =
+    ⊎-elim
+    (λ (p : from ≤ i). ⊎-elim (λ (q : to ≤ i). inr (h .outside i (inr q))) (λ (q : i < to). inl (p, q)) (le-or-lt to i))
+    (λ (p : i < from). inr (h .outside i (inl p))) (le-or-lt from i)
 
 module _ (lex : Lexicon) (xs s : List ℕ) where
   -- a flag is 0 or 1, and is 1 only if the key bears on the string
@@ -87,24 +148,14 @@ module _ (lex : Lexicon) (xs s : List ℕ) where
   pub agrees-bears-at : (p q i : ℕ) → agrees s p (spells lex (key-at xs i)) q ≡ true → bears-at lex xs s i ≡ true
   agrees-bears-at p q i t = bears-put (spells lex (key-at xs i)) s (agrees-get s p (spells lex (key-at xs i)) q t)
 
-  -- setting the flags of a run of bearing lines
-  pub flagging-ones :
-      {from to : ℕ} {fs now : List ℕ} → Flags fs → Ones from to fs now → ((i : ℕ) → from ≤ i → i < to → bears-at lex xs s i ≡ true) →
+  -- setting flags of bearing lines
+  pub flagging-set :
+      {fs now : List ℕ} → Flags fs → length now ≡ length fs →
+      ((i : ℕ) → i < keys-of xs → ((getD now i 0 ≡ 1) × (bears-at lex xs s i ≡ true)) ⊎ (getD now i 0 ≡ getD fs i 0)) →
       Flagging fs now
-  flagging-ones {from} {to} {fs} {now} h ones bear =
-      record {
-        flags = record { room = omega arith; sound = λ i b. sound i b };
-        len = ones .len;
-        kept = λ i b. kept i b;
-      }
+  flagging-set {fs} {now} h len at =
+      record { flags = record { room = omega arith; sound = λ i b. sound i b }; len = len; kept = λ i b. kept i b }
     where
-      at : (i : ℕ) → ((getD now i 0 ≡ 1) × (bears-at lex xs s i ≡ true)) ⊎ (getD now i 0 ≡ getD fs i 0)
-      at i =
-          ⊎-elim
-          (λ (p : from ≤ i).
-          ⊎-elim (λ (q : to ≤ i). inr (ones .outside i (inr q))) (λ (q : i < to). inl (ones .inside i p q, bear i p q)) (le-or-lt to i))
-          (λ (p : i < from). inr (ones .outside i (inl p))) (le-or-lt from i)
-
       few : (i : ℕ) → i < keys-of xs → getD fs i 0 ≤ 1
       few i b = by-test (bears-at lex xs s i) (h .sound i b)
         where
@@ -115,69 +166,54 @@ module _ (lex : Lexicon) (xs s : List ℕ) where
       sound : (i : ℕ) → i < keys-of xs → getD now i 0 ≤ cond (bears-at lex xs s i) 1 0
       sound i b =
           ⊎-elim (λ (p : (getD now i 0 ≡ 1) × (bears-at lex xs s i ≡ true)). rw (p .1) (omega arith))
-          (λ (p : getD now i 0 ≡ getD fs i 0). omega (arith, h .sound i b)) (at i)
+          (λ (p : getD now i 0 ≡ getD fs i 0). omega (arith, h .sound i b)) (at i b)
 
       kept : (i : ℕ) → i < keys-of xs → getD fs i 0 ≤ getD now i 0
       kept i b =
           ⊎-elim (λ (p : (getD now i 0 ≡ 1) × (bears-at lex xs s i ≡ true)). omega (arith, few i b))
-          (λ (p : getD now i 0 ≡ getD fs i 0). omega arith) (at i)
+          (λ (p : getD now i 0 ≡ getD fs i 0). omega arith) (at i b)
+
+  pub flagging-ones :
+      {from to : ℕ} {fs now : List ℕ} → Flags fs → Ones from to fs now → ((i : ℕ) → from ≤ i → i < to → bears-at lex xs s i ≡ true) →
+      Flagging fs now
+  flagging-ones {from} {to} {fs} {now} h ones bear =
+      flagging-set h (ones .len)
+      (λ i b.
+      ⊎-elim (λ (p : (from ≤ i) × (i < to)). inl (ones .inside i (p .0) (p .1), bear i (p .0) (p .1)))
+      (λ (p : getD now i 0 ≡ getD fs i 0). inr p) (ones-run ones i))
+
+  pub flagging-list :
+      {is fs now : List ℕ} → Flags fs → Ones-at is fs now → ((i : ℕ) → In i is → bears-at lex xs s i ≡ true) → Flagging fs now
+  flagging-list {is} {fs} {now} h ones bear =
+      flagging-set h (ones .len)
+      (λ i b.
+      ⊎-elim (λ (p : In i is). inl (ones .listed i p, bear i p)) (λ (p : getD now i 0 ≡ getD fs i 0). inr p) (ones .others i))
 
   -- ONE OFFSET
 
-  -- of the first w lines only lo to hi − 1 are still to be flagged at the offset o
-  pub record Left (o w : ℕ) (old fs : List ℕ) (lo hi : ℕ) : Type 0 where
-    pub way : Flagging old fs
-    pub within : w ≤ keys-of xs
-    pub front : Flagged 0 o 0 lo fs
-    pub back : Flagged 0 o hi w fs
+  pub agreeing-below :
+      {o w : ℕ} {lines : List ℕ} {count from to : ℕ} → Agreeing-listed o lex xs s w lines count from to → {n : ℕ} → w ≤ n →
+      All-below (take count lines) n
+  agreeing-below {o} {lines} {count} h within j b =
+      omega (arith, listed-agrees o lex xs s h (getD (take count lines) j 0) (in-getD (take count lines) j 0 b) .0)
 
-  pub left-start : (o w : ℕ) {fs : List ℕ} → Flags fs → w ≤ keys-of xs → Left o w fs fs 0 w
-  left-start o w {fs} h within =
-      record {
-        way = flagging-start h;
-        within = within;
-        front = λ i a b t. absurd (omega arith);
-        back = λ i a b t. absurd (omega arith);
-      }
+  -- the words that agree: those listed, then a range
+  pub flagged-words :
+      {o w : ℕ} {lines : List ℕ} {count from to : ℕ} → Agreeing-listed o lex xs s w lines count from to → w ≤ keys-of xs →
+      ((i : ℕ) → from ≤ i → i < to → agrees-line o lex xs s i ≡ true) → {fs mid now : List ℕ} → Flags fs →
+      Ones-at (take count lines) fs mid → Ones from to mid now → Flagging fs now × Flagged 0 o 0 w now
+  flagged-words {o} {w} {lines} {count} {from} {to} h within all {fs} {mid} {now} flags listed range = (
+    flagging-on first second,
+    λ i a b t.
+        ⊎-elim (λ (p : In i (take count lines)). omega (arith, listed .listed i p, second .kept i (omega arith)))
+        (λ (p : (from ≤ i) × (i < to)). omega (arith, range .inside i (p .0) (p .1))) (agrees-listed o lex xs s h i b t),
+  )
+    where
+      first : Flagging fs mid
+      first = flagging-list flags listed (λ i m. agrees-bears-at 0 o i (listed-agrees o lex xs s h i m .1))
 
-  module _ {o w : ℕ} {old fs : List ℕ} {lo hi : ℕ} (h : Left o w old fs lo hi) where
-    -- lines at both ends that do not agree are left out
-    pub left-range :
-        (from to : ℕ) → ((i : ℕ) → lo ≤ i → i < from → agrees s 0 (spells lex (key-at xs i)) o ≡ false) →
-        ((i : ℕ) → to ≤ i → i < hi → agrees s 0 (spells lex (key-at xs i)) o ≡ false) → Left o w old fs from to
-    left-range from to before after =
-        record {
-          way = h .way;
-          within = h .within;
-          front =
-              λ i a b t.
-              ⊎-elim (λ (p : lo ≤ i). clash t (before i p b)) (λ (p : i < lo). h .front i a p t) (le-or-lt lo i);
-          back =
-              λ i a b t.
-              ⊎-elim (λ (p : hi ≤ i). h .back i p b t) (λ (p : i < hi). clash t (after i a p)) (le-or-lt hi i);
-        }
-
-    -- a run of agreeing lines is flagged
-    pub left-ones :
-        {to : ℕ} {now : List ℕ} → to ≤ hi → hi ≤ w → Ones lo to fs now →
-        ((i : ℕ) → lo ≤ i → i < to → agrees s 0 (spells lex (key-at xs i)) o ≡ true) → Left o w old now to hi
-    left-ones {to} {now} within whole ones agree =
-        record {
-          way = flagging-on (h .way) on;
-          within = h .within;
-          front =
-              λ i a b t.
-              ⊎-elim (λ (p : lo ≤ i). omega (arith, ones .inside i p b))
-              (λ (p : i < lo). omega (arith, h .front i a p t, on .kept i (omega arith))) (le-or-lt lo i);
-          back = flagged-kept 0 o hi w on (h .within) (h .back);
-        }
-      where
-        on : Flagging fs now
-        on = flagging-ones (h .way .flags) ones (λ i a b. agrees-bears-at 0 o i (agree i a b))
-
-    pub left-end : lo ≡ hi → Flagging old fs × Flagged 0 o 0 w fs
-    left-end e =
-        (h .way, λ i a b t. ⊎-elim (λ (p : hi ≤ i). h .back i p b t) (λ (p : i < hi). h .front i a (omega arith) t) (le-or-lt hi i))
+      second : Flagging mid now
+      second = flagging-ones (first .flags) range (λ i a b. agrees-bears-at 0 o i (all i a b))
 
   -- of the lines a to b − 1 only r agrees, or none does
   module _ (o a b : ℕ) (fs : List ℕ) (h : Flags fs) where

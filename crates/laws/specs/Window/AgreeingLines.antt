@@ -6,9 +6,9 @@ use mathlib.Core.List.{List, [], _∷_, _++_, append-assoc}
 use Prim.Native.Nat.{ℕ, suc, _+_, _-_, _≤_, _<_}
 use native.Mathlib.Numerals.{add-one}
 use native.Mathlib.Omega.{arith}
-use lib.ListN.{length, getD, take, set, length-set}
-use lib.Seq.{take-suc-set, getD-take, length-take-le}
-use Rattle.basics.specs.Member.{In, in-getD, in-append-get, in-append-left}
+use lib.ListN.{length, take, set, length-set}
+use lib.Seq.{take-suc-set}
+use Rattle.basics.specs.Member.{In, in-append-get, in-append-left}
 use Rattle.basics.specs.Steps.{those-from, those-from-get, those-from-put, those-from-none, those-from-append, those-from-fewer}
 use Rattle.spec.specs.Dictionary.{Lexicon}
 use Rattle.models.specs.Window.{agrees-line, agreeing-lines}
@@ -90,14 +90,11 @@ module _ (o : ℕ) (lex : Lexicon) (xs s : List ℕ) where
         }
 
     -- a listed line is one of the first w, and agrees
-    pub listed-agrees : (k : ℕ) → k < count → (getD lines k 0 < w) × (agrees-line o lex xs s (getD lines k 0) ≡ true)
+    pub listed-agrees : (i : ℕ) → In i (take count lines) → (i < w) × (agrees-line o lex xs s i ≡ true)
     unfolding agreeing-lines
-    listed-agrees k b =
-        let short : length (take count lines) ≡ count = length-take-le count lines (h .room) in
-        let here : In (getD (take count lines) k 0) (those 0 w) =
-        rw (h .found) (in-append-left (getD (take count lines) k 0) (take count lines) (those lo hi)
-        (in-getD (take count lines) k 0 (omega arith))) in
-        let there = those-from-get (w - 0) 0 (agrees-line o lex xs s) (getD lines k 0) (rw (getD-take count lines k 0 b) at here) in
+    listed-agrees i m =
+        let here : In i (those 0 w) = rw (h .found) (in-append-left i (take count lines) (those lo hi) m) in
+        let there = those-from-get (w - 0) 0 (agrees-line o lex xs s) i here in
         (omega arith, there .2)
 
     -- a line that agrees is listed or in the range

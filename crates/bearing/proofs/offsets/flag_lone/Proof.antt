@@ -1,0 +1,48 @@
+-- `flag_lone` meets its contract: the character has one line, or none. Assumes nothing.
+use mathlib.Core.Path.{refl}
+use native.Mathlib.Omega.{arith}
+use lib.ListN.{getD}
+use borrow.Author.Needs.{needs}
+use Rattle.spec.specs.Index.{keys-of}
+use Rattle.models.specs.WordStarts.{lexicon-at}
+use Rattle.laws.specs.Window.LineRanges.{lone-rise, lone-agrees, lone-others}
+use Rattle.laws.specs.Cut.Flagging.{flagged-one, flagged-none}
+use Rattle.bearing.proofs.offsets.flag_lone.Statement.{statement}
+use Rattle.bearing.proofs.offsets.flag_lone.Tie as tie
+
+lone-line-requires : tie.Need-lone-line-requires
+lone-line-requires c κs =
+    let h = c .before .before .before .before .before .before .pre .0 in
+    (h .reads .can .fits, lone-rise (h .reads .can) (h .split))
+
+returns : tie.Need-returns
+returns c =
+    let s = c .before .before .before .before .before .before .before .before .before in
+    let a = s .args in
+    let h = s .pre .0 in
+    let line = c .before .before .lone-line in
+    let character = getD (a .string .now) (a .key-start) 0 in
+    flagged-one (lexicon-at (a .chars .now) (a .word-starts .now)) (a .index .now) (a .string .now) (a .key-start) (a .word-lines)
+    (keys-of (a .index .now)) (a .flags .now) (s .pre .2) (line .result) (omega arith)
+    (lone-agrees (h .reads .can) (h .split) (a .string .now) (a .key-start) character refl (line .result) (line .ensures .from) (omega arith)
+    (line .ensures .is (omega arith)) (s .pre .1))
+    (lone-others (h .reads .can) (h .split) (a .string .now) (a .key-start) character refl (line .ensures))
+
+returns-2 : tie.Need-returns-2
+returns-2 c =
+    let s = c .before .before .before .before .before .before .before .before .before in
+    let a = s .args in
+    let h = s .pre .0 in
+    let line = c .before .before .lone-line in
+    let character = getD (a .string .now) (a .key-start) 0 in
+    flagged-none (lexicon-at (a .chars .now) (a .word-starts .now)) (a .index .now) (a .string .now) (a .key-start) (a .word-lines)
+    (keys-of (a .index .now)) (a .flags .now) (s .pre .2)
+    (λ i from below.
+    lone-others (h .reads .can) (h .split) (a .string .now) (a .key-start) character refl (line .ensures) i from below (λ e. omega arith))
+
+pub flag-lone-spec : {M : Type 1} → statement M
+flag-lone-spec =
+    tie.close
+    (tie.spec
+    (λ c. search needs) (λ c. search needs) lone-line-requires (λ c κs. search needs) (λ c. search needs) (λ c. search needs) returns
+    returns-2)

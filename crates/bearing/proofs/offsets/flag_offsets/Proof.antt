@@ -1,0 +1,48 @@
+-- `flag_offsets` meets its contract. The invariant: the offsets below `key_start` are done. The measure is how
+-- many are left. Assumes nothing.
+use mathlib.Core.Path.{_≡_, subst}
+use Prim.Native.Nat.{_-_, _≤_}
+use native.Mathlib.Omega.{arith}
+use lib.ListN.{length}
+use borrow.Author.Needs.{needs}
+use Rattle.models.specs.WordStarts.{lexicon-at}
+use Rattle.laws.specs.Cut.FlagWalks.{Offsets, offsets-start, offsets-next}
+use Rattle.bearing.proofs.offsets.flag_offsets.Statement.{statement}
+use Rattle.bearing.proofs.offsets.flag_offsets.Tie as tie
+
+abbrev Inv-loop : tie.InvT-loop
+Inv-loop chars word-starts index string word-lines flags₀ last key-start₀ flags key-start =
+    (key-start ≤ length string) × Offsets (lexicon-at chars word-starts) index string flags₀ flags key-start
+
+abbrev μ-loop : tie.MeasureT-loop
+μ-loop chars word-starts index string word-lines flags₀ last key-start₀ flags key-start = length string - key-start
+
+loop-holds : tie.Need-loop-holds Inv-loop μ-loop
+loop-holds c =
+    let s = c .before .before .before .before .before in
+    let a = s .args in
+    (omega arith, offsets-start (lexicon-at (a .chars .now) (a .word-starts .now)) (a .index .now) (a .string .now) (s .pre .1))
+
+loop-again : tie.Need-loop-again Inv-loop μ-loop
+loop-again c =
+    let a = c .before .before .before .before .before .before .before .before .before .before .before .args in
+    let l = c .before .before .before .before .before .loop in
+    let now = c .before .before .flag-offset in (
+      omega arith,
+      offsets-next (lexicon-at (a .chars .now) (a .word-starts .now)) (a .index .now) (a .string .now) (now .last .1 .1 .1 .1 .1 .1 .0) (l .inv .1) (now .ensures),
+    )
+
+returns : tie.Need-returns Inv-loop μ-loop
+returns c =
+    let a = c .before .before .before .before .before .before .before .args in
+    let l = c .before .loop in
+    let e : l .key-start ≡ length (a .string .now) = omega arith in
+    subst (Offsets (lexicon-at (a .chars .now) (a .word-starts .now)) (a .index .now) (a .string .now) (a .flags .now) (l .flags)) e (l .inv .1)
+
+pub flag-offsets-spec : {M : Type 1} → statement M
+flag-offsets-spec =
+    tie.close
+    (tie.spec
+    Inv-loop μ-loop (λ c. search needs) loop-holds
+    (λ c κs. (c .before .before .before .before .before .before .before .before .pre .0, omega arith, c .before .before .loop .inv .1 .way .flags)) (λ c. search needs) (λ c. omega arith)
+    loop-again (λ c. c .before .loop .inv .1 .way .len) returns)
