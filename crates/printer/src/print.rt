@@ -12,6 +12,11 @@ ghost use Rattle.spec.specs.JobAnswer.{decimal, digit-byte, hexadecimal, gap, s
 ghost use Rattle.spec.specs.JobAnswer.{key-line, key-lines, index-lines};
 ghost use Rattle.models.specs.JobSheet.{each-spaced, listed};
 ghost use Rattle.laws.specs.JobSheet.IndexPrinting.{Whole};
+use layout::fields::key_count;
+use layout::fields::line_start;
+use layout::fields::text_len;
+use layout::lines::next_line;
+use width::Number;
 
 // Writes one byte.
 fn put_byte(out: &mut [u8], at: usize, byte: u8) -> usize
@@ -51,7 +56,7 @@ fn put_decimal(out: &mut [u8], at: usize, n: usize) -> usize
 }
 
 // The byte of a hexadecimal digit.
-fn digit_byte(value: u16) -> u8
+fn digit_byte(value: usize) -> u8
     requires { ⌜ value < 16 ⌝ }
     ensures { λ r. ⌜ r ≡ digit-byte value ⌝ }
 {
@@ -63,7 +68,7 @@ fn digit_byte(value: u16) -> u8
 }
 
 // Writes a character as four hexadecimal digits.
-fn put_hexadecimal(out: &mut [u8], at: usize, character: u16) -> usize
+fn put_hexadecimal(out: &mut [u8], at: usize, character: usize) -> usize
     requires { ⌜ at + 4 ≤ length (now out) ⌝ }
     ensures { λ r. ⌜ Wrote (hexadecimal character) at (now (out .entry)) r (now (out .exit)) ⌝ }
 {
@@ -86,7 +91,7 @@ fn put_next_decimal(out: &mut [u8], at: usize, n: usize) -> usize
 }
 
 // Writes positions, each after a space.
-fn put_next_positions(out: &mut [u8], at: usize, positions: &[u16]) -> usize
+fn put_next_positions(out: &mut [u8], at: usize, positions: &[Number]) -> usize
     requires { ⌜ at + length (each-spaced (now positions)) ≤ length (now out) ⌝ }
     ensures { λ r. ⌜ Wrote (each-spaced (now (positions .entry))) at (now (out .entry)) r (now (out .exit)) ⌝ }
 {
@@ -100,7 +105,7 @@ fn put_next_positions(out: &mut [u8], at: usize, positions: &[u16]) -> usize
 }
 
 // Writes positions with a space between.
-fn put_positions(out: &mut [u8], at: usize, positions: &[u16]) -> usize
+fn put_positions(out: &mut [u8], at: usize, positions: &[Number]) -> usize
     requires { ⌜ at + length (spaced (now positions)) ≤ length (now out) ⌝ }
     ensures { λ r. ⌜ Wrote (spaced (now (positions .entry))) at (now (out .entry)) r (now (out .exit)) ⌝ }
 {
@@ -112,7 +117,7 @@ fn put_positions(out: &mut [u8], at: usize, positions: &[u16]) -> usize
 }
 
 // Writes positions in parentheses, and the end of a line.
-fn put_list(out: &mut [u8], at: usize, positions: &[u16]) -> usize
+fn put_list(out: &mut [u8], at: usize, positions: &[Number]) -> usize
     requires { ⌜ at + length (listed (now positions)) ≤ length (now out) ⌝ }
     ensures { λ r. ⌜ Wrote (listed (now (positions .entry))) at (now (out .entry)) r (now (out .exit)) ⌝ }
 {
@@ -134,7 +139,7 @@ fn put_index_line(out: &mut [u8], at: usize, n: usize, k: usize, m: usize) -> us
 }
 
 // Writes the line of a find.
-pub fn put_found_line(out: &mut [u8], at: usize, positions: &[u16]) -> usize
+pub fn put_found_line(out: &mut [u8], at: usize, positions: &[Number]) -> usize
     requires { ⌜ at + length (found-line (now positions)) ≤ length (now out) ⌝ }
     ensures { λ r. ⌜ Wrote (found-line (now (positions .entry))) at (now (out .entry)) r (now (out .exit)) ⌝ }
 {
@@ -154,20 +159,20 @@ pub fn put_refused_line(out: &mut [u8], at: usize, refusal: usize) -> usize
 }
 
 // Writes a key: a word by its number, a lone character by itself.
-fn put_key_name(out: &mut [u8], at: usize, kind: u16, value: u16) -> usize
+fn put_key_name(out: &mut [u8], at: usize, kind: usize, value: usize) -> usize
     requires { ⌜ at + length (key-name (key kind value)) ≤ length (now out) ⌝ }
     ensures { λ r. ⌜ Wrote (key-name (key kind value)) at (now (out .entry)) r (now (out .exit)) ⌝ }
 {
     if kind == 0 {
         let number = put_bytes(out, at, b"(key word ");
-        return put_decimal(out, number, value as usize);
+        return put_decimal(out, number, value);
     }
     let character = put_bytes(out, at, b"(key lone ");
     put_hexadecimal(out, character, value)
 }
 
 // Writes the line of a key.
-fn put_key_line(out: &mut [u8], at: usize, kind: u16, value: u16, positions: &[u16]) -> usize
+fn put_key_line(out: &mut [u8], at: usize, kind: usize, value: usize, positions: &[Number]) -> usize
     requires { ⌜ at + length (key-line (line (key kind value) (now positions))) ≤ length (now out) ⌝ }
     ensures { λ r. ⌜ Wrote (key-line (line (key kind value) (now (positions .entry)))) at (now (out .entry)) r (now (out .exit)) ⌝ }
 {
@@ -176,19 +181,18 @@ fn put_key_line(out: &mut [u8], at: usize, kind: u16, value: u16, positions: &[u
 }
 
 // Writes a line for each key of an index, in order.
-fn put_key_lines(out: &mut [u8], at: usize, numbers: &[u16]) -> usize
+fn put_key_lines(out: &mut [u8], at: usize, numbers: &[Number]) -> usize
     requires { ⌜ Whole (now numbers) × (at + length (key-lines (lines-in (now numbers))) ≤ length (now out)) ⌝ }
     ensures { λ r. ⌜ Wrote (key-lines (lines-in (now (numbers .entry)))) at (now (out .entry)) r (now (out .exit)) ⌝ }
 {
-    let keys = numbers[1] as usize;
-    let mut position = 2 + 3 * keys;
+    let keys = key_count(numbers);
+    let mut position = line_start(keys);
     let mut end = at;
     let mut i = 0;
     while i < keys {
-        let kind = numbers[2 + 3 * i];
-        let value = numbers[2 + 3 * i + 1];
-        let next = position + numbers[2 + 3 * i + 2] as usize;
-        end = put_key_line(out, end, kind, value, &numbers[position..next]);
+        let line = next_line(numbers, i, position);
+        let next = line.to;
+        end = put_key_line(out, end, line.kind, line.value, &numbers[position..next]);
         position = next;
         i += 1;
     }
@@ -196,12 +200,12 @@ fn put_key_lines(out: &mut [u8], at: usize, numbers: &[u16]) -> usize
 }
 
 // Writes the lines of an index: its three numbers, then its keys.
-pub fn put_index_lines(out: &mut [u8], at: usize, numbers: &[u16]) -> usize
+pub fn put_index_lines(out: &mut [u8], at: usize, numbers: &[Number]) -> usize
     requires { ⌜ Whole (now numbers) × (at + length (index-lines (now numbers)) ≤ length (now out)) ⌝ }
     ensures { λ r. ⌜ Wrote (index-lines (now (numbers .entry))) at (now (out .entry)) r (now (out .exit)) ⌝ }
 {
-    let n = numbers[0] as usize;
-    let k = numbers[1] as usize;
-    let end = put_index_line(out, at, n, k, numbers.len() - 2 - 3 * k);
+    let keys = key_count(numbers);
+    let entries = numbers.len() - line_start(keys);
+    let end = put_index_line(out, at, text_len(numbers), keys, entries);
     put_key_lines(out, end, numbers)
 }

@@ -20,31 +20,29 @@ abbrev μ-loop : tie.MeasureT-loop
 μ-loop out₀ at positions end₀ i₀ out end i = length positions - i
 
 loop-holds : tie.Need-loop-holds Inv-loop μ-loop
-loop-holds c = (
-  omega arith,
-  writing-start (each-spaced (c .before .before .args .positions .now)) (c .before .before .args .at)
-      (c .before .before .args .out .now) (c .before .before .pre),
-)
+loop-holds c =
+    let s = c .before .before in
+    (omega arith, writing-start (each-spaced (s .args .positions .now)) (s .args .at) (s .args .out .now) (s .pre))
 
 cast-put-next-decimal : tie.Need-cast-put-next-decimal Inv-loop μ-loop
 cast-put-next-decimal c = omega (arith, c .shared-slice-known2 .given (c .before .before .before .loop .i))
 
 put-next-decimal-requires : tie.Need-put-next-decimal-requires Inv-loop μ-loop
 put-next-decimal-requires c κs =
-    let ps = c .before .before .before .before .before .before .args .positions .now in
-    let i = c .before .before .before .loop .i in
+    let l = c .before .before .before in
+    let ps = l .before .before .before .args .positions .now in
+    let i = l .loop .i in
     writing-room (gap ++ decimal (getD ps i 0)) (each-spaced (drop (i + 1) ps))
-    (writing-as (each-next ps i (c .before .before .loop-test .taken)) (c .before .before .before .loop .inv .1))
+    (writing-as (each-next ps i (c .before .before .loop-test .taken)) (l .loop .inv .1))
 
 loop-again : tie.Need-loop-again Inv-loop μ-loop
 loop-again c =
-    let ps = c .before .before .before .before .before .before .before .before .before .args .positions .now in
-    let i = c .before .before .before .before .before .before .loop .i in (
+    let t = c .before .before .before .before .before in
+    let ps = t .before .before .before .before .args .positions .now in
+    let i = t .before .loop .i in (
       omega arith,
       writing-step (gap ++ decimal (getD ps i 0)) (each-spaced (drop (i + 1) ps))
-          (writing-as (each-next ps i (c .before .before .before .before .before .loop-test .taken))
-          (c .before .before .before .before .before .before .loop .inv .1))
-          (c .before .before .put-next-decimal .ensures),
+          (writing-as (each-next ps i (t .loop-test .taken)) (t .before .loop .inv .1)) (c .before .before .put-next-decimal .ensures),
     )
 
 returns : tie.Need-returns Inv-loop μ-loop
