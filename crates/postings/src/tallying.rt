@@ -13,19 +13,22 @@ ghost use Rattle.models.specs.Tally.{added};
 ghost use Rattle.laws.specs.Text.Facts.{Is-key};
 ghost use Rattle.laws.specs.Dictionary.Lexicon.{Is-admitted};
 ghost use Rattle.laws.specs.Readable.Opening.{Bounded};
+use layout::fields::count_at;
+use layout::fields::kind_at;
+use layout::fields::value_at;
 use opening::opened::open_index;
 use spec::TallyAnswer;
+use width::Number;
 
 // How many characters a key spells.
-fn key_length(chars: &[u16], lengths: &[u16], kind: u16, value: u16) -> usize
+fn key_length(chars: &[u16], lengths: &[u16], kind: usize, value: usize) -> usize
     requires { ⌜ Is-admitted (now chars) (now lengths) × Is-key (lexicon (now chars) (now lengths)) (key kind value) ⌝ }
     ensures { λ r. ⌜ r ≡ length (spells (lexicon (now (chars .entry)) (now (lengths .entry))) (key kind value)) ⌝ }
 {
     if kind != 0 {
         return 1;
     }
-    let word = value as usize;
-    lengths[word] as usize
+    lengths[value] as usize
 }
 
 // The counts, with the number of positions of each key of a readable index added to the count for its length. Each is at most 2^62
@@ -33,7 +36,7 @@ fn key_length(chars: &[u16], lengths: &[u16], kind: u16, value: u16) -> usize
 fn raised(
     chars: &[u16],
     lengths: &[u16],
-    index: &[u16],
+    index: &[Number],
     keys: usize,
     counts: [u64; 32],
 ) -> [u64; 32]
@@ -45,10 +48,8 @@ fn raised(
     let mut counts = counts;
     let mut i = 0;
     while i < keys {
-        let kind = index[2 + 3 * i];
-        let value = index[2 + 3 * i + 1];
-        let count = index[2 + 3 * i + 2] as u64;
-        let position = key_length(chars, lengths, kind, value) - 1;
+        let count = count_at(index, i) as u64;
+        let position = key_length(chars, lengths, kind_at(index, i), value_at(index, i)) - 1;
         counts[position] = counts[position] + count;
         i += 1;
     }
@@ -59,7 +60,7 @@ fn raised(
 fn tally_opened<'a>(
     chars: &'a [u16],
     lengths: &'a [u16],
-    index: &'a [u16],
+    index: &'a [Number],
     refusal: u32,
     keys: usize,
     first: usize,
@@ -83,7 +84,7 @@ fn tally_opened<'a>(
 }
 
 // The tally of an index: M and the 32 counts, or the refusal and 32 zeros.
-pub fn tally<'a>(chars: &'a [u16], lengths: &'a [u16], index: &'a [u16]) -> TallyAnswer
+pub fn tally<'a>(chars: &'a [u16], lengths: &'a [u16], index: &'a [Number]) -> TallyAnswer
     ensures { λ r. ⌜ Tally-says (now (chars .entry)) (now (lengths .entry)) (now (index .entry)) r ⌝ }
 {
     let opened = open_index(chars, lengths, index);

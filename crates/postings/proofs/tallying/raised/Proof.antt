@@ -1,10 +1,12 @@
 -- `raised` meets its contract. The invariant: the counts, with what the lines from i on add, are the counts given with the tally added. The
 -- measure is how many lines are left. Assumes nothing.
-use Prim.Native.Nat.{_+_, _*_, _-_}
+use Prim.Native.Nat.{_-_, _≤_}
 use native.Mathlib.Omega.{arith}
 use mir.Syntax.{w64}
 use borrow.Kind.Array.{eInt, good-length}
 use Rattle.spec.specs.Dictionary.{longest-text, lexicon}
+use Rattle.spec.specs.Words.{key}
+use Rattle.laws.specs.Text.Facts.{Is-key}
 use Rattle.laws.specs.Readable.KeyLengths.{key-sizes}
 use Rattle.laws.specs.Tally.Walk.{Tallied, tally-start, tally-step, tally-end, line-key}
 use Rattle.postings.proofs.tallying.raised.Statement.{statement}
@@ -18,95 +20,49 @@ abbrev μ-loop : tie.MeasureT-loop
 
 loop-holds : tie.Need-loop-holds Inv-loop μ-loop
 loop-holds c =
-    let start = c .before .before .before in
-    tally-start (lexicon (start .args .chars .now) (start .args .lengths .now)) (start .args .index .now) (start .args .counts)
-    (good-length (eInt w64) 32 (start .args .counts) _ (start .good .1 .1 .1 .1 .0)) (start .pre .4)
+    let s = c .before .before .before in
+    tally-start (lexicon (s .args .chars .now) (s .args .lengths .now)) (s .args .index .now) (s .args .counts)
+    (good-length (eInt w64) 32 (s .args .counts) _ (s .good .1 .1 .1 .1 .0)) (s .pre .4)
 
-cast-count : tie.Need-cast-count Inv-loop μ-loop
-cast-count c = omega (arith, c .shared-slice-known6 .given (2 + 3 * c .before .before .before .before .loop .i + 2))
+-- the line has a key of the lexicon
+is-key :
+    (c : tie.After-value-at Inv-loop μ-loop) → let a = c .before .before .before .before .before .before .before .before .args in
+    Is-key (lexicon (a .chars .now) (a .lengths .now)) (key (c .before .kind-at .result) (c .value-at .result))
+is-key c =
+    let s = c .before .before .before .before .before .before .before .before in
+    rw (c .before .kind-at .ensures .0, c .value-at .ensures .0)
+    (line-key longest-text (lexicon (s .args .chars .now) (s .args .lengths .now)) (s .args .index .now) (s .pre .1)
+    (c .before .before .before .before .loop .i) (omega arith))
 
-key-length-requires : tie.Need-key-length-requires Inv-loop μ-loop
-key-length-requires c κs =
-    let start = c .before .before .before .before .before .before .before .before in
-    let walk = c .before .before .before .before .loop in (
-      start .pre .0,
-      (line-key longest-text (lexicon (start .args .chars .now) (start .args .lengths .now)) (start .args .index .now)
-          (start .pre .1) (walk .i) (omega arith)),
-    )
-
-sub-position : tie.Need-sub-position Inv-loop μ-loop
-sub-position c =
-    let start = c .before .before .before .before .before .before .before .before .before in
-    let walk = c .before .before .before .before .before .loop in
-    let is = key-sizes (start .pre .0) (line-key longest-text (lexicon (start .args .chars .now) (start .args .lengths .now))
-    (start .args .index .now) (start .pre .1) (walk .i) (omega arith)) in
-    omega arith
-
-mul-counts : tie.Need-mul-counts Inv-loop μ-loop
-mul-counts c =
-    let start = c .before .before .before .before .before .before .before .before .before in
-    let walk = c .before .before .before .before .before .loop in
-    let is = key-sizes (start .pre .0) (line-key longest-text (lexicon (start .args .chars .now) (start .args .lengths .now))
-    (start .args .index .now) (start .pre .1) (walk .i) (omega arith)) in
-    omega arith
-
-array-read-counts : tie.Need-array-read-counts Inv-loop μ-loop
-array-read-counts c =
-    let start = c .before .before .before .before .before .before .before .before .before in
-    let walk = c .before .before .before .before .before .loop in
-    let is = key-sizes (start .pre .0) (line-key longest-text (lexicon (start .args .chars .now) (start .args .lengths .now))
-    (start .args .index .now) (start .pre .1) (walk .i) (omega arith)) in
-    omega arith
+-- which spells 1 to 32 characters
+sizes : (c : tie.After-key-length Inv-loop μ-loop) → (1 ≤ c .key-length .result) × (c .key-length .result ≤ 32)
+sizes c =
+    let is = key-sizes (c .before .before .before .before .before .before .before .before .before .pre .0) (is-key (c .before)) in
+    (omega arith, omega arith)
 
 add-counts : tie.Need-add-counts Inv-loop μ-loop
 add-counts c =
-    let start = c .before .before .before .before .before .before .before .before .before in
-    let walk = c .before .before .before .before .before .loop in
-    let is = key-sizes (start .pre .0) (line-key longest-text (lexicon (start .args .chars .now) (start .args .lengths .now))
-    (start .args .index .now) (start .pre .1) (walk .i) (omega arith)) in
-    omega (
-      arith,
-      walk .inv .bounded (c .key-length .result - 1),
-      c .before .shared-slice-known6 .given (2 + 3 * walk .i + 2),
-      c .before .shared-slice-known6 .given 1,
-    )
-
-mul-counts-2 : tie.Need-mul-counts-2 Inv-loop μ-loop
-mul-counts-2 c =
-    let start = c .before .before .before .before .before .before .before .before .before in
-    let walk = c .before .before .before .before .before .loop in
-    let is = key-sizes (start .pre .0) (line-key longest-text (lexicon (start .args .chars .now) (start .args .lengths .now))
-    (start .args .index .now) (start .pre .1) (walk .i) (omega arith)) in
-    omega arith
-
-array-write-counts : tie.Need-array-write-counts Inv-loop μ-loop
-array-write-counts c =
-    let start = c .before .before .before .before .before .before .before .before .before in
-    let walk = c .before .before .before .before .before .loop in
-    let is = key-sizes (start .pre .0) (line-key longest-text (lexicon (start .args .chars .now) (start .args .lengths .now))
-    (start .args .index .now) (start .pre .1) (walk .i) (omega arith)) in
-    omega arith
+    let l = c .before .before .before .before .before in
+    omega (arith, sizes c, l .loop .inv .bounded (c .key-length .result - 1), l .before .shared-slice-known3 .given 1)
 
 loop-again : tie.Need-loop-again Inv-loop μ-loop
 loop-again c =
-    let start = c .before .before .before .before .before .before .before .before .before in
-    let walk = c .before .before .before .before .before .loop in
-    let is = key-sizes (start .pre .0) (line-key longest-text (lexicon (start .args .chars .now) (start .args .lengths .now))
-    (start .args .index .now) (start .pre .1) (walk .i) (omega arith)) in
-    tally-step (walk .inv) (c .key-length .result - 1) (omega arith)
-    (omega (arith, c .before .shared-slice-known6 .given (2 + 3 * walk .i + 2))) (omega arith) (omega arith)
+    let len = rw (c .before .before .kind-at .ensures .0, c .before .value-at .ensures .0) at (c .key-length .ensures) in
+    rw (← c .before .before .before .count-at .ensures .0) at
+    (tally-step (c .before .before .before .before .before .loop .inv) (c .key-length .result - 1) (omega arith) (omega arith)
+    (omega (arith, sizes c)) (omega (arith, sizes c)))
 
 returns : tie.Need-returns Inv-loop μ-loop
 returns c =
-    let start = c .before .before .before .before .before in
-    tally-end (c .before .loop .inv) longest-text (start .pre .1)
-    (good-length (eInt w64) 32 (start .args .counts) _ (start .good .1 .1 .1 .1 .0)) (omega arith)
+    let s = c .before .before .before .before .before in
+    tally-end (c .before .loop .inv) longest-text (s .pre .1)
+    (good-length (eInt w64) 32 (s .args .counts) _ (s .good .1 .1 .1 .1 .0)) (omega arith)
 
 pub raised-spec : {M : Type 1} → statement M
 raised-spec =
     tie.close
     (tie.spec
-    Inv-loop μ-loop loop-holds (λ c. omega arith) (λ c. omega arith) (λ c. omega arith) (λ c. omega arith) (λ c. omega arith)
-    (λ c. omega arith) (λ c. omega arith) (λ c. omega arith) (λ c. omega arith) (λ c. omega arith) (λ c. omega arith) (λ c. omega arith)
-    (λ c. omega arith) (λ c. omega arith) cast-count key-length-requires sub-position mul-counts array-read-counts add-counts mul-counts-2
-    array-write-counts (λ c. omega arith) (λ c. omega arith) loop-again returns)
+    Inv-loop μ-loop loop-holds (λ c κs. omega arith) (λ c κs. omega arith) (λ c κs. omega arith)
+    (λ c κs. (c .before .before .before .before .before .before .before .before .pre .0, is-key c)) (λ c. omega (arith, sizes c))
+    (λ c. omega (arith, sizes c)) (λ c. omega (arith, sizes c)) add-counts (λ c. omega (arith, sizes c)) (λ c. omega (arith, sizes c))
+    (λ c. omega arith) (λ c. omega arith) loop-again returns)
