@@ -4,11 +4,14 @@
 // function on plain slices and numbers.
 ghost use mathlib.Core.Path.{_≡_};
 ghost use Rattle.laws.specs.Readable.Opening.{Bounded};
+use layout::fields::key_count;
+use layout::fields::line_start;
+use width::Number;
 
 // The numbers of an index, its refusal, how many lines its directory has, and where the positions start. With a refusal the two bounds are
 // 0, so that no line is handed out.
 pub struct Opened<'a> {
-    pub numbers: &'a [u16],
+    pub numbers: &'a [Number],
     pub refusal: u32,
     pub keys: usize,
     pub first: usize,
@@ -22,7 +25,7 @@ pub struct Bounds {
 }
 
 // The refusal of an index; accepted, how many lines its directory has, and where the positions start.
-fn bounds_of<'a>(chars: &'a [u16], lengths: &'a [u16], index: &'a [u16]) -> Bounds
+fn bounds_of<'a>(chars: &'a [u16], lengths: &'a [u16], index: &'a [Number]) -> Bounds
     ensures { λ r. ⌜ Bounded (now (chars .entry)) (now (lengths .entry)) (now (index .entry)) (r .refusal) (r .keys) (r .first) ⌝ }
 {
     let refusal = readability::readability::refusal_of(chars, lengths, index);
@@ -33,16 +36,16 @@ fn bounds_of<'a>(chars: &'a [u16], lengths: &'a [u16], index: &'a [u16]) -> Boun
             first: 0,
         };
     }
-    let keys = index[1] as usize;
+    let keys = key_count(index);
     Bounds {
         refusal,
         keys,
-        first: 2 + 3 * keys,
+        first: line_start(keys),
     }
 }
 
 // The record of an index with its bounds.
-fn with_bounds<'a>(index: &'a [u16], bounds: Bounds) -> Opened<'a>
+fn with_bounds<'a>(index: &'a [Number], bounds: Bounds) -> Opened<'a>
     ensures { λ r. ⌜
         (r .numbers ≡ index .entry) × (r .refusal ≡ bounds .refusal) × (r .keys ≡ bounds .keys) × (r .first ≡ bounds .first) ⌝ }
 {
@@ -55,7 +58,7 @@ fn with_bounds<'a>(index: &'a [u16], bounds: Bounds) -> Opened<'a>
 }
 
 // Opens an index: tests it, and answers the record that refers to its numbers. Refusals 1, 2, 3, 12, 5.
-pub fn open_index<'a>(chars: &'a [u16], lengths: &'a [u16], index: &'a [u16]) -> Opened<'a>
+pub fn open_index<'a>(chars: &'a [u16], lengths: &'a [u16], index: &'a [Number]) -> Opened<'a>
     ensures { λ r. ⌜
         (r .numbers ≡ index .entry) ×
         Bounded (now (chars .entry)) (now (lengths .entry)) (now (index .entry)) (r .refusal) (r .keys) (r .first) ⌝ }

@@ -1,5 +1,5 @@
 -- What opening an index answers: the refusal, and the bounds of the directory if no line is met. Assumes nothing.
-use mathlib.Core.Path.{_≡_, sym, ap, _∙_}
+use mathlib.Core.Path.{_≡_, sym, _∙_}
 use mathlib.Core.List.{List}
 use Prim.Native.Nat.{ℕ, _+_, _*_}
 use Rattle.spec.specs.Index.{header, keys-of}
@@ -21,12 +21,13 @@ module _ (cs ls xs : List ℕ) (refusal : ℕ) (number : refusal ≡ index-refus
         positions = sym (accepted-no refusal (header + 3 * keys-of xs) 0 some);
       }
 
-  pub bounds-accepted : refusal ≡ 0 → (keys : ℕ) → keys ≡ keys-of xs → Bounded cs ls xs refusal keys (2 + 3 * keys)
-  bounds-accepted none keys e =
+  pub bounds-accepted :
+      refusal ≡ 0 → {keys first : ℕ} → keys ≡ keys-of xs → first ≡ header + 3 * keys-of xs → Bounded cs ls xs refusal keys first
+  bounds-accepted none is-keys is-first =
       record {
         number = number;
-        lines = e ∙ sym (accepted-yes refusal (keys-of xs) 0 none);
-        positions = ap (λ (k : ℕ). 2 + 3 * k) e ∙ sym (accepted-yes refusal (header + 3 * keys-of xs) 0 none);
+        lines = is-keys ∙ sym (accepted-yes refusal (keys-of xs) 0 none);
+        positions = is-first ∙ sym (accepted-yes refusal (header + 3 * keys-of xs) 0 none);
       }
 
 -- what holds if the index is accepted: no line is met, and the bounds are those of the directory

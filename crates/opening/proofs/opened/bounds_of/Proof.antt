@@ -1,5 +1,5 @@
 -- `bounds_of` meets its contract: the refusal decides what is answered. Assumes nothing.
-use mathlib.Core.Path.{refl, sym, _∙_}
+use mathlib.Core.Path.{sym, _∙_}
 use native.Mathlib.Omega.{arith}
 use Rattle.spec.specs.Dictionary.{longest-text, lexicon}
 use Rattle.laws.specs.Readable.IndexRefusal.{index-accepted}
@@ -15,22 +15,18 @@ returns c =
     bounds-refused (a .chars .now) (a .lengths .now) (a .index .now) (c .before .refusal-of .result) (c .before .refusal-of .ensures)
     (c .if1 .taken)
 
-shared-slice-read-keys : tie.Need-shared-slice-read-keys
-shared-slice-read-keys c =
-    let a = c .before .before .before .before .before .before .args in
-    let ok = index-accepted (a .chars .now) (a .lengths .now) (a .index .now)
-    (sym (c .before .before .refusal-of .ensures) ∙ c .before .if1 .left) in
-    omega (arith, readable-fits longest-text (lexicon (a .chars .now) (a .lengths .now)) (a .index .now) (ok .is-readable) .has-header)
+key-count-requires : tie.Need-key-count-requires
+key-count-requires c κs =
+    let a = c .before .before .before .before .before .args in
+    let ok = index-accepted (a .chars .now) (a .lengths .now) (a .index .now) (sym (c .before .refusal-of .ensures) ∙ c .if1 .left) in
+    readable-fits longest-text (lexicon (a .chars .now) (a .lengths .now)) (a .index .now) (ok .is-readable) .has-header
 
 returns-2 : tie.Need-returns-2
 returns-2 c =
-    let a = c .before .before .before .before .before .before .args in
-    bounds-accepted (a .chars .now) (a .lengths .now) (a .index .now) (c .before .before .refusal-of .result)
-    (c .before .before .refusal-of .ensures) (c .before .if1 .left) _ refl
+    let r = c .before .before .before in
+    let a = r .before .before .before .before .args in
+    bounds-accepted (a .chars .now) (a .lengths .now) (a .index .now) (r .refusal-of .result) (r .refusal-of .ensures)
+    (c .before .before .if1 .left) (omega arith) (omega arith)
 
 pub bounds-of-spec : {M : Type 1} → statement M
-bounds-of-spec =
-    tie.close
-    (tie.spec
-    (λ c κs. search needs) returns shared-slice-read-keys (λ c. omega (arith, c .shared-slice-known4 .given 1))
-    (λ c. omega (arith, c .shared-slice-known4 .given 1)) (λ c. omega (arith, c .shared-slice-known4 .given 1)) returns-2)
+bounds-of-spec = tie.close (tie.spec (λ c κs. search needs) returns key-count-requires (λ c κs. search needs) returns-2)
