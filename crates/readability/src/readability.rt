@@ -10,20 +10,30 @@ ghost use Prim.Native.Nat.{_+_, _*_, _≤_, _<_};
 ghost use lib.ListN.{length, drop};
 ghost use Rattle.spec.specs.Dictionary.{longest-text, lexicon};
 ghost use Rattle.spec.specs.Words.{key, is-word};
-ghost use Rattle.spec.specs.Index.{header, keys-of, rise-from, readable};
+ghost use Rattle.spec.specs.Index.{header, greatest-number, keys-of, rise-from, readable};
 ghost use Rattle.spec.specs.Gaps.{prefix-sums, with-lists};
 ghost use Rattle.spec.specs.Calls.{index-refusal};
 ghost use Rattle.models.specs.Readability.{as-is, list-good, line-list-good, line-fits, walk-good, read-as};
 ghost use Rattle.laws.specs.Dictionary.Lexicon.{Is-admitted};
 ghost use Rattle.laws.specs.Readable.LineSteps.{Lines-read};
 ghost use Rattle.laws.specs.Readable.LoneWords.{Passed, Reached};
+use layout::fields::HEADER;
+use layout::fields::count_at;
+use layout::fields::key_count;
+use layout::fields::kind_at;
+use layout::fields::line_start;
+use layout::fields::text_len;
+use layout::fields::value_at;
+use width::Number;
+use width::Sum;
+use width::number_at;
 
 // Whether positions ascend strictly from 1 or more.
-fn rise(positions: &[u16]) -> bool
+fn rise(positions: &[Number]) -> bool
     ensures { λ r. ⌜ r ≡ rise-from 1 (now (positions .entry)) ⌝ }
 {
     let mut good = true;
-    let mut last: u16 = 0;
+    let mut last: Number = 0;
     let mut i = 0;
     while i < positions.len() {
         let position = positions[i];
@@ -35,11 +45,11 @@ fn rise(positions: &[u16]) -> bool
 }
 
 // Whether positions ascend strictly from 1 or more, and a key of `len` characters ends by n at the last of them.
-fn positions_good(positions: &[u16], n: usize, len: usize) -> bool
-    requires { ⌜ (1 ≤ length (now positions)) × (n ≤ 65535) × (len ≤ 65535) ⌝ }
+fn positions_good(positions: &[Number], n: usize, len: usize) -> bool
+    requires { ⌜ (1 ≤ length (now positions)) × (n ≤ greatest-number) × (len ≤ greatest-number) ⌝ }
     ensures { λ r. ⌜ r ≡ list-good as-is n len (now (positions .entry)) ⌝ }
 {
-    let last = positions[positions.len() - 1] as usize;
+    let last = number_at(positions, positions.len() - 1);
     if n + 1 < last + len {
         return false;
     }
@@ -47,18 +57,18 @@ fn positions_good(positions: &[u16], n: usize, len: usize) -> bool
 }
 
 // Whether the positions that gaps add up to ascend from 1 or more, and a key of `len` characters ends by n at the last of them. They ascend
-// if no gap is 0, and the last of them is the sum of all gaps, which 32 bits hold.
-fn gaps_good(gaps: &[u16], n: usize, len: usize) -> bool
-    requires { ⌜ (1 ≤ length (now gaps)) × (length (now gaps) ≤ 65535) × (n ≤ 65535) × (len ≤ 65535) ⌝ }
+// if no gap is 0, and the last of them is the sum of all gaps, which a `Sum` holds.
+fn gaps_good(gaps: &[Number], n: usize, len: usize) -> bool
+    requires { ⌜ (1 ≤ length (now gaps)) × (length (now gaps) ≤ greatest-number) × (n ≤ greatest-number) × (len ≤ greatest-number) ⌝ }
     ensures { λ r. ⌜ r ≡ list-good prefix-sums n len (now (gaps .entry)) ⌝ }
 {
     let mut good = true;
-    let mut sum: u32 = 0;
+    let mut sum: Sum = 0;
     let mut i = 0;
     while i < gaps.len() {
         let gap = gaps[i];
         good = good & (0 < gap);
-        sum += gap as u32;
+        sum += gap as Sum;
         i += 1;
     }
     if n + 1 < sum as usize + len {
@@ -70,14 +80,14 @@ fn gaps_good(gaps: &[u16], n: usize, len: usize) -> bool
 // Whether `count` numbers from `at` on are there, at least one, and are good positions, or gaps, of a key of `len` characters. Most lists
 // have one number, which is both.
 fn line_list_good(
-    index: &[u16],
+    index: &[Number],
     at: usize,
     count: usize,
     n: usize,
     len: usize,
     as_gaps: bool,
 ) -> bool
-    requires { ⌜ (at ≤ length (now index)) × (n ≤ 65535) × (len ≤ 65535) × (count ≤ 65535) ⌝ }
+    requires { ⌜ (at ≤ length (now index)) × (n ≤ greatest-number) × (len ≤ greatest-number) × (count ≤ greatest-number) ⌝ }
     ensures { λ r. ⌜ r ≡ line-list-good (read-as as_gaps) n len count (drop at (now (index .entry))) ⌝ }
 {
     if index.len() - at < count {
@@ -87,7 +97,7 @@ fn line_list_good(
         return false;
     }
     if count == 1 {
-        let only = index[at] as usize;
+        let only = number_at(index, at);
         return (only + len <= n + 1) & (0 < only);
     }
     let end = at + count;
@@ -102,7 +112,7 @@ fn line_list_good(
 fn word_line_good(
     chars: &[u16],
     lengths: &[u16],
-    index: &[u16],
+    index: &[Number],
     at: usize,
     n: usize,
     least: usize,
@@ -110,7 +120,7 @@ fn word_line_good(
     count: usize,
     as_gaps: bool,
 ) -> bool
-    requires { ⌜ Is-admitted (now chars) (now lengths) × (at ≤ length (now index)) × (n ≤ 65535) × (count ≤ 65535) ⌝ }
+    requires { ⌜ Is-admitted (now chars) (now lengths) × (at ≤ length (now index)) × (n ≤ greatest-number) × (count ≤ greatest-number) ⌝ }
     ensures { λ r. ⌜
         r ≡ line-fits (read-as as_gaps) (lexicon (now (chars .entry)) (now (lengths .entry))) n least (key 0 value) count
         (drop at (now (index .entry))) ⌝ }
@@ -131,14 +141,14 @@ struct Cursor {
 }
 
 // The first word from `from` on that does not start with a character below `value`.
-fn skip_below(chars: &[u16], lengths: &[u16], from: Cursor, value: u16) -> Cursor
+fn skip_below(chars: &[u16], lengths: &[u16], from: Cursor, value: usize) -> Cursor
     requires { ⌜ Passed (now chars) (now lengths) (from .word) (from .at) value ⌝ }
     ensures { λ r. ⌜ Reached (now (chars .entry)) (now (lengths .entry)) (r .word) (r .at) value ⌝ }
 {
     let mut word = from.word;
     let mut at = from.at;
     while word < lengths.len() {
-        if value <= chars[at] {
+        if value <= chars[at] as usize {
             return Cursor { word, at };
         }
         at += lengths[word] as usize;
@@ -148,7 +158,7 @@ fn skip_below(chars: &[u16], lengths: &[u16], from: Cursor, value: u16) -> Curso
 }
 
 // Whether the one character `value` is a word, which could only be the word reached.
-fn is_reached(chars: &[u16], lengths: &[u16], cursor: Cursor, value: u16) -> bool
+fn is_reached(chars: &[u16], lengths: &[u16], cursor: Cursor, value: usize) -> bool
     requires { ⌜ Reached (now chars) (now lengths) (cursor .word) (cursor .at) value ⌝ }
     ensures { λ r. ⌜ r ≡ is-word (lexicon (now (chars .entry)) (now (lengths .entry))) (value ∷ []) ⌝ }
 {
@@ -157,7 +167,7 @@ fn is_reached(chars: &[u16], lengths: &[u16], cursor: Cursor, value: u16) -> boo
     if lengths.len() <= word {
         return false;
     }
-    if chars[at] != value {
+    if chars[at] as usize != value {
         return false;
     }
     lengths[word] == 1
@@ -167,7 +177,7 @@ fn is_reached(chars: &[u16], lengths: &[u16], cursor: Cursor, value: u16) -> boo
 fn lone_lines(
     chars: &[u16],
     lengths: &[u16],
-    index: &[u16],
+    index: &[Number],
     from: usize,
     start: usize,
     as_gaps: bool,
@@ -177,20 +187,20 @@ fn lone_lines(
         Lines-read (read-as as_gaps) (lexicon (now chars) (now lengths)) (now index) from start 65536 ⌝ }
     ensures { λ r. ⌜ r ≡ walk-good (read-as as_gaps) (lexicon (now (chars .entry)) (now (lengths .entry))) (now (index .entry)) ⌝ }
 {
-    let n = index[0] as usize;
-    let keys = index[1] as usize;
+    let n = text_len(index);
+    let keys = key_count(index);
     let mut at = start;
     let mut least = 0;
     let mut words = Cursor { word: 0, at: 0 };
     let mut i = from;
     while i < keys {
-        let kind = index[2 + 3 * i];
-        let value = index[2 + 3 * i + 1];
-        let count = index[2 + 3 * i + 2] as usize;
+        let kind = kind_at(index, i);
+        let value = value_at(index, i);
+        let count = count_at(index, i);
         if kind != 1 {
             return false;
         }
-        if (value as usize) < least {
+        if value < least {
             return false;
         }
         words = skip_below(chars, lengths, words, value);
@@ -201,30 +211,30 @@ fn lone_lines(
             return false;
         }
         at += count;
-        least = value as usize + 1;
+        least = value + 1;
         i += 1;
     }
     at == index.len()
 }
 
 // Whether all lines are good, and their positions are all that follows the directory.
-fn lines_good(chars: &[u16], lengths: &[u16], index: &[u16], as_gaps: bool) -> bool
+fn lines_good(chars: &[u16], lengths: &[u16], index: &[Number], as_gaps: bool) -> bool
     requires { ⌜
         Is-admitted (now chars) (now lengths) × (header ≤ length (now index)) ×
         (header + 3 * keys-of (now index) ≤ length (now index)) ⌝ }
     ensures { λ r. ⌜ r ≡ walk-good (read-as as_gaps) (lexicon (now (chars .entry)) (now (lengths .entry))) (now (index .entry)) ⌝ }
 {
-    let n = index[0] as usize;
-    let keys = index[1] as usize;
-    let mut at = 2 + 3 * keys;
+    let n = text_len(index);
+    let keys = key_count(index);
+    let mut at = line_start(keys);
     let mut least = 0;
     let mut i = 0;
     while i < keys {
-        if index[2 + 3 * i] != 0 {
+        if kind_at(index, i) != 0 {
             return lone_lines(chars, lengths, index, i, at, as_gaps);
         }
-        let value = index[2 + 3 * i + 1] as usize;
-        let count = index[2 + 3 * i + 2] as usize;
+        let value = value_at(index, i);
+        let count = count_at(index, i);
         if !word_line_good(chars, lengths, index, at, n, least, value, count, as_gaps) {
             return false;
         }
@@ -236,17 +246,16 @@ fn lines_good(chars: &[u16], lengths: &[u16], index: &[u16], as_gaps: bool) -> b
 }
 
 // Whether an index is readable with an admitted dictionary, or, of a gap form, whether what it restores to is.
-fn readable(chars: &[u16], lengths: &[u16], index: &[u16], as_gaps: bool) -> bool
+fn readable(chars: &[u16], lengths: &[u16], index: &[Number], as_gaps: bool) -> bool
     requires { ⌜ Is-admitted (now chars) (now lengths) ⌝ }
     ensures { λ r. ⌜
         r ≡ readable longest-text (lexicon (now (chars .entry)) (now (lengths .entry)))
         (with-lists (read-as as_gaps) (now (index .entry))) ⌝ }
 {
-    if index.len() < 2 {
+    if index.len() < HEADER {
         return false;
     }
-    let keys = index[1] as usize;
-    if index.len() < 2 + 3 * keys {
+    if index.len() < line_start(key_count(index)) {
         return false;
     }
     lines_good(chars, lengths, index, as_gaps)
@@ -254,7 +263,7 @@ fn readable(chars: &[u16], lengths: &[u16], index: &[u16], as_gaps: bool) -> boo
 
 // The number of the first line of 1, 2, 3, 12 and 5 that dictionary and numbers meet, or 0. The numbers are an index, or a gap form, of
 // which 5 asks whether what it restores to is readable.
-pub fn refusal_as(chars: &[u16], lengths: &[u16], index: &[u16], as_gaps: bool) -> u32
+pub fn refusal_as(chars: &[u16], lengths: &[u16], index: &[Number], as_gaps: bool) -> u32
     ensures { λ r. ⌜
         r ≡ index-refusal (now (chars .entry)) (now (lengths .entry)) (with-lists (read-as as_gaps) (now (index .entry))) ⌝ }
 {
@@ -269,7 +278,7 @@ pub fn refusal_as(chars: &[u16], lengths: &[u16], index: &[u16], as_gaps: bool) 
 }
 
 // The number of the first line of 1, 2, 3, 12 and 5 that dictionary and index meet, or 0.
-pub fn refusal_of(chars: &[u16], lengths: &[u16], index: &[u16]) -> u32
+pub fn refusal_of(chars: &[u16], lengths: &[u16], index: &[Number]) -> u32
     ensures { λ r. ⌜ r ≡ index-refusal (now (chars .entry)) (now (lengths .entry)) (now (index .entry)) ⌝ }
 {
     refusal_as(chars, lengths, index, false)

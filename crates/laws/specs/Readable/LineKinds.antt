@@ -1,77 +1,81 @@
 -- A step of the walk over the directory, by the kind of the line's key. Assumes nothing.
-use mathlib.Core.Path.{_≡_, sym, ap, _∙_, subst}
-use mathlib.Core.Bool.{Bool, true, false}
+use mathlib.Core.Path.{_≡_, sym, _∙_}
+use mathlib.Core.Bool.{true, false}
 use mathlib.Core.List.{List, [], _∷_}
 use Prim.Native.Nat.{ℕ, _+_, _≤_, _<_}
 use native.Mathlib.Omega.{arith}
 use lib.ListN.{drop}
 use Rattle.spec.specs.Dictionary.{Lexicon}
 use Rattle.spec.specs.Words.{key, is-word}
-use Rattle.spec.specs.Index.{n-of, keys-of, kind-at, value-at, count-at, key-at}
+use Rattle.spec.specs.Index.{greatest-number, n-of, keys-of, kind-at, value-at, count-at, key-at}
 use Rattle.models.specs.Readability.{key-code, line-list-good, line-fits, walk-good}
 use Rattle.laws.specs.Readable.LineSteps.{Lines-read, lines-step, lines-stop}
 use Rattle.laws.specs.Readable.KeyTests.{lone-low, lone-word, lone-fits, kind-other}
 
+-- what is read of line i: n, and the line's kind, value and count
+pub record Line-read (xs : List ℕ) (i n kind value count : ℕ) : Type 0 where
+  pub below : i < keys-of xs
+  pub n-is : n ≡ n-of xs
+  pub kind-is : kind ≡ kind-at xs i
+  pub value-is : value ≡ value-at xs i
+  pub value-small : value ≤ greatest-number
+  pub count-is : count ≡ count-at xs i
+
+module _ {read : List ℕ → List ℕ} {lex : Lexicon} {xs : List ℕ} {i at least n kind value count : ℕ}
+    (h : Lines-read read lex xs i at least) (l : Line-read xs i n kind value count) where
+  same-line :
+      line-fits read lex (n-of xs) least (key-at xs i) (count-at xs i) (drop at xs)
+      ≡ line-fits read lex n least (key kind value) count (drop at xs)
+  same-line = rw (l .n-is, l .kind-is, l .value-is, l .count-is)
+
+  stop : line-fits read lex n least (key kind value) count (drop at xs) ≡ false → false ≡ walk-good read lex xs
+  stop f = lines-stop h (l .below) (same-line ∙ f)
+
+  step :
+      line-fits read lex n least (key kind value) count (drop at xs) ≡ true →
+      Lines-read read lex xs (i + 1) (at + count) (key-code (key kind value) + 1)
+  step t = rw (l .kind-is, l .value-is, l .count-is) (lines-step h (l .below) (same-line ∙ t))
+
 -- A WORD'S LINE
 
-module _ {read : List ℕ → List ℕ} {lex : Lexicon} {xs : List ℕ} {i at least : ℕ}
-    (h : Lines-read read lex xs i at least) (below : i < keys-of xs) (word : kind-at xs i ≡ 0) where
-  abbrev word-test : Bool
-  word-test = line-fits read lex (n-of xs) least (key 0 (value-at xs i)) (count-at xs i) (drop at xs)
+module _ {read : List ℕ → List ℕ} {lex : Lexicon} {xs : List ℕ} {i at least n kind value count : ℕ}
+    (h : Lines-read read lex xs i at least) (l : Line-read xs i n kind value count) (word : kind ≡ 0) where
+  pub word-stop : line-fits read lex n least (key 0 value) count (drop at xs) ≡ false → false ≡ walk-good read lex xs
+  word-stop f = stop h l (rw word f)
 
-  word-line : line-fits read lex (n-of xs) least (key-at xs i) (count-at xs i) (drop at xs) ≡ word-test
-  word-line = ap (λ (k : ℕ). line-fits read lex (n-of xs) least (key k (value-at xs i)) (count-at xs i) (drop at xs)) word
-
-  pub word-stop : word-test ≡ false → false ≡ walk-good read lex xs
-  word-stop f = lines-stop read lex xs i at least h below (word-line ∙ f)
-
-  pub word-step : word-test ≡ true → Lines-read read lex xs (i + 1) (at + count-at xs i) (value-at xs i + 1)
+  pub word-step :
+      line-fits read lex n least (key 0 value) count (drop at xs) ≡ true → Lines-read read lex xs (i + 1) (at + count) (value + 1)
   unfolding key
   word-step t =
-      let code : key-code (key-at xs i) + 1 ≡ value-at xs i + 1 = omega (arith, word) in
-      subst (Lines-read read lex xs (i + 1) (at + count-at xs i)) code (lines-step read lex xs i at least h below (word-line ∙ t))
+      let code : key-code (key kind value) + 1 ≡ value + 1 = omega arith in
+      rw code at (step h l (rw word t))
 
 -- A LONE CHARACTER'S LINE
 
-module _ {read : List ℕ → List ℕ} {lex : Lexicon} {xs : List ℕ} {i at : ℕ} (least : ℕ)
-    (h : Lines-read read lex xs i at (65536 + least)) (below : i < keys-of xs) (small : value-at xs i < 65536) where
-  pub other-stop : (kind-at xs i ≡ 1 → ⊥) → false ≡ walk-good read lex xs
-  other-stop other =
-      lines-stop read lex xs i at (65536 + least) h below
-      (kind-other read lex (n-of xs) least (value-at xs i) (count-at xs i) (drop at xs) (kind-at xs i) small other)
+module _ {read : List ℕ → List ℕ} {lex : Lexicon} {xs : List ℕ} {i at n kind value count : ℕ} (least : ℕ)
+    (h : Lines-read read lex xs i at (65536 + least)) (l : Line-read xs i n kind value count) where
+  pub other-stop : (kind ≡ 1 → ⊥) → false ≡ walk-good read lex xs
+  other-stop other = stop h l (kind-other read lex n least value count (drop at xs) kind (omega arith) other)
 
-  module _ (lone : kind-at xs i ≡ 1) where
-    lone-line :
-        line-fits read lex (n-of xs) (65536 + least) (key-at xs i) (count-at xs i) (drop at xs)
-        ≡ line-fits read lex (n-of xs) (65536 + least) (key 1 (value-at xs i)) (count-at xs i) (drop at xs)
-    lone-line =
-        ap (λ (k : ℕ). line-fits read lex (n-of xs) (65536 + least) (key k (value-at xs i)) (count-at xs i) (drop at xs)) lone
+  module _ (lone : kind ≡ 1) where
+    pub low-stop : value < least → false ≡ walk-good read lex xs
+    low-stop low = stop h l (rw lone (sym (lone-low read lex n least value count (drop at xs) low)))
 
-    pub low-stop : value-at xs i < least → false ≡ walk-good read lex xs
-    low-stop low =
-        lines-stop read lex xs i at (65536 + least) h below
-        (lone-line ∙ sym (lone-low read lex (n-of xs) least (value-at xs i) (count-at xs i) (drop at xs) low))
+    pub listed-stop : is-word lex (value ∷ []) ≡ true → false ≡ walk-good read lex xs
+    listed-stop t = stop h l (rw lone (sym (lone-word read lex n least value count (drop at xs) t)))
 
-    pub listed-stop : is-word lex (value-at xs i ∷ []) ≡ true → false ≡ walk-good read lex xs
-    listed-stop t =
-        lines-stop read lex xs i at (65536 + least) h below
-        (lone-line ∙ sym (lone-word read lex (n-of xs) least (value-at xs i) (count-at xs i) (drop at xs) t))
-
-    module _ (order : least ≤ value-at xs i) (free : is-word lex (value-at xs i ∷ []) ≡ false) where
+    module _ (order : least ≤ value) (free : is-word lex (value ∷ []) ≡ false) where
       lone-positions :
-          line-fits read lex (n-of xs) (65536 + least) (key-at xs i) (count-at xs i) (drop at xs)
-          ≡ line-list-good read (n-of xs) 1 (count-at xs i) (drop at xs)
-      lone-positions =
-          lone-line ∙ sym (lone-fits read lex (n-of xs) least (value-at xs i) (count-at xs i) (drop at xs) order small free)
+          line-fits read lex n (65536 + least) (key kind value) count (drop at xs) ≡ line-list-good read n 1 count (drop at xs)
+      lone-positions = rw lone (sym (lone-fits read lex n least value count (drop at xs) order (omega arith) free))
 
-      pub lone-stop : line-list-good read (n-of xs) 1 (count-at xs i) (drop at xs) ≡ false → false ≡ walk-good read lex xs
-      lone-stop f = lines-stop read lex xs i at (65536 + least) h below (lone-positions ∙ f)
+      pub lone-stop : line-list-good read n 1 count (drop at xs) ≡ false → false ≡ walk-good read lex xs
+      lone-stop f = stop h l (lone-positions ∙ f)
 
       pub lone-step :
-          line-list-good read (n-of xs) 1 (count-at xs i) (drop at xs) ≡ true →
-          Lines-read read lex xs (i + 1) (at + count-at xs i) (65536 + (value-at xs i + 1))
+          line-list-good read n 1 count (drop at xs) ≡ true →
+          Lines-read read lex xs (i + 1) (at + count) (65536 + (value + 1))
       unfolding key
       lone-step t =
-          let code : key-code (key-at xs i) + 1 ≡ 65536 + (value-at xs i + 1) = omega (arith, lone) in
-          subst (Lines-read read lex xs (i + 1) (at + count-at xs i)) code
-          (lines-step read lex xs i at (65536 + least) h below (lone-positions ∙ t))
+          let code : key-code (key kind value) + 1 ≡ 65536 + (value + 1) = omega arith in
+          rw code at (step h l (lone-positions ∙ t))

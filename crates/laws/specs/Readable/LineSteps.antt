@@ -26,14 +26,14 @@ pub record Lines-read (read : List ℕ → List ℕ) (lex : Lexicon) (xs : List 
   pub tested : rest-good read lex (n-of xs) (keys-of xs - i) i least xs (drop at xs) ≡ walk-good read lex xs
 
 pub lines-start :
-    (read : List ℕ → List ℕ) (lex : Lexicon) (xs : List ℕ) → header + 3 * keys-of xs ≤ length xs →
-    Lines-read read lex xs 0 (header + 3 * keys-of xs) 0
+    (read : List ℕ → List ℕ) (lex : Lexicon) (xs : List ℕ) {at : ℕ} → at ≡ header + 3 * keys-of xs →
+    header + 3 * keys-of xs ≤ length xs → Lines-read read lex xs 0 at 0
 unfolding walk-good
-lines-start read lex xs dir =
+lines-start read lex xs e dir =
     let z : keys-of xs - 0 ≡ keys-of xs = omega arith in
-    record { within = omega arith; room = dir; tested = rw z }
+    record { within = omega arith; room = omega arith; tested = rw (z, e) }
 
-module _ (read : List ℕ → List ℕ) (lex : Lexicon) (xs : List ℕ) (i at least : ℕ) (h : Lines-read read lex xs i at least) where
+module _ {read : List ℕ → List ℕ} {lex : Lexicon} {xs : List ℕ} {i at least : ℕ} (h : Lines-read read lex xs i at least) where
   pub lines-end : keys-of xs ≤ i → eqb at (length xs) ≡ walk-good read lex xs
   unfolding rest-good
   lines-end past =

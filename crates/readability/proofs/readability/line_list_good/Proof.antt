@@ -1,7 +1,6 @@
 -- `line_list_good` meets its contract: for each return one law, whose tests the path has passed. Assumes nothing.
 use mathlib.Core.Path.{_∙_}
 use Prim.Native.Nat.{_+_, _-_}
-use native.Mathlib.Omega.{arith}
 use lib.ListN.{take, drop}
 use Rattle.models.specs.Readability.{read-as}
 use Rattle.laws.specs.Readable.LineSteps.{positions-missing, positions-none, positions-there}
@@ -20,22 +19,13 @@ returns-2 c =
     let a = c .before .before .before .args in
     positions-none (read-as (a .as-gaps)) (a .index .now) (a .at) (a .n) (a .len) (a .count) (c .if2 .taken)
 
-cast-only : tie.Need-cast-only
-cast-only c =
-    let start = c .before .before .before .before .before in
-    omega (arith, c .shared-slice-known2 .given (start .args .at))
-
-add-result : tie.Need-add-result
-add-result c =
-    let start = c .before .before .before .before .before in
-    omega (arith, c .shared-slice-known2 .given (start .args .at))
-
 returns-3 : tie.Need-returns-3
 returns-3 c =
     let start = c .before .before .before .before .before in
     let a = start .args in
-    positions-only (a .as-gaps) (a .index .now) (a .at) (a .n) (a .len) (a .count) (start .pre .0) (c .before .before .before .if1 .left)
-    (c .before .if3 .taken)
+    rw (c .number-at .ensures .0)
+    (positions-only (a .as-gaps) (a .index .now) (a .at) (a .n) (a .len) (a .count) (start .pre .0) (c .before .before .before .if1 .left)
+    (c .before .if3 .taken))
 
 returns-4 : tie.Need-returns-4
 returns-4 c =
@@ -61,6 +51,6 @@ pub line-list-good-spec : {M : Type 1} → statement M
 line-list-good-spec =
     tie.close
     (tie.spec
-    (λ c. search needs) returns returns-2 (λ c. search needs) (λ c. search needs) cast-only add-result (λ c. search needs) returns-3
+    (λ c. search needs) returns returns-2 (λ c κs. search needs) (λ c. search needs) (λ c. search needs) returns-3
     (λ c. search needs) (λ c. search needs) (λ c. search needs) (λ c. search needs) (λ c. search needs) (λ c κs. search needs)
     (λ c. search needs) (λ c. search needs) (λ c. search needs) (λ c. search needs) (λ c κs. search needs) returns-4 returns-5)

@@ -1,14 +1,14 @@
 -- `lines_good` meets its contract. The invariant: the lines from i on decide, and all before are of words. The measure is how many
 -- lines are left. Assumes nothing.
 use mathlib.Core.Path.{sym, _∙_}
-use Prim.Native.Nat.{_+_, _*_, _-_, _≤_}
+use Prim.Native.Nat.{_+_, _-_, _≤_}
 use native.Mathlib.Omega.{arith}
+use borrow.Author.Needs.{needs}
 use borrow.Author.Tests.{not-true, not-false}
 use Rattle.spec.specs.Dictionary.{lexicon}
 use Rattle.models.specs.Readability.{read-as}
 use Rattle.laws.specs.Readable.LineSteps.{Lines-read, lines-start, lines-end, lines-extend}
-use Rattle.laws.specs.Readable.LineKinds.{word-stop, word-step}
-use borrow.Author.Needs.{needs}
+use Rattle.laws.specs.Readable.LineKinds.{Line-read, word-stop, word-step}
 use Rattle.readability.proofs.readability.lines_good.Statement.{statement}
 use Rattle.readability.proofs.readability.lines_good.Tie as tie
 
@@ -21,96 +21,49 @@ abbrev μ-loop : tie.MeasureT-loop
 
 loop-holds : tie.Need-loop-holds Inv-loop μ-loop
 loop-holds c =
-    let start = c .before .before .before .before .before in
-    let args = start .args in
-    let lex = lexicon (args .chars .now) (args .lengths .now) in
-    (lines-start (read-as (args .as-gaps)) lex (args .index .now) (start .pre .2), omega arith)
+    let s = c .before .before .before .before .before .before in
+    let a = s .args in
+    (lines-start (read-as (a .as-gaps)) (lexicon (a .chars .now) (a .lengths .now)) (a .index .now) (omega arith) (s .pre .2), omega arith)
 
 lone-lines-requires : tie.Need-lone-lines-requires Inv-loop μ-loop
 lone-lines-requires c κs =
-    let start = c .before .before .before .before .before .before .before .before .before in
-    let walk = c .before .before .before .loop in
-    let args = start .args in
-    let lex = lexicon (args .chars .now) (args .lengths .now) in (
-      start .pre .0,
-      start .pre .2,
-      lines-extend (read-as (args .as-gaps)) lex (args .index .now) (walk .i) (walk .at) (walk .least) (walk .inv .0)
-          (c .before .before .loop-test .taken) (omega arith) (walk .inv .1),
-    )
+    let l = c .before .before .before in
+    let s = l .before .before .before .before .before .before .before in
+    (s .pre .0, s .pre .2, lines-extend (l .loop .inv .0) (omega arith) (omega arith) (l .loop .inv .1))
 
-cast-value : tie.Need-cast-value Inv-loop μ-loop
-cast-value c = omega (arith, c .shared-slice-known7 .given (2 + 3 * c .before .before .before .before .loop .i + 1))
-
-cast-count : tie.Need-cast-count Inv-loop μ-loop
-cast-count c = omega (arith, c .shared-slice-known8 .given (2 + 3 * c .before .before .before .before .before .loop .i + 2))
+is-line :
+    (c : tie.After-count-at Inv-loop μ-loop) → let l = c .before .before .before .before .before in
+    Line-read (l .before .before .before .before .before .before .before .args .index .now) (l .loop .i)
+    (l .before .before .before .text-len .result) (c .before .before .before .kind-at .result) (c .before .value-at .result)
+    (c .count-at .result)
+is-line c = search needs
 
 word-line-good-requires : tie.Need-word-line-good-requires Inv-loop μ-loop
 word-line-good-requires c κs =
-    let start = c .before .before .before .before .before .before .before .before .before .before .before in
-    let walk = c .before .before .before .before .before .loop in
-    let known = c .shared-slice-known8 in
-    (start .pre .0, walk .inv .0 .room, omega (arith, known .given 0), omega (arith, known .given (2 + 3 * walk .i + 2)))
+    let l = c .before .before .before .before .before in
+    (l .before .before .before .before .before .before .before .pre .0, l .loop .inv .0 .room, omega arith, omega arith)
 
 returns-2 : tie.Need-returns-2 Inv-loop μ-loop
 returns-2 c =
     let word = c .before .before .before .before in
-    let test = word .before .before in
-    let start = test .before .before .before .before .before .before .before in
-    let walk = test .before .loop in
-    let args = start .args in
-    let lex = lexicon (args .chars .now) (args .lengths .now) in
-    let bad = sym (c .before .word-line-good .ensures) ∙ not-true (c .before .word-line-good .result) (c .if2 .taken) in
-    word-stop (walk .inv .0) (test .loop-test .taken)
-    (word .if1 .left) bad
+    word-stop (word .before .before .before .loop .inv .0) (is-line (c .before .before)) (word .if1 .left)
+    (sym (c .before .word-line-good .ensures) ∙ not-true (c .before .word-line-good .result) (c .if2 .taken))
 
-add-at-2 : tie.Need-add-at-2 Inv-loop μ-loop
-add-at-2 c =
+next-lines :
+    (c : tie.Else2 Inv-loop μ-loop) → let read = c .before .before in
+    let l = read .before .before .before .before .before in let a = l .before .before .before .before .before .before .before .args in
+    Lines-read (read-as (a .as-gaps)) (lexicon (a .chars .now) (a .lengths .now)) (a .index .now) (l .loop .i + 1)
+    (l .loop .at + read .count-at .result) (read .before .value-at .result + 1)
+next-lines c =
     let word = c .before .before .before .before in
-    let test = word .before .before in
-    let start = test .before .before .before .before .before .before .before in
-    let walk = test .before .loop in
-    let args = start .args in
-    let lex = lexicon (args .chars .now) (args .lengths .now) in
-    let good = sym (c .before .word-line-good .ensures) ∙ not-false (c .before .word-line-good .result) (c .if2 .left) in
-    let next =
-    word-step (walk .inv .0) (test .loop-test .taken)
-    (word .if1 .left) good in
-    omega arith
-
-add-least : tie.Need-add-least Inv-loop μ-loop
-add-least c = omega (
-  arith,
-  c .before .before .shared-slice-known8 .given (2 + 3 * c .before .before .before .before .before .before .before .loop .i + 1),
-)
-
-loop-again : tie.Need-loop-again Inv-loop μ-loop
-loop-again c =
-    let word = c .before .before .before .before in
-    let test = word .before .before in
-    let start = test .before .before .before .before .before .before .before in
-    let walk = test .before .loop in
-    let args = start .args in
-    let lex = lexicon (args .chars .now) (args .lengths .now) in
-    let good = sym (c .before .word-line-good .ensures) ∙ not-false (c .before .word-line-good .result) (c .if2 .left) in (
-      word-step (walk .inv .0) (test .loop-test .taken) (word .if1 .left) good,
-      omega (arith, c .before .before .shared-slice-known8 .given (2 + 3 * walk .i + 1)),
-    )
-
-returns-3 : tie.Need-returns-3 Inv-loop μ-loop
-returns-3 c =
-    let start = c .before .before .before .before .before .before .before in
-    let walk = c .before .loop in
-    let args = start .args in
-    let lex = lexicon (args .chars .now) (args .lengths .now) in
-    lines-end (read-as (args .as-gaps)) lex (args .index .now) (walk .i) (walk .at) (walk .least) (walk .inv .0) (c .loop-test .left)
+    word-step (word .before .before .before .loop .inv .0) (is-line (c .before .before)) (word .if1 .left)
+    (sym (c .before .word-line-good .ensures) ∙ not-false (c .before .word-line-good .result) (c .if2 .left))
 
 pub lines-good-spec : {M : Type 1} → statement M
 lines-good-spec =
     tie.close
     (tie.spec
-    Inv-loop μ-loop (λ c. omega arith) (λ c. omega (arith, c .shared-slice-known4 .given 0)) (λ c. omega arith)
-    (λ c. omega (arith, c .shared-slice-known5 .given 1)) (λ c. search needs) (λ c. omega arith) loop-holds (λ c. search needs)
-    (λ c. omega arith) (λ c. search needs) (λ c. omega arith) lone-lines-requires (λ c. c .lone-lines .ensures) (λ c. search needs)
-    (λ c. omega arith) (λ c. omega arith) (λ c. search needs) (λ c. omega arith) cast-value (λ c. search needs) (λ c. omega arith)
-    (λ c. omega arith) (λ c. search needs) (λ c. omega arith) cast-count word-line-good-requires returns-2 add-at-2 add-least
-    (λ c. omega arith) (λ c. omega arith) loop-again returns-3)
+    Inv-loop μ-loop (λ c κs. omega arith) (λ c κs. omega arith) (λ c κs. omega arith) loop-holds (λ c κs. omega arith) lone-lines-requires
+    (λ c. c .lone-lines .ensures) (λ c κs. omega arith) (λ c κs. omega arith) word-line-good-requires returns-2
+    (λ c. omega (arith, next-lines c .room)) (λ c. omega arith) (λ c. omega arith) (λ c. omega arith) (λ c. (next-lines c, omega arith))
+    (λ c. lines-end (c .before .loop .inv .0) (omega arith)))

@@ -19,22 +19,21 @@ returns c =
 
 returns-2 : tie.Need-returns-2
 returns-2 c =
-    let args = c .before .before .before .before .before .before .args in
+    let args = c .before .before .before .before .before .before .before .args in
     directory-missing (read-as (args .as-gaps)) (read-keeps (args .as-gaps)) longest-text (lexicon (args .chars .now) (args .lengths .now))
-    (args .index .now) (c .if2 .taken)
+    (args .index .now) (omega arith)
 
 returns-3 : tie.Need-returns-3
 returns-3 c =
-    let args = c .before .before .before .before .before .before .before .args in
-    let known = c .before .before .before .before .shared-slice-known3 in
+    let known = c .before .before .before .before .before in
+    let args = known .before .before .before .args in
     c .lines-good .ensures
     ∙ walk-tells (read-as (args .as-gaps)) (read-keeps (args .as-gaps)) longest-text (lexicon (args .chars .now) (args .lengths .now))
-    (args .index .now) (c .before .before .before .if1 .left) (c .before .if2 .left) (omega (arith, known .given 0))
-    (λ (j : ℕ) below. omega (arith, known .given (header + 3 * j + 1)))
+    (args .index .now) (omega arith) (omega arith) (omega (arith, known .shared-slice-known3 .given 0))
+    (λ (j : ℕ) below. omega (arith, known .shared-slice-known3 .given (header + 3 * j + 1)))
 
 pub readable-spec : {M : Type 1} → statement M
 readable-spec =
     tie.close
     (tie.spec
-    returns (λ c. search needs) (λ c. omega (arith, c .shared-slice-known4 .given 1)) (λ c. omega (arith, c .shared-slice-known4 .given 1))
-    (λ c. omega (arith, c .shared-slice-known4 .given 1)) returns-2 (λ c κs. search needs) returns-3)
+    returns (λ c κs. search needs) (λ c κs. search needs) returns-2 (λ c κs. search needs) returns-3)

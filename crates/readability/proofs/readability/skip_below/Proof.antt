@@ -15,30 +15,30 @@ abbrev μ-loop : tie.MeasureT-loop
 μ-loop chars lengths value word₀ at₀ word at = length lengths - word
 
 shared-slice-read-if1 : tie.Need-shared-slice-read-if1 Inv-loop μ-loop
-shared-slice-read-if1 c = word-some (c .before .before .before .args .chars .now) (c .before .before .before .args .lengths .now)
-    (c .before .before .loop .word) (c .before .before .loop .at) (c .before .before .before .args .value) (c .before .before .loop .inv)
-    (c .before .loop-test .taken)
+shared-slice-read-if1 c =
+    let l = c .before .before in
+    let a = l .before .args in
+    word-some (a .chars .now) (a .lengths .now) (l .loop .word) (l .loop .at) (a .value) (l .loop .inv) (c .before .loop-test .taken)
 
 returns : tie.Need-returns Inv-loop μ-loop
 returns c = record { passed = c .before .before .before .loop .inv; first = λ h. c .if1 .taken }
 
-cast-at : tie.Need-cast-at Inv-loop μ-loop
-cast-at c = omega (arith, c .shared-slice-known2 .given (c .before .before .before .before .loop .word))
-
 add-at : tie.Need-add-at Inv-loop μ-loop
-add-at c = omega (
-  arith,
-  word-room (c .before .before .before .before .before .args .chars .now)
-      (c .before .before .before .before .before .args .lengths .now) (c .before .before .before .before .loop .word)
-      (c .before .before .before .before .loop .at) (c .before .before .before .before .before .args .value)
-      (c .before .before .before .before .loop .inv) (c .before .before .before .loop-test .taken),
-)
+add-at c =
+    let l = c .before .before .before .before in
+    let a = l .before .args in
+    omega (
+      arith,
+      word-room (a .chars .now) (a .lengths .now) (l .loop .word) (l .loop .at) (a .value) (l .loop .inv)
+          (c .before .before .before .loop-test .taken),
+    )
 
 loop-again : tie.Need-loop-again Inv-loop μ-loop
-loop-again c = passed-step (c .before .before .before .before .before .args .chars .now)
-    (c .before .before .before .before .before .args .lengths .now) (c .before .before .before .before .loop .word)
-    (c .before .before .before .before .loop .at) (c .before .before .before .before .before .args .value)
-    (c .before .before .before .before .loop .inv) (c .before .before .before .loop-test .taken) (c .before .if1 .left)
+loop-again c =
+    let l = c .before .before .before .before in
+    let a = l .before .args in
+    passed-step (a .chars .now) (a .lengths .now) (l .loop .word) (l .loop .at) (a .value) (l .loop .inv)
+    (c .before .before .before .loop-test .taken) (c .before .if1 .left)
 
 returns-2 : tie.Need-returns-2 Inv-loop μ-loop
 returns-2 c = record { passed = c .before .loop .inv; first = λ h. absurd (omega arith) }
@@ -47,5 +47,7 @@ pub skip-below-spec : {M : Type 1} → statement M
 skip-below-spec =
     tie.close
     (tie.spec
-    Inv-loop μ-loop (λ c. c .pre) (λ c. search needs) shared-slice-read-if1 returns (λ c. search needs) (λ c. search needs) cast-at add-at
-    (λ c. search needs) (λ c. search needs) loop-again returns-2)
+    Inv-loop μ-loop (λ c. c .pre) (λ c. search needs) shared-slice-read-if1
+    (λ c. omega (arith, c .shared-slice-known .given (c .before .before .loop .at))) returns (λ c. search needs) (λ c. search needs)
+    (λ c. omega (arith, c .shared-slice-known2 .given (c .before .before .before .before .loop .word))) add-at (λ c. search needs)
+    (λ c. search needs) loop-again returns-2)
