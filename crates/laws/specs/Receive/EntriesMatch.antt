@@ -1,6 +1,6 @@
 -- Whether the entries of an index stand in a text, as loops decide it: the characters at one position, a string at the positions of a
 -- list, and the lines one after the other. Assumes nothing.
-use mathlib.Core.Path.{_≡_, refl, sym, ap, _∙_, subst}
+use mathlib.Core.Path.{_≡_, sym, ap, _∙_, subst}
 use mathlib.Core.Logic.{_⊎_, inl, inr, ⊎-elim}
 use mathlib.Core.List.{List, [], _∷_}
 use Prim.Native.Nat.{ℕ, zero, suc, _+_, _*_, _-_, _≤_, _<_}
@@ -13,7 +13,7 @@ use Rattle.basics.specs.Member.{In, in-getD, in-place, in-append-get}
 use Rattle.spec.specs.Dictionary.{Lexicon}
 use Rattle.spec.specs.Words.{spells}
 use Rattle.spec.specs.Numbers.{Line, line}
-use Rattle.spec.specs.Index.{header, keys-of, count-at, key-at, counts-from, lines-in}
+use Rattle.spec.specs.Index.{header, keys-of, key-at, counts-from, lines-in}
 use Rattle.models.specs.Entries.{entries-at, flat}
 use Rattle.models.specs.Window.{list-start}
 use Rattle.laws.specs.Text.Strings.{Stand}
@@ -103,12 +103,13 @@ Stand-first s ts ps n = (j : ℕ) → j < n → Stand s ts (getD ps j 0)
 abbrev pub Stand-each : (string text positions : List ℕ) → Type 0
 Stand-each s ts ps = Stand-first s ts ps (length ps)
 
-module _ (s ts ps : List ℕ) where
+module _ {s ts : List ℕ} (ps : List ℕ) where
   pub stand-first-none : Stand-first s ts ps 0
   stand-first-none j b = absurd (omega arith)
 
-  pub stand-first-next : (i : ℕ) → Stand-first s ts ps i → Stand s ts (getD ps i 0) → Stand-first s ts ps (i + 1)
-  stand-first-next i h here = below-more (λ (j : ℕ). Stand s ts (getD ps j 0)) i h here
+  pub stand-first-next :
+      (i : ℕ) → Stand-first s ts ps i → {p : ℕ} → p ≡ getD ps i 0 → Stand s ts p → Stand-first s ts ps (i + 1)
+  stand-first-next i h is here = below-more (λ (j : ℕ). Stand s ts (getD ps j 0)) i h (rw is at here)
 
   pub stand-first-end : (i : ℕ) → length ps ≤ i → Stand-first s ts ps i → Stand-each s ts ps
   stand-first-end i past h j b = h j (omega arith)
@@ -157,15 +158,15 @@ all-stand-line lex ts l ls here later e m =
     (λ (h : In e (flat lex ls)). later e h)
     (in-append-get e (entries-at lex (l .key-of) (l .positions)) (flat lex ls) m)
 
-module _ (lex : Lexicon) (xs ts : List ℕ) where
-  pub matching-start : Matching lex xs ts (header + 3 * keys-of xs) 0
+module _ {lex : Lexicon} {xs ts : List ℕ} where
+  pub matching-start : {at : ℕ} → at ≡ header + 3 * keys-of xs → Matching lex xs ts at 0
   unfolding counts-from
-  matching-start = record { within = omega arith; at-is = omega arith; left = λ h. h }
+  matching-start e = record { within = omega arith; at-is = omega arith; left = λ h. h }
 
   module _ {at i : ℕ} (h : Matching lex xs ts at i) where
     pub matching-step :
-        {kind value to : ℕ} → Is-line xs i kind value at to →
-        Stand-each (spells lex (key-at xs i)) ts (take (to - at) (drop at xs)) → Matching lex xs ts to (i + 1)
+        {kind value from to : ℕ} → Is-line xs i kind value from to →
+        Stand-each (spells lex (key-at xs i)) ts (take (to - from) (drop from xs)) → Matching lex xs ts to (i + 1)
     unfolding line
     matching-step is here =
         record {

@@ -55,24 +55,24 @@ readable-line-map {lex} good g xs can m room =
 abbrev pub Filling-lines : (xs old now : List ℕ) (at i : ℕ) → Type 0
 Filling-lines xs old now at i = Passing fill-line-map xs old now at i
 
-module _ (xs old : List ℕ) where
-  pub mapping-start : Filling-lines xs old old (header + 3 * keys-of xs) 0
-  mapping-start = passing-start fill-line-map xs old
+module _ {xs old : List ℕ} where
+  pub mapping-start : {at : ℕ} → at ≡ header + 3 * keys-of xs → Filling-lines xs old old at 0
+  mapping-start e = passing-start e
 
   module _ {now : List ℕ} {at i : ℕ} (h : Filling-lines xs old now at i) where
-    module _ {kind value to : ℕ} (is : Is-line xs i kind value at to) where
-      pub mapping-room : Can-map xs (length old) → Lie-within 1 (length now) (take (to - at) (drop at xs))
+    module _ {kind value from to : ℕ} (is : Is-line xs i kind value from to) where
+      pub mapping-room : Can-map xs (length old) → Lie-within 1 (length now) (take (to - from) (drop from xs))
       mapping-room can = rw (h .len, line-positions is) (can .each i (is .below))
 
       pub mapping-step :
-          {next : List ℕ} → next ≡ fill-positions (i + 1) (take (to - at) (drop at xs)) now → Filling-lines xs old next to (i + 1)
+          {next : List ℕ} → next ≡ fill-positions (i + 1) (take (to - from) (drop from xs)) now → Filling-lines xs old next to (i + 1)
       unfolding fill-line-map line
       mapping-step {next} e =
-          let positions : take (to - at) (drop at xs) ≡ line-of xs i .positions = line-positions is in
-          passing-step fill-line-map xs old h is next
-          (ap length e ∙ length-fill-positions (i + 1) (take (to - at) (drop at xs)) now)
+          let positions : take (to - from) (drop from xs) ≡ line-of xs i .positions = line-positions is in
+          passing-step h is next
+          (ap length e ∙ length-fill-positions (i + 1) (take (to - from) (drop from xs)) now)
           (rw (e, positions, add-one i))
 
     pub mapping-end : keys-of xs ≤ i → now ≡ fill-line-map 0 (lines-in xs) old
     unfolding fill-line-map
-    mapping-end past = passing-end fill-line-map xs old h past refl
+    mapping-end past = passing-end h past refl

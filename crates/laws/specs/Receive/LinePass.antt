@@ -2,7 +2,7 @@
 -- Assumes nothing.
 use mathlib.Core.Path.{_≡_, refl, sym, ap, _∙_}
 use mathlib.Core.List.{List, [], _∷_}
-use Prim.Native.Nat.{ℕ, _+_, _*_, _-_, _≤_, _<_}
+use Prim.Native.Nat.{ℕ, _+_, _*_, _-_, _≤_}
 use native.Mathlib.Omega.{arith}
 use lib.ListN.{length, take, drop}
 use Rattle.spec.specs.Numbers.{Line, line}
@@ -30,14 +30,14 @@ pub record Passing (make : ℕ → List Line → List ℕ → List ℕ) (xs old 
   pub left : make i (drop i (lines-in xs)) now ≡ make 0 (lines-in xs) old
   pub len : length now ≡ length old
 
-module _ (make : ℕ → List Line → List ℕ → List ℕ) (xs old : List ℕ) where
-  pub passing-start : Passing make xs old old (header + 3 * keys-of xs) 0
+module _ {make : ℕ → List Line → List ℕ → List ℕ} {xs old : List ℕ} where
+  pub passing-start : {at : ℕ} → at ≡ header + 3 * keys-of xs → Passing make xs old old at 0
   unfolding counts-from
-  passing-start = record { within = omega arith; at-is = omega arith; left = refl; len = refl }
+  passing-start e = record { within = omega arith; at-is = omega arith; left = refl; len = refl }
 
   module _ {now : List ℕ} {at i : ℕ} (h : Passing make xs old now at i) where
     pub passing-step :
-        {kind value to : ℕ} → Is-line xs i kind value at to → (next : List ℕ) → length next ≡ length now →
+        {kind value from to : ℕ} → Is-line xs i kind value from to → (next : List ℕ) → length next ≡ length now →
         make i (line-of xs i ∷ drop (i + 1) (lines-in xs)) now ≡ make (i + 1) (drop (i + 1) (lines-in xs)) next →
         Passing make xs old next to (i + 1)
     passing-step is next kept e =

@@ -65,13 +65,14 @@ module _ (s ps old : List ℕ) where
   reconstructed-start = record { within = omega arith; left = refl; len = refl }
 
   module _ {now : List ℕ} {j : ℕ} (h : Reconstructed s ps old now j) where
-    pub reconstructed-step : j < length ps → (next : List ℕ) → next ≡ sets now (getD ps j 0 - 1) s → Reconstructed s ps old next (j + 1)
+    pub reconstructed-step :
+        j < length ps → {p : ℕ} → p ≡ getD ps j 0 → {next : List ℕ} → next ≡ sets now (p - 1) s → Reconstructed s ps old next (j + 1)
     unfolding reconstruct-positions
-    reconstructed-step below next e =
+    reconstructed-step below {p} is e =
         record {
           within = omega arith;
-          left = rw (e, add-one j) (rw (drop-cons ps j 0 below) at (h .left));
-          len = ap length e ∙ length-sets now (getD ps j 0 - 1) s ∙ h .len;
+          left = rw (e, is, add-one j) (rw (drop-cons ps j 0 below) at (h .left));
+          len = ap length e ∙ length-sets now (p - 1) s ∙ h .len;
         }
 
     pub reconstructed-end : length ps ≤ j → now ≡ reconstruct-positions s ps old
@@ -80,8 +81,8 @@ module _ (s ps old : List ℕ) where
 
 -- the same with a single value
 module _ (m : ℕ) {ps old now : List ℕ} {j : ℕ} (h : Reconstructed (m ∷ []) ps old now j) where
-  pub filled-step : j < length ps → Reconstructed (m ∷ []) ps old (set now (getD ps j 0 - 1) m) (j + 1)
-  filled-step below = reconstructed-step (m ∷ []) ps old h below (set now (getD ps j 0 - 1) m) refl
+  pub filled-step : j < length ps → {p : ℕ} → p ≡ getD ps j 0 → Reconstructed (m ∷ []) ps old (set now (p - 1) m) (j + 1)
+  filled-step below is = reconstructed-step (m ∷ []) ps old h below is refl
 
   pub filled-end : length ps ≤ j → now ≡ fill-positions m ps old
   filled-end past = reconstructed-end (m ∷ []) ps old h past ∙ reconstruct-character m ps old

@@ -25,7 +25,7 @@ use Rattle.laws.specs.Match.MatchTable.{Started}
 use Rattle.laws.specs.Readable.Readable.{readable-get}
 use Rattle.laws.specs.Readable.LineWalk.{readable-fits}
 use Rattle.laws.specs.Directory.Opened.{line-of, Is-line}
-use Rattle.laws.specs.Directory.WordStarts.{Word-starts, starts-front, lengths-of-starts}
+use Rattle.laws.specs.Directory.WordStarts.{starts-front, lengths-of-starts}
 use Rattle.laws.specs.Directory.Tables.{Can-read, Reads, line-is-good, key-is, line-word, line-spells}
 use Rattle.laws.specs.Receive.PositionWalk.{length-reconstruct-positions, reconstruct-character, Lie-within}
 use Rattle.laws.specs.Receive.EntriesMatch.{Stand-each}
@@ -95,9 +95,7 @@ pub reconstruct-line :
 unfolding flat
 reconstruct-line lex l ls us = reconstruct-run lex (l .key-of) (l .positions) (flat lex ls) us
 
-module _
-    {cs ws xs : List ℕ} (reads : Reads cs ws xs) {i kind value from to : ℕ} (is : Is-line xs i kind value from to) (us : List ℕ)
-    (len : length us ≡ n-of xs) where
+module _ {cs ws xs : List ℕ} (reads : Reads cs ws xs) {i kind value from to : ℕ} (is : Is-line xs i kind value from to) where
   abbrev lex : Lexicon
   lex = lexicon-at cs ws
 
@@ -108,9 +106,9 @@ module _
   good = line-is-good (reads .can) i (is .below)
 
   -- the key of line i fits at each of its positions
-  key-room : Lie-within (length (spells lex (key-at xs i))) (length us) positions
+  key-room : {m : ℕ} → m ≡ n-of xs → Lie-within (length (spells lex (key-at xs i))) m positions
   unfolding line
-  key-room = rw (line-positions is, len) (good-lie lex (n-of xs) (line-of xs i) good)
+  key-room len = rw (line-positions is, len) (good-lie lex (n-of xs) (line-of xs i) good)
 
   pub positions-some : 1 ≤ length positions
   unfolding line
@@ -132,15 +130,17 @@ module _
       spelt : k ≡ spells lex (key-at xs i)
       spelt = e ∙ ap (λ (v : ℕ). getD (lex .words) v []) (is .value-is) ∙ line-spells reads i (is .below) kind-is
 
-      pub word-reconstructs : Lie-within (length k) (length us) positions
-      word-reconstructs = rw spelt key-room
+      pub word-reconstructs : {m : ℕ} → m ≡ n-of xs → Lie-within (length k) m positions
+      word-reconstructs len = rw spelt (key-room len)
 
       pub word-reconstructed :
-          {next : List ℕ} → next ≡ reconstruct-positions k positions us →
+          (us : List ℕ) {next : List ℕ} → next ≡ reconstruct-positions k positions us →
           next ≡ reconstruct-positions (spells lex (key-at xs i)) positions us
-      word-reconstructed h = h ∙ ap (λ (s : List ℕ). reconstruct-positions s positions us) spelt
+      word-reconstructed us h = h ∙ ap (λ (s : List ℕ). reconstruct-positions s positions us) spelt
 
-      pub word-stood : {r : Bool} → Reflects r (Stand-each k us positions) → Reflects r (Stand-each (spells lex (key-at xs i)) us positions)
+      pub word-stood :
+          {us : List ℕ} {r : Bool} → Reflects r (Stand-each k us positions) →
+          Reflects r (Stand-each (spells lex (key-at xs i)) us positions)
       word-stood h = rw spelt at h
 
   -- a lone character, which is a single value
@@ -151,15 +151,17 @@ module _
         let one : kind-at xs i ≡ 1 = omega (arith, key-is (reads .can) i (is .below) .kind-small, lone) in
         rw (is .value-is) (spells-lone lex (key-at xs i) one)
 
-    pub lone-reconstructs : Lie-within 1 (length us) positions
-    lone-reconstructs = rw spelt-lone at key-room
+    pub lone-reconstructs : {m : ℕ} → m ≡ n-of xs → Lie-within 1 m positions
+    lone-reconstructs len = rw spelt-lone at (key-room len)
 
     pub lone-reconstructed :
-        {next : List ℕ} → next ≡ fill-positions value positions us → next ≡ reconstruct-positions (spells lex (key-at xs i)) positions us
-    lone-reconstructed h = rw spelt-lone (h ∙ sym (reconstruct-character value positions us))
+        (us : List ℕ) {next : List ℕ} → next ≡ fill-positions value positions us →
+        next ≡ reconstruct-positions (spells lex (key-at xs i)) positions us
+    lone-reconstructed us h = rw spelt-lone (h ∙ sym (reconstruct-character value positions us))
 
     pub lone-stood :
-        {r : Bool} → Reflects r (Stand-each (value ∷ []) us positions) → Reflects r (Stand-each (spells lex (key-at xs i)) us positions)
+        {us : List ℕ} {r : Bool} → Reflects r (Stand-each (value ∷ []) us positions) →
+        Reflects r (Stand-each (spells lex (key-at xs i)) us positions)
     lone-stood h = rw spelt-lone h
 
 -- THE LINES
@@ -172,23 +174,23 @@ reconstruct-lines lex i ls us = reconstruct lex (flat lex ls) us
 abbrev pub Reconstructing-lines : (lex : Lexicon) (xs old now : List ℕ) (at i : ℕ) → Type 0
 Reconstructing-lines lex xs old now at i = Passing (reconstruct-lines lex) xs old now at i
 
-module _ (lex : Lexicon) (xs old : List ℕ) where
-  pub reconstructing-start : Reconstructing-lines lex xs old old (header + 3 * keys-of xs) 0
-  reconstructing-start = passing-start (reconstruct-lines lex) xs old
+module _ (lex : Lexicon) {xs old : List ℕ} where
+  pub reconstructing-start : {at : ℕ} → at ≡ header + 3 * keys-of xs → Reconstructing-lines lex xs old old at 0
+  reconstructing-start e = passing-start e
 
   module _ {now : List ℕ} {at i : ℕ} (h : Reconstructing-lines lex xs old now at i) where
     pub reconstructing-step :
-        {kind value to : ℕ} → Is-line xs i kind value at to → {next : List ℕ} →
-        next ≡ reconstruct-positions (spells lex (key-at xs i)) (take (to - at) (drop at xs)) now →
+        {kind value from to : ℕ} → Is-line xs i kind value from to → {next : List ℕ} →
+        next ≡ reconstruct-positions (spells lex (key-at xs i)) (take (to - from) (drop from xs)) now →
         Reconstructing-lines lex xs old next to (i + 1)
     unfolding line
-    reconstructing-step {to} is {next} e =
-        passing-step (reconstruct-lines lex) xs old h is next
-        (ap length e ∙ length-reconstruct-positions (spells lex (key-at xs i)) (take (to - at) (drop at xs)) now)
+    reconstructing-step {from} {to} is {next} e =
+        passing-step h is next
+        (ap length e ∙ length-reconstruct-positions (spells lex (key-at xs i)) (take (to - from) (drop from xs)) now)
         (reconstruct-line lex (line-of xs i) (drop (i + 1) (lines-in xs)) now
         ∙ ap (λ (us : List ℕ). reconstruct lex (flat lex (drop (i + 1) (lines-in xs))) us)
         (sym (e ∙ ap (λ (ps : List ℕ). reconstruct-positions (spells lex (key-at xs i)) ps now) (line-positions is))))
 
     pub reconstructing-end : keys-of xs ≤ i → now ≡ reconstruct lex (flat lex (lines-in xs)) old
     unfolding reconstruct flat
-    reconstructing-end past = passing-end (reconstruct-lines lex) xs old h past refl
+    reconstructing-end past = passing-end h past refl

@@ -84,9 +84,9 @@ reconstructed-finds lex xs n g ts s rs shown other room told =
 
 -- A text of n characters filled with the sentinel and written over is the reconstruction over the sentinel.
 pub reconstructed-sentinel :
-    (lex : Lexicon) (ls : List Line) (n g : ℕ) (old mid now : List ℕ) → mid ≡ replicate (length old) g → length old ≡ n →
+    (lex : Lexicon) (ls : List Line) (g : ℕ) {m n : ℕ} {mid now : List ℕ} → mid ≡ replicate m g → m ≡ n →
     now ≡ reconstruct lex (flat lex ls) mid → now ≡ reconstructed-over lex ls n g
-reconstructed-sentinel lex ls n g old mid now filled len e =
+reconstructed-sentinel lex ls g filled len e =
     e ∙ ap (reconstruct lex (flat lex ls)) (filled ∙ ap (λ (k : ℕ). replicate {A = ℕ} k g) len)
 
 -- The sentinel is the least number absent from the string, and there is only one.
