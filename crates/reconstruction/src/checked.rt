@@ -4,33 +4,32 @@
 ghost use mathlib.Core.Path.{_≡_};
 ghost use lib.ListN.{length};
 ghost use Rattle.basics.specs.Bools.{Reflects};
-ghost use Rattle.spec.specs.Dictionary.{lexicon};
 ghost use Rattle.spec.specs.Index.{n-of, lines-in};
+ghost use Rattle.models.specs.WordStarts.{lexicon-at};
 ghost use Rattle.models.specs.Reception.{reconstructed-over};
 ghost use Rattle.laws.specs.Text.Facts.{All-stand};
-ghost use Rattle.laws.specs.Directory.Tables.{Can-read, Word-starts};
+ghost use Rattle.laws.specs.Directory.Tables.{Reads};
 use crate::entries::reconstruct_entries;
 use crate::matches::entries_match;
 use copying::slices::fill;
+use width::Number;
 
 // Reconstructs the text from every entry of a readable index over `sentinel`. Answers whether every entry stands in it.
 pub fn reconstruct_checked(
     chars: &[u16],
-    lengths: &[u16],
     word_starts: &[u16],
-    index: &[u16],
+    index: &[Number],
     sentinel: u16,
-    text: &mut [u16],
+    text: &mut [Number],
 ) -> bool
-    requires { ⌜
-        Can-read (now chars) (now lengths) (now index) × Word-starts (now lengths) (length (now lengths)) (now «word_starts») ×
-        (length (now text) ≡ n-of (now index)) ⌝ }
+    requires { ⌜ Reads (now chars) (now «word_starts») (now index) × (length (now text) ≡ n-of (now index)) ⌝ }
     ensures { λ r. ⌜
-        (now (text .exit) ≡ reconstructed-over (lexicon (now (chars .entry)) (now (lengths .entry))) (lines-in (now (index .entry)))
-        (n-of (now (index .entry))) sentinel) ×
-        Reflects r (All-stand (lexicon (now (chars .entry)) (now (lengths .entry))) (lines-in (now (index .entry))) (now (text .exit))) ⌝ }
+        (now (text .exit) ≡ reconstructed-over (lexicon-at (now (chars .entry)) (now («word_starts» .entry)))
+        (lines-in (now (index .entry))) (n-of (now (index .entry))) sentinel) ×
+        Reflects r (All-stand (lexicon-at (now (chars .entry)) (now («word_starts» .entry))) (lines-in (now (index .entry)))
+        (now (text .exit))) ⌝ }
 {
     fill(text, sentinel);
-    reconstruct_entries(chars, lengths, word_starts, index, text);
-    entries_match(chars, lengths, word_starts, index, text)
+    reconstruct_entries(chars, word_starts, index, text);
+    entries_match(chars, word_starts, index, text)
 }

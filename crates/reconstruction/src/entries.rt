@@ -7,18 +7,25 @@ ghost use mathlib.Core.Path.{_≡_};
 ghost use Prim.Native.Nat.{_+_, _-_, _≤_};
 ghost use lib.ListN.{length, take, drop};
 ghost use lib.Seq.{sets};
-ghost use Rattle.spec.specs.Dictionary.{lexicon};
 ghost use Rattle.spec.specs.Words.{spells};
 ghost use Rattle.spec.specs.Index.{n-of, key-at, lines-in};
 ghost use Rattle.models.specs.Entries.{flat};
+ghost use Rattle.models.specs.WordStarts.{lexicon-at};
 ghost use Rattle.models.specs.Reception.{reconstruct, reconstruct-positions};
-ghost use Rattle.laws.specs.Directory.Tables.{Can-read, Word-starts};
+ghost use Rattle.laws.specs.Directory.Opened.{Is-line};
+ghost use Rattle.laws.specs.Directory.Tables.{Reads};
 ghost use Rattle.laws.specs.Receive.PositionWalk.{Lie-within};
-ghost use Rattle.laws.specs.Receive.LinePass.{Line-lies};
 use crate::line_map::fill_at;
+use directory::words::word_of;
+use layout::fields::key_count;
+use layout::fields::line_start;
+use layout::lines::Line;
+use layout::lines::next_line;
+use width::Number;
+use width::number_at;
 
 // Writes a string's characters into the text, from the index `at` on.
-fn reconstruct_string(string: &[u16], at: usize, text: &mut [u16])
+fn reconstruct_string(string: &[u16], at: usize, text: &mut [Number])
     requires { ⌜ at + length (now string) ≤ length (now text) ⌝ }
     ensures { λ r. ⌜ now (text .exit) ≡ sets (now (text .entry)) at (now (string .entry)) ⌝ }
 {
@@ -30,68 +37,63 @@ fn reconstruct_string(string: &[u16], at: usize, text: &mut [u16])
 }
 
 // Writes a string at each of these positions.
-fn reconstruct_positions(string: &[u16], positions: &[u16], text: &mut [u16])
+fn reconstruct_positions(string: &[u16], positions: &[Number], text: &mut [Number])
     requires { ⌜ Lie-within (length (now string)) (length (now text)) (now positions) ⌝ }
     ensures { λ r. ⌜ now (text .exit) ≡ reconstruct-positions (now (string .entry)) (now (positions .entry)) (now (text .entry)) ⌝ }
 {
     let mut i = 0;
     while i < positions.len() {
-        reconstruct_string(string, positions[i] as usize - 1, text);
+        reconstruct_string(string, number_at(positions, i) - 1, text);
         i += 1;
     }
 }
 
-// Writes what the key of a line spells at each of the line's positions, which lie from `begin` to `end` in the index.
+// Writes what the key of line `number` spells at each of the line's positions. Only the contract reads `number`.
 fn reconstruct_line(
     chars: &[u16],
-    lengths: &[u16],
     word_starts: &[u16],
-    index: &[u16],
-    line: usize,
-    begin: usize,
-    end: usize,
-    text: &mut [u16],
+    index: &[Number],
+    number: usize,
+    line: Line,
+    text: &mut [Number],
 )
     requires { ⌜
-        Can-read (now chars) (now lengths) (now index) × Word-starts (now lengths) (length (now lengths)) (now «word_starts») ×
-        Line-lies (now index) line begin end × (length (now text) ≡ n-of (now index)) ⌝ }
+        Reads (now chars) (now «word_starts») (now index) ×
+        Is-line (now index) number (line .kind) (line .value) (line .from) (line .to) × (length (now text) ≡ n-of (now index)) ⌝ }
     ensures { λ r. ⌜
-        now (text .exit) ≡ reconstruct-positions (spells (lexicon (now (chars .entry)) (now (lengths .entry)))
-        (key-at (now (index .entry)) line)) (take (end - begin) (drop begin (now (index .entry)))) (now (text .entry)) ⌝ }
+        now (text .exit) ≡ reconstruct-positions (spells (lexicon-at (now (chars .entry)) (now («word_starts» .entry)))
+        (key-at (now (index .entry)) number)) (take (line .to - line .from) (drop (line .from) (now (index .entry))))
+        (now (text .entry)) ⌝ }
 {
-    let value = index[2 + 3 * line + 1];
-    if index[2 + 3 * line] != 0 {
-        fill_at(value, &index[begin..end], text);
+    let from = line.from;
+    let to = line.to;
+    let positions = &index[from..to];
+    if line.kind != 0 {
+        fill_at(line.value, positions, text);
         return;
     }
-    let word = value as usize;
-    let start = word_starts[word] as usize;
-    let stop = start + lengths[word] as usize;
-    reconstruct_positions(&chars[start..stop], &index[begin..end], text);
+    reconstruct_positions(word_of(chars, word_starts, line.value), positions, text);
 }
 
 // Writes every entry of a readable index into the text.
 pub fn reconstruct_entries(
     chars: &[u16],
-    lengths: &[u16],
     word_starts: &[u16],
-    index: &[u16],
-    text: &mut [u16],
+    index: &[Number],
+    text: &mut [Number],
 )
-    requires { ⌜
-        Can-read (now chars) (now lengths) (now index) × Word-starts (now lengths) (length (now lengths)) (now «word_starts») ×
-        (length (now text) ≡ n-of (now index)) ⌝ }
+    requires { ⌜ Reads (now chars) (now «word_starts») (now index) × (length (now text) ≡ n-of (now index)) ⌝ }
     ensures { λ r. ⌜
-        now (text .exit) ≡ reconstruct (lexicon (now (chars .entry)) (now (lengths .entry)))
-        (flat (lexicon (now (chars .entry)) (now (lengths .entry))) (lines-in (now (index .entry)))) (now (text .entry)) ⌝ }
+        now (text .exit) ≡ reconstruct (lexicon-at (now (chars .entry)) (now («word_starts» .entry)))
+        (flat (lexicon-at (now (chars .entry)) (now («word_starts» .entry))) (lines-in (now (index .entry)))) (now (text .entry)) ⌝ }
 {
-    let keys = index[1] as usize;
-    let mut begin = 2 + 3 * keys;
-    let mut line = 0;
-    while line < keys {
-        let end = begin + index[2 + 3 * line + 2] as usize;
-        reconstruct_line(chars, lengths, word_starts, index, line, begin, end, text);
-        begin = end;
-        line += 1;
+    let keys = key_count(index);
+    let mut at = line_start(keys);
+    let mut number = 0;
+    while number < keys {
+        let line = next_line(index, number, at);
+        at = line.to;
+        reconstruct_line(chars, word_starts, index, number, line, text);
+        number += 1;
     }
 }

@@ -1,20 +1,19 @@
 -- `reconstruct_checked` meets its contract: the text is reconstructed over the sentinel, then every entry is
 -- checked in it. Assumes nothing.
-use Rattle.spec.specs.Dictionary.{lexicon}
-use Rattle.spec.specs.Index.{n-of, lines-in}
-use Rattle.laws.specs.TextScan.ReconstructedSearch.{reconstructed-sentinel}
 use borrow.Author.Needs.{needs}
+use Rattle.spec.specs.Index.{lines-in}
+use Rattle.models.specs.WordStarts.{lexicon-at}
+use Rattle.laws.specs.TextScan.ReconstructedSearch.{reconstructed-sentinel}
 use Rattle.reconstruction.proofs.checked.reconstruct_checked.Statement.{statement}
 use Rattle.reconstruction.proofs.checked.reconstruct_checked.Tie as tie
 
 returns : tie.Need-returns
 returns c =
-    let s = c .before .before .before .before .before .before .before .before .before .before .before .before .before .before .before in
-    let a = s .args in
-    let filled = c .before .before .before .before .before .before .before .before .fill in
-    let reconstructed = c .before .before .before .before .reconstruct-entries in (
-      reconstructed-sentinel (lexicon (a .chars .now) (a .lengths .now)) (lines-in (a .index .now)) (n-of (a .index .now)) (a .sentinel)
-          (a .text .now) (filled .last .0) (reconstructed .last .1 .1 .1 .1 .0) (filled .ensures) (s .pre .2) (reconstructed .ensures),
+    let s = c .before .before .before .before .before .before .before .before .before .before .before .before .before .before in
+    let a = s .args in (
+      reconstructed-sentinel (lexicon-at (a .chars .now) (a .word-starts .now)) (lines-in (a .index .now)) (a .sentinel)
+          (c .before .before .before .before .before .before .before .before .fill .ensures) (s .pre .1)
+          (c .before .before .before .before .reconstruct-entries .ensures),
       c .entries-match .ensures,
     )
 

@@ -16,40 +16,33 @@ abbrev μ-loop : tie.MeasureT-loop
 μ-loop value positions slots₀ i₀ slots i = length positions - i
 
 loop-holds : tie.Need-loop-holds Inv-loop μ-loop
-loop-holds c = reconstructed-start (c .args .value ∷ []) (c .args .positions .now) (c .args .slots .now)
-
-cast-slots : tie.Need-cast-slots Inv-loop μ-loop
-cast-slots c = omega (arith, c .shared-slice-known .given (c .before .before .loop .i))
+loop-holds c =
+    let a = c .before .before .args in
+    reconstructed-start (a .value ∷ []) (a .positions .now) (a .slots .now)
 
 sub-slots : tie.Need-sub-slots Inv-loop μ-loop
 sub-slots c =
-    let l = c .before .before .loop in
-    omega (arith, c .before .before .before .pre .from (l .i) (c .before .loop-test .taken))
-
-mul-slots-2 : tie.Need-mul-slots-2 Inv-loop μ-loop
-mul-slots-2 c = omega (arith, c .shared-slice-known .given (c .before .before .loop .i))
+    omega (arith, c .before .before .before .before .before .pre .0 .from (c .before .before .loop .i) (c .before .loop-test .taken))
 
 slice-write-slots : tie.Need-slice-write-slots Inv-loop μ-loop
 slice-write-slots c =
-    let s = c .before .before .before in
-    let l = c .before .before .loop in
-    omega (arith, s .pre .from (l .i) (c .before .loop-test .taken), s .pre .to (l .i) (c .before .loop-test .taken))
+    let s = c .before .before .before .before .before in
+    let i = c .before .before .loop .i in
+    let below = c .before .loop-test .taken in
+    omega (arith, s .pre .0 .from i below, s .pre .0 .to i below)
 
 loop-again : tie.Need-loop-again Inv-loop μ-loop
 loop-again c =
-    let a = c .before .before .before .args in
-    let l = c .before .before .loop in
-    filled-step (a .value) (l .inv) (c .before .loop-test .taken)
+    filled-step (c .before .before .before .before .before .args .value) (c .before .before .loop .inv) (c .before .loop-test .taken)
+    (c .number-at .ensures .0)
 
 returns : tie.Need-returns Inv-loop μ-loop
 returns c =
-    let a = c .before .before .args in
-    let l = c .before .loop in
-    filled-end (a .value) (l .inv) (c .loop-test .left)
+    filled-end (c .before .before .before .before .args .value) (c .before .loop .inv) (c .loop-test .left)
 
 pub fill-at-spec : {M : Type 1} → statement M
 fill-at-spec =
     tie.close
     (tie.spec
-    Inv-loop μ-loop loop-holds (λ c. search needs) (λ c. search needs) cast-slots sub-slots mul-slots-2 slice-write-slots
+    Inv-loop μ-loop loop-holds (λ c. search needs) (λ c κs. search needs) sub-slots (λ c. search needs) slice-write-slots
     (λ c. search needs) (λ c. search needs) loop-again (λ c. c .before .loop .inv .len) returns)

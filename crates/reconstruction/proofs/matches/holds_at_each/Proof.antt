@@ -1,10 +1,11 @@
 -- `holds_at_each` meets its contract. The invariant: the text has the character at the first i positions. The measure is how
 -- many are left. Assumes nothing.
+use mathlib.Core.Path.{sym, _∙_}
+use mathlib.Core.List.{[], _∷_}
 use Prim.Native.Nat.{_-_}
 use native.Mathlib.Omega.{arith}
 use borrow.Author.Needs.{needs}
-use lib.ListN.{length, getD}
-use mathlib.Core.List.{[], _∷_}
+use lib.ListN.{length}
 use Rattle.basics.specs.Bools.{reflects-yes, reflects-no}
 use Rattle.laws.specs.Receive.EntriesMatch.{Stand-first, stand-first-none, stand-first-next, stand-first-end, stand-character}
 use Rattle.laws.specs.Receive.EntriesMatch.{character-stands}
@@ -18,52 +19,49 @@ abbrev μ-loop : tie.MeasureT-loop
 μ-loop character positions text i₀ i = length positions - i
 
 loop-holds : tie.Need-loop-holds Inv-loop μ-loop
-loop-holds c = stand-first-none (c .args .character ∷ []) (c .args .text .now) (c .args .positions .now)
+loop-holds c = stand-first-none (c .before .before .args .positions .now)
 
-cast-if1 : tie.Need-cast-if1 Inv-loop μ-loop
-cast-if1 c = omega (arith, c .shared-slice-known .given (c .before .before .loop .i))
+sub-number-at : tie.Need-sub-number-at Inv-loop μ-loop
+sub-number-at c =
+    omega (arith, c .before .before .before .before .before .pre .from (c .before .before .loop .i) (c .before .loop-test .taken))
 
-sub-if1 : tie.Need-sub-if1 Inv-loop μ-loop
-sub-if1 c = c .before .before .before .pre .from (c .before .before .loop .i) (c .before .loop-test .taken)
-
-mul-if1-2 : tie.Need-mul-if1-2 Inv-loop μ-loop
-mul-if1-2 c = omega (arith, c .shared-slice-known .given (c .before .before .loop .i))
-
-shared-slice-read-if1-2 : tie.Need-shared-slice-read-if1-2 Inv-loop μ-loop
-shared-slice-read-if1-2 c =
-    let s = c .before .before .before .before in
-    let l = c .before .before .before .loop in
-    let below = c .before .before .loop-test .taken in
-    omega (arith, s .pre .from (l .i) below, s .pre .to (l .i) below)
+number-at-requires-2 : tie.Need-number-at-requires-2 Inv-loop μ-loop
+number-at-requires-2 c κs =
+    let s = c .before .before .before .before .before in
+    let i = c .before .before .loop .i in
+    let below = c .before .loop-test .taken in
+    omega (arith, s .pre .from i below, s .pre .to i below)
 
 returns : tie.Need-returns Inv-loop μ-loop
 returns c =
-    let a = c .before .before .before .before .before .args in
-    let l = c .before .before .before .before .loop in
+    let a = c .before .before .before .before .before .before .before .args in
+    let position = c .before .before .number-at in
     reflects-no
     (λ each.
     c .if1 .taken
-    (character-stands (a .character) (a .text .now) (getD (a .positions .now) (l .i) 0)
-    (each (l .i) (c .before .before .before .loop-test .taken))))
+    (c .before .number-at2 .ensures .0
+    ∙ character-stands (a .character) (a .text .now) (position .result)
+    (rw (position .ensures .0) (each (c .before .before .before .before .loop .i) (c .before .before .before .loop-test .taken)))))
 
 loop-again : tie.Need-loop-again Inv-loop μ-loop
 loop-again c =
-    let s = c .before .before .before .before .before in
+    let s = c .before .before .before .before .before .before .before in
+    let a = s .args in
     let l = c .before .before .before .before .loop in
     let below = c .before .before .before .loop-test .taken in
-    stand-first-next (s .args .character ∷ []) (s .args .text .now) (s .args .positions .now) (l .i) (l .inv)
-    (stand-character (s .args .character) (s .args .text .now) (getD (s .args .positions .now) (l .i) 0) (s .pre .from (l .i) below)
-    (omega (arith, s .pre .to (l .i) below)) (c .if1 .left))
+    let position = c .before .before .number-at in
+    stand-first-next (a .positions .now) (l .i) (l .inv) (position .ensures .0)
+    (stand-character (a .character) (a .text .now) (position .result) (omega (arith, s .pre .from (l .i) below))
+    (omega (arith, s .pre .to (l .i) below)) (sym (c .before .number-at2 .ensures .0) ∙ c .if1 .left))
 
 returns-2 : tie.Need-returns-2 Inv-loop μ-loop
 returns-2 c =
-    let a = c .before .before .args in
-    reflects-yes (stand-first-end (a .character ∷ []) (a .text .now) (a .positions .now) (c .before .loop .i) (c .loop-test .left)
-    (c .before .loop .inv))
+    let l = c .before .loop in
+    reflects-yes (stand-first-end (c .before .before .before .before .args .positions .now) (l .i) (c .loop-test .left) (l .inv))
 
 pub holds-at-each-spec : {M : Type 1} → statement M
 holds-at-each-spec =
     tie.close
     (tie.spec
-    Inv-loop μ-loop loop-holds (λ c. search needs) (λ c. search needs) cast-if1 sub-if1 mul-if1-2 shared-slice-read-if1-2 returns
-    (λ c. search needs) (λ c. search needs) loop-again returns-2)
+    Inv-loop μ-loop loop-holds (λ c κs. search needs) sub-number-at number-at-requires-2 returns (λ c. search needs) (λ c. search needs)
+    loop-again returns-2)

@@ -4,7 +4,6 @@ use Rattle.laws.specs.Receive.EntriesMatch.{period-put}
 use borrow.Author.Needs.{needs}
 use Rattle.reconstruction.proofs.matches.period_of.Statement.{statement}
 use Rattle.reconstruction.proofs.matches.period_of.Tie as tie
-use Rattle.reconstruction.proofs.matches.equal_from.Reads as equal-from-reads
 
 returns-3 : tie.Need-returns-3
 returns-3 c =

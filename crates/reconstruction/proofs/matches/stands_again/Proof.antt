@@ -10,7 +10,6 @@ use Rattle.laws.specs.Receive.EntriesMatch.{stand-all, stand-part, stand-again}
 use borrow.Author.Needs.{needs}
 use Rattle.reconstruction.proofs.matches.stands_again.Statement.{statement}
 use Rattle.reconstruction.proofs.matches.stands_again.Tie as tie
-use Rattle.reconstruction.proofs.matches.equal_from.Reads as equal-from-reads
 
 returns : tie.Need-returns
 returns c =
