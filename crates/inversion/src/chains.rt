@@ -14,6 +14,8 @@ ghost use Rattle.laws.specs.Build.Pages.{Paged};
 ghost use Rattle.laws.specs.Build.PostingChains.{Linkable, Fresh, Links};
 ghost use Rattle.laws.specs.Build.CodeWalk.{Next};
 use folding::forms::replace;
+use width::Number;
+use width::number_at;
 
 // How many keys and entries there are.
 pub struct Counts {
@@ -22,7 +24,7 @@ pub struct Counts {
 }
 
 // The code of a token, where `character` is the text's as lent.
-fn code_of(token: u16, character: u16) -> usize
+fn code_of(token: usize, character: u16) -> usize
     requires { ⌜ (1 ≤ token) × (token ≤ 4097) ⌝ }
     ensures is { λ r. ⌜ coded token (replaced-char character) ≡ suc r ⌝ }
     ensures small { λ r. ⌜ r < 69632 ⌝ }
@@ -30,15 +32,15 @@ fn code_of(token: u16, character: u16) -> usize
     if token == 4097 {
         4096 + replace(character) as usize
     } else {
-        token as usize - 1
+        token - 1
     }
 }
 
 // Turns the tokens of the replaced text into links, fills the heads, which are clear on entry, and the pages, and counts keys and entries.
 pub fn chain_positions(
     text: &[u16],
-    tokens: &mut [u16],
-    heads: &mut [u16],
+    tokens: &mut [Number],
+    heads: &mut [Number],
     pages: &mut [u8],
 ) -> Counts
     requires { ⌜ Linkable (replaced (now text)) (now tokens) ⌝ }
@@ -52,12 +54,12 @@ pub fn chain_positions(
     let mut p = tokens.len();
     while 0 < p {
         p -= 1;
-        let token = tokens[p];
+        let token = number_at(tokens, p);
         if token != 0 {
             let code = code_of(token, text[p]);
             let head = heads[code];
             tokens[p] = head;
-            heads[code] = (p + 1) as u16;
+            heads[code] = (p + 1) as Number;
             pages[code / 64] = 1;
             entries += 1;
             if head == 0 {
@@ -69,7 +71,7 @@ pub fn chain_positions(
 }
 
 // The first code from `from` on that has a chain, or the number of codes.
-pub(crate) fn next_code(heads: &[u16], pages: &[u8], from: usize) -> usize
+pub(crate) fn next_code(heads: &[Number], pages: &[u8], from: usize) -> usize
     requires { ⌜ Paged (now heads) (now pages) ⌝ }
     requires { ⌜ from ≤ length (now heads) ⌝ }
     ensures { λ r. ⌜ Next (now (heads .entry)) from r ⌝ }
@@ -91,7 +93,7 @@ pub(crate) fn next_code(heads: &[u16], pages: &[u8], from: usize) -> usize
 }
 
 // How many positions a chain has.
-pub(crate) fn chain_length(links: &[u16], head: u16) -> usize
+pub(crate) fn chain_length(links: &[Number], head: Number) -> usize
     requires { ⌜ Threaded (now links) head ⌝ }
     ensures { λ r. ⌜ r ≡ length (chain (now (links .entry)) head) ⌝ }
 {
@@ -99,7 +101,7 @@ pub(crate) fn chain_length(links: &[u16], head: u16) -> usize
     let mut at = head as usize;
     while at != 0 {
         count += 1;
-        at = links[at - 1] as usize;
+        at = number_at(links, at - 1);
     }
     count
 }

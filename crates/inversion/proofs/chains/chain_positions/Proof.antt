@@ -1,10 +1,11 @@
 -- `chain_positions` meets its contract. The invariant: the positions above p are in the chains of their codes, and are counted. The
 -- measure is p. Assumes nothing.
 use mathlib.Core.Path.{_≡_, sym, _∙_}
-use Prim.Native.Nat.{_-_, _<_}
+use Prim.Native.Nat.{suc, _-_, _<_}
 use native.Mathlib.Omega.{arith}
 use lib.ListN.{length, getD}
 use Rattle.spec.specs.Replaced.{replaced}
+use Rattle.models.specs.Inversion.{coded}
 use Rattle.laws.specs.Text.WidthFolding.{length-replaced, getD-replaced}
 use Rattle.laws.specs.Build.KeyCode.{coded-none}
 use Rattle.laws.specs.Build.PostingChains.{Links, links-start, links-below, links-token, links-passed, links-new, links-more}
@@ -19,77 +20,60 @@ abbrev μ-loop : tie.MeasureT-loop
 μ-loop text tokens₀ heads₀ pages₀ keys₀ entries₀ p₀ tokens heads pages keys entries p = p
 
 below : (c : tie.In-loop Inv-loop μ-loop) → c .before .loop .p - 1 < length (c .before .loop .tokens)
-below c =
-    let l = c .before .loop in
-    links-below
-    (l .p - 1) (omega arith) (l .inv)
+below c = links-below (c .before .loop .p - 1) (omega arith) (c .before .loop .inv)
 
 text-below :
-    (c : tie.After-shared-slice-known2 Inv-loop μ-loop) →
+    (c : tie.Then1 Inv-loop μ-loop) →
     c .before .before .before .before .loop .p - 1 < length
     (c .before .before .before .before .before .before .before .before .before .args .text .now)
 text-below c =
-    omega (
-      arith,
-      below (c .before .before .before),
-      length-replaced (c .before .before .before .before .before .before .before .before .before .args .text .now),
-    )
+    let s = c .before .before .before .before .before .before .before .before .before in
+    omega (arith, below (c .before .before .before), length-replaced (s .args .text .now))
+
+-- the code is that of the token, as the laws have it
+code-is :
+    (c : tie.After-code-of Inv-loop μ-loop) →
+    coded (getD (c .before .before .before .before .before .before .loop .tokens)
+    (c .before .before .before .before .before .before .loop .p - 1) 0)
+    (getD (replaced (c .before .before .before .before .before .before .before .before .before .before .before .args .text .now))
+    (c .before .before .before .before .before .before .loop .p - 1) 0) ≡ suc (c .code-of .result)
+code-is c =
+    let s = c .before .before .before .before .before .before .before .before .before .before .before in
+    let p = c .before .before .before .before .before .before .loop .p - 1 in
+    rw (← c .before .before .before .number-at .ensures .0, getD-replaced (s .args .text .now) p) (c .code-of .ensures .0)
 
 loop-holds : tie.Need-loop-holds Inv-loop μ-loop
 loop-holds c =
-    let start = c .before .before .before .before in
-    links-start (replaced (start .args .text .now)) (start .args .tokens .now)
-    (start .pre .1)
+    let s = c .before .before .before .before in
+    links-start (replaced (s .args .text .now)) (s .args .tokens .now) (s .pre .1)
 
 code-of-requires : tie.Need-code-of-requires Inv-loop μ-loop
 code-of-requires c κs =
-    let start = c .before .before .before .before .before .before .before .before .before in
-    let l = c .before .before .before .before .loop in
-    let same : getD (l .tokens) (l .p - 1) 0 ≡ getD (start .args .tokens .now) (l .p - 1) 0 =
-    links-token
-    (l .p - 1) (omega arith) (l .inv) in
-    (omega arith, omega (arith, start .pre .0 .small (l .p - 1) (omega (arith, below (c .before .before .before)))))
-
-mul-tokens : tie.Need-mul-tokens Inv-loop μ-loop
-mul-tokens c = omega (arith, below (c .before .before .before .before .before))
-
-add-heads : tie.Need-add-heads Inv-loop μ-loop
-add-heads c = omega (arith, below (c .before .before .before .before .before))
-
-cast-heads : tie.Need-cast-heads Inv-loop μ-loop
-cast-heads c = omega (arith, below (c .before .before .before .before .before))
+    let s = c .before .before .before .before .before .before .before .before .before .before in
+    let l = c .before .before .before .before .before .loop in
+    let same : getD (l .tokens) (l .p - 1) 0 ≡ getD (s .args .tokens .now) (l .p - 1) 0 =
+    links-token (l .p - 1) (omega arith) (l .inv) in
+    (omega arith, omega (arith, s .pre .0 .small (l .p - 1) (omega (arith, below (c .before .before .before .before)))))
 
 loop-again : tie.Need-loop-again Inv-loop μ-loop
 loop-again c =
-    let start = c .before .before .before .before .before .before .before .before .before .before .before .before in
-    let l = c .before .before .before .before .before .before .before .loop in
-    links-new
-    (l .p - 1)
-    (omega arith) (l .inv) (c .before .before .code-of .result)
-    (rw (← getD-replaced (start .args .text .now) (l .p - 1)) at (c .before .before .code-of .ensures .0))
-    (c .before .before .code-of .ensures .1) (c .if2 .taken)
+    let l = c .before .before .before .before .before .before .before .before .loop in
+    let code = c .before .before .code-of in
+    links-new (l .p - 1) (omega arith) (l .inv) (code .result) (code-is (c .before .before)) (code .ensures .1) (c .if2 .taken)
 
 loop-again-2 : tie.Need-loop-again-2 Inv-loop μ-loop
 loop-again-2 c =
-    let start = c .before .before .before .before .before .before .before .before .before .before .before .before in
-    let l = c .before .before .before .before .before .before .before .loop in
-    links-more
-    (l .p - 1)
-    (omega arith) (l .inv) (c .before .before .code-of .result)
-    (rw (← getD-replaced (start .args .text .now) (l .p - 1)) at (c .before .before .code-of .ensures .0))
-    (c .before .before .code-of .ensures .1) (c .if2 .left)
+    let l = c .before .before .before .before .before .before .before .before .loop in
+    let code = c .before .before .code-of in
+    links-more (l .p - 1) (omega arith) (l .inv) (code .result) (code-is (c .before .before)) (code .ensures .1) (c .if2 .left)
 
 loop-again-3 : tie.Need-loop-again-3 Inv-loop μ-loop
 loop-again-3 c =
-    let start = c .before .before .before .before .before .before .before .before in
-    let l = c .before .before .before .loop in
-    links-passed
-    (l .p - 1)
-    (omega arith) (l .inv)
-    (coded-none (getD (l .tokens) (l .p - 1) 0) (getD (replaced (start .args .text .now)) (l .p - 1) 0) (c .if1 .left))
-
-same-length-2 : tie.Need-same-length-2 Inv-loop μ-loop
-same-length-2 c = c .before .loop .inv .codes ∙ sym (c .before .before .before .before .before .before .pre .1 .codes)
+    let s = c .before .before .before .before .before .before .before .before .before in
+    let l = c .before .before .before .before .loop in
+    links-passed (l .p - 1) (omega arith) (l .inv)
+    (coded-none (getD (l .tokens) (l .p - 1) 0) (getD (replaced (s .args .text .now)) (l .p - 1) 0)
+    (rw (← c .before .number-at .ensures .0) (c .if1 .left)))
 
 returns : tie.Need-returns Inv-loop μ-loop
 returns c =
@@ -100,8 +84,12 @@ pub chain-positions-spec : {M : Type 1} → statement M
 chain-positions-spec =
     tie.close
     (tie.spec
-    Inv-loop μ-loop loop-holds (λ c. omega arith) (λ c. omega (arith, below c)) (λ c. below (c .before))
-    (λ c. omega (arith, below (c .before .before))) (λ c. text-below c) code-of-requires (λ c. omega arith) (λ c. omega arith) mul-tokens
-    (λ c. below (c .before .before .before .before .before)) add-heads cast-heads (λ c. omega arith) (λ c. omega arith) (λ c. omega arith)
-    (λ c. omega arith) (λ c. omega arith) (λ c. omega arith) loop-again (λ c. omega arith) loop-again-2 (λ c. omega arith) loop-again-3
-    (λ c. c .before .loop .inv .linked .len) same-length-2 (λ c. omega arith) returns)
+    Inv-loop μ-loop loop-holds (λ c. omega arith) (λ c κs. below (c .before))
+    (λ c. omega (arith, below (c .before .before .before))) (λ c. text-below (c .before)) code-of-requires (λ c. omega arith)
+    (λ c. omega arith) (λ c. omega (arith, below (c .before .before .before .before .before .before)))
+    (λ c. below (c .before .before .before .before .before .before))
+    (λ c. omega (arith, below (c .before .before .before .before .before .before)))
+    (λ c. omega (arith, below (c .before .before .before .before .before .before))) (λ c. omega arith) (λ c. omega arith)
+    (λ c. omega arith) (λ c. omega arith) (λ c. omega arith) (λ c. omega arith) loop-again (λ c. omega arith) loop-again-2
+    (λ c. omega arith) loop-again-3 (λ c. c .before .loop .inv .linked .len)
+    (λ c. c .before .loop .inv .codes ∙ sym (c .before .before .before .before .before .before .pre .1 .codes)) (λ c. omega arith) returns)

@@ -7,17 +7,18 @@ use Rattle.inversion.proofs.write.put_line.Tie as tie
 
 returns : tie.Need-returns
 unfolding key
-returns c = rw (code-key-word (c .before .before .before .before .before .before .args .code)
-    (c .before .before .before .before .if1 .taken)) (c .before .before .put-three .ensures)
+returns c =
+    rw (code-key-word (c .before .before .before .before .before .before .args .code) (c .before .before .before .before .if1 .taken))
+    (c .before .before .write-line .ensures)
 
 returns-2 : tie.Need-returns-2
 unfolding key
-returns-2 c = rw (code-key-lone (c .before .before .before .before .before .before .args .code)
-    (c .before .before .before .before .if1 .left)) (c .before .before .put-three2 .ensures)
+returns-2 c =
+    rw (code-key-lone (c .before .before .before .before .before .before .args .code) (c .before .before .before .before .if1 .left))
+    (c .before .before .write-line2 .ensures)
 
 pub put-line-spec : {M : Type 1} → statement M
 put-line-spec =
     tie.close
     (tie.spec
-    (λ c. search needs) (λ c. search needs) (λ c κs. search needs) (λ c. search needs) (λ c. search needs) (λ c κs. search needs)
-    (λ c. search needs) returns (λ c. search needs) returns-2)
+    (λ c κs. search needs) (λ c κs. search needs) (λ c. search needs) returns (λ c. search needs) returns-2)

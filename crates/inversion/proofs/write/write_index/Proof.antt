@@ -1,95 +1,69 @@
 -- `write_index` meets its contract: header, directory and positions, one after the other. Assumes nothing.
-use mathlib.Core.Path.{_≡_, ap, _∙_}
-use Prim.Native.Nat.{_+_, _*_}
+use mathlib.Core.Path.{ap}
+use mathlib.Core.List.{List}
 use native.Mathlib.Omega.{arith}
-use lib.ListN.{length, length-set}
-use Rattle.basics.specs.Writing.{over, tail-back}
-use Rattle.spec.specs.Numbers.{numbers}
-use Rattle.laws.specs.Build.PostingChains.{lines-at}
-use Rattle.laws.specs.Build.IndexWriting.{room-is, directory-room, positions-start, positions-room, index-written, written-long}
 use borrow.Author.Needs.{needs}
+use lib.ListN.{length, length-drop}
+use Rattle.basics.specs.Writing.{Writing, lent-tail-is, tail-written}
+use Rattle.spec.specs.Numbers.{Line, all-positions, numbers}
+use Rattle.laws.specs.Build.PostingChains.{lines-at}
+use Rattle.laws.specs.Build.IndexWriting.{room-is, directory-room, directory-written}
 use Rattle.inversion.proofs.write.write_index.Statement.{statement}
 use Rattle.inversion.proofs.write.write_index.Tie as tie
 
-done :
-    (c : tie.After-slice-known3) →
-    tail-back (2 + 3 * c .before .before .before .before .before .before .before .before .before .before .before .before .args .keys)
-    (c .before .before .before .before .before .before .write-directory .last .1 .1 .1 .0)
-    (c .before .before .write-positions .last .1 .1 .1 .0)
-    ≡ over
-    (numbers
-    (length (c .before .before .before .before .before .before .before .before .before .before .before .before .args .links .now))
-    (lines-at (c .before .before .before .before .before .before .before .before .before .before .before .before .args .heads .now)
-    (c .before .before .before .before .before .before .before .before .before .before .before .before .args .links .now) 0))
-    (c .before .before .before .before .before .before .before .before .before .before .before .before .args .output .now)
-done c =
-    let start = c .before .before .before .before .before .before .before .before .before .before .before .before in
-    index-written (length (start .args .links .now)) (lines-at (start .args .heads .now) (start .args .links .now) 0) (start .args .keys)
-    (start .pre .1 .0 .0) (start .args .output .now) (start .pre .1 .1)
-    (c .before .before .before .before .before .before .write-directory .last .1 .1 .1 .0)
-    (c .before .before .before .before .before .before .write-directory .ensures) (c .before .before .write-positions .last .1 .1 .1 .0)
-    (c .before .before .write-positions .ensures)
+abbrev lines : tie.Start → List Line
+lines s = lines-at (s .args .heads .now) (s .args .links .now) 0
 
-slice-write-output : tie.Need-slice-write-output
-slice-write-output c =
-    let start = c .before .before .before .before in
-    omega (
-      arith,
-      room-is (length (start .args .links .now)) (lines-at (start .args .heads .now) (start .args .links .now) 0) (start .args .keys)
-          (start .pre .1 .0 .0) (start .args .output .now) (start .pre .1 .1),
+-- header and directory are written
+written :
+    (c : tie.After-line-start) →
+    Writing
+    (numbers (length (c .before .before .before .before .before .before .before .before .before .before .before .before .before .args
+    .links .now)) (lines (c .before .before .before .before .before .before .before .before .before .before .before .before .before)))
+    (c .before .before .before .before .before .before .before .before .before .before .before .before .before .args .output .now)
+    (c .before .before .before .write-directory .last .1 .1 .1 .0)
+    (all-positions (lines (c .before .before .before .before .before .before .before .before .before .before .before .before .before)))
+    (c .line-start .result)
+written c =
+    let s = c .before .before .before .before .before .before .before .before .before .before .before .before .before in
+    let a = s .args in
+    rw (c .line-start .ensures)
+    (directory-written (length (a .links .now)) (lines s) (a .keys) (s .pre .1 .0 .0) (a .output .now) (s .pre .1 .1) _
+    (rw (c .before .before .before .before .before .before .before .write-header .ensures) at
+    (c .before .before .before .write-directory .ensures)))
+
+write-header-requires : tie.Need-write-header-requires
+write-header-requires c κs =
+    let s = c .before .before .before .before .before in
+    let a = s .args in (
+      omega (arith, room-is (length (a .links .now)) (lines s) (a .keys) (s .pre .1 .0 .0) (a .output .now) (s .pre .1 .1)),
+      s .pre .0 .short,
+      s .pre .1 .0 .1,
     )
-
-slice-write-output-2 : tie.Need-slice-write-output-2
-slice-write-output-2 c =
-    let start = c .before .before .before .before in
-    simp length-set (omega (
-      arith,
-      room-is (length (start .args .links .now)) (lines-at (start .args .heads .now) (start .args .links .now) 0) (start .args .keys)
-          (start .pre .1 .0 .0) (start .args .output .now) (start .pre .1 .1),
-    ))
 
 write-directory-requires : tie.Need-write-directory-requires
 write-directory-requires c κs =
-    let start = c .before .before .before .before .before in (
-      start .pre .0,
-      directory-room (length (start .args .links .now)) (lines-at (start .args .heads .now) (start .args .links .now) 0) (start .args .keys)
-          (start .pre .1 .0 .0) (start .args .output .now) (start .pre .1 .1),
+    let s = c .before .before .before .before .before .before .before .before .before in
+    let a = s .args in (
+      s .pre .0,
+      rw (c .before .before .before .write-header .ensures)
+          (directory-room (length (a .links .now)) (lines s) (a .keys) (s .pre .1 .0 .0) (a .output .now) (s .pre .1 .1)),
     )
-
-sub-write-positions : tie.Need-sub-write-positions
-sub-write-positions c =
-    let start = c .before .before .before .before .before .before .before .before in
-    positions-start (length (start .args .links .now)) (lines-at (start .args .heads .now) (start .args .links .now) 0) (start .args .keys)
-    (start .pre .1 .0 .0) (start .args .output .now) (start .pre .1 .1) (c .before .before .write-directory .last .1 .1 .1 .0)
-    (c .before .before .write-directory .ensures)
-
-part-write-positions-start : tie.Need-part-write-positions-start
-part-write-positions-start c =
-    let start = c .before .before .before .before .before .before .before .before in
-    positions-start (length (start .args .links .now)) (lines-at (start .args .heads .now) (start .args .links .now) 0) (start .args .keys)
-    (start .pre .1 .0 .0) (start .args .output .now) (start .pre .1 .1) (c .before .before .write-directory .last .1 .1 .1 .0)
-    (c .before .before .write-directory .ensures)
 
 write-positions-requires : tie.Need-write-positions-requires
 write-positions-requires c κs =
-    let start = c .before .before .before .before .before .before .before .before .before in (
-      start .pre .0,
-      positions-room (length (start .args .links .now)) (lines-at (start .args .heads .now) (start .args .links .now) 0) (start .args .keys)
-          (start .pre .1 .0 .0) (start .args .output .now) (start .pre .1 .1)
-          (c .before .before .before .write-directory .last .1 .1 .1 .0) (c .before .before .before .write-directory .ensures),
+    let w = written (c .before) in
+    let at = c .before .line-start .result in
+    let now = c .before .before .before .before .write-directory .last .1 .1 .1 .0 in (
+      c .before .before .before .before .before .before .before .before .before .before .before .before .before .before .pre .0,
+      omega (arith, ap length (lent-tail-is at now), length-drop at now),
     )
-
-same-length : tie.Need-same-length
-same-length c =
-    let start = c .before .before .before .before .before .before .before .before .before .before .before .before in
-    ap length (done c) ∙ written-long (length (start .args .links .now)) (lines-at (start .args .heads .now) (start .args .links .now) 0)
-    (start .args .keys)
-    (start .pre .1 .0 .0) (start .args .output .now) (start .pre .1 .1)
 
 pub write-index-spec : {M : Type 1} → statement M
 write-index-spec =
     tie.close
     (tie.spec
-    (λ c. search needs) slice-write-output (λ c. search needs) slice-write-output-2 write-directory-requires (λ c. search needs)
-    (λ c. search needs) (λ c. search needs) sub-write-positions part-write-positions-start (λ c. search needs) write-positions-requires
-    same-length (λ c. done c))
+    write-header-requires write-directory-requires (λ c κs. search needs) (λ c. search needs)
+    (λ c. let w = written c in omega arith) (λ c. let w = written c in omega arith) (λ c. search needs) write-positions-requires
+    (λ c. search needs)
+    (λ c. tail-written _ (written (c .before .before .before .before)) (c .before .before .write-positions .ensures)))

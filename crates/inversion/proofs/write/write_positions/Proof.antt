@@ -25,58 +25,52 @@ room :
     (getD (c .before .before .before .before .before .before .before .args .heads .now) (c .before .loop .code) 0))
     ≤ length (c .before .loop .part)
 room c =
-    let start = c .before .before .before .before .before .before .before in
+    let s = c .before .before .before .before .before .before .before in
     let l = c .before .loop in
-    let fits = listing-room positions-by-line (start .args .heads .now) (start .args .links .now) (start .args .part .now)
-    (l .inv) (start .pre .0 .threads) (c .loop-test .taken) in
+    let heads = s .args .heads .now in
+    let links = s .args .links .now in
     omega (
       arith,
-      fits,
-      ap length (line-positions-are (l .code) (chain (start .args .links .now) (getD (start .args .heads .now) (l .code) 0))),
+      listing-room positions-by-line heads links (s .args .part .now) (l .inv) (s .pre .0 .threads) (c .loop-test .taken),
+      ap length (line-positions-are (l .code) (chain links (getD heads (l .code) 0))),
     )
-
-next-code-requires : tie.Need-next-code-requires Inv-loop μ-loop
-next-code-requires c κs = (c .before .before .before .before .pre .0 .paged, omega arith)
 
 loop-holds : tie.Need-loop-holds Inv-loop μ-loop
 loop-holds c =
-    let start = c .before .before .before .before .before in
-    listing-start positions-by-line (start .args .heads .now) (start .args .links .now) (start .args .part .now) 0
-    (omega arith) (c .next-code .ensures)
+    let a = c .before .before .before .before .before .args in
+    listing-start positions-by-line (a .heads .now) (a .links .now) (a .part .now) 0 (omega arith) (c .next-code .ensures)
 
 write-chain-requires : tie.Need-write-chain-requires Inv-loop μ-loop
-write-chain-requires c κs = (
-  c .before .before .before .before .before .before .before .before .before .pre .0 .threads (c .before .before .before .loop .code)
-      (c .before .before .loop-test .taken),
-  room (c .before .before),
-)
-
-next-code-requires-2 : tie.Need-next-code-requires-2 Inv-loop μ-loop
-next-code-requires-2 c κs =
-    (c .before .before .before .before .before .before .before .before .before .before .before .before .pre .0 .paged, omega arith)
+write-chain-requires c κs =
+    let s = c .before .before .before .before .before .before .before .before .before in
+    (s .pre .0 .threads (c .before .before .before .loop .code) (c .before .before .loop-test .taken), room (c .before .before))
 
 loop-again : tie.Need-loop-again Inv-loop μ-loop
 loop-again c =
-    let start = c .before .before .before .before .before .before .before .before .before .before .before .before .before in
+    let s = c .before .before .before .before .before .before .before .before .before .before .before .before .before in
     let l = c .before .before .before .before .before .before .before .loop in
-    rw (c .before .before .before .write-chain .ensures .0)
-    (listing-step positions-by-line (start .args .heads .now) (start .args .links .now) (start .args .part .now)
-    (l .inv)
-    (start .pre .0 .threads) (c .before .before .before .before .before .before .loop-test .taken) (c .next-code2 .ensures)
-    (chain (start .args .links .now) (getD (start .args .heads .now) (l .code) 0)) (c .before .before .before .write-chain .last .1 .1 .0)
-    (line-positions-are (l .code) (chain (start .args .links .now) (getD (start .args .heads .now) (l .code) 0)))
-    (c .before .before .before .write-chain .ensures .1))
+    let heads = s .args .heads .now in
+    let links = s .args .links .now in
+    let positions = chain links (getD heads (l .code) 0) in
+    let written = c .before .before .before .write-chain in
+    rw (written .ensures .0)
+    (listing-step positions-by-line heads links (s .args .part .now) (l .inv) (s .pre .0 .threads)
+    (c .before .before .before .before .before .before .loop-test .taken) (c .next-code2 .ensures) positions (written .last .1 .1 .0)
+    (line-positions-are (l .code) positions) (written .ensures .1))
 
 returns : tie.Need-returns Inv-loop μ-loop
 returns c =
-    let start = c .before .before .before .before .before .before .before in
-    let l = c .before .loop in
-    listing-end positions-by-line (start .args .heads .now) (start .args .links .now) (start .args .part .now)
-    (l .inv) (c .loop-test .left)
+    let a = c .before .before .before .before .before .before .before .args in
+    listing-end positions-by-line (a .heads .now) (a .links .now) (a .part .now) (c .before .loop .inv) (c .loop-test .left)
 
 pub write-positions-spec : {M : Type 1} → statement M
 write-positions-spec =
     tie.close
     (tie.spec
-    Inv-loop μ-loop next-code-requires loop-holds (λ c. omega arith) (λ c. c .before .loop-test .taken) write-chain-requires
-    (λ c. omega arith) next-code-requires-2 (λ c. omega arith) loop-again (λ c. c .before .loop .inv .writing .len) returns)
+    Inv-loop μ-loop (λ c κs. (c .before .before .before .before .pre .0 .paged, omega arith)) loop-holds (λ c. omega arith)
+    (λ c. c .before .loop-test .taken) write-chain-requires (λ c. omega arith)
+    (λ c κs. (
+      c .before .before .before .before .before .before .before .before .before .before .before .before .pre .0 .paged,
+      omega arith,
+    ))
+    (λ c. omega arith) loop-again (λ c. c .before .loop .inv .writing .len) returns)
