@@ -15,10 +15,13 @@ use crate::text::scan_replaced;
 use dictionary::admission::refusal_of;
 use inversion::chains::chain_positions;
 use inversion::write::write_index;
+use layout::fields::line_start;
 use matching::table::fill_match_table;
 use scanning::work::clear;
 use scanning::work::refuse;
 use spec::Answer;
+use width::LONGEST;
+use width::Number;
 
 // The first refusal that needs no result, or 0: the dictionary's, a text too long, a work slice too short.
 fn early_refusal(chars: &[u16], lengths: &[u16], text: &[u16], work: usize) -> u32
@@ -28,7 +31,7 @@ fn early_refusal(chars: &[u16], lengths: &[u16], text: &[u16], work: usize) -> u
     if refusal != 0 {
         return refusal;
     }
-    if 65535 < text.len() {
+    if LONGEST < text.len() {
         return 4;
     }
     if work < 8 * text.len() {
@@ -40,9 +43,9 @@ fn early_refusal(chars: &[u16], lengths: &[u16], text: &[u16], work: usize) -> u
 // Writes the index that the tokens stand for, or answers 8. The links of the posting chains overwrite the tokens.
 fn index_by(
     text: &[u16],
-    output: &mut [u16],
-    tokens: &mut [u16],
-    heads: &mut [u16],
+    output: &mut [Number],
+    tokens: &mut [Number],
+    heads: &mut [Number],
     pages: &mut [u8],
 ) -> Answer
     requires { ⌜ Linkable (replaced (now text)) (now tokens) ⌝ }
@@ -51,7 +54,7 @@ fn index_by(
 {
     let counts = chain_positions(text, tokens, heads, pages);
     let keys = counts.keys;
-    let size = 2 + 3 * keys + counts.entries;
+    let size = line_start(keys) + counts.entries;
     if output.len() < size {
         return Answer {
             refusal: 8,
@@ -66,17 +69,17 @@ fn index_by(
 }
 
 // Writes the index that the tokens stand for, or answers 8, with local heads and pages.
-fn index_tokens(text: &[u16], output: &mut [u16], tokens: &mut [u16]) -> Answer
+fn index_tokens(text: &[u16], output: &mut [Number], tokens: &mut [Number]) -> Answer
     requires { ⌜ Linkable (replaced (now text)) (now tokens) ⌝ }
     ensures { λ r. ⌜ Tokens-say (now (tokens .entry)) (replaced (now (text .entry))) r (now (output .entry)) (now (output .exit)) ⌝ }
 {
-    let mut heads = [0u16; 69632];
+    let mut heads: [Number; 69632] = [0; 69632];
     let mut pages = [0u8; 1088];
     index_by(text, output, tokens, &mut heads, &mut pages)
 }
 
 // Writes the index of the text whose tokens are the first numbers of the work slice, or answers 8.
-fn finish(text: &[u16], output: &mut [u16], work: &mut [u16]) -> Answer
+fn finish(text: &[u16], output: &mut [Number], work: &mut [Number]) -> Answer
     requires { ⌜ length (now text) ≤ length (now work) ⌝ }
     requires { ⌜ Linkable (replaced (now text)) (take (length (now text)) (now work)) ⌝ }
     ensures { λ r. ⌜
@@ -92,8 +95,8 @@ fn index_with(
     chars: &[u16],
     lengths: &[u16],
     text: &[u16],
-    output: &mut [u16],
-    work: &mut [u16],
+    output: &mut [Number],
+    work: &mut [Number],
     heads: &mut [u16],
     links: &mut [u16],
     word_starts: &mut [u16],
@@ -115,8 +118,8 @@ fn index_text(
     chars: &[u16],
     lengths: &[u16],
     text: &[u16],
-    output: &mut [u16],
-    work: &mut [u16],
+    output: &mut [Number],
+    work: &mut [Number],
 ) -> Answer
     requires { ⌜ early-refusal (now chars) (now lengths) (now text) (length (now work)) ≡ 0 ⌝ }
     ensures { λ r. ⌜
@@ -145,8 +148,8 @@ pub fn build(
     chars: &[u16],
     lengths: &[u16],
     text: &[u16],
-    output: &mut [u16],
-    work: &mut [u16],
+    output: &mut [Number],
+    work: &mut [Number],
 ) -> Answer
     ensures { λ r. ⌜
         Build-says (now (chars .entry)) (now (lengths .entry)) (now (text .entry)) r (now (output .entry)) (now (output .exit))

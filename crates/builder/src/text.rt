@@ -10,9 +10,10 @@ ghost use Rattle.laws.specs.Match.MatchTable.{Tables};
 ghost use Rattle.laws.specs.Build.Tokens.{Tokens};
 use folding::forms::replace_into;
 use scanning::scan::scan;
+use width::Number;
 
 // Writes the replaced text to the numbers after those of the tokens.
-fn replace_behind(text: &[u16], work: &mut [u16])
+fn replace_behind(text: &[u16], work: &mut [Number])
     requires { ⌜ 2 * length (now text) ≤ length (now work) ⌝ }
     ensures { λ _. ⌜
         take (length (now (text .entry))) (drop (length (now (text .entry))) (now (work .exit))) ≡ replaced (now (text .entry)) ⌝ }
@@ -30,7 +31,7 @@ pub(crate) fn scan_replaced(
     links: &[u16],
     word_starts: &[u16],
     text: &[u16],
-    work: &mut [u16],
+    work: &mut [Number],
 )
     requires { ⌜
         Tables (now chars) (now lengths) (now heads) (now links) (now «word_starts») × (2 * length (now text) ≤ length (now work)) ⌝ }

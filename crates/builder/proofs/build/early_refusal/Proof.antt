@@ -38,5 +38,4 @@ returns-4 c =
 pub early-refusal-spec : {M : Type 1} → statement M
 early-refusal-spec =
     tie.close
-    (tie.spec
-    (λ c κs. search needs) returns returns-2 (λ c. search needs) returns-3 returns-4)
+    (tie.spec (λ c κs. search needs) returns returns-2 (λ c. search needs) returns-3 returns-4)

@@ -1,46 +1,42 @@
 -- `index_by` meets its contract: the counts give the size, and the chains give the numbers that the tokens stand for. Assumes nothing.
-use Rattle.laws.specs.Build.Building.{linked-listable, linked-keys, few-keys, linked-room, token-entry-refused, token-entry-put}
+use native.Mathlib.Omega.{arith}
 use borrow.Author.Needs.{needs}
+use Rattle.laws.specs.Build.Building.{linked-listable, linked-keys, few-keys, linked-room, token-entry-refused, token-entry-put}
 use Rattle.builder.proofs.build.index_by.Statement.{statement}
 use Rattle.builder.proofs.build.index_by.Tie as tie
 
 returns : tie.Need-returns
 returns c =
-    let half = c .before .before .before .before .before .before .before .before in
-    let start = half .before .before .before .before .before .before .before .before .before in
-    let k = c .before .before .before .before .before .before .before .before .chain-positions in
-    token-entry-refused
-    (start .pre .0) (k .ensures) (start .args .output .now) (c .if1 .taken)
+    let k = c .before .before .before .before .before .before .before .before .before in
+    let s = k .before .before .before .before .before .before .before .before .before in
+    token-entry-refused (s .pre .0) (k .chain-positions .ensures) (s .args .output .now) (omega arith)
 
 write-index-requires : tie.Need-write-index-requires
 write-index-requires c κs =
-    let half = c .before .before .before .before .before .before .before .before .before .before in
-    let start = half .before .before .before .before .before .before .before .before .before .before .before in
-    let k = c .before .before .before .before .before .before .before .before .before .before .before .before .chain-positions in (
-      linked-listable (start .pre .0) (k .ensures),
+    let at = c .before .before .before .before in
+    let k = at .before .before .before .before .before .before .before .before .before in
+    let s = k .before .before .before .before .before .before .before .before .before in
+    let can = s .pre .0 in
+    let links = k .chain-positions .ensures in (
+      linked-listable can links,
       (
-        (
-          linked-keys (start .pre .0) (k .ensures),
-          few-keys (start .pre .0) (k .ensures),
-        ),
-        linked-room (start .pre .0) (k .ensures) (start .args .output .now) (c .before .before .before .before .if1 .left),
+        (linked-keys can links, few-keys can links),
+        linked-room can links (s .args .output .now) (omega (arith, at)),
       ),
     )
 
 returns-2 : tie.Need-returns-2
 returns-2 c =
-    let half = c .before .before .before .before .before .before .before .before .before .before .before .before in
-    let start = half .before .before .before .before .before .before .before .before .before .before .before .before in
-    let half = c .before .before .before .before .before .before .before in
-    let k = half .before .before .before .before .before .before .before .before .chain-positions in
-    token-entry-put
-    (start .pre .0) (k .ensures) (start .args .output .now) (c .before .before .write-index .last .1 .1 .1 .1 .0)
-    (c .before .before .before .before .before .before .before .if1 .left) (c .before .before .write-index .ensures)
+    let at = c .before .before .before .before .before .before .before in
+    let k = at .before .before .before .before .before .before .before .before .before in
+    let s = k .before .before .before .before .before .before .before .before .before in
+    rw (at .before .before .line-start .ensures)
+    (token-entry-put (s .pre .0) (k .chain-positions .ensures) (s .args .output .now) (c .before .before .write-index .last .1 .1 .1 .1 .0)
+    (omega (arith, at)) (c .before .before .write-index .ensures))
 
 pub index-by-spec : {M : Type 1} → statement M
 index-by-spec =
     tie.close
     (tie.spec
-    (λ c κs. search needs) (λ c. search needs) (λ c. search needs) (λ c. search needs) (λ c. search needs) (λ c. search needs)
-    (λ c. search needs) returns write-index-requires (λ c. search needs) (λ c. search needs) (λ c. search needs) (λ c. search needs)
-    returns-2)
+    (λ c κs. search needs) (λ c κs. search needs) (λ c. search needs) (λ c. search needs) (λ c. search needs) (λ c. search needs) returns
+    write-index-requires (λ c. search needs) (λ c. search needs) (λ c. search needs) (λ c. search needs) returns-2)

@@ -9,68 +9,48 @@ use Rattle.builder.proofs.build.index_with.Tie as tie
 
 fill-match-table-requires : tie.Need-fill-match-table-requires
 fill-match-table-requires c κs =
-    let start = c .before .before .before .before .before .before .before .before .before .before .before in
-    let cs = start .args .chars .now in
-    let ls = start .args .lengths .now in
-    let ts = start .args .text .now in
-    let w = length (start .args .work .now) in
-    blank-room cs ls ts w
-    (λ i h. omega (arith, c .before .before .before .before .before .before .before .before .before .before .shared-slice-known .given i))
-    (start .pre .0) (start .pre .1)
+    let first = c .before .before .before .before .before .before .before .before .before .before in
+    let s = first .before in
+    let a = s .args in
+    blank-room (a .chars .now) (a .lengths .now) (a .text .now) (length (a .work .now))
+    (λ i h. omega (arith, first .shared-slice-known .given i)) (s .pre .0) (s .pre .1)
 
 scan-replaced-requires : tie.Need-scan-replaced-requires
 scan-replaced-requires c κs =
-    let half = c .before .before .before .before .before .before .before .before .before .before .before in
-    let start = half .before .before .before .before .before .before .before .before .before .before .before in
-    let cs = start .args .chars .now in
-    let ls = start .args .lengths .now in
-    let ts = start .args .text .now in
-    let w = length (start .args .work .now) in (
-      c .before .before .before .before .before .before .before .before .before .before .fill-match-table .ensures,
-      omega (arith, reached cs ls ts w (start .pre .0) .room),
+    let filled = c .before .before .before .before .before .before .before .before .before .before in
+    let s = filled .before .before .before .before .before .before .before .before .before .before .before .before in
+    let a = s .args in (
+      filled .fill-match-table .ensures,
+      omega (arith, reached (a .chars .now) (a .lengths .now) (a .text .now) (length (a .work .now)) (s .pre .0) .room),
     )
 
 finish-requires : tie.Need-finish-requires
 finish-requires c κs =
     let scanned = c .before .before .before .before in
-    let tables = scanned .before .before .before .before .before .before .before .before .before .before .before in
-    let given = tables .before .before .before .before .before .before .before .before .before .before .before in
-    let start = given .before in
-    let cs = start .args .chars .now in
-    let ls = start .args .lengths .now in
-    let ts = start .args .text .now in
-    let w = length (start .args .work .now) in (
-      omega (arith, reached cs ls ts w (start .pre .0) .room),
+    let filled = scanned .before .before .before .before .before .before .before .before .before .before .before in
+    let first = filled .before .before .before .before .before .before .before .before .before .before .before in
+    let s = first .before in
+    let cs = s .args .chars .now in
+    let ls = s .args .lengths .now in
+    let ts = s .args .text .now in
+    let w = length (s .args .work .now) in (
+      omega (arith, reached cs ls ts w (s .pre .0) .room),
       front-linkable cs ls ts w (scanned .scan-replaced .last .1 .1 .1 .1 .1 .1 .0)
-          (λ i h. omega (arith, given .shared-slice-known .given i)) (start .pre .0) (scanned .scan-replaced .ensures),
+          (λ i h. omega (arith, first .shared-slice-known .given i)) (s .pre .0) (scanned .scan-replaced .ensures),
     )
 
 returns : tie.Need-returns
 returns c =
-    let far₁ = c .before .before .before .before .before .before .before .before .before .before .before .before in
-    let far₂ = far₁ .before .before .before .before .before .before .before .before .before .before .before .before in
-    let start = far₂ .before .before .before .before .before .before .before .before in
-    let cs = start .args .chars .now in
-    let ls = start .args .lengths .now in
-    let ts = start .args .text .now in
-    let w = length (start .args .work .now) in
-    build-tokens cs ls ts w (start .args .output .now)
-    (λ i h. omega (
-      arith,
-      c .before .before .before .before .before .before .before .before .before .before .before .before .before .before .before .before
-          .before .before .before .before .before .before .before .before .before .before .before .before .before .before .before
-          .shared-slice-known .given i,
-    ))
-    (λ i h. omega (
-      arith,
-      c .before .before .before .before .before .before .before .before .before .before .before .before .before .before .before .before
-          .before .before .before .before .before .before .before .before .before .before .before .before .before .shared-slice-known3
-          .given i,
-    ))
-    (start .pre .0)
-    (c .before .before .before .before .before .before .before .before .before .scan-replaced .ensures)
-    (c .before .before .before .before .finish .result) (c .before .before .before .before .finish .last .1 .0)
-    (c .before .before .before .before .finish .ensures)
+    let scanned = c .before .before .before .before .before .before .before .before .before in
+    let filled = scanned .before .before .before .before .before .before .before .before .before .before .before in
+    let third = filled .before .before .before .before .before .before .before .before .before in
+    let first = third .before .before in
+    let s = first .before in
+    let a = s .args in
+    let call = c .before .before .before .before .finish in
+    build-tokens (a .chars .now) (a .lengths .now) (a .text .now) (length (a .work .now)) (a .output .now)
+    (λ i h. omega (arith, first .shared-slice-known .given i)) (λ i h. omega (arith, third .shared-slice-known3 .given i)) (s .pre .0)
+    (scanned .scan-replaced .ensures) (call .result) (call .last .1 .0) (call .ensures)
 
 pub index-with-spec : {M : Type 1} → statement M
 index-with-spec =

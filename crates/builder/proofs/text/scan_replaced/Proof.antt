@@ -8,6 +8,4 @@ returns c = rw (c .before .before .before .before .before .before .replace-behin
 
 pub scan-replaced-spec : {M : Type 1} → statement M
 scan-replaced-spec =
-    tie.close
-    (tie.spec
-    (λ c κs. search needs) (λ c κs. search needs) (λ c. search needs) returns)
+    tie.close (tie.spec (λ c κs. search needs) (λ c κs. search needs) (λ c. search needs) returns)
