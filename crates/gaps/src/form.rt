@@ -12,22 +12,24 @@ ghost use Rattle.laws.specs.Demands.GapCalls.{Form-says};
 use crate::writing::write_gaps;
 use crate::writing::write_positions;
 use copying::slices::write_list;
+use layout::fields::key_count;
+use layout::fields::line_start;
 use readability::readability::refusal_as;
 use spec::Answer;
+use width::Number;
 
 // Writes the numbers with each list as gaps, or, to restore, as positions. The lists go through the part of the form
 // that begins after the directory.
-fn write_form(index: &[u16], restore: bool, form: &mut [u16])
+fn write_form(index: &[Number], restore: bool, form: &mut [Number])
     requires { ⌜ Writable restore (now index) × (length (now form) ≡ length (now index)) ⌝ }
     ensures { λ r. ⌜ now (form .exit) ≡ with-lists (write-as restore) (now (index .entry)) ⌝ }
 {
-    let keys = index[1] as usize;
-    let first = 2 + 3 * keys;
+    let first = line_start(key_count(index));
     write_list(&index[..first], 0, form);
     if restore {
-        write_positions(index, keys, &mut form[first..]);
+        write_positions(index, first, &mut form[first..]);
     } else {
-        write_gaps(index, keys, &mut form[first..]);
+        write_gaps(index, first, &mut form[first..]);
     }
 }
 
@@ -35,9 +37,9 @@ fn write_form(index: &[u16], restore: bool, form: &mut [u16])
 fn put_form(
     chars: &[u16],
     lengths: &[u16],
-    index: &[u16],
+    index: &[Number],
     restore: bool,
-    output: &mut [u16],
+    output: &mut [Number],
 ) -> Answer
     ensures { λ r. ⌜
         Form-says restore (now (chars .entry)) (now (lengths .entry)) (now (index .entry)) r (now (output .entry))
@@ -59,7 +61,7 @@ fn put_form(
 }
 
 // Writes the gap form of an index, and answers how many numbers it has, or the refusal: 1, 2, 3, 12, 5, 8.
-pub fn to_gaps(chars: &[u16], lengths: &[u16], index: &[u16], output: &mut [u16]) -> Answer
+pub fn to_gaps(chars: &[u16], lengths: &[u16], index: &[Number], output: &mut [Number]) -> Answer
     ensures { λ r. ⌜
         To-gaps-says (now (chars .entry)) (now (lengths .entry)) (now (index .entry)) r (now (output .entry)) (now (output .exit)) ⌝ }
 {
@@ -67,7 +69,7 @@ pub fn to_gaps(chars: &[u16], lengths: &[u16], index: &[u16], output: &mut [u16]
 }
 
 // Writes the index that a gap form restores to, and answers how many numbers it has, or the refusal: 1, 2, 3, 12, 5, 8.
-pub fn from_gaps(chars: &[u16], lengths: &[u16], gaps: &[u16], output: &mut [u16]) -> Answer
+pub fn from_gaps(chars: &[u16], lengths: &[u16], gaps: &[Number], output: &mut [Number]) -> Answer
     ensures { λ r. ⌜
         From-gaps-says (now (chars .entry)) (now (lengths .entry)) (now (gaps .entry)) r (now (output .entry)) (now (output .exit)) ⌝ }
 {

@@ -3,7 +3,7 @@
 use mathlib.Core.Path.{_≡_, refl, sym, ap, _∙_}
 use mathlib.Core.Bool.{Bool, true, false}
 use mathlib.Core.List.{List, [], _∷_, _++_, append-nil}
-use Prim.Native.Nat.{ℕ, suc, _+_, _*_, _≤_, _<_}
+use Prim.Native.Nat.{ℕ, suc, _+_, _*_, _-_, _≤_, _<_}
 use native.Mathlib.Omega.{arith}
 use lib.ListN.{length, getD, take, drop, replicate, length-append, length-drop, drop-of-length-le}
 use lib.Seq.{drop-drop, take-at, drop-at, length-take-le}
@@ -39,29 +39,27 @@ length-apart y x [] = refl
 length-apart y x (p ∷ ps) = ap suc (length-pairs x p ps)
 
 -- the parts of the numbers that are lent: the positions, and a run of them with the number before
-module _ {xs : List ℕ} (fits : Fits xs) (keys : ℕ) (is : keys ≡ keys-of xs) where
+module _ {xs : List ℕ} (fits : Fits xs) (first : ℕ) (is : first ≡ header + 3 * keys-of xs) where
   abbrev positions : List ℕ
   positions = drop (header + 3 * keys-of xs) xs
 
   abbrev run : List ℕ
-  run = lent-tail (1 + 3 * keys) xs
+  run = lent-tail (first - 1) xs
 
   pub run-long : length run ≡ suc (length positions)
   run-long =
-      ap length (lent-tail-is (1 + 3 * keys) xs)
-      ∙ omega (arith, length-drop (1 + 3 * keys) xs, length-drop (header + 3 * keys-of xs) xs, is)
+      ap length (lent-tail-is (first - 1) xs)
+      ∙ omega (arith, length-drop (first - 1) xs, length-drop (header + 3 * keys-of xs) xs, is)
 
   run-positions : drop 1 run ≡ positions
   run-positions =
-      let next : 1 + 3 * keys + 1 ≡ header + 3 * keys-of xs = omega (arith, is) in
-      ap (λ (l : List ℕ). drop 1 l) (lent-tail-is (1 + 3 * keys) xs)
-      ∙ drop-drop 1 (1 + 3 * keys) xs
+      let next : first - 1 + 1 ≡ header + 3 * keys-of xs = omega (arith, is) in
+      ap (λ (l : List ℕ). drop 1 l) (lent-tail-is (first - 1) xs)
+      ∙ drop-drop 1 (first - 1) xs
       ∙ ap (λ (j : ℕ). drop j xs) next
 
-  pub positions-lent : lent-tail (2 + 3 * keys) xs ≡ positions
-  positions-lent =
-      let first : 2 + 3 * keys ≡ header + 3 * keys-of xs = omega (arith, is) in
-      lent-tail-is (2 + 3 * keys) xs ∙ ap (λ (j : ℕ). drop j xs) first
+  pub positions-lent : lent-tail first xs ≡ positions
+  positions-lent = lent-tail-is first xs ∙ ap (λ (j : ℕ). drop j xs) is
 
   -- DISTANCES, with the first of each list put in after, are the gaps
   pub distances-ready :
@@ -81,14 +79,14 @@ module _ {xs : List ℕ} (fits : Fits xs) (keys : ℕ) (is : keys ≡ keys-of xs
 
   module _ (totals : (l : Line) → In l (lines-in xs) → total (l .positions) ≤ carry) (ms : List ℕ)
       (masked : ms ≡ lists-from (first-apart (first-as true) (pair-as true)) (keys-of xs) 0 xs positions) where
-    pub sums-written : masked-sums 0 ms (lent-tail (2 + 3 * keys) xs) ≡ lists-from prefix-sums (keys-of xs) 0 xs positions
+    pub sums-written : masked-sums 0 ms (lent-tail first xs) ≡ lists-from prefix-sums (keys-of xs) 0 xs positions
     unfolding lines-in
     sums-written =
-        ap (λ (l : List ℕ). masked-sums 0 l (lent-tail (2 + 3 * keys) xs)) masked
+        ap (λ (l : List ℕ). masked-sums 0 l (lent-tail first xs)) masked
         ∙ ap (masked-sums 0 (lists-from masks (keys-of xs) 0 xs positions)) positions-lent
         ∙ masked-lists 0 (keys-of xs) 0 xs positions (counts-all xs fits) totals
 
-    pub masks-long : length ms ≡ length (lent-tail (2 + 3 * keys) xs)
+    pub masks-long : length ms ≡ length (lent-tail first xs)
     masks-long =
         ap length masked
         ∙ length-lists (first-apart (first-as true) (pair-as true)) (length-apart (first-as true) (pair-as true))

@@ -11,7 +11,4 @@ returns c =
     (c .before .before .put-form .ensures)
 
 pub from-gaps-spec : {M : Type 1} → statement M
-from-gaps-spec =
-    tie.close
-    (tie.spec
-    (λ c κs. search needs) (λ c. search needs) returns)
+from-gaps-spec = tie.close (tie.spec (λ c κs. search needs) (λ c. search needs) returns)

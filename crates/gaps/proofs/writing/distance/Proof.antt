@@ -5,7 +5,4 @@ use Rattle.gaps.proofs.writing.distance.Statement.{statement}
 use Rattle.gaps.proofs.writing.distance.Tie as tie
 
 pub distance-spec : {M : Type 1} → statement M
-distance-spec =
-    tie.close
-    (tie.spec
-    (λ c. search needs) (λ c. omega arith) (λ c. omega arith))
+distance-spec = tie.close (tie.spec (λ c. search needs) (λ c. omega arith) (λ c. omega arith))

@@ -9,25 +9,25 @@ use Rattle.gaps.proofs.writing.write_gaps.Tie as tie
 write-distances-requires : tie.Need-write-distances-requires
 write-distances-requires c κs =
     let start = c .before .before .before .before in
-    omega (arith, run-long (start .pre .0 .fits) (start .args .keys) (start .pre .1))
+    omega (arith, run-long (start .pre .0 .fits) (start .args .first) (start .pre .1))
 
 put-firsts-requires : tie.Need-put-firsts-requires
 put-firsts-requires c κs =
     let start = c .before .before .before .before .before .before .before .before in (
       start .pre .0,
       start .pre .1,
-      distances-ready (start .pre .0 .fits) (start .args .keys) (start .pre .1) _ (c .before .before .before .write-distances .ensures),
+      distances-ready (start .pre .0 .fits) (start .args .first) (start .pre .1) _ (c .before .before .before .write-distances .ensures),
     )
 
 returns : tie.Need-returns
 returns c =
     let start = c .before .before .before .before .before .before .before .before .before .before .before in
     c .before .before .put-firsts .ensures
-    ∙ gaps-written (start .pre .0 .fits) (start .args .keys) (start .pre .1)
+    ∙ gaps-written (start .pre .0 .fits) (start .args .first) (start .pre .1)
 
 pub write-gaps-spec : {M : Type 1} → statement M
 write-gaps-spec =
     tie.close
     (tie.spec
-    (λ c. search needs) (λ c. search needs) (λ c. search needs) (λ c. search needs) (λ c. search needs) (λ c. search needs)
-    write-distances-requires put-firsts-requires (λ c. search needs) returns)
+    (λ c. search needs) (λ c. search needs) (λ c. search needs) (λ c. search needs) (λ c. search needs) write-distances-requires
+    put-firsts-requires (λ c. search needs) returns)

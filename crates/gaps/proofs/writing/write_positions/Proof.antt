@@ -16,7 +16,7 @@ put-firsts-requires c κs =
     let filled = c .before .before .before .fill in (
       start .pre .0,
       start .pre .1,
-      masks-ready (start .pre .0 .fits) (start .args .keys) (start .pre .1) (start .args .part .now) _ (start .pre .2) (filled .ensures),
+      masks-ready (start .pre .0 .fits) (start .args .first) (start .pre .1) (start .args .part .now) _ (start .pre .2) (filled .ensures),
     )
 
 add-up-requires : tie.Need-add-up-requires
@@ -24,8 +24,8 @@ add-up-requires c κs =
     let start = c .before .before .before .before .before .before .before .before .before .before .before .before in
     let can = start .pre .0 in
     let masked = c .before .before .before .before .put-firsts .ensures in
-    let sums = sums-written (can .fits) (start .args .keys) (start .pre .1) (can .totals refl) _ masked in (
-      masks-long (can .fits) (start .args .keys) (start .pre .1) (can .totals refl) _ masked,
+    let sums = sums-written (can .fits) (start .args .first) (start .pre .1) (can .totals refl) _ masked in (
+      masks-long (can .fits) (start .args .first) (start .pre .1) (can .totals refl) _ masked,
       λ j. subst (λ (l : List ℕ). getD l j 0 ≤ carry) (sym sums) (can .sums refl j),
     )
 
@@ -35,11 +35,11 @@ returns c =
     let can = start .pre .0 in
     let masked = c .before .before .before .before .before .before .before .put-firsts .ensures in
     c .before .before .add-up .ensures
-    ∙ sums-written (can .fits) (start .args .keys) (start .pre .1) (can .totals refl) _ masked
+    ∙ sums-written (can .fits) (start .args .first) (start .pre .1) (can .totals refl) _ masked
 
 pub write-positions-spec : {M : Type 1} → statement M
 write-positions-spec =
     tie.close
     (tie.spec
-    (λ c. search needs) (λ c. search needs) (λ c κs. search needs) put-firsts-requires (λ c. search needs) (λ c. search needs)
-    (λ c. search needs) (λ c. search needs) add-up-requires (λ c. search needs) returns)
+    (λ c κs. search needs) put-firsts-requires (λ c. search needs) (λ c. search needs) (λ c. search needs) (λ c. search needs)
+    add-up-requires (λ c. search needs) returns)
