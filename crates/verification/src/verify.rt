@@ -12,29 +12,34 @@ ghost use Rattle.models.specs.Reception.{mapped-at, verify, token-mapped};
 ghost use Rattle.laws.specs.Numbers.Slices.{Fits};
 ghost use Rattle.laws.specs.Match.MatchTable.{Tables};
 ghost use Rattle.laws.specs.Receive.LineMap.{Line-map};
+use layout::fields::key_count;
+use layout::fields::kind_at;
+use layout::fields::line_start;
+use layout::fields::value_at;
 use scanning::scan::step;
+use width::Number;
+use width::number_at;
 
 // Whether `mapped`, the line map's number at a position, is that of a line with the key of `token`; `character` is the text's there.
-fn line_has_key(index: &[u16], mapped: u16, token: u16, character: u16) -> bool
+fn line_has_key(index: &[Number], mapped: usize, token: u16, character: u16) -> bool
     requires { ⌜ Fits (now index) × (mapped ≤ keys-of (now index)) × (1 ≤ token) ⌝ }
     ensures { λ r. ⌜ r ≡ token-mapped (now (index .entry)) mapped token character ⌝ }
 {
     if mapped == 0 {
         return false;
     }
-    let line = mapped as usize - 1;
-    let kind = index[2 + 3 * line];
-    let value = index[2 + 3 * line + 1];
+    let kind = kind_at(index, mapped - 1);
+    let value = value_at(index, mapped - 1);
     if token == 4097 {
         if kind != 1 {
             return false;
         }
-        return value == character;
+        return value == character as usize;
     }
     if kind != 0 {
         return false;
     }
-    value == token - 1
+    value == token as usize - 1
 }
 
 // Whether the line map has, for each entry that the scan of the text registers, a line with its key where it starts, and there are as
@@ -45,9 +50,9 @@ pub fn verify(
     heads: &[u16],
     links: &[u16],
     word_starts: &[u16],
-    index: &[u16],
+    index: &[Number],
     text: &[u16],
-    line_map: &[u16],
+    line_map: &[Number],
 ) -> bool
     requires { ⌜
         Tables (now chars) (now lengths) (now heads) (now links) (now «word_starts») × Fits (now index) ×
@@ -66,11 +71,11 @@ pub fn verify(
         end = next.end;
         at += 1;
         if token != 0 {
-            if !line_has_key(index, line_map[here], token, text[here]) {
+            if !line_has_key(index, number_at(line_map, here), token, text[here]) {
                 return false;
             }
             count += 1;
         }
     }
-    2 + 3 * index[1] as usize + count == index.len()
+    line_start(key_count(index)) + count == index.len()
 }

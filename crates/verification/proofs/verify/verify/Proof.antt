@@ -21,81 +21,75 @@ abbrev μ-loop : tie.MeasureT-loop
 
 loop-holds : tie.Need-loop-holds Inv-loop μ-loop
 loop-holds c =
-    let start = c .before .before .before .before .before .before .before .before in
-    testing-starts (lexicon (start .args .chars .now) (start .args .lengths .now)) (start .args .index .now) (start .args .text .now)
-    (start .args .line-map .now)
+    let a = c .before .before .before .before .before .before .before .before .args in
+    testing-starts (lexicon (a .chars .now) (a .lengths .now)) (a .index .now) (a .text .now) (a .line-map .now)
 
 step-requires : tie.Need-step-requires Inv-loop μ-loop
-step-requires c κs = (
-  c .before .before .before .before .before .before .before .before .before .before .pre .0,
-  c .loop-test .taken,
-  c .before .loop .inv .end,
-)
+step-requires c κs =
+    let s = c .before .before .before .before .before .before .before .before .before .before in
+    (s .pre .0, c .loop-test .taken, c .before .loop .inv .end)
 
 line-has-key-requires : tie.Need-line-has-key-requires Inv-loop μ-loop
 line-has-key-requires c κs =
-    let start = c .before .before .before .before .before .before .before .before .before .before .before .before .before .before in (
-      start .pre .1,
-      map-small (start .args .index .now) (start .args .line-map .now) (start .pre .2)
-          (c .before .before .before .before .before .loop .at),
+    let s = c .before .before .before .before .before .before .before .before .before .before .before .before .before .before in (
+      s .pre .1,
+      rw (c .before .number-at .ensures .0)
+          (map-small (s .args .index .now) (s .args .line-map .now) (s .pre .2) (c .before .before .before .before .before .loop .at)),
       omega arith,
     )
 
 returns : tie.Need-returns Inv-loop μ-loop
 returns c =
-    let start =
-    c .before .before .before .before .before .before .before .before .before .before .before .before .before .before .before .before in
-    let turn = c .before .before .before .before .before .before .before .loop in
-    testing-fails (lexicon (start .args .chars .now) (start .args .lengths .now)) (start .args .index .now) (start .args .text .now)
-    (start .args .line-map .now) (admitted-lexicon (start .args .chars .now) (start .args .lengths .now)
-    (start .pre .0 .words .dictionary)) (λ i b. omega (
-      arith,
-      c .before .before .before .before .before .before .before .before .before .shared-slice-known7 .given i,
-    )) (turn .at) (turn .end)
-    (turn .count) (c .before .before .before .before .before .step .result .token)
-    (c .before .before .before .before .before .step .result .end) (turn .inv)
-    (c .before .before .before .before .before .before .loop-test .taken) (c .before .before .before .before .before .step .ensures)
-    (c .before .before .before .before .if1 .taken) (sym (c .before .line-has-key .ensures) ∙
-    not-true (c .before .line-has-key .result) (c .if2 .taken))
+    let at = c .before .before .before .before .before in
+    let turn = at .before .before .loop in
+    let s = at .before .before .before .before .before .before .before .before .before .before .before in
+    let a = s .args in
+    testing-fails (lexicon (a .chars .now) (a .lengths .now)) (a .index .now) (a .text .now) (a .line-map .now)
+    (admitted-lexicon (a .chars .now) (a .lengths .now) (s .pre .0 .words .dictionary))
+    (λ i b. omega (arith, at .before .before .before .before .shared-slice-known7 .given i)) (turn .at) (turn .end) (turn .count)
+    (at .step .result .token) (at .step .result .end) (turn .inv) (at .before .loop-test .taken) (at .step .ensures)
+    (c .before .before .before .before .if1 .taken)
+    (rw (← c .before .before .before .number-at .ensures .0)
+    (sym (c .before .line-has-key .ensures) ∙ not-true (c .before .line-has-key .result) (c .if2 .taken)))
 
 loop-again : tie.Need-loop-again Inv-loop μ-loop
 loop-again c =
-    let start =
-    c .before .before .before .before .before .before .before .before .before .before .before .before .before .before .before .before in
-    let turn = c .before .before .before .before .before .before .before .loop in
-    testing-registers (lexicon (start .args .chars .now) (start .args .lengths .now)) (start .args .index .now) (start .args .text .now)
-    (start .args .line-map .now) (admitted-lexicon (start .args .chars .now) (start .args .lengths .now)
-    (start .pre .0 .words .dictionary)) (λ i b. omega (
-      arith,
-      c .before .before .before .before .before .before .before .before .before .shared-slice-known7 .given i,
-    )) (turn .at) (turn .end)
-    (turn .count) (c .before .before .before .before .before .step .result .token)
-    (c .before .before .before .before .before .step .result .end) (turn .inv)
-    (c .before .before .before .before .before .before .loop-test .taken) (c .before .before .before .before .before .step .ensures)
-    (c .before .before .before .before .if1 .taken) (sym (c .before .line-has-key .ensures) ∙
-    not-false (c .before .line-has-key .result) (c .if2 .left))
+    let at = c .before .before .before .before .before in
+    let turn = at .before .before .loop in
+    let s = at .before .before .before .before .before .before .before .before .before .before .before in
+    let a = s .args in
+    testing-registers (lexicon (a .chars .now) (a .lengths .now)) (a .index .now) (a .text .now) (a .line-map .now)
+    (admitted-lexicon (a .chars .now) (a .lengths .now) (s .pre .0 .words .dictionary))
+    (λ i b. omega (arith, at .before .before .before .before .shared-slice-known7 .given i)) (turn .at) (turn .end) (turn .count)
+    (at .step .result .token) (at .step .result .end) (turn .inv) (at .before .loop-test .taken) (at .step .ensures)
+    (c .before .before .before .before .if1 .taken)
+    (rw (← c .before .before .before .number-at .ensures .0)
+    (sym (c .before .line-has-key .ensures) ∙ not-false (c .before .line-has-key .result) (c .if2 .left)))
 
 loop-again-2 : tie.Need-loop-again-2 Inv-loop μ-loop
 loop-again-2 c =
-    let start = c .before .before .before .before .before .before .before .before .before .before .before .before in
-    let turn = c .before .before .before .loop in
-    testing-passes (lexicon (start .args .chars .now) (start .args .lengths .now)) (start .args .index .now) (start .args .text .now)
-    (start .args .line-map .now) (admitted-lexicon (start .args .chars .now) (start .args .lengths .now)
-    (start .pre .0 .words .dictionary)) (λ i b. omega (arith, c .before .before .before .before .before .shared-slice-known7 .given i))
-    (turn .at) (turn .end) (turn .count) (c .before .step .result .token) (c .before .step .result .end) (turn .inv)
-    (c .before .before .loop-test .taken) (c .before .step .ensures) (c .if1 .left)
+    let at = c .before in
+    let turn = at .before .before .loop in
+    let s = at .before .before .before .before .before .before .before .before .before .before .before in
+    let a = s .args in
+    testing-passes (lexicon (a .chars .now) (a .lengths .now)) (a .index .now) (a .text .now) (a .line-map .now)
+    (admitted-lexicon (a .chars .now) (a .lengths .now) (s .pre .0 .words .dictionary))
+    (λ i b. omega (arith, at .before .before .before .before .shared-slice-known7 .given i)) (turn .at) (turn .end) (turn .count)
+    (at .step .result .token) (at .step .result .end) (turn .inv) (at .before .loop-test .taken) (at .step .ensures)
+    (c .if1 .left)
 
 returns-2 : tie.Need-returns-2 Inv-loop μ-loop
 returns-2 c =
-    let start = c .before .before .before .before .before .before .before .before .before .before .before in
-    let turn = c .before .before .loop in
-    testing-ends (lexicon (start .args .chars .now) (start .args .lengths .now)) (start .args .index .now) (start .args .text .now)
-    (start .args .line-map .now) (turn .inv) (c .before .loop-test .left) (start .pre .1)
+    let s = c .before .before .before .before .before .before .before .before .before .before .before .before in
+    let a = s .args in
+    rw (c .line-start .ensures, c .before .key-count .ensures .0)
+    (testing-ends (lexicon (a .chars .now) (a .lengths .now)) (a .index .now) (a .text .now) (a .line-map .now)
+    (c .before .before .before .loop .inv) (c .before .before .loop-test .left) (s .pre .1))
 
 pub verify-spec : {M : Type 1} → statement M
 verify-spec =
     tie.close
     (tie.spec
-    Inv-loop μ-loop loop-holds step-requires (λ c. search needs) (λ c. search needs) (λ c. search needs) (λ c. search needs)
-    (λ c. search needs) line-has-key-requires returns (λ c. search needs) (λ c. search needs) loop-again (λ c. search needs) loop-again-2
-    (λ c. search needs) (λ c. search needs) (λ c. search needs) (λ c. search needs) (λ c. search needs) returns-2)
+    Inv-loop μ-loop loop-holds step-requires (λ c. search needs) (λ c κs. search needs) (λ c. search needs) (λ c. search needs)
+    line-has-key-requires returns (λ c. search needs) (λ c. search needs) loop-again (λ c. search needs) loop-again-2
+    (λ c κs. search needs) (λ c κs. search needs) (λ c. search needs) returns-2)
