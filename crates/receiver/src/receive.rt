@@ -5,31 +5,34 @@
 ghost use mathlib.Core.Path.{_≡_};
 ghost use Prim.Native.Nat.{_≤_};
 ghost use lib.ListN.{length};
+ghost use Rattle.spec.specs.Index.{header};
 ghost use Rattle.spec.specs.Calls.{index-refusal, Receive-says};
 ghost use Rattle.laws.specs.Dictionary.Answering.{Refuses};
 ghost use Rattle.laws.specs.Receive.Receiving.{or-work-short};
 use crate::text::text_of;
+use layout::fields::text_len;
 use opening::opened::open_index;
 use scanning::work::clear;
 use scanning::work::refuse;
 use spec::Answer;
+use width::Number;
 
 // The first refusal of an opened index that needs no reconstruction, or 0: its own, or a work slice too short.
-pub(crate) fn delivery_refusal(index: &[u16], refusal: u32, work: usize) -> u32
-    requires { ⌜ (refusal ≡ 0 → 1 ≤ length (now index)) ⌝ }
+pub(crate) fn delivery_refusal(index: &[Number], refusal: u32, work: usize) -> u32
+    requires { ⌜ (refusal ≡ 0 → header ≤ length (now index)) ⌝ }
     ensures { λ r. ⌜ r ≡ or-work-short refusal (now (index .entry)) work ⌝ }
 {
     if refusal != 0 {
         return refusal;
     }
-    if work < 8 * index[0] as usize {
+    if work < 8 * text_len(index) {
         return 7;
     }
     0
 }
 
 // Answers 9, that no text has the index, and clears the work slice.
-pub(crate) fn no_text(work: &mut [u16]) -> Answer
+pub(crate) fn no_text(work: &mut [Number]) -> Answer
     ensures { λ r. ⌜ Refuses 9 r (now (work .entry)) (now (work .exit)) ⌝ }
 {
     refuse(work, 9)
@@ -39,9 +42,9 @@ pub(crate) fn no_text(work: &mut [u16]) -> Answer
 fn receive_opened<'a>(
     chars: &'a [u16],
     lengths: &'a [u16],
-    index: &'a [u16],
+    index: &'a [Number],
     refusal: u32,
-    work: &mut [u16],
+    work: &mut [Number],
 ) -> Answer
     requires { ⌜ refusal ≡ index-refusal (now chars) (now lengths) (now index) ⌝ }
     ensures { λ r. ⌜
@@ -57,7 +60,7 @@ fn receive_opened<'a>(
     clear(work);
     Answer {
         refusal: 0,
-        count: index[0] as usize,
+        count: text_len(index),
     }
 }
 
@@ -65,8 +68,8 @@ fn receive_opened<'a>(
 pub fn receive<'a>(
     chars: &'a [u16],
     lengths: &'a [u16],
-    index: &'a [u16],
-    work: &mut [u16],
+    index: &'a [Number],
+    work: &mut [Number],
 ) -> Answer
     ensures { λ r. ⌜
         Receive-says (now (chars .entry)) (now (lengths .entry)) (now (index .entry)) r (now (work .entry)) (now (work .exit)) ⌝ }

@@ -11,13 +11,15 @@ use crate::receive::delivery_refusal;
 use crate::receive::no_text;
 use crate::text::text_of;
 use copying::slices::write_list;
+use layout::fields::text_len;
 use opening::opened::open_index;
 use scanning::work::clear;
 use scanning::work::refuse;
 use spec::Answer;
+use width::Number;
 
 // Copies the first `n` numbers of the work slice to the output, or answers 8; and clears the work slice.
-fn give_text(n: usize, output: &mut [u16], work: &mut [u16]) -> Answer
+fn give_text(n: usize, output: &mut [u16], work: &mut [Number]) -> Answer
     requires { ⌜ n ≤ length (now work) ⌝ }
     ensures { λ r. ⌜ Gives n r (now (output .entry)) (now (output .exit)) (now (work .entry)) (now (work .exit)) ⌝ }
 {
@@ -36,10 +38,10 @@ fn give_text(n: usize, output: &mut [u16], work: &mut [u16]) -> Answer
 fn recover_opened<'a>(
     chars: &'a [u16],
     lengths: &'a [u16],
-    index: &'a [u16],
+    index: &'a [Number],
     refusal: u32,
     output: &mut [u16],
-    work: &mut [u16],
+    work: &mut [Number],
 ) -> Answer
     requires { ⌜ refusal ≡ index-refusal (now chars) (now lengths) (now index) ⌝ }
     ensures { λ r. ⌜
@@ -53,16 +55,16 @@ fn recover_opened<'a>(
     if !text_of(chars, lengths, index, work) {
         return no_text(work);
     }
-    give_text(index[0] as usize, output, work)
+    give_text(text_len(index), output, work)
 }
 
 // Recovers the text of an index: refusals 1, 2, 3, 12, 5, 7, 9, 8; accepted, it answers the length of the text.
 pub fn recover<'a>(
     chars: &'a [u16],
     lengths: &'a [u16],
-    index: &'a [u16],
+    index: &'a [Number],
     output: &mut [u16],
-    work: &mut [u16],
+    work: &mut [Number],
 ) -> Answer
     ensures { λ r. ⌜
         Recover-says (now (chars .entry)) (now (lengths .entry)) (now (index .entry)) r (now (output .entry)) (now (output .exit))

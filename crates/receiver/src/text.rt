@@ -20,20 +20,22 @@ ghost use Rattle.laws.specs.Receive.LineMapWalk.{Can-map};
 ghost use Rattle.laws.specs.Receive.Receiving.{delivery-refusal};
 ghost use Rattle.laws.specs.Receive.ReceivedText.{Read-back, Tried};
 use folding::forms::holds_full_width;
+use layout::fields::text_len;
 use matching::table::fill_match_table;
 use reconstruction::entries::reconstruct_entries;
 use reconstruction::line_map::fill_line_map;
 use scanning::work::clear;
 use verification::verify::verify;
+use width::Number;
 
 // Reconstructs the text from the entries, over the first `n` numbers of the work slice.
 fn reconstruct_front(
     chars: &[u16],
     lengths: &[u16],
     word_starts: &[u16],
-    index: &[u16],
+    index: &[Number],
     n: usize,
-    work: &mut [u16],
+    work: &mut [Number],
 )
     requires { ⌜
         Started (now chars) (now lengths) (now «word_starts») ×
@@ -47,7 +49,7 @@ fn reconstruct_front(
 }
 
 // Fills the line map of an index in a slice that is cleared first.
-fn fill_line_map_afresh(index: &[u16], line_map: &mut [u16])
+fn fill_line_map_afresh(index: &[Number], line_map: &mut [Number])
     requires { ⌜ Can-map (now index) (length (now «line_map»)) ⌝ }
     ensures { λ _. ⌜ now («line_map» .exit) ≡ fill-line-map 0 (lines-in (now (index .entry))) (zeros (now («line_map» .entry))) ⌝ }
 {
@@ -56,7 +58,7 @@ fn fill_line_map_afresh(index: &[u16], line_map: &mut [u16])
 }
 
 // Fills the line map in the `n` numbers after the first `n`.
-fn fill_line_map_behind(index: &[u16], n: usize, work: &mut [u16])
+fn fill_line_map_behind(index: &[Number], n: usize, work: &mut [Number])
     requires { ⌜ Can-map (now index) n × (2 * n ≤ length (now work)) ⌝ }
     ensures front { λ _. ⌜ take n (now (work .exit)) ≡ take n (now (work .entry)) ⌝ }
     ensures line_map { λ _. ⌜ take n (drop n (now (work .exit))) ≡ fill-line-map 0 (lines-in (now (index .entry))) (replicate n 0) ⌝ }
@@ -72,9 +74,9 @@ fn test_parts(
     heads: &[u16],
     links: &[u16],
     word_starts: &[u16],
-    index: &[u16],
+    index: &[Number],
     n: usize,
-    work: &[u16],
+    work: &[Number],
 ) -> bool
     requires { ⌜
         Tables (now chars) (now lengths) (now heads) (now links) (now «word_starts») × Fits (now index) ×
@@ -104,14 +106,14 @@ fn is_index_of_text(
     heads: &[u16],
     links: &[u16],
     word_starts: &[u16],
-    index: &[u16],
-    work: &mut [u16],
+    index: &[Number],
+    work: &mut [Number],
 ) -> bool
     requires { ⌜ delivery-refusal (now chars) (now lengths) (now index) (length (now work)) ≡ 0 ⌝ }
     requires { ⌜ Tables (now chars) (now lengths) (now heads) (now links) (now «word_starts») ⌝ }
     ensures { λ r. ⌜ Read-back (lexicon (now (chars .entry)) (now (lengths .entry))) (now (index .entry)) r (now (work .exit)) ⌝ }
 {
-    let n = index[0] as usize;
+    let n = text_len(index);
     reconstruct_front(chars, lengths, word_starts, index, n, work);
     fill_line_map_behind(index, n, work);
     test_parts(chars, lengths, heads, links, word_starts, index, n, work)
@@ -124,8 +126,8 @@ fn text_by(
     heads: &[u16],
     links: &[u16],
     word_starts: &[u16],
-    index: &[u16],
-    work: &mut [u16],
+    index: &[Number],
+    work: &mut [Number],
 ) -> bool
     requires { ⌜ delivery-refusal (now chars) (now lengths) (now index) (length (now work)) ≡ 0 ⌝ }
     requires { ⌜ Tables (now chars) (now lengths) (now heads) (now links) (now «word_starts») ⌝ }
@@ -134,7 +136,7 @@ fn text_by(
     if !is_index_of_text(chars, lengths, heads, links, word_starts, index, work) {
         return false;
     }
-    let n = index[0] as usize;
+    let n = text_len(index);
     !holds_full_width(&work[..n])
 }
 
@@ -142,8 +144,8 @@ fn text_by(
 fn text_with(
     chars: &[u16],
     lengths: &[u16],
-    index: &[u16],
-    work: &mut [u16],
+    index: &[Number],
+    work: &mut [Number],
     heads: &mut [u16],
     links: &mut [u16],
     word_starts: &mut [u16],
@@ -157,7 +159,7 @@ fn text_with(
 }
 
 // Whether the index is received, with a local match table. Where it is, its text is left in the first numbers of the work slice.
-pub(crate) fn text_of(chars: &[u16], lengths: &[u16], index: &[u16], work: &mut [u16]) -> bool
+pub(crate) fn text_of(chars: &[u16], lengths: &[u16], index: &[Number], work: &mut [Number]) -> bool
     requires { ⌜ delivery-refusal (now chars) (now lengths) (now index) (length (now work)) ≡ 0 ⌝ }
     ensures { λ r. ⌜ Tried (lexicon (now (chars .entry)) (now (lengths .entry))) (now (index .entry)) r (now (work .exit)) ⌝ }
 {

@@ -6,7 +6,7 @@ use mathlib.Core.List.{List, []}
 use mathlib.Core.Logic.{⊎-elim}
 use Prim.Native.Nat.{ℕ, _-_, _≤_, _<_}
 use native.Mathlib.Omega.{arith}
-use lib.ListN.{length, take, replicate, length-replicate, getD-replicate, List·getD-eq-default}
+use lib.ListN.{length, take, drop, replicate, length-replicate, getD-replicate, List·getD-eq-default}
 use lib.Seq.{length-take-le}
 use Rattle.basics.specs.Bools.{clash, le-or-lt}
 use Rattle.spec.specs.Replaced.{holds-full-width}
@@ -54,10 +54,11 @@ module _ (cs ls xs : List ℕ) (w : ℕ) (chars : Chars cs) (none : delivery-ref
       (early-none cs ls [] 0 (delivered cs ls xs w none .admits) (omega arith) (omega arith)) b
 
 -- w is the work slice before the reconstruction, u after it, v after the line map is filled
-module _ (cs ls xs w : List ℕ) (chars : Chars cs) (work : Chars w) (none : delivery-refusal cs ls xs (length w) ≡ 0) (u v ns : List ℕ)
-    (reconstructs : take (n-of xs) u ≡ reconstruct (lexicon cs ls) (flat (lexicon cs ls) (lines-in xs)) (take (n-of xs) w))
-    (keeps : take (n-of xs) v ≡ take (n-of xs) u) (line-map : ns ≡ fill-line-map 0 (lines-in xs) (replicate (n-of xs) 0)) where
-  reconstructed : take (n-of xs) v ≡ reconstruct (lexicon cs ls) (flat (lexicon cs ls) (lines-in xs)) (take (n-of xs) w)
+module _ (cs ls xs w : List ℕ) (chars : Chars cs) (work : Chars w) (none : delivery-refusal cs ls xs (length w) ≡ 0) {n : ℕ}
+    (is : n ≡ n-of xs) (u v : List ℕ)
+    (reconstructs : take n u ≡ reconstruct (lexicon cs ls) (flat (lexicon cs ls) (lines-in xs)) (take n w))
+    (keeps : take n v ≡ take n u) (line-map : take n (drop n v) ≡ fill-line-map 0 (lines-in xs) (replicate n 0)) where
+  reconstructed : take n v ≡ reconstruct (lexicon cs ls) (flat (lexicon cs ls) (lines-in xs)) (take n w)
   reconstructed = keeps ∙ reconstructs
 
   good : Good-lexicon (lexicon cs ls)
@@ -66,34 +67,34 @@ module _ (cs ls xs w : List ℕ) (chars : Chars cs) (work : Chars w) (none : del
   can : readable longest-text (lexicon cs ls) xs ≡ true
   can = delivered cs ls xs (length w) none .can-read
 
-  text-long : length (take (n-of xs) w) ≡ n-of xs
-  text-long = length-take-le (n-of xs) w (omega (arith, delivered cs ls xs (length w) none .room))
+  text-long : length (take n w) ≡ n-of xs
+  text-long = length-take-le n w (omega (arith, is, delivered cs ls xs (length w) none .room)) ∙ is
 
-  line-map-long : n-of xs ≤ length (replicate {A = ℕ} (n-of xs) 0)
-  line-map-long = omega (arith, length-replicate {A = ℕ} (n-of xs) 0)
+  line-map-long : n-of xs ≤ length (replicate {A = ℕ} n 0)
+  line-map-long = omega (arith, is, length-replicate {A = ℕ} n 0)
 
-  pub tried-mapped : Line-map xs (mapped-at ns)
+  pub tried-mapped : Line-map xs (mapped-at (take n (drop n v)))
   tried-mapped =
       rw line-map
-      (line-map-mapped good longest-text xs can (replicate (n-of xs) 0) line-map-long
-      (λ p lo. cleared-line-map (n-of xs) p))
+      (line-map-mapped good longest-text xs can (replicate n 0) line-map-long (λ p lo. cleared-line-map n p))
 
-  pub read-back : (r : Bool) → r ≡ verify (lexicon cs ls) (mapped-at ns) xs (take (n-of xs) v) → Read-back (lexicon cs ls) xs r v
-  read-back r e = record { exact = exact; text = λ t. reconstructed ∙ recovers (sym exact ∙ t) }
+  pub read-back :
+      (r : Bool) → r ≡ verify (lexicon cs ls) (mapped-at (take n (drop n v))) xs (take n v) → Read-back (lexicon cs ls) xs r v
+  read-back r e = record { exact = exact; text = λ t. rw (← is) (reconstructed ∙ recovers (sym exact ∙ t)) }
     where
       exact : r ≡ is-index longest-text (lexicon cs ls) xs
       exact =
           e
           ∙ rw (line-map, reconstructed)
-          (reception-exact good longest-text xs can (take (n-of xs) w) (replicate (n-of xs) 0)
-          (chars-take (n-of xs) w work) text-long line-map-long (λ p lo. cleared-line-map (n-of xs) p))
+          (reception-exact good longest-text xs can (take n w) (replicate n 0)
+          (chars-take n w work) text-long line-map-long (λ p lo. cleared-line-map n p))
 
       recovers :
           is-index longest-text (lexicon cs ls) xs ≡ true →
-          reconstruct (lexicon cs ls) (flat (lexicon cs ls) (lines-in xs)) (take (n-of xs) w) ≡ recovered (lexicon cs ls) xs
+          reconstruct (lexicon cs ls) (flat (lexicon cs ls) (lines-in xs)) (take n w) ≡ recovered (lexicon cs ls) xs
       recovers =
-          reception-recovers good longest-text xs can (take (n-of xs) w) (replicate (n-of xs) 0)
-          (chars-take (n-of xs) w work) text-long line-map-long (λ p lo. cleared-line-map (n-of xs) p)
+          reception-recovers good longest-text xs can (take n w) (replicate n 0)
+          (chars-take n w work) text-long line-map-long (λ p lo. cleared-line-map n p)
 
 -- the index is received if that text has no full-width form
 module _ {lex : Lexicon} {xs v : List ℕ} {shown : Bool} (h : Read-back lex xs shown v) where

@@ -14,7 +14,7 @@ use Rattle.basics.specs.Writing.{over}
 use Rattle.basics.specs.Placed.{placed, Wrote}
 use Rattle.spec.specs.declared.Answer.{Answer}
 use Rattle.spec.specs.Dictionary.{longest-text, lexicon, dictionary-refusal}
-use Rattle.spec.specs.Index.{n-of, readable}
+use Rattle.spec.specs.Index.{header, n-of, readable}
 use Rattle.spec.specs.Reception.{recovered, received}
 use Rattle.spec.specs.Calls.{work-short, no-text, or-else, index-refusal, reception-refusal, recovery-refusal, in-front, zeros, Puts}
 use Rattle.spec.specs.Calls.{Receive-says, Recover-says}
@@ -55,9 +55,8 @@ pub record Delivered (cs ls xs : List ℕ) (w : ℕ) : Type 0 where
   pub fits : Fits xs
   pub room : 8 * n-of xs ≤ w
 
-pub delivery-header : (cs ls xs : List ℕ) → index-refusal cs ls xs ≡ 0 → 1 ≤ length xs
-delivery-header cs ls xs none =
-    omega (arith, readable-fits longest-text (lexicon cs ls) xs (index-accepted cs ls xs none .is-readable) .has-header)
+pub delivery-header : (cs ls xs : List ℕ) → index-refusal cs ls xs ≡ 0 → header ≤ length xs
+delivery-header cs ls xs none = readable-fits longest-text (lexicon cs ls) xs (index-accepted cs ls xs none .is-readable) .has-header
 
 module _ (cs ls xs : List ℕ) (w : ℕ) where
   -- by the refusal of an opened index

@@ -1,94 +1,63 @@
 -- `receive_opened` meets its contract: one law for each return. Assumes nothing.
-use borrow.Author.Needs.{needs}
 use mathlib.Core.Path.{_≡_, refl, sym, _∙_}
-use native.Mathlib.Omega.{arith}
-use lib.ListN.{length}
+use Prim.Native.Nat.{ℕ}
+use borrow.Author.Needs.{needs}
 use borrow.Author.Tests.{not-true, not-false}
-use Rattle.spec.specs.Index.{n-of}
-use Rattle.laws.specs.Receive.Receiving.{delivery-header, opened-delivery, delivered, receive-refused, receive-unreceived, receive-received}
+use lib.ListN.{length}
+use Rattle.laws.specs.Receive.Receiving.{delivery-refusal, delivery-header, opened-delivery, delivered}
+use Rattle.laws.specs.Receive.Receiving.{receive-refused, receive-unreceived, receive-received}
 use Rattle.receiver.proofs.receive.receive_opened.Statement.{statement}
 use Rattle.receiver.proofs.receive.receive_opened.Tie as tie
 
-delivery-refusal-requires : tie.Need-delivery-refusal-requires
-delivery-refusal-requires c κs =
-    let start = c .before .before .before .before in
-    λ (none : start .args .refusal ≡ 0). delivery-header (start .args .chars .now) (start .args .lengths .now) (start .args .index .now)
-    (sym (start .pre) ∙ none)
+-- the refusal that needs no reconstruction
+abbrev due : tie.Start → ℕ
+due s = delivery-refusal (s .args .chars .now) (s .args .lengths .now) (s .args .index .now) (length (s .args .work .now))
+
+early : (c : tie.After-delivery-refusal) → c .delivery-refusal .result ≡ due (c .before .before .before .before .before)
+early c =
+    let s = c .before .before .before .before .before in
+    let a = s .args in
+    opened-delivery (a .chars .now) (a .lengths .now) (a .index .now) (length (a .work .now)) (a .refusal) (c .delivery-refusal .result)
+    (s .pre) (c .delivery-refusal .ensures)
+
+none : (c : tie.Else1) → due (c .before .before .before .before .before .before) ≡ 0
+none c = sym (early (c .before)) ∙ c .if1 .left
 
 returns : tie.Need-returns
 returns c =
-    let start = c .before .before .before .before .before .before .before .before .before .before in
-    let cs = start .args .chars .now in
-    let ls = start .args .lengths .now in
-    let xs = start .args .index .now in
-    let w = start .args .work .now in
+    let asked = c .before .before .before .before .before in
+    let a = asked .before .before .before .before .before .args in
     let answer = c .before .before .refuse in
-    let early = c .before .before .before .before .before .delivery-refusal in
-    receive-refused cs ls xs (answer .result) w w (answer .last .0) refl
-    (opened-delivery cs ls xs (length w) (start .args .refusal) (early .result) (start .pre) (early .ensures))
-    (c .before .before .before .before .if1 .taken) (answer .ensures)
-
-text-of-requires : tie.Need-text-of-requires
-text-of-requires c κs =
-    let start = c .before .before .before .before .before .before .before in
-    let early = c .before .before .delivery-refusal in
-    sym (opened-delivery (start .args .chars .now) (start .args .lengths .now) (start .args .index .now) (length (start .args .work .now))
-    (start .args .refusal) (early .result) (start .pre) (early .ensures)) ∙ c .before .if1 .left
+    receive-refused (a .chars .now) (a .lengths .now) (a .index .now) (answer .result) (a .work .now) (a .work .now) (answer .last .0)
+    refl (early asked) (c .before .before .before .before .if1 .taken) (answer .ensures)
 
 returns-2 : tie.Need-returns-2
 returns-2 c =
-    let start = c .before .before .before .before .before .before .before .before .before .before .before .before .before .before .before in
-    let cs = start .args .chars .now in
-    let ls = start .args .lengths .now in
-    let xs = start .args .index .now in
-    let w = start .args .work .now in
+    let tried = c .before .before .before .before .before .before .before in
+    let on = tried .before .before in
+    let a = on .before .before .before .before .before .before .args in
     let answer = c .before .before .no-text in
-    let tried = c .before .before .before .before .before .before .before .text-of in
-    receive-unreceived cs ls xs (answer .result) w (tried .last .1 .1 .1 .0) (answer .last .0) (tried .kept .1 .1 .1 .0)
-    (sym (opened-delivery cs ls xs (length w) (start .args .refusal)
-    (c .before .before .before .before .before .before .before .before .before .before .delivery-refusal .result) (start .pre)
-    (c .before .before .before .before .before .before .before .before .before .before .delivery-refusal .ensures)) ∙
-    c .before .before .before .before .before .before .before .before .before .if1 .left)
-    (sym (tried .ensures .exact) ∙ not-true (tried .result) (c .before .before .before .before .if2 .taken)) (answer .ensures)
-
-shared-slice-read-t20 : tie.Need-shared-slice-read-t20
-shared-slice-read-t20 c =
-    let start =
-    c .before .before .before .before .before .before .before .before .before .before .before .before .before .before .before .before in
-    let cs = start .args .chars .now in
-    let ls = start .args .lengths .now in
-    let xs = start .args .index .now in
-    let w = start .args .work .now in
-    omega (
-      arith,
-      delivered cs ls xs (length w) (sym (opened-delivery cs ls xs (length w) (start .args .refusal)
-          (c .before .before .before .before .before .before .before .before .before .before .before .delivery-refusal .result) (start .pre)
-          (c .before .before .before .before .before .before .before .before .before .before .before .delivery-refusal .ensures)) ∙
-          c .before .before .before .before .before .before .before .before .before .before .if1 .left) .fits .has-header,
-    )
+    receive-unreceived (a .chars .now) (a .lengths .now) (a .index .now) (answer .result) (a .work .now)
+    (tried .text-of .last .1 .1 .1 .0) (answer .last .0) (tried .text-of .kept .1 .1 .1 .0) (none on)
+    (sym (tried .text-of .ensures .exact) ∙ not-true (tried .text-of .result) (c .before .before .before .before .if2 .taken))
+    (answer .ensures)
 
 returns-3 : tie.Need-returns-3
 returns-3 c =
-    let start =
-    c .before .before .before .before .before .before .before .before .before .before .before .before .before .before .before .before in
-    let cs = start .args .chars .now in
-    let ls = start .args .lengths .now in
-    let xs = start .args .index .now in
-    let w = start .args .work .now in
-    let tried = c .before .before .before .before .before .before .before .before .text-of in
-    receive-received cs ls xs (record { refusal = 0; count = n-of xs }) w (tried .last .1 .1 .1 .0)
-    (c .before .before .before .clear .last .0) (tried .kept .1 .1 .1 .0)
-    (sym (opened-delivery cs ls xs (length w) (start .args .refusal)
-    (c .before .before .before .before .before .before .before .before .before .before .before .delivery-refusal .result) (start .pre)
-    (c .before .before .before .before .before .before .before .before .before .before .before .delivery-refusal .ensures)) ∙
-    c .before .before .before .before .before .before .before .before .before .before .if1 .left)
-    (sym (tried .ensures .exact) ∙ not-false (tried .result) (c .before .before .before .before .before .if2 .left)) refl refl
-    (c .before .before .before .clear .ensures)
+    let cleared = c .before .before .before in
+    let tried = cleared .before .before .before .before .before in
+    let on = tried .before .before in
+    let a = on .before .before .before .before .before .before .args in
+    receive-received (a .chars .now) (a .lengths .now) (a .index .now) (record { refusal = 0; count = c .text-len .result })
+    (a .work .now) (tried .text-of .last .1 .1 .1 .0) (cleared .clear .last .0) (tried .text-of .kept .1 .1 .1 .0) (none on)
+    (sym (tried .text-of .ensures .exact) ∙ not-false (tried .text-of .result) (cleared .before .before .if2 .left)) refl
+    (c .text-len .ensures .0) (cleared .clear .ensures)
 
 pub receive-opened-spec : {M : Type 1} → statement M
 receive-opened-spec =
     tie.close
     (tie.spec
-    delivery-refusal-requires (λ c κs. search needs) (λ c. search needs) returns text-of-requires (λ c κs. search needs)
-    (λ c. search needs) returns-2 (λ c κs. search needs) shared-slice-read-t20 (λ c. omega (arith, c .shared-slice-known4 .given 0))
+    (λ c κs zero. delivery-header _ _ _ (sym (c .before .before .before .before .pre) ∙ zero)) (λ c κs. search needs) (λ c. search needs)
+    returns (λ c κs. none (c .before)) (λ c κs. search needs) (λ c. search needs) returns-2 (λ c κs. search needs)
+    (λ c κs. delivered _ _ _ _ (none (c .before .before .before .before .before .before .before .before .before)) .fits .has-header)
     (λ c. search needs) returns-3)
