@@ -45,7 +45,8 @@ fn reconstruct_front(
         take n (now (work .exit)) ≡ reconstruct (lexicon (now (chars .entry)) (now (lengths .entry)))
         (flat (lexicon (now (chars .entry)) (now (lengths .entry))) (lines-in (now (index .entry)))) (take n (now (work .entry))) ⌝ }
 {
-    reconstruct_entries(chars, lengths, word_starts, index, &mut work[..n]);
+    let starts = lengths.len() + 1;
+    reconstruct_entries(chars, &word_starts[..starts], index, &mut work[..n]);
 }
 
 // Fills the line map of an index in a slice that is cleared first.
