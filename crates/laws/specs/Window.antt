@@ -8,6 +8,7 @@ pub mod Extending
 pub mod Finding
 pub mod AgreeingLines
 pub mod LeadingLines
+pub mod AgreeingRun
 pub mod LineRanges
 pub mod Searching
 pub mod WordLines

@@ -85,7 +85,7 @@ abbrev pub Has-lines : (numbers lines : List ℕ) → Type 0
 Has-lines xs is = (j : ℕ) → j < length is → getD is j 0 < keys-of xs
 
 -- a walk may skip steps that change nothing
-run-those :
+pub run-those :
     (f : ℕ → List ℕ → List ℕ) (test : ℕ → Bool) → ((i : ℕ) → test i ≡ false → (rs : List ℕ) → f i rs ≡ rs) → (n i : ℕ) (rs : List ℕ) →
     run-list f (those-from n i test) rs ≡ run-from f n i rs
 unfolding run-list those-from run-from

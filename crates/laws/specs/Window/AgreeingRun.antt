@@ -1,0 +1,40 @@
+-- Extending a window by the lines that agree, first those listed and then the range, is extending it by all lines. Assumes nothing.
+use mathlib.Core.Path.{_≡_, refl, sym, ap, _∙_}
+use mathlib.Core.List.{List, [], _∷_, _++_}
+use Prim.Native.Nat.{ℕ, _-_}
+use lib.ListN.{take}
+use Rattle.spec.specs.Dictionary.{Lexicon}
+use Rattle.models.specs.Window.{run, offset-at, agrees-line, agreeing-lines, run-list}
+use Rattle.laws.specs.Window.Window.{Reaches}
+use Rattle.laws.specs.Window.LineSteps.{offset-apart}
+use Rattle.laws.specs.Window.LeadingLines.{run-those}
+use Rattle.laws.specs.Window.AgreeingLines.{Agreeing-listed}
+
+run-append : (f : ℕ → List ℕ → List ℕ) (is js rs : List ℕ) → run-list f (is ++ js) rs ≡ run-list f js (run-list f is rs)
+unfolding run-list
+run-append f [] js rs = refl
+run-append f (i ∷ is) js rs = run-append f is js (f i rs)
+
+module _ (o : ℕ) (lex : Lexicon) (xs s : List ℕ) (q : ℕ) where
+  abbrev step : ℕ → List ℕ → List ℕ
+  step = offset-at o lex xs s q
+
+  agreeing-run : (a b : ℕ) (rs : List ℕ) → run-list step (agreeing-lines o lex xs s a b) rs ≡ run step a b rs
+  unfolding agreeing-lines
+  agreeing-run a b rs = run-those step (agrees-line o lex xs s) (λ i f old. offset-apart lex xs s q o i f old) (b - a) a rs
+
+  pub agreeing-reaches :
+      {w : ℕ} {lines : List ℕ} {count from to : ℕ} → Agreeing-listed o lex xs s w lines count from to → (old : List ℕ)
+      {mid now : List ℕ} {highest max-reach : ℕ} → Reaches (run-list step (take count lines) old) mid highest →
+      Reaches (run step from to mid) now max-reach → Reaches (run step 0 w old) now max-reach
+  agreeing-reaches {w} {lines} {count} {from} {to} h old listed range =
+      record {
+        is =
+            range .is
+            ∙ ap (run step from to) (listed .is)
+            ∙ sym (agreeing-run from to (run-list step (take count lines) old))
+            ∙ sym (run-append step (take count lines) (agreeing-lines o lex xs s from to) old)
+            ∙ ap (λ (is : List ℕ). run-list step is old) (sym (h .found))
+            ∙ agreeing-run 0 w old;
+        bounded = range .bounded;
+      }
