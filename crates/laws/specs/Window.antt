@@ -10,6 +10,7 @@ pub mod AgreeingLines
 pub mod LeadingLines
 pub mod AgreeingRun
 pub mod LineRanges
+pub mod Searches
 pub mod Searching
 pub mod WordLines
 pub mod AgreeingWords

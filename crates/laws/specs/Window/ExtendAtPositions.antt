@@ -6,6 +6,7 @@ use Prim.Native.Nat.{ℕ, _+_, _-_, _≤_, _<_, max}
 use native.Mathlib.Omega.{arith}
 use lib.ListN.{length, getD, drop, set, length-set}
 use Rattle.basics.specs.Bools.{clash}
+use Rattle.spec.specs.Index.{greatest-number}
 use Rattle.models.specs.Window.{extend-all, positions-all}
 use Rattle.laws.specs.Window.Window.{Within, within-more, within-set, Reaches, Progress, progress-start, progress-step, progress-pass}
 use Rattle.laws.specs.Window.Window.{progress-end}
@@ -15,7 +16,7 @@ use Rattle.laws.specs.Window.ListRange.{Window-range}
 -- a key of this length shares a position with the string at the offset, and the numbers that the pass computes are small
 pub record Offset-fits (len i o q : ℕ) : Type 0 where
   pub shared : i ≤ o + len
-  pub end-small : o + len ≤ 65535
+  pub end-small : o + len ≤ greatest-number
   pub first-small : q ≤ 65536
 
 -- a key of an index that starts within the string
@@ -29,7 +30,7 @@ pub record Extends (o end : ℕ) (rs : List ℕ) (p : ℕ) (r : Bool) (now : Lis
   pub extended : r ≡ true → (o ≤ getD rs p 0) × (getD rs p 0 < end) × (now ≡ set rs p end)
   pub passed : r ≡ false → (o ≤ getD rs p 0 → end ≤ getD rs p 0) × (now ≡ rs)
 
-module _ (o end : ℕ) (rs : List ℕ) (p : ℕ) where
+module _ {o end : ℕ} {rs : List ℕ} {p : ℕ} where
   pub extends-here : o ≤ getD rs p 0 → getD rs p 0 < end → Extends o end rs p true (set rs p end)
   extends-here near gain = record { extended = λ t. (near, gain, refl); passed = λ f. clash refl f }
 
@@ -45,8 +46,8 @@ pub record Extending (bs : List ℕ) (l i o q : ℕ) (old : List ℕ) (max-reach
   pub top-small : highest ≤ max max-reach (max o (o + l - i))
 
 pub extending-start :
-    (bs : List ℕ) (l i o q : ℕ) (old : List ℕ) (max-reach : ℕ) → Within max-reach old → Extending bs l i o q old max-reach old max-reach 0
-extending-start bs l i o q old max-reach w =
+    {bs : List ℕ} {l i o q : ℕ} {old : List ℕ} {max-reach : ℕ} → Within max-reach old → Extending bs l i o q old max-reach old max-reach 0
+extending-start {bs} {l} {i} {o} {q} {old} {max-reach} w =
     record { within = omega arith; way = progress-start (positions-all i o l q bs) old max-reach w; top-small = omega arith }
 
 module _ {bs : List ℕ} {l i o q : ℕ} {old : List ℕ} {max-reach : ℕ} {rs : List ℕ} {highest j : ℕ}
@@ -122,10 +123,10 @@ module _ {bs : List ℕ} {l i o q : ℕ} {old : List ℕ} {max-reach : ℕ} {rs 
 
 -- THE PASS OVER A WINDOW'S RANGE
 
-module _ {bs : List ℕ} (l : ℕ) {i o q : ℕ} (old : List ℕ) (max-reach : ℕ) {a b : ℕ} (r : Window-range bs i o q (length old) a b) where
+module _ {bs : List ℕ} {l i o q : ℕ} {old : List ℕ} {max-reach a b : ℕ} (r : Window-range bs i o q (length old) a b) where
   pub range-start : Within max-reach old → Extending bs l i o q old max-reach old max-reach a
   range-start w =
-      extending-skip (extending-start bs l i o q old max-reach w) a (omega arith) (r .from)
+      extending-skip (extending-start w) a (omega arith) (r .from)
       (λ x m h from. absurd (omega (arith, r .below x h)))
 
   pub range-end :

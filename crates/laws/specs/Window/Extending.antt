@@ -32,9 +32,9 @@ pub record Backing (s k : List ℕ) (q : ℕ) (bs old rs : List ℕ) (highest i 
   pub within : i ≤ length k
   pub way : Progress (back-all (length k - i) i s k q bs) (back-all (length k) 0 s k q bs old) old rs highest
 
-module _ (s k : List ℕ) (q : ℕ) (bs old : List ℕ) where
-  pub backing-start : (max-reach : ℕ) → Within max-reach old → Backing s k q bs old old max-reach 0
-  backing-start max-reach w =
+module _ {s k : List ℕ} {q : ℕ} {bs old : List ℕ} where
+  pub backing-start : {max-reach : ℕ} → Within max-reach old → Backing s k q bs old old max-reach 0
+  backing-start w =
       record {
         within = omega arith;
         way =
@@ -75,9 +75,9 @@ pub record Offsets (lex : Lexicon) (ls : List Line) (s : List ℕ) (q : ℕ) (ol
   pub within : o ≤ length s
   pub way : Progress (offsets-all (length s - o) o lex ls s q) (offsets-all (length s - 1) 1 lex ls s q old) old rs highest
 
-module _ (lex : Lexicon) (ls : List Line) (s : List ℕ) (q : ℕ) (old : List ℕ) where
-  pub offsets-start : (max-reach : ℕ) → 1 ≤ length s → Within max-reach old → Offsets lex ls s q old old max-reach 1
-  offsets-start max-reach some w =
+module _ {lex : Lexicon} {ls : List Line} {s : List ℕ} {q : ℕ} {old : List ℕ} where
+  pub offsets-start : {max-reach : ℕ} → 1 ≤ length s → Within max-reach old → Offsets lex ls s q old old max-reach 1
+  offsets-start {max-reach} some w =
       record { within = some; way = progress-start (offsets-all (length s - 1) 1 lex ls s q) old max-reach w }
 
   module _ {rs : List ℕ} {highest o : ℕ} (h : Offsets lex ls s q old rs highest o) where

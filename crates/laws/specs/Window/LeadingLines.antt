@@ -16,7 +16,7 @@ use Rattle.basics.specs.Steps.{any-from, any-from-get, any-from-put, those-from
 use Rattle.basics.specs.Writing.{Writing, starts, has-room, writes, written, written-length}
 use Rattle.spec.specs.Dictionary.{Lexicon}
 use Rattle.spec.specs.Words.{spells}
-use Rattle.spec.specs.Index.{keys-of, key-at}
+use Rattle.spec.specs.Index.{key-at}
 use Rattle.spec.specs.Search.{agrees}
 use Rattle.models.specs.Reach.{reach-back}
 use Rattle.models.specs.Window.{back-all, run-from, run, positions-at, leading-at, agrees-leading, is-leading, leading-lines, run-list}
@@ -80,10 +80,6 @@ module _ (s k : List ℕ) where
 
 -- THE LINES OF LEADING KEYS
 
--- the index has every line of a list
-abbrev pub Has-lines : (numbers lines : List ℕ) → Type 0
-Has-lines xs is = (j : ℕ) → j < length is → getD is j 0 < keys-of xs
-
 -- a walk may skip steps that change nothing
 pub run-those :
     (f : ℕ → List ℕ → List ℕ) (test : ℕ → Bool) → ((i : ℕ) → test i ≡ false → (rs : List ℕ) → f i rs ≡ rs) → (n i : ℕ) (rs : List ℕ) →
@@ -120,10 +116,10 @@ module _ (lex : Lexicon) (xs s : List ℕ) where
         bounded = r .bounded;
       }
 
-  -- and the index has each of them
-  pub leading-has : (w : ℕ) (is : List ℕ) → is ≡ leading-lines lex xs s w → w ≤ keys-of xs → Has-lines xs is
+  -- and each of them is a line of a word
+  pub leading-below : (w : ℕ) (is : List ℕ) → is ≡ leading-lines lex xs s w → (j : ℕ) → j < length is → getD is j 0 < w
   unfolding leading-lines
-  leading-has w is e within j b =
+  leading-below w is e j b =
       let listed : List ℕ = those-from w 0 (is-leading lex xs s) in
       let m = those-from-get w 0 (is-leading lex xs s) (getD listed j 0) (in-getD listed j 0 (omega (arith, ap length e))) in
       rw e (omega arith)
@@ -135,68 +131,65 @@ module _ (lex : Lexicon) (xs s : List ℕ) where
 -- WALKING A LIST OF LINES
 
 -- the steps of the first j listed numbers are done, `rs` is the window now, and no reach is above `highest`
-abbrev pub Listed : (step : ℕ → List ℕ → List ℕ) → (numbers old rs : List ℕ) → (highest j : ℕ) → Type 0
-Listed f is old rs highest j = Progress (run-list f (drop j is)) (run-list f is old) old rs highest
+pub record Listed (f : ℕ → List ℕ → List ℕ) (is old rs : List ℕ) (highest j : ℕ) : Type 0 where
+  pub way : Progress (run-list f (drop j is)) (run-list f is old) old rs highest
 
-module _ (f : ℕ → List ℕ → List ℕ) (is old : List ℕ) where
-  pub listed-start : (max-reach : ℕ) → Within max-reach old → Listed f is old old max-reach 0
-  listed-start max-reach w = progress-start (run-list f is) old max-reach w
+module _ {f : ℕ → List ℕ → List ℕ} {is old : List ℕ} where
+  pub listed-start : {max-reach : ℕ} → Within max-reach old → Listed f is old old max-reach 0
+  listed-start {max-reach} w = record { way = progress-start (run-list f is) old max-reach w }
 
-  module _ (rs : List ℕ) (highest j : ℕ) (h : Listed f is old rs highest j) where
+  module _ {rs : List ℕ} {highest j : ℕ} (h : Listed f is old rs highest j) where
     pub listed-step :
         j < length is → {now : List ℕ} {max-reach : ℕ} → length now ≡ length rs → Reaches (f (getD is j 0) rs) now max-reach →
         Listed f is old now max-reach (j + 1)
     unfolding run-list
-    listed-step some {now} {max-reach} kept r =
-        progress-step (run-list f (drop (j + 1) is)) h
-        next kept r
-      where
-        next : run-list f (drop j is) rs ≡ run-list f (drop (j + 1) is) (f (getD is j 0) rs)
-        next = rw (add-one j, drop-cons is j 0)
+    listed-step some kept r =
+        record { way = progress-step (run-list f (drop (j + 1) is)) (h .way) (rw (add-one j, drop-cons is j 0)) kept r }
 
     pub listed-end : length is ≤ j → Reaches (run-list f is old) rs highest
     unfolding run-list
-    listed-end past = progress-end h (rw (drop-of-length-le is past))
+    listed-end past = progress-end (h .way) (rw (drop-of-length-le is past))
 
 -- FILLING THE LIST
 
 -- of the first w lines those from i on are still to be tested, and `count` are listed
-abbrev pub Leading : Lexicon → (numbers string : List ℕ) → (w : ℕ) → (old now : List ℕ) → (count i : ℕ) → Type 0
-Leading lex xs s w old now count i = Writing (leading-lines lex xs s w) old now (those-from (w - i) i (is-leading lex xs s)) count
+pub record Leading (lex : Lexicon) (xs s : List ℕ) (w : ℕ) (old now : List ℕ) (count i : ℕ) : Type 0 where
+  pub writing : Writing (leading-lines lex xs s w) old now (those-from (w - i) i (is-leading lex xs s)) count
 
-module _ (lex : Lexicon) (xs s : List ℕ) (w : ℕ) (old : List ℕ) where
+module _ {lex : Lexicon} {xs s : List ℕ} {w : ℕ} {old : List ℕ} where
   pub leading-start : w ≤ length old → Leading lex xs s w old old 0 0
   unfolding leading-lines
-  leading-start room = rw (sub-zero w) (starts old (leading-lines lex xs s w) 0 (omega (arith, leading-short lex xs s w)))
+  leading-start room =
+      record { writing = rw (sub-zero w) (starts old (leading-lines lex xs s w) 0 (omega (arith, leading-short lex xs s w))) }
 
-  module _ (now : List ℕ) (count i : ℕ) (h : Leading lex xs s w old now count i) where
+  module _ {now : List ℕ} {count i : ℕ} (h : Leading lex xs s w old now count i) where
     module _ (some : i < w) where
-      cut :
-          those-from (w - i) i (is-leading lex xs s)
-          ≡ cond (is-leading lex xs s i) (i ∷ those-from (w - (i + 1)) (i + 1) (is-leading lex xs s))
-          (those-from (w - (i + 1)) (i + 1) (is-leading lex xs s))
-      unfolding those-from
+      rest : List ℕ
+      rest = those-from (w - (i + 1)) (i + 1) (is-leading lex xs s)
+
+      cut : those-from (w - i) i (is-leading lex xs s) ≡ cond (is-leading lex xs s i) (i ∷ rest) rest
+      unfolding those-from rest
       cut = let z : w - i ≡ suc (w - suc i) = omega arith in rw (add-one i, z)
 
       pub leading-passed : false ≡ is-leading lex xs s i → Leading lex xs s w old now count (i + 1)
-      leading-passed f = rw (cut, ← f) at h
+      unfolding rest
+      leading-passed f = record { writing = rw (cut, ← f) at (h .writing) }
 
       module _ (t : true ≡ is-leading lex xs s i) where
-        here : Writing (leading-lines lex xs s w) old now (i ∷ those-from (w - (i + 1)) (i + 1) (is-leading lex xs s)) count
-        here = rw (cut, ← t) at h
+        here : Writing (leading-lines lex xs s w) old now (i ∷ rest) count
+        here = rw (cut, ← t) at (h .writing)
 
         pub leading-room : count < length now
-        leading-room =
-            has-room i (those-from (w - (i + 1)) (i + 1) (is-leading lex xs s)) here
+        leading-room = has-room i rest here
 
         pub leading-listed : Leading lex xs s w old (set now count i) (count + 1) (i + 1)
-        leading-listed =
-            writes i (those-from (w - (i + 1)) (i + 1) (is-leading lex xs s)) here
+        unfolding rest
+        leading-listed = record { writing = writes i rest here }
 
     module _ (past : w ≤ i) where
       last : Writing (leading-lines lex xs s w) old now [] count
       unfolding those-from
-      last = let z : w - i ≡ 0 = omega arith in rw z at h
+      last = let z : w - i ≡ 0 = omega arith in rw z at (h .writing)
 
       pub leading-count : count ≡ length (leading-lines lex xs s w)
       leading-count = sym (written-length (leading-lines lex xs s w) old now count last)
@@ -206,6 +199,6 @@ module _ (lex : Lexicon) (xs s : List ℕ) (w : ℕ) (old : List ℕ) where
       leading-written = written (leading-lines lex xs s w) old now count last
 
 -- the start of the filled list
-pub leading-taken : (count : ℕ) (new old now : List ℕ) → count ≡ length new → now ≡ in-front new old → take count now ≡ new
+pub leading-taken : {count : ℕ} {new now : List ℕ} (old : List ℕ) → count ≡ length new → now ≡ in-front new old → take count now ≡ new
 unfolding in-front
-leading-taken count new old now e w = rw w (take-at new (drop (length new) old) count (sym e))
+leading-taken {count} {new} old e w = rw w (take-at new (drop (length new) old) count (sym e))

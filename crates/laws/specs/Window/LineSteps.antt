@@ -206,7 +206,3 @@ module _ (lex : Lexicon) (xs s : List ℕ) (q : ℕ) where
     pub offset-done : (o : ℕ) → Reaches (key-all 0 o s k q bs rs) now max-reach → Reaches (offset-at o lex xs s q i rs) now max-reach
     unfolding offset-at
     offset-done o r = rw (key, positions) at r
-
-    pub leading-done : Reaches (back-all (length k) 0 s k q bs rs) now max-reach → Reaches (leading-at lex xs s q i rs) now max-reach
-    unfolding leading-at
-    leading-done r = rw (key, positions) at r

@@ -54,10 +54,9 @@ pub record Window-range (bs : List ℕ) (i o q n a b : ℕ) : Type 0 where
   pub above : (k : ℕ) → b ≤ k → k < length bs → n + (q + o) ≤ getD bs k 0 + i
 
 pub window-range :
-    (bs : List ℕ) (i o q n a b low high : ℕ) → low ≡ q + o - i → high ≡ q + o + n - i → List-lower-bound bs low a →
-    List-lower-bound bs high b →
-    Window-range bs i o q n a b
-window-range bs i o q n a b low high l h front back =
+    {bs : List ℕ} {i o q n a b low high : ℕ} → low ≡ q + o - i → high ≡ q + o + n - i → List-lower-bound bs low a →
+    List-lower-bound bs high b → Window-range bs i o q n a b
+window-range l h front back =
     record {
       from = front .to;
       to = back .to;
