@@ -6,6 +6,7 @@
 // so one comparison tests both ends.
 ghost use Prim.Native.Nat.{_≤_, _<_};
 ghost use lib.ListN.{length};
+ghost use Rattle.spec.specs.Index.{greatest-number};
 ghost use Rattle.models.specs.Window.{positions-all, key-all};
 ghost use Rattle.laws.specs.Window.Window.{Within, Reaches};
 ghost use Rattle.laws.specs.Window.ListRange.{Ascending, Window-range};
@@ -15,16 +16,18 @@ use copying::numbers::max;
 use copying::numbers::saturating_sub;
 use postings::agreement::agrees_at;
 use std::num::wrapping_sub_usize;
+use width::Number;
+use width::number_at;
 
 // Extends the reach at index `p` to `end` if it is from `key_start` to `end` - 1. Answers whether it did.
-fn extend_start(reach: &mut [u16], p: usize, key_start: usize, end: usize) -> bool
-    requires { ⌜ (p < length (now reach)) × («key_start» ≤ end) × (end ≤ 65535) ⌝ }
+fn extend_start(reach: &mut [Number], p: usize, key_start: usize, end: usize) -> bool
+    requires { ⌜ (p < length (now reach)) × («key_start» ≤ end) × (end ≤ greatest-number) ⌝ }
     ensures { λ r. ⌜ Extends «key_start» end (now (reach .entry)) p r (now (reach .exit)) ⌝ }
 {
     let gain = end - key_start;
-    let above = wrapping_sub_usize(reach[p] as usize, key_start);
+    let above = wrapping_sub_usize(number_at(reach, p), key_start);
     if above < gain {
-        reach[p] = end as u16;
+        reach[p] = end as Number;
         return true;
     }
     false
@@ -33,12 +36,12 @@ fn extend_start(reach: &mut [u16], p: usize, key_start: usize, end: usize) -> bo
 // Extends the reach of each start of the window at which an entry of these positions lies at the offset; tests every position. Answers
 // the greatest reach afterwards.
 fn extend_at_all(
-    positions: &[u16],
+    positions: &[Number],
     len: usize,
     string_start: usize,
     key_start: usize,
     first: usize,
-    reach: &mut [u16],
+    reach: &mut [Number],
     max_reach: usize,
 ) -> usize
     requires { ⌜ Offset-fits len «string_start» «key_start» first × Within «max_reach» (now reach) ⌝ }
@@ -51,7 +54,7 @@ fn extend_at_all(
     let mut highest = max_reach;
     let mut i = 0;
     while i < positions.len() {
-        let at = positions[i] as usize + string_start;
+        let at = number_at(positions, i) + string_start;
         i += 1;
         let p = wrapping_sub_usize(at, from);
         if p < reach.len() {
@@ -66,14 +69,14 @@ fn extend_at_all(
 // Extends the reach of the starts that the positions from index `from` to `to` - 1 fall on, which are those in the window. Answers
 // the greatest reach afterwards.
 fn extend_at_range(
-    positions: &[u16],
+    positions: &[Number],
     from: usize,
     to: usize,
     len: usize,
     string_start: usize,
     key_start: usize,
     first: usize,
-    reach: &mut [u16],
+    reach: &mut [Number],
     max_reach: usize,
 ) -> usize
     requires { ⌜
@@ -88,7 +91,7 @@ fn extend_at_range(
     let mut highest = max_reach;
     let mut i = from;
     while i < to {
-        let p = positions[i] as usize + string_start - base;
+        let p = number_at(positions, i) + string_start - base;
         i += 1;
         if extend_start(reach, p, key_start, end) {
             highest = peak;
@@ -100,12 +103,12 @@ fn extend_at_range(
 // Extends the reach of each start of the window at which an entry of these positions lies at the offset: walks a short list whole, of a
 // long one the range in the window. Answers the greatest reach afterwards.
 pub(crate) fn extend_at_positions(
-    positions: &[u16],
+    positions: &[Number],
     len: usize,
     string_start: usize,
     key_start: usize,
     first: usize,
-    reach: &mut [u16],
+    reach: &mut [Number],
     max_reach: usize,
 ) -> usize
     requires { ⌜ Offset-fits len «string_start» «key_start» first × Within «max_reach» (now reach) × Ascending (now positions) ⌝ }
@@ -143,11 +146,11 @@ pub(crate) fn extend_at_positions(
 pub(crate) fn extend_key(
     key: &[u16],
     string: &[u16],
-    positions: &[u16],
+    positions: &[Number],
     string_start: usize,
     key_start: usize,
     first: usize,
-    reach: &mut [u16],
+    reach: &mut [Number],
     max_reach: usize,
 ) -> usize
     requires { ⌜

@@ -5,15 +5,15 @@
 ghost use mathlib.Core.Path.{_≡_};
 ghost use Prim.Native.Nat.{_≤_};
 ghost use lib.ListN.{length, take};
-ghost use Rattle.spec.specs.Dictionary.{lexicon};
-ghost use Rattle.spec.specs.Index.{keys-of};
 ghost use Rattle.spec.specs.Calls.{in-front};
 ghost use Rattle.models.specs.Window.{agrees-leading, leading-lines};
-ghost use Rattle.laws.specs.Directory.Tables.{Can-read, Word-starts};
+ghost use Rattle.models.specs.WordStarts.{lexicon-at};
+ghost use Rattle.laws.specs.Directory.Tables.{Reads};
 ghost use Rattle.laws.specs.Window.LineRanges.{Split};
-use directory::lines::key_of;
+use directory::lines::word_at;
 use directory::ranges::count_word_lines;
 use postings::agreement::agrees_at;
+use width::Number;
 
 // Whether a key agrees with the string at an offset of 0 or below.
 fn agrees_leading(key: &[u16], string: &[u16]) -> bool
@@ -35,22 +35,21 @@ fn agrees_leading(key: &[u16], string: &[u16]) -> bool
 }
 
 // Lists those of the first `word_lines` lines whose keys agree at an offset of 0 or below, from the start of `lines`. Answers how many.
-fn fill_leading<'a>(
-    chars: &'a [u16],
-    lengths: &[u16],
-    index: &'a [u16],
+fn fill_leading(
+    chars: &[u16],
     word_starts: &[u16],
+    index: &[Number],
     string: &[u16],
     word_lines: usize,
     lines: &mut [u16],
 ) -> usize
     requires { ⌜
-        Can-read (now chars) (now lengths) (now index) × Word-starts (now lengths) (length (now lengths)) (now «word_starts») ×
-        (1 ≤ length (now string)) × («word_lines» ≤ keys-of (now index)) × («word_lines» ≤ length (now lines)) ⌝ }
+        Reads (now chars) (now «word_starts») (now index) × Split (now index) «word_lines» × (1 ≤ length (now string)) ×
+        («word_lines» ≤ length (now lines)) ⌝ }
     ensures { λ r. ⌜
-        (r ≡ length (leading-lines (lexicon (now (chars .entry)) (now (lengths .entry))) (now (index .entry))
+        (r ≡ length (leading-lines (lexicon-at (now (chars .entry)) (now («word_starts» .entry))) (now (index .entry))
         (now (string .entry)) «word_lines»)) ×
-        (now (lines .exit) ≡ in-front (leading-lines (lexicon (now (chars .entry)) (now (lengths .entry))) (now (index .entry))
+        (now (lines .exit) ≡ in-front (leading-lines (lexicon-at (now (chars .entry)) (now («word_starts» .entry))) (now (index .entry))
         (now (string .entry)) «word_lines») (now (lines .entry))) ⌝ }
 {
     let mut count = 0;
@@ -58,7 +57,7 @@ fn fill_leading<'a>(
     while line < word_lines {
         let at = line;
         line += 1;
-        let key = key_of(chars, lengths, index, word_starts, at);
+        let key = word_at(chars, word_starts, index, at);
         if agrees_leading(key, string) {
             lines[count] = at as u16;
             count += 1;
@@ -74,32 +73,22 @@ pub struct Leading {
 }
 
 // Lists all leading lines from the start of `lines`. There is room: there are no more lines of words than words.
-pub fn list_leading<'a>(
-    chars: &'a [u16],
-    lengths: &[u16],
-    index: &'a [u16],
+pub fn list_leading(
+    chars: &[u16],
     word_starts: &[u16],
+    index: &[Number],
     string: &[u16],
     lines: &mut [u16],
 ) -> Leading
     requires { ⌜
-        Can-read (now chars) (now lengths) (now index) × Word-starts (now lengths) (length (now lengths)) (now «word_starts») ×
-        (1 ≤ length (now string)) × (4096 ≤ length (now lines)) ⌝ }
+        Reads (now chars) (now «word_starts») (now index) × (1 ≤ length (now string)) × (4096 ≤ length (now lines)) ⌝ }
     ensures { λ r. ⌜
         Split (now (index .entry)) (r .words) × (r .count ≤ length (now (lines .exit))) ×
-        (take (r .count) (now (lines .exit)) ≡ leading-lines (lexicon (now (chars .entry)) (now (lengths .entry))) (now (index .entry))
-        (now (string .entry)) (r .words)) ⌝ }
+        (take (r .count) (now (lines .exit)) ≡ leading-lines (lexicon-at (now (chars .entry)) (now («word_starts» .entry)))
+        (now (index .entry)) (now (string .entry)) (r .words)) ⌝ }
 {
     let word_lines = count_word_lines(index);
-    let count = fill_leading(
-        chars,
-        lengths,
-        index,
-        word_starts,
-        string,
-        word_lines,
-        lines,
-    );
+    let count = fill_leading(chars, word_starts, index, string, word_lines, lines);
     Leading {
         words: word_lines,
         count,

@@ -8,42 +8,45 @@ ghost use mathlib.Core.Bool.{_&&_};
 ghost use Prim.Native.Nat.{_+_, _≤_, _<_};
 ghost use lib.Dec.{ltb};
 ghost use lib.ListN.{length};
-ghost use Rattle.spec.specs.Dictionary.{lexicon};
-ghost use Rattle.spec.specs.Index.{keys-of};
+ghost use Rattle.spec.specs.Index.{greatest-number, keys-of};
 ghost use Rattle.models.specs.Window.{run, offset-at};
+ghost use Rattle.models.specs.WordStarts.{lexicon-at};
 ghost use Rattle.laws.specs.Window.Window.{Within, Reaches};
-ghost use Rattle.laws.specs.Directory.Tables.{Opened};
-ghost use Rattle.laws.specs.Window.LineRanges.{Split};
+ghost use Rattle.laws.specs.Window.Searches.{Searches};
 use crate::extend::extend_at_positions;
 use crate::extend::extend_key;
-use directory::lines::key_of;
 use directory::lines::positions_of;
-use directory::lines::word_length;
+use directory::lines::word_at;
 use directory::ranges::equal_range;
 use directory::ranges::line_lower_bound;
+use layout::fields::key_count;
+use layout::fields::value_at;
+use width::Number;
+use width::Sum;
 
-// Extends the window by one line at the offset `key_start`. Answers the greatest reach afterwards.
-fn extend_line<'a>(
-    chars: &'a [u16],
-    lengths: &[u16],
-    index: &'a [u16],
+// Extends the window by one of the first `word_lines` lines, those of words, at the offset `key_start`. Answers the greatest reach
+// afterwards.
+fn extend_line(
+    chars: &[u16],
     word_starts: &[u16],
-    list_starts: &[u32],
+    index: &[Number],
+    list_starts: &[Sum],
     string: &[u16],
     key_start: usize,
+    word_lines: usize,
     line: usize,
     first: usize,
-    reach: &mut [u16],
+    reach: &mut [Number],
     max_reach: usize,
 ) -> usize
     requires { ⌜
-        Opened (now chars) (now lengths) (now index) (now «word_starts») (now «list_starts») × («key_start» ≤ 256) ×
-        (line < keys-of (now index)) × (first ≤ 65536) × Within «max_reach» (now reach) ⌝ }
+        Searches (now chars) (now «word_starts») (now index) (now «list_starts») (now string) «word_lines» first ×
+        («key_start» < length (now string)) × (line < «word_lines») × Within «max_reach» (now reach) ⌝ }
     ensures { λ r. ⌜
-        Reaches (offset-at «key_start» (lexicon (now (chars .entry)) (now (lengths .entry))) (now (index .entry))
+        Reaches (offset-at «key_start» (lexicon-at (now (chars .entry)) (now («word_starts» .entry))) (now (index .entry))
         (now (string .entry)) first line (now (reach .entry))) (now (reach .exit)) r ⌝ }
 {
-    let key = key_of(chars, lengths, index, word_starts, line);
+    let key = word_at(chars, word_starts, index, line);
     let positions = positions_of(index, list_starts, line);
     extend_key(
         key,
@@ -57,26 +60,26 @@ fn extend_line<'a>(
     )
 }
 
-// Extends the window by the lines `from` to `to` - 1 at the offset `key_start`. Answers the greatest reach afterwards.
-fn extend_lines<'a>(
-    chars: &'a [u16],
-    lengths: &[u16],
-    index: &'a [u16],
+// Extends the window by the lines `from` to `to` - 1, all of words, at the offset `key_start`. Answers the greatest reach afterwards.
+fn extend_lines(
+    chars: &[u16],
     word_starts: &[u16],
-    list_starts: &[u32],
+    index: &[Number],
+    list_starts: &[Sum],
     string: &[u16],
     key_start: usize,
+    word_lines: usize,
     from: usize,
     to: usize,
     first: usize,
-    reach: &mut [u16],
+    reach: &mut [Number],
     max_reach: usize,
 ) -> usize
     requires { ⌜
-        Opened (now chars) (now lengths) (now index) (now «word_starts») (now «list_starts») × («key_start» ≤ 256) ×
-        (to ≤ keys-of (now index)) × (first ≤ 65536) × Within «max_reach» (now reach) ⌝ }
+        Searches (now chars) (now «word_starts») (now index) (now «list_starts») (now string) «word_lines» first ×
+        («key_start» < length (now string)) × (to ≤ «word_lines») × Within «max_reach» (now reach) ⌝ }
     ensures { λ r. ⌜
-        Reaches (run (offset-at «key_start» (lexicon (now (chars .entry)) (now (lengths .entry))) (now (index .entry))
+        Reaches (run (offset-at «key_start» (lexicon-at (now (chars .entry)) (now («word_starts» .entry))) (now (index .entry))
         (now (string .entry)) first) from to (now (reach .entry))) (now (reach .exit)) r ⌝ }
 {
     let mut highest = max_reach;
@@ -84,12 +87,12 @@ fn extend_lines<'a>(
     while line < to {
         highest = extend_line(
             chars,
-            lengths,
-            index,
             word_starts,
+            index,
             list_starts,
             string,
             key_start,
+            word_lines,
             line,
             first,
             reach,
@@ -102,31 +105,30 @@ fn extend_lines<'a>(
 
 // Whether to take another equal range of the lines `low` to `high` - 1, which share `depth` of `left` characters: not if few are left.
 fn goes_on(low: usize, high: usize, depth: usize, left: usize) -> bool
-    requires { ⌜ low ≤ 65535 ⌝ }
+    requires { ⌜ low ≤ greatest-number ⌝ }
     ensures { λ r. ⌜ r ≡ (ltb depth left && ltb (low + 4) high) ⌝ }
 {
     depth < left && low + 4 < high
 }
 
 // Extends the window by all lines of words, the first `word_lines`, at the offset `key_start`. Answers the greatest reach afterwards.
-pub(crate) fn extend_words<'a>(
-    chars: &'a [u16],
-    lengths: &[u16],
-    index: &'a [u16],
+pub(crate) fn extend_words(
+    chars: &[u16],
     word_starts: &[u16],
-    list_starts: &[u32],
+    index: &[Number],
+    list_starts: &[Sum],
     string: &[u16],
     key_start: usize,
     word_lines: usize,
     first: usize,
-    reach: &mut [u16],
+    reach: &mut [Number],
     max_reach: usize,
 ) -> usize
     requires { ⌜
-        Opened (now chars) (now lengths) (now index) (now «word_starts») (now «list_starts») × Split (now index) «word_lines» ×
-        («key_start» < length (now string)) × (length (now string) ≤ 256) × (first ≤ 65536) × Within «max_reach» (now reach) ⌝ }
+        Searches (now chars) (now «word_starts») (now index) (now «list_starts») (now string) «word_lines» first ×
+        («key_start» < length (now string)) × Within «max_reach» (now reach) ⌝ }
     ensures { λ r. ⌜
-        Reaches (run (offset-at «key_start» (lexicon (now (chars .entry)) (now (lengths .entry))) (now (index .entry))
+        Reaches (run (offset-at «key_start» (lexicon-at (now (chars .entry)) (now («word_starts» .entry))) (now (index .entry))
         (now (string .entry)) first) 0 «word_lines» (now (reach .entry))) (now (reach .exit)) r ⌝ }
 {
     let left = string.len() - key_start;
@@ -135,15 +137,15 @@ pub(crate) fn extend_words<'a>(
     let mut high = word_lines;
     let mut depth = 0;
     while goes_on(low, high, depth, left) {
-        if word_length(lengths, index, low) == depth {
+        if word_at(chars, word_starts, index, low).len() == depth {
             highest = extend_line(
                 chars,
-                lengths,
-                index,
                 word_starts,
+                index,
                 list_starts,
                 string,
                 key_start,
+                word_lines,
                 low,
                 first,
                 reach,
@@ -167,12 +169,12 @@ pub(crate) fn extend_words<'a>(
     }
     extend_lines(
         chars,
-        lengths,
-        index,
         word_starts,
+        index,
         list_starts,
         string,
         key_start,
+        word_lines,
         low,
         high,
         first,
@@ -183,31 +185,30 @@ pub(crate) fn extend_words<'a>(
 
 // Extends the window by the lone character at the offset `key_start`, which has at most one line after the first `word_lines`. Answers
 // the greatest reach afterwards.
-pub(crate) fn extend_lone<'a>(
-    chars: &'a [u16],
-    lengths: &[u16],
-    index: &'a [u16],
+pub(crate) fn extend_lone(
+    chars: &[u16],
     word_starts: &[u16],
-    list_starts: &[u32],
+    index: &[Number],
+    list_starts: &[Sum],
     string: &[u16],
     key_start: usize,
     word_lines: usize,
     first: usize,
-    reach: &mut [u16],
+    reach: &mut [Number],
     max_reach: usize,
 ) -> usize
     requires { ⌜
-        Opened (now chars) (now lengths) (now index) (now «word_starts») (now «list_starts») × Split (now index) «word_lines» ×
-        («key_start» < length (now string)) × (length (now string) ≤ 256) × (first ≤ 65536) × Within «max_reach» (now reach) ⌝ }
+        Searches (now chars) (now «word_starts») (now index) (now «list_starts») (now string) «word_lines» first ×
+        («key_start» < length (now string)) × Within «max_reach» (now reach) ⌝ }
     ensures { λ r. ⌜
-        Reaches (run (offset-at «key_start» (lexicon (now (chars .entry)) (now (lengths .entry))) (now (index .entry))
+        Reaches (run (offset-at «key_start» (lexicon-at (now (chars .entry)) (now («word_starts» .entry))) (now (index .entry))
         (now (string .entry)) first) «word_lines» (keys-of (now (index .entry))) (now (reach .entry))) (now (reach .exit)) r ⌝ }
 {
-    let keys = index[1] as usize;
-    let character = string[key_start];
-    let line = line_lower_bound(index, word_lines, keys, 1, character as usize);
+    let keys = key_count(index);
+    let character = string[key_start] as usize;
+    let line = line_lower_bound(index, word_lines, keys, 1, character);
     if line < keys {
-        if index[2 + 3 * line + 1] == character {
+        if value_at(index, line) == character {
             let positions = positions_of(index, list_starts, line);
             return extend_at_positions(positions, 1, 0, key_start, first, reach, max_reach);
         }

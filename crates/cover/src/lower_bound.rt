@@ -2,9 +2,11 @@
 //
 // The first or the last position often decides, so both are compared before the search.
 ghost use Rattle.laws.specs.Window.ListRange.{Ascending, List-lower-bound};
+use width::Number;
+use width::number_at;
 
 // The first index whose position is not below `least`, or the list's length.
-pub(crate) fn lower_bound(positions: &[u16], least: usize) -> usize
+pub(crate) fn lower_bound(positions: &[Number], least: usize) -> usize
     requires { ⌜ Ascending (now positions) ⌝ }
     ensures { λ r. ⌜ List-lower-bound (now (positions .entry)) least r ⌝ }
 {
@@ -12,17 +14,17 @@ pub(crate) fn lower_bound(positions: &[u16], least: usize) -> usize
     if count == 0 {
         return 0;
     }
-    if least <= positions[0] as usize {
+    if least <= number_at(positions, 0) {
         return 0;
     }
-    if (positions[count - 1] as usize) < least {
+    if number_at(positions, count - 1) < least {
         return count;
     }
     let mut a = 0;
     let mut b = count;
     while a < b {
         let middle = a + (b - a) / 2;
-        if (positions[middle] as usize) < least {
+        if number_at(positions, middle) < least {
             a = middle + 1;
         } else {
             b = middle;

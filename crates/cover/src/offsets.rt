@@ -1,44 +1,43 @@
 // The offsets above 0: keys that start within the string, by ascending offset.
 //
 // The greatest reach so far is carried along. Once it is below the next offset no entry can extend a start, and the work ends.
-ghost use Prim.Native.Nat.{_-_, _≤_, _<_};
+ghost use Prim.Native.Nat.{_-_, _<_};
 ghost use lib.ListN.{length};
-ghost use Rattle.spec.specs.Dictionary.{lexicon};
 ghost use Rattle.spec.specs.Index.{lines-in};
 ghost use Rattle.models.specs.Window.{offset-all, offsets-all};
+ghost use Rattle.models.specs.WordStarts.{lexicon-at};
 ghost use Rattle.laws.specs.Window.Window.{Within, Reaches};
-ghost use Rattle.laws.specs.Directory.Tables.{Opened};
-ghost use Rattle.laws.specs.Window.LineRanges.{Split};
+ghost use Rattle.laws.specs.Window.Searches.{Searches};
 use crate::lines::extend_lone;
 use crate::lines::extend_words;
+use width::Number;
+use width::Sum;
 
 // Extends the window by every key at the offset `key_start`. The first `word_lines` lines are those of words. Answers
 // the greatest reach afterwards.
-fn extend_offset<'a>(
-    chars: &'a [u16],
-    lengths: &[u16],
-    index: &'a [u16],
+fn extend_offset(
+    chars: &[u16],
     word_starts: &[u16],
-    list_starts: &[u32],
+    index: &[Number],
+    list_starts: &[Sum],
     string: &[u16],
     key_start: usize,
     word_lines: usize,
     first: usize,
-    reach: &mut [u16],
+    reach: &mut [Number],
     max_reach: usize,
 ) -> usize
     requires { ⌜
-        Opened (now chars) (now lengths) (now index) (now «word_starts») (now «list_starts») × Split (now index) «word_lines» ×
-        («key_start» < length (now string)) × (length (now string) ≤ 256) × (first ≤ 65536) × Within «max_reach» (now reach) ⌝ }
+        Searches (now chars) (now «word_starts») (now index) (now «list_starts») (now string) «word_lines» first ×
+        («key_start» < length (now string)) × Within «max_reach» (now reach) ⌝ }
     ensures { λ r. ⌜
-        Reaches (offset-all «key_start» (lexicon (now (chars .entry)) (now (lengths .entry))) (lines-in (now (index .entry)))
+        Reaches (offset-all «key_start» (lexicon-at (now (chars .entry)) (now («word_starts» .entry))) (lines-in (now (index .entry)))
         (now (string .entry)) first (now (reach .entry))) (now (reach .exit)) r ⌝ }
 {
     let highest = extend_words(
         chars,
-        lengths,
-        index,
         word_starts,
+        index,
         list_starts,
         string,
         key_start,
@@ -49,9 +48,8 @@ fn extend_offset<'a>(
     );
     extend_lone(
         chars,
-        lengths,
-        index,
         word_starts,
+        index,
         list_starts,
         string,
         key_start,
@@ -64,23 +62,22 @@ fn extend_offset<'a>(
 
 // Extends the window at the offsets above 0 in ascending order, to the end of the string or to an offset that no start reaches. Answers
 // the greatest reach afterwards.
-pub(crate) fn extend_offsets<'a>(
-    chars: &'a [u16],
-    lengths: &[u16],
-    index: &'a [u16],
+pub(crate) fn extend_offsets(
+    chars: &[u16],
     word_starts: &[u16],
-    list_starts: &[u32],
+    index: &[Number],
+    list_starts: &[Sum],
     string: &[u16],
     word_lines: usize,
     first: usize,
-    reach: &mut [u16],
+    reach: &mut [Number],
     max_reach: usize,
 ) -> usize
     requires { ⌜
-        Opened (now chars) (now lengths) (now index) (now «word_starts») (now «list_starts») × Split (now index) «word_lines» ×
-        (1 ≤ length (now string)) × (length (now string) ≤ 256) × (first ≤ 65536) × Within «max_reach» (now reach) ⌝ }
+        Searches (now chars) (now «word_starts») (now index) (now «list_starts») (now string) «word_lines» first ×
+        Within «max_reach» (now reach) ⌝ }
     ensures { λ r. ⌜
-        Reaches (offsets-all (length (now (string .entry)) - 1) 1 (lexicon (now (chars .entry)) (now (lengths .entry)))
+        Reaches (offsets-all (length (now (string .entry)) - 1) 1 (lexicon-at (now (chars .entry)) (now («word_starts» .entry)))
         (lines-in (now (index .entry))) (now (string .entry)) first (now (reach .entry))) (now (reach .exit)) r ⌝ }
 {
     let mut highest = max_reach;
@@ -91,9 +88,8 @@ pub(crate) fn extend_offsets<'a>(
         }
         highest = extend_offset(
             chars,
-            lengths,
-            index,
             word_starts,
+            index,
             list_starts,
             string,
             key_start,

@@ -2,45 +2,44 @@
 //
 // Entries are taken by ascending offset, so one pass is enough: whatever can extend the covered prefix up to an entry comes before it.
 ghost use mathlib.Core.Path.{_≡_};
-ghost use Prim.Native.Nat.{_-_, _≤_};
+ghost use Prim.Native.Nat.{_-_};
 ghost use lib.ListN.{length};
-ghost use Rattle.spec.specs.Dictionary.{lexicon};
 ghost use Rattle.spec.specs.Index.{lines-in};
 ghost use Rattle.models.specs.Window.{leading-all, offsets-all, leading-lines};
+ghost use Rattle.models.specs.WordStarts.{lexicon-at};
 ghost use Rattle.laws.specs.Window.Window.{Within, Reaches};
-ghost use Rattle.laws.specs.Directory.Tables.{Opened};
-ghost use Rattle.laws.specs.Window.LineRanges.{Split};
+ghost use Rattle.laws.specs.Window.Searches.{Searches};
 use crate::leading::extend_leading;
 use crate::offsets::extend_offsets;
+use width::Number;
+use width::Sum;
 
 // Extends the window by every key at every offset; `lines` lists the leading lines. Answers the greatest reach afterwards.
-pub fn extend_window<'a>(
-    chars: &'a [u16],
-    lengths: &[u16],
-    index: &'a [u16],
+pub fn extend_window(
+    chars: &[u16],
     word_starts: &[u16],
-    list_starts: &[u32],
+    index: &[Number],
+    list_starts: &[Sum],
     string: &[u16],
     word_lines: usize,
     lines: &[u16],
     first: usize,
-    reach: &mut [u16],
+    reach: &mut [Number],
 ) -> usize
     requires { ⌜
-        Opened (now chars) (now lengths) (now index) (now «word_starts») (now «list_starts») × Split (now index) «word_lines» ×
-        (now lines ≡ leading-lines (lexicon (now chars) (now lengths)) (now index) (now string) «word_lines») × (1 ≤ length (now string)) ×
-        (length (now string) ≤ 256) × (first ≤ 65536) × Within 0 (now reach) ⌝ }
+        Searches (now chars) (now «word_starts») (now index) (now «list_starts») (now string) «word_lines» first ×
+        (now lines ≡ leading-lines (lexicon-at (now chars) (now «word_starts»)) (now index) (now string) «word_lines») ×
+        Within 0 (now reach) ⌝ }
     ensures { λ r. ⌜
-        Reaches (offsets-all (length (now (string .entry)) - 1) 1 (lexicon (now (chars .entry)) (now (lengths .entry)))
+        Reaches (offsets-all (length (now (string .entry)) - 1) 1 (lexicon-at (now (chars .entry)) (now («word_starts» .entry)))
         (lines-in (now (index .entry))) (now (string .entry)) first
-        (leading-all (lexicon (now (chars .entry)) (now (lengths .entry))) (lines-in (now (index .entry))) (now (string .entry)) first
-        (now (reach .entry)))) (now (reach .exit)) r ⌝ }
+        (leading-all (lexicon-at (now (chars .entry)) (now («word_starts» .entry))) (lines-in (now (index .entry))) (now (string .entry))
+        first (now (reach .entry)))) (now (reach .exit)) r ⌝ }
 {
     let begun = extend_leading(
         chars,
-        lengths,
-        index,
         word_starts,
+        index,
         list_starts,
         string,
         word_lines,
@@ -51,9 +50,8 @@ pub fn extend_window<'a>(
     );
     extend_offsets(
         chars,
-        lengths,
-        index,
         word_starts,
+        index,
         list_starts,
         string,
         word_lines,

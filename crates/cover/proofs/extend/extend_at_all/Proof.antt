@@ -26,70 +26,47 @@ own :
     c .before .wrapping-sub-usize .result + (a .first + a .key-start)
     ≡ getD (a .positions .now) (c .before .before .before .before .loop .i) 0 + a .string-start
 own c =
-    let s = c .before .before .before .before .before .before .before .before .before in
-    let a = s .args in
-    let l = c .before .before .before .before .loop in
+    let a = c .before .before .before .before .before .before .before .before .before .args in
     let w = c .before .wrapping-sub-usize in
-    wrap-below (w .result) (getD (a .positions .now) (l .i) 0 + a .string-start) (a .first + a .key-start) (length (l .reach)) (w .ensures)
-    (omega arith) (c .if1 .taken)
-
-loop-holds : tie.Need-loop-holds Inv-loop μ-loop
-loop-holds c =
-    let s = c .before .before .before .before in
-    let a = s .args in
-    extending-start (a .positions .now) (a .len) (a .string-start) (a .key-start) (a .first) (a .reach .now) (a .max-reach) (s .pre .1)
-
-cast-at : tie.Need-cast-at Inv-loop μ-loop
-cast-at c = omega (arith, c .shared-slice-known2 .given (c .before .before .loop .i))
-
-add-at : tie.Need-add-at Inv-loop μ-loop
-add-at c = omega (arith, c .shared-slice-known2 .given (c .before .before .loop .i))
-
-extend-start-requires : tie.Need-extend-start-requires Inv-loop μ-loop
-extend-start-requires c κs =
-    let end = c .before .before .before .before .before .before .before .max .ensures in
-    (c .before .if1 .taken, omega (arith, end), omega (arith, end))
+    omega (
+      arith,
+      wrap-below (w .result) (c .before .before .number-at .result + a .string-start) (a .first + a .key-start)
+          (length (c .before .before .before .before .loop .reach)) (w .ensures) (omega arith) (c .if1 .taken),
+    )
 
 loop-again : tie.Need-loop-again Inv-loop μ-loop
 loop-again c =
-    let l = c .before .before .before .before .before .before .before .before .before .loop in
-    let end = c .before .before .before .before .before .before .before .before .before .before .before .max in
-    let done = c .before .before .before .extend-start in
-    extending-extended (l .inv) (c .before .before .before .before .before .before .before .before .loop-test .taken)
-    (own (c .before .before .before .before .before)) (c .before .before .before .before .before .if1 .taken) (end .ensures)
-    (done .ensures) (c .if2 .taken) (c .before .before .before .before .before .before .before .before .before .before .max2 .result)
-    (c .before .before .before .before .before .before .before .before .before .before .max2 .ensures)
+    let inside = c .before .before .before .before .before in
+    let turn = inside .before .before .before in
+    let begun = turn .before .before in
+    extending-extended (turn .before .loop .inv) (turn .loop-test .taken) (own inside) (inside .if1 .taken) (begun .before .max .ensures)
+    (c .before .before .before .extend-start .ensures) (c .if2 .taken) (begun .max2 .result) (begun .max2 .ensures)
 
 loop-again-2 : tie.Need-loop-again-2 Inv-loop μ-loop
 loop-again-2 c =
-    let l = c .before .before .before .before .before .before .before .before .before .loop in
-    let end = c .before .before .before .before .before .before .before .before .before .before .before .max in
-    let done = c .before .before .before .extend-start in
-    extending-passed (l .inv) (c .before .before .before .before .before .before .before .before .loop-test .taken)
-    (own (c .before .before .before .before .before)) (c .before .before .before .before .before .if1 .taken) (end .ensures)
-    (done .ensures) (c .if2 .left)
+    let inside = c .before .before .before .before .before in
+    let turn = inside .before .before .before in
+    extending-passed (turn .before .loop .inv) (turn .loop-test .taken) (own inside) (inside .if1 .taken)
+    (turn .before .before .before .max .ensures) (c .before .before .before .extend-start .ensures) (c .if2 .left)
 
 loop-again-3 : tie.Need-loop-again-3 Inv-loop μ-loop
 loop-again-3 c =
-    let s = c .before .before .before .before .before .before .before .before .before in
-    let a = s .args in
-    let l = c .before .before .before .before .loop in
+    let turn = c .before .before .before in
+    let a = turn .before .before .before .before .before .before .args in
     let w = c .before .wrapping-sub-usize in
-    extending-outside (l .inv) (c .before .before .before .loop-test .taken)
-    (λ from. wrap-above (w .result) (getD (a .positions .now) (l .i) 0 + a .string-start) (a .first + a .key-start) (length (l .reach))
-    (w .ensures) (w .ok)
-    (omega arith) from (c .if1 .left))
-
-returns : tie.Need-returns Inv-loop μ-loop
-returns c =
-    let l = c .before .loop in
-    extending-end (l .inv) (c .loop-test .left)
+    extending-outside (turn .before .loop .inv) (turn .loop-test .taken)
+    (λ from. omega (
+      arith,
+      wrap-above (w .result) (c .before .before .number-at .result + a .string-start) (a .first + a .key-start)
+          (length (turn .before .loop .reach)) (w .ensures) (w .ok) (omega arith) (omega arith) (c .if1 .left),
+    ))
 
 pub extend-at-all-spec : {M : Type 1} → statement M
 extend-at-all-spec =
     tie.close
     (tie.spec
-    Inv-loop μ-loop (λ c. search needs) (λ c. search needs) (λ c κs. search needs) (λ c κs. search needs) (λ c. search needs) loop-holds
-    (λ c. search needs) (λ c. search needs) cast-at add-at (λ c. search needs) (λ c κs. search needs) extend-start-requires
-    (λ c. search needs) loop-again (λ c. search needs) loop-again-2 (λ c. search needs) loop-again-3 (λ c. c .before .loop .inv .way .len)
-    returns)
+    Inv-loop μ-loop (λ c. search needs) (λ c. search needs) (λ c κs. search needs) (λ c κs. search needs) (λ c. search needs)
+    (λ c. extending-start (c .before .before .before .before .pre .1)) (λ c κs. search needs) (λ c. search needs) (λ c. search needs)
+    (λ c κs. search needs) (λ c κs. (c .before .if1 .taken, omega arith, omega arith)) (λ c. search needs) loop-again (λ c. search needs)
+    loop-again-2 (λ c. search needs) loop-again-3 (λ c. c .before .loop .inv .way .len)
+    (λ c. extending-end (c .before .loop .inv) (c .loop-test .left)))

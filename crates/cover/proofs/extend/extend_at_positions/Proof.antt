@@ -1,5 +1,4 @@
 -- `extend_at_positions` meets its contract: between the two lower bounds lie the positions that fall into the window. Assumes nothing.
-use lib.ListN.{length}
 use Rattle.laws.specs.Window.ListRange.{window-range}
 use borrow.Author.Needs.{needs}
 use Rattle.cover.proofs.extend.extend_at_positions.Statement.{statement}
@@ -8,15 +7,12 @@ use Rattle.cover.proofs.extend.extend_at_positions.Tie as tie
 extend-at-range-requires : tie.Need-extend-at-range-requires
 extend-at-range-requires c κs =
     let s = c .before .before .before .before .before .before .before .before in
-    let a = s .args in
-    let low = c .before .before .before .before .saturating-sub in
-    let high = c .before .before .saturating-sub2 in
-    let from = c .before .before .before .lower-bound in
-    let to = c .before .lower-bound2 in (
+    let low = c .before .before .before in
+    let high = c .before in (
       s .pre .0,
       s .pre .1,
-      window-range (a .positions .now) (a .string-start) (a .key-start) (a .first) (length (a .reach .now)) (from .result) (to .result)
-          (low .result) (high .result) (low .ensures) (high .ensures) (from .ensures) (to .ensures),
+      window-range (low .before .saturating-sub .ensures) (high .before .saturating-sub2 .ensures) (low .lower-bound .ensures)
+          (high .lower-bound2 .ensures),
     )
 
 pub extend-at-positions-spec : {M : Type 1} → statement M

@@ -18,76 +18,55 @@ abbrev μ-loop : tie.MeasureT-loop
 μ-loop positions from to len string-start key-start first reach₀ max-reach end peak base highest₀ i₀ reach highest i = to - i
 
 -- the start that the position falls on
-abbrev start : tie.At-loop Inv-loop μ-loop → ℕ
-start l =
-    let a = l .before .before .before .before .before .args in
-    getD (a .positions .now) (l .loop .i) 0 + a .string-start - (a .first + a .key-start)
+abbrev start : tie.After-number-at Inv-loop μ-loop → ℕ
+start c =
+    let a = c .before .before .before .before .before .before .before .args in
+    c .number-at .result + a .string-start - (a .first + a .key-start)
 
 own :
-    (c : tie.In-loop Inv-loop μ-loop) →
-    let a = c .before .before .before .before .before .before .args in
-    start (c .before) + (a .first + a .key-start) ≡ getD (a .positions .now) (c .before .loop .i) 0 + a .string-start
-own c = range-own (c .before .before .before .before .before .before .pre .2) (c .before .loop .i) (c .before .loop .inv .0)
-    (c .loop-test .taken)
+    (c : tie.After-number-at Inv-loop μ-loop) →
+    let a = c .before .before .before .before .before .before .before .args in
+    start c + (a .first + a .key-start) ≡ getD (a .positions .now) (c .before .before .loop .i) 0 + a .string-start
+own c =
+    let s = c .before .before .before .before .before .before .before in
+    let l = c .before .before .loop in
+    omega (arith, range-own (s .pre .2) (l .i) (l .inv .0) (c .before .loop-test .taken))
 
-inside : (c : tie.In-loop Inv-loop μ-loop) → start (c .before) < length (c .before .loop .reach)
+inside : (c : tie.After-number-at Inv-loop μ-loop) → start c < length (c .before .before .loop .reach)
 inside c =
-    omega (
-      arith,
-      range-inside (c .before .before .before .before .before .before .pre .2) (c .before .loop .i) (c .before .loop .inv .0)
-          (c .loop-test .taken),
-    )
+    let s = c .before .before .before .before .before .before .before in
+    let l = c .before .before .loop in
+    omega (arith, own c, range-inside (s .pre .2) (l .i) (l .inv .0) (c .before .loop-test .taken))
 
 loop-holds : tie.Need-loop-holds Inv-loop μ-loop
-loop-holds c =
-    let s = c .before .before .before .before in
-    let a = s .args in
-    (omega arith, range-start (a .len) (a .reach .now) (a .max-reach) (s .pre .2) (s .pre .1))
-
-cast-p : tie.Need-cast-p Inv-loop μ-loop
-cast-p c = omega (arith, c .shared-slice-known2 .given (c .before .before .loop .i))
-
-add-p : tie.Need-add-p Inv-loop μ-loop
-add-p c = omega (arith, c .shared-slice-known2 .given (c .before .before .loop .i))
-
-extend-start-requires : tie.Need-extend-start-requires Inv-loop μ-loop
-extend-start-requires c κs =
-    let end = c .before .before .before .before .before .max .ensures in
-    (inside (c .before .before), omega (arith, end), omega (arith, end))
+loop-holds c = let s = c .before .before .before .before in (omega arith, range-start (s .pre .2) (s .pre .1))
 
 loop-again : tie.Need-loop-again Inv-loop μ-loop
 loop-again c =
-    let l = c .before .before .before .before .before .before .before .loop in
-    let end = c .before .before .before .before .before .before .before .before .before .max in
-    let done = c .before .before .before .extend-start in (
+    let at = c .before .before .before .before .before in
+    let turn = at .before .before in (
       omega arith,
-      extending-extended (l .inv .1) (omega arith) (own (c .before .before .before .before .before .before))
-          (inside (c .before .before .before .before .before .before)) (end .ensures) (done .ensures) (c .if1 .taken)
-          (c .before .before .before .before .before .before .before .before .max2 .result)
-          (c .before .before .before .before .before .before .before .before .max2 .ensures),
+      extending-extended (turn .loop .inv .1) (omega arith) (own at) (inside at) (turn .before .before .max .ensures)
+          (c .before .before .before .extend-start .ensures) (c .if1 .taken) (turn .before .max2 .result) (turn .before .max2 .ensures),
     )
 
 loop-again-2 : tie.Need-loop-again-2 Inv-loop μ-loop
 loop-again-2 c =
-    let l = c .before .before .before .before .before .before .before .loop in
-    let end = c .before .before .before .before .before .before .before .before .before .max in
-    let done = c .before .before .before .extend-start in (
+    let at = c .before .before .before .before .before in
+    let turn = at .before .before in (
       omega arith,
-      extending-passed (l .inv .1) (omega arith) (own (c .before .before .before .before .before .before))
-          (inside (c .before .before .before .before .before .before)) (end .ensures) (done .ensures) (c .if1 .left),
+      extending-passed (turn .loop .inv .1) (omega arith) (own at) (inside at) (turn .before .before .max .ensures)
+          (c .before .before .before .extend-start .ensures) (c .if1 .left),
     )
 
 returns : tie.Need-returns Inv-loop μ-loop
-returns c =
-    let s = c .before .before .before .before .before .before in
-    let a = s .args in
-    let l = c .before .loop in
-    range-end (a .len) (a .reach .now) (a .max-reach) (s .pre .2) (l .inv .1) (c .loop-test .left)
+returns c = range-end (c .before .before .before .before .before .before .pre .2) (c .before .loop .inv .1) (c .loop-test .left)
 
 pub extend-at-range-spec : {M : Type 1} → statement M
 extend-at-range-spec =
     tie.close
     (tie.spec
     Inv-loop μ-loop (λ c. search needs) (λ c. search needs) (λ c κs. search needs) (λ c κs. search needs) (λ c. search needs) loop-holds
-    (λ c. search needs) (λ c. omega arith) cast-p add-p (λ c. omega (arith, own (c .before))) (λ c. search needs) extend-start-requires
-    (λ c. search needs) loop-again (λ c. search needs) loop-again-2 (λ c. c .before .loop .inv .1 .way .len) returns)
+    (λ c κs. omega arith) (λ c. search needs) (λ c. omega (arith, own c)) (λ c. omega arith)
+    (λ c κs. (inside (c .before), omega arith, omega arith)) (λ c. omega arith) loop-again (λ c. omega arith) loop-again-2
+    (λ c. c .before .loop .inv .1 .way .len) returns)

@@ -3,7 +3,7 @@ use mathlib.Core.Path.{_≡_, sym, ap, _∙_}
 use native.Mathlib.Omega.{arith}
 use Rattle.spec.specs.Search.{agrees, agrees-at}
 use Rattle.laws.specs.Search.Offset.{agrees-offset}
-use Rattle.laws.specs.Search.Offset32.{start-fits, offset-fits32, offset-held}
+use Rattle.laws.specs.Search.Offset32.{offset-fits32, offset-held}
 use Rattle.laws.specs.Window.Extending.{extends-none, extends-all}
 use borrow.Author.Needs.{needs}
 use Rattle.cover.proofs.extend.extend_key.Statement.{statement}
@@ -12,41 +12,35 @@ use Rattle.cover.proofs.extend.extend_key.Tie as tie
 -- the answer of `agrees_at`, with the offset as two starts
 agreed :
     (c : tie.After-agrees-at) →
-    agrees (c .before .before .before .before .before .args .string .now) (c .before .before .before .before .before .args .string-start)
-    (c .before .before .before .before .before .args .key .now) (c .before .before .before .before .before .args .key-start)
-    ≡ c .agrees-at .result
+    let a = c .before .before .before .before .before .args in
+    agrees (a .string .now) (a .string-start) (a .key .now) (a .key-start) ≡ c .agrees-at .result
 agreed c =
-    let s = c .before .before .before .before .before in
-    let a = s .args in
+    let a = c .before .before .before .before .before .args in
     agrees-offset (a .string .now) (a .string-start) (a .key .now) (a .key-start)
     ∙ ap (agrees-at (a .key .now) (a .string .now)) (offset-held (a .key-start) (a .string-start) (omega arith) (omega arith))
     ∙ sym (c .agrees-at .ensures)
 
-cast-agrees-at : tie.Need-cast-agrees-at
-cast-agrees-at c = start-fits (c .before .before .before .before .args .key-start) (omega arith)
-
-cast-agrees-at-2 : tie.Need-cast-agrees-at-2
-cast-agrees-at-2 c = start-fits (c .before .before .before .before .args .string-start) (omega arith)
-
 sub-agrees-at : tie.Need-sub-agrees-at
-sub-agrees-at c = offset-fits32 (c .before .before .before .before .args .key-start)
-    (c .before .before .before .before .args .string-start) (omega arith) (omega arith)
+sub-agrees-at c =
+    let a = c .before .before .before .before .args in offset-fits32 (a .key-start) (a .string-start) (omega arith) (omega arith)
 
 returns : tie.Need-returns
 returns c =
-    let a = c .before .before .before .before .before .before .before .before .before .before .args in
+    let known = c .before .before .before .before .before in
+    let a = known .before .before .before .before .before .args in
     extends-all (a .string-start) (a .key-start) (a .string .now) (a .key .now) (a .first) (a .positions .now) (a .reach .now)
-    (agreed (c .before .before .before .before .before) ∙ c .before .before .before .before .if1 .taken)
-    (c .before .before .extend-at-positions .ensures)
+    (agreed known ∙ c .before .before .before .before .if1 .taken) (c .before .before .extend-at-positions .ensures)
 
 returns-2 : tie.Need-returns-2
 returns-2 c =
-    let a = c .before .before .before .before .before .before .args in
+    let s = c .before .before .before .before .before .before in
+    let a = s .args in
     extends-none (a .string-start) (a .key-start) (a .string .now) (a .key .now) (a .first) (a .positions .now) (a .reach .now)
-    (agreed (c .before) ∙ c .if1 .left) (a .max-reach) (c .before .before .before .before .before .before .pre .1)
+    (agreed (c .before) ∙ c .if1 .left) (a .max-reach) (s .pre .1)
 
 pub extend-key-spec : {M : Type 1} → statement M
 extend-key-spec =
     tie.close
     (tie.spec
-    cast-agrees-at cast-agrees-at-2 sub-agrees-at (λ c κs. search needs) (λ c κs. search needs) (λ c. search needs) returns returns-2)
+    (λ c. search needs) (λ c. search needs) sub-agrees-at (λ c κs. search needs) (λ c κs. search needs) (λ c. search needs) returns
+    returns-2)

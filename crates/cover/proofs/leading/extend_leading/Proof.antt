@@ -1,41 +1,92 @@
--- `extend_leading` meets its contract: the listed lines of words, then the lone character at the offset 0. Assumes nothing.
-use Rattle.spec.specs.Dictionary.{lexicon}
+-- `extend_leading` meets its contract: the listed lines of words, then the lone character at the offset 0. The invariant: the window is
+-- extended by the first i listed lines. The measure is how many are left. Assumes nothing.
+use mathlib.Core.Path.{_∙_}
+use Prim.Native.Nat.{_-_, _<_}
+use native.Mathlib.Omega.{arith}
+use borrow.Author.Needs.{needs}
+use lib.ListN.{length, getD}
+use Rattle.models.specs.Window.{leading-at}
+use Rattle.models.specs.WordStarts.{lexicon-at}
 use Rattle.laws.specs.Window.LineSteps.{leading-both}
 use Rattle.laws.specs.Window.LineRanges.{lone-single}
-use Rattle.laws.specs.Window.LeadingLines.{leading-has, leading-reaches}
-use borrow.Author.Needs.{needs}
+use Rattle.laws.specs.Window.LeadingLines.{Listed, listed-start, listed-step, listed-end, leading-below, leading-reaches}
+use Rattle.laws.specs.Window.Searches.{word-line, word-list, word-short, word-list-rises, word-leading}
 use Rattle.cover.proofs.leading.extend_leading.Statement.{statement}
 use Rattle.cover.proofs.leading.extend_leading.Tie as tie
 
-extend-words-back-requires : tie.Need-extend-words-back-requires
-extend-words-back-requires c κs =
+abbrev Inv-loop : tie.InvT-loop
+Inv-loop chars word-starts index list-starts string word-lines lines first reach₀ max-reach highest₀ i₀ reach highest i =
+    Listed (leading-at (lexicon-at chars word-starts) index string first) lines reach₀ reach highest i
+
+abbrev μ-loop : tie.MeasureT-loop
+μ-loop chars word-starts index list-starts string word-lines lines first reach₀ max-reach highest₀ i₀ reach highest i = length lines - i
+
+-- the listed line is that of a word
+below :
+    (c : tie.In-loop Inv-loop μ-loop) →
+    let a = c .before .before .before .before .before .before .before .before .before .args in
+    getD (a .lines .now) (c .before .loop .i) 0 < a .word-lines
+below c =
     let s = c .before .before .before .before .before .before .before .before .before in
-    let a = s .args in (
-      s .pre .0,
-      leading-has (lexicon (a .chars .now) (a .lengths .now)) (a .index .now) (a .string .now) (a .word-lines) (a .lines .now) (s .pre .2)
-          (s .pre .1 .within),
-      s .pre .3,
-      s .pre .5,
-      s .pre .6,
+    let a = s .args in
+    leading-below (lexicon-at (a .chars .now) (a .word-starts .now)) (a .index .now) (a .string .now) (a .word-lines) (a .lines .now)
+    (s .pre .1) (c .before .loop .i) (c .loop-test .taken)
+
+word-at-requires : tie.Need-word-at-requires Inv-loop μ-loop
+word-at-requires c κs =
+    let turn = c .before in
+    word-line (turn .before .before .before .before .before .before .before .before .before .pre .0) (below turn)
+
+positions-of-requires : tie.Need-positions-of-requires Inv-loop μ-loop
+positions-of-requires c κs =
+    let turn = c .before .before in
+    word-list (turn .before .before .before .before .before .before .before .before .before .pre .0) (below turn)
+
+extend-back-requires : tie.Need-extend-back-requires Inv-loop μ-loop
+extend-back-requires c κs =
+    let turn = c .before .before .before .before in
+    let h = turn .before .before .before .before .before .before .before .before .before .pre .0 in
+    let key = c .before .before .word-at .ensures in (
+      word-short h (below turn) key,
+      h .string .some,
+      h .first-small,
+      turn .before .loop .inv .way .bounded,
+      word-list-rises h (below turn) key (c .before .positions-of .ensures),
     )
 
-returns : tie.Need-returns
+loop-again : tie.Need-loop-again Inv-loop μ-loop
+loop-again c =
+    let turn = c .before .before .before .before .before .before .before in
+    let h = turn .before .before .before .before .before .before .before .before .before .pre .0 in
+    let done = c .before .before .extend-back in
+    listed-step (turn .before .loop .inv) (turn .loop-test .taken) (done .kept .1 .1 .1 .1 .0)
+    (word-leading h (below turn) (c .before .before .before .before .before .word-at .ensures)
+    (c .before .before .before .before .positions-of .ensures) (turn .before .loop .reach) (done .ensures))
+
+extend-lone-requires : tie.Need-extend-lone-requires Inv-loop μ-loop
+extend-lone-requires c κs =
+    let s = c .before .before .before .before .before .before .before .before .before .before in
+    (s .pre .0, omega arith, c .before .before .loop .inv .way .bounded)
+
+returns : tie.Need-returns Inv-loop μ-loop
 returns c =
-    let s =
-    c .before .before .before .before .before .before .before .before .before .before .before .before .before .before .before .before in
+    let ended = c .before .before .before .before in
+    let s = ended .before .before .before .before .before .before .before .before .before in
     let a = s .args in
-    let word-starts = c .before .before .before .before .before .before .extend-words-back in
-    let lone = c .before .before .extend-lone in
-    leading-both (lexicon (a .chars .now) (a .lengths .now)) (a .index .now) (a .string .now) (a .first) (a .word-lines) (s .pre .1 .within)
-    (lone-single (s .pre .0 .can) (s .pre .1))
-    (a .reach .now)
-    (leading-reaches (lexicon (a .chars .now) (a .lengths .now)) (a .index .now) (a .string .now) (a .first) (a .word-lines)
-    (a .lines .now) (a .reach .now)
-    (s .pre .2) (word-starts .ensures))
-    (lone .ensures)
+    let lexicon = lexicon-at (a .chars .now) (a .word-starts .now) in
+    let h = s .pre .0 in
+    leading-both lexicon (a .index .now) (a .string .now) (a .first) (a .word-lines) (h .split .within)
+    (lone-single (h .opened .reads .can) (h .split)) (a .reach .now)
+    (leading-reaches lexicon (a .index .now) (a .string .now) (a .first) (a .word-lines) (a .lines .now) (a .reach .now) (s .pre .1)
+    (listed-end (ended .before .loop .inv) (ended .loop-test .left)))
+    (c .before .before .extend-lone .ensures)
 
 pub extend-leading-spec : {M : Type 1} → statement M
 extend-leading-spec =
     tie.close
     (tie.spec
-    extend-words-back-requires (λ c κs. search needs) (λ c. search needs) returns)
+    Inv-loop μ-loop (λ c. listed-start (c .before .before .before .before .before .before .before .pre .2)) (λ c. search needs)
+    (λ c. omega arith) (λ c. omega (arith, c .shared-slice-known7 .given (c .before .before .loop .i))) (λ c. omega arith)
+    word-at-requires positions-of-requires extend-back-requires (λ c. omega arith) loop-again extend-lone-requires
+    (λ c. c .before .before .extend-lone .kept .1 .1 .1 .1 .1 .1 .1 .1 .0 ∙ c .before .before .before .before .before .loop .inv .way .len)
+    returns)

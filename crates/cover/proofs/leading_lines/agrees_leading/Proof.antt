@@ -7,7 +7,7 @@ use borrow.Author.Needs.{needs}
 use lib.ListN.{length}
 use Rattle.spec.specs.Search.{agrees, agrees-at}
 use Rattle.laws.specs.Search.Offset.{agrees-offset}
-use Rattle.laws.specs.Search.Offset32.{start-fits, offset-fits32, offset-held}
+use Rattle.laws.specs.Search.Offset32.{offset-fits32, offset-held}
 use Rattle.laws.specs.Window.LeadingLines.{Apart-to, apart-start, apart-next, apart-pass, apart-end, leading-found}
 use Rattle.cover.proofs.leading_lines.agrees_leading.Statement.{statement}
 use Rattle.cover.proofs.leading_lines.agrees_leading.Tie as tie
@@ -24,9 +24,8 @@ small c = omega arith
 -- the answer of `agrees_at`, with the offset as two starts
 agreed :
     (c : tie.After-agrees-at Inv-loop μ-loop) →
-    agrees (c .before .before .before .before .before .before .before .before .args .string .now)
-    (c .before .before .before .before .loop .i) (c .before .before .before .before .before .before .before .before .args .key .now) 0
-    ≡ c .agrees-at .result
+    let a = c .before .before .before .before .before .before .before .before .args in
+    agrees (a .string .now) (c .before .before .before .before .loop .i) (a .key .now) 0 ≡ c .agrees-at .result
 agreed c =
     let a = c .before .before .before .before .before .before .before .before .args in
     let i = c .before .before .before .before .loop .i in
@@ -36,9 +35,6 @@ agreed c =
 
 loop-holds : tie.Need-loop-holds Inv-loop μ-loop
 loop-holds c = apart-start (c .before .before .before .args .string .now) (c .before .before .before .args .key .now)
-
-cast-agrees-at : tie.Need-cast-agrees-at Inv-loop μ-loop
-cast-agrees-at c = start-fits (c .before .before .before .loop .i) (small (c .before .before))
 
 sub-agrees-at : tie.Need-sub-agrees-at Inv-loop μ-loop
 sub-agrees-at c = offset-fits32 0 (c .before .before .before .loop .i) (omega arith) (small (c .before .before))
@@ -71,5 +67,5 @@ pub agrees-leading-spec : {M : Type 1} → statement M
 agrees-leading-spec =
     tie.close
     (tie.spec
-    Inv-loop μ-loop (λ c. search needs) loop-holds (λ c. search needs) (λ c. search needs) (λ c. search needs) cast-agrees-at sub-agrees-at
-    (λ c κs. tt) returns (λ c. search needs) loop-again (λ c. search needs) loop-again-2 returns-2)
+    Inv-loop μ-loop (λ c. search needs) loop-holds (λ c. search needs) (λ c. search needs) (λ c. search needs) (λ c. search needs)
+    sub-agrees-at (λ c κs. tt) returns (λ c. search needs) loop-again (λ c. search needs) loop-again-2 returns-2)

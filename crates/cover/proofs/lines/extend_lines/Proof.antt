@@ -2,51 +2,52 @@
 -- many are left. Assumes nothing.
 use Prim.Native.Nat.{_-_}
 use native.Mathlib.Omega.{arith}
-use borrow.Author.Needs.{needs}
-use Rattle.spec.specs.Dictionary.{lexicon}
 use Rattle.models.specs.Window.{offset-at}
+use Rattle.models.specs.WordStarts.{lexicon-at}
 use Rattle.laws.specs.Window.LineSteps.{Left, left-start, left-step, left-end}
 use Rattle.cover.proofs.lines.extend_lines.Statement.{statement}
 use Rattle.cover.proofs.lines.extend_lines.Tie as tie
 
 abbrev Inv-loop : tie.InvT-loop
-Inv-loop chars lengths index word-starts list-starts string key-start from to first reach₀ max-reach highest₀ line₀ reach highest line =
-    Left (offset-at key-start (lexicon chars lengths) index string first) from to reach₀ reach highest line to
+Inv-loop chars word-starts index list-starts string key-start word-lines from to first reach₀ max-reach highest₀ line₀ reach highest line =
+    Left (offset-at key-start (lexicon-at chars word-starts) index string first) from to reach₀ reach highest line to
 
 abbrev μ-loop : tie.MeasureT-loop
-μ-loop chars lengths index word-starts list-starts string key-start from to first reach₀ max-reach highest₀ line₀ reach highest line =
+μ-loop chars word-starts index list-starts string key-start word-lines from to first reach₀ max-reach highest₀ line₀ reach highest line =
     to - line
 
 loop-holds : tie.Need-loop-holds Inv-loop μ-loop
 loop-holds c =
-    let s = c .before .before .before .before .before .before .before in
+    let s = c .before .before .before .before .before .before in
     let a = s .args in
-    left-start (offset-at (a .key-start) (lexicon (a .chars .now) (a .lengths .now)) (a .index .now) (a .string .now) (a .first)) (a .from)
-    (a .to) (a .reach .now) (a .max-reach) (s .pre .4)
+    left-start (offset-at (a .key-start) (lexicon-at (a .chars .now) (a .word-starts .now)) (a .index .now) (a .string .now) (a .first))
+    (a .from) (a .to) (a .reach .now) (a .max-reach) (s .pre .3)
 
 extend-line-requires : tie.Need-extend-line-requires Inv-loop μ-loop
 extend-line-requires c κs =
-    let s = c .before .before .before .before .before .before .before .before .before .before in
-    (s .pre .0, s .pre .1, omega arith, s .pre .3, c .before .before .loop .inv .bounded)
+    let s = c .before .before .before .before .before .before .before .before .before in
+    (s .pre .0, s .pre .1, omega arith, c .before .before .loop .inv .bounded)
 
 loop-again : tie.Need-loop-again Inv-loop μ-loop
 loop-again c =
-    let a = c .before .before .before .before .before .before .before .before .before .before .before .before .before .args in
-    let l = c .before .before .before .before .before .loop in
-    left-step (offset-at (a .key-start) (lexicon (a .chars .now) (a .lengths .now)) (a .index .now) (a .string .now) (a .first)) (a .from)
-    (a .to) (a .reach .now) (l .reach) (l .highest) (l .line) (a .to) (l .inv) (c .before .before .before .before .loop-test .taken)
-    (c .before .before .extend-line .kept .1 .1 .1 .1 .1 .1 .1 .1 .1 .0) (c .before .before .extend-line .ensures)
+    let turn = c .before .before .before .before in
+    let a = turn .before .before .before .before .before .before .before .before .args in
+    let l = turn .before .loop in
+    let done = c .before .before .extend-line in
+    left-step (offset-at (a .key-start) (lexicon-at (a .chars .now) (a .word-starts .now)) (a .index .now) (a .string .now) (a .first))
+    (a .from) (a .to) (a .reach .now) (l .reach) (l .highest) (l .line) (a .to) (l .inv) (turn .loop-test .taken)
+    (done .kept .1 .1 .1 .1 .1 .1 .1 .1 .1 .0) (done .ensures)
 
 returns : tie.Need-returns Inv-loop μ-loop
 returns c =
-    let a = c .before .before .before .before .before .before .before .before .before .args in
+    let a = c .before .before .before .before .before .before .before .before .args in
     let l = c .before .loop in
-    left-end (offset-at (a .key-start) (lexicon (a .chars .now) (a .lengths .now)) (a .index .now) (a .string .now) (a .first)) (a .from)
-    (a .to) (a .reach .now) (l .reach) (l .highest) (l .line) (a .to) (l .inv) (c .loop-test .left)
+    left-end (offset-at (a .key-start) (lexicon-at (a .chars .now) (a .word-starts .now)) (a .index .now) (a .string .now) (a .first))
+    (a .from) (a .to) (a .reach .now) (l .reach) (l .highest) (l .line) (a .to) (l .inv) (c .loop-test .left)
 
 pub extend-lines-spec : {M : Type 1} → statement M
 extend-lines-spec =
     tie.close
     (tie.spec
-    Inv-loop μ-loop loop-holds extend-line-requires (λ c. omega arith) (λ c. search needs) loop-again (λ c. c .before .loop .inv .len)
+    Inv-loop μ-loop loop-holds extend-line-requires (λ c. omega arith) (λ c. omega arith) loop-again (λ c. c .before .loop .inv .len)
     returns)

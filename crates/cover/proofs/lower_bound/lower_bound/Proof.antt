@@ -1,6 +1,6 @@
 -- `lower_bound` meets its contract: in an ascending list no position is below the first or above the last. The invariant: the lower bound
 -- is not before a and not after b. The measure is b - a. Assumes nothing.
-use Prim.Native.Nat.{ℕ, _/_, _+_, _-_}
+use Prim.Native.Nat.{_/_, _+_, _-_}
 use native.Mathlib.Omega.{arith}
 use borrow.Author.Needs.{needs}
 use lib.ListN.{length, getD}
@@ -14,52 +14,44 @@ Inv-loop positions least count a₀ b₀ a b = Bisected (λ i. getD positions i 
 abbrev μ-loop : tie.MeasureT-loop
 μ-loop positions least count a₀ b₀ a b = b - a
 
-abbrev middle : tie.At-loop Inv-loop μ-loop → ℕ
-middle turn = turn .loop .a + (turn .loop .b - turn .loop .a) / 2
-
 returns-2 : tie.Need-returns-2 Inv-loop μ-loop
 returns-2 c =
-    let start = c .before .before .before in
-    bound-first (start .pre) (start .args .least) (omega arith) (c .if2 .taken)
-
-cast-if3 : tie.Need-cast-if3 Inv-loop μ-loop
-cast-if3 c = omega (arith, c .shared-slice-known2 .given (length (c .before .before .before .before .args .positions .now) - 1))
+    let start = c .before .before .before .before in
+    bound-first (start .pre) (start .args .least) (omega arith) (omega arith)
 
 returns-3 : tie.Need-returns-3 Inv-loop μ-loop
 returns-3 c =
-    let start = c .before .before .before .before .before in
-    bound-last (start .pre) (start .args .least) (omega arith) (c .if3 .taken)
+    let start = c .before .before .before .before .before .before in
+    bound-last (start .pre) (start .args .least) (omega arith) (omega arith)
 
 loop-holds : tie.Need-loop-holds Inv-loop μ-loop
 loop-holds c =
-    let start = c .before .before .before .before .before in
+    let start = c .before .before .before .before .before .before in
     bisected-start (start .pre) (start .args .least)
-
-cast-if4 : tie.Need-cast-if4 Inv-loop μ-loop
-cast-if4 c = omega (arith, c .shared-slice-known3 .given (middle (c .before .before)))
 
 loop-again : tie.Need-loop-again Inv-loop μ-loop
 loop-again c =
     let turn = c .before .before .before in
-    let start = turn .before .before .before .before .before .before in
-    bisected-up (start .pre) (start .args .least) (turn .loop .inv) (middle turn) (omega arith) (omega arith) (c .if4 .taken)
+    let start = turn .before .before .before .before .before .before .before in
+    let l = turn .loop in
+    bisected-up (start .pre) (start .args .least) (l .inv) (l .a + (l .b - l .a) / 2) (omega arith) (omega arith) (omega arith)
 
 loop-again-2 : tie.Need-loop-again-2 Inv-loop μ-loop
 loop-again-2 c =
     let turn = c .before .before .before in
-    let start = turn .before .before .before .before .before .before in
-    bisected-down (start .pre) (start .args .least) (turn .loop .inv) (middle turn) (omega arith) (omega arith) (c .if4 .left)
+    let start = turn .before .before .before .before .before .before .before in
+    let l = turn .loop in
+    bisected-down (start .pre) (start .args .least) (l .inv) (l .a + (l .b - l .a) / 2) (omega arith) (omega arith) (omega arith)
 
 returns-4 : tie.Need-returns-4 Inv-loop μ-loop
 returns-4 c =
-    let start = c .before .before .before .before .before .before .before in
+    let start = c .before .before .before .before .before .before .before .before in
     bisected-end (start .pre) (start .args .least) (c .before .loop .inv) (c .loop-test .left)
 
 pub lower-bound-spec : {M : Type 1} → statement M
 lower-bound-spec =
     tie.close
     (tie.spec
-    Inv-loop μ-loop (λ c. search needs) (λ c. search needs) (λ c. omega (arith, c .shared-slice-known .given 0)) returns-2
-    (λ c. search needs) (λ c. search needs) (λ c. search needs) cast-if3 returns-3 loop-holds (λ c. search needs) (λ c. search needs)
-    (λ c. omega arith) (λ c. omega arith) cast-if4 (λ c. search needs) (λ c. omega arith) loop-again (λ c. omega arith) loop-again-2
-    returns-4)
+    Inv-loop μ-loop (λ c. search needs) (λ c κs. search needs) returns-2 (λ c. search needs) (λ c κs. search needs) returns-3 loop-holds
+    (λ c. search needs) (λ c. omega arith) (λ c κs. omega arith) (λ c. search needs) (λ c. omega arith) loop-again (λ c. omega arith)
+    loop-again-2 returns-4)
