@@ -4,14 +4,12 @@
 // within the last one, by binary search. A word that ends on the way agrees, and where the string ends all words left do. Where at most four
 // lines are left they are compared. Search, estimate and cut-down index each walk what is found here.
 ghost use mathlib.Core.Path.{_≡_};
-ghost use mathlib.Core.Bool.{true};
-ghost use Prim.Native.Nat.{ℕ, _+_, _≤_, _<_};
+ghost use Prim.Native.Nat.{_+_, _≤_, _<_};
 ghost use lib.ListN.{length};
 ghost use Rattle.models.specs.WordStarts.{lexicon-at};
-ghost use Rattle.models.specs.Window.{agrees-line};
 ghost use Rattle.laws.specs.Directory.Tables.{Reads};
 ghost use Rattle.laws.specs.Window.LineRanges.{Split};
-ghost use Rattle.laws.specs.Window.AgreeingLines.{Agreeing-listed};
+ghost use Rattle.laws.specs.Window.AgreeingLines.{Agreeing-listed, Range-agrees};
 ghost use Rattle.laws.specs.Window.AgreeingWords.{Refining};
 use crate::offset::agrees_at;
 use directory::lines::word_at;
@@ -138,9 +136,8 @@ pub fn agreeing_words(
     ensures { λ r. ⌜
         Agreeing-listed «key_start» (lexicon-at (now (chars .entry)) (now («word_starts» .entry))) (now (index .entry)) (now (string .entry))
         «word_lines» (r .lines) (r .count) (r .from) (r .to) ×
-        ((i : ℕ) → r .from ≤ i → i < r .to →
-        agrees-line «key_start» (lexicon-at (now (chars .entry)) (now («word_starts» .entry))) (now (index .entry)) (now (string .entry))
-        i ≡ true) ⌝ }
+        Range-agrees «key_start» (lexicon-at (now (chars .entry)) (now («word_starts» .entry))) (now (index .entry)) (now (string .entry))
+        (r .from) (r .to) ⌝ }
 {
     let refined = refine(chars, word_starts, index, string, key_start, word_lines);
     if string.len() <= key_start + refined.depth {

@@ -14,7 +14,7 @@ ghost use Rattle.laws.specs.Window.ExtendAtPositions.{Offset-fits, Extends};
 use crate::lower_bound::lower_bound;
 use copying::numbers::max;
 use copying::numbers::saturating_sub;
-use postings::agreement::agrees_at;
+use agreement::offset::agrees_at;
 use std::num::wrapping_sub_usize;
 use width::Number;
 use width::number_at;

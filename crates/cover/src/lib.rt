@@ -4,7 +4,6 @@
 // The leading keys come first, those at an offset of 0 or below, then the offsets above 0 in ascending order.
 mod extend;
 mod leading;
-pub mod leading_lines;
 mod lines;
 mod lower_bound;
 mod offsets;

@@ -1,31 +1,25 @@
-// All keys at one offset from 0 up, where a key starts within the string.
-//
-// Words are sorted, so those that share the string's next characters are one range of lines. Each further character takes the equal range
-// within the last one, by binary search, until the string ends or at most four lines are left; each line left is compared. A lone character
-// has at most one line, found by its lower bound. That the other lines do not agree is a law: skipping them needs no table.
+// All keys at one offset from 0 up, where a key starts within the string: the words that agree, listed and as one range, and the lone
+// character. That the other lines do not agree is a law: skipping them needs no table.
 ghost use mathlib.Core.Path.{_≡_};
-ghost use mathlib.Core.Bool.{_&&_};
-ghost use Prim.Native.Nat.{_+_, _≤_, _<_};
-ghost use lib.Dec.{ltb};
+ghost use mathlib.Core.Bool.{true};
+ghost use Prim.Native.Nat.{_≤_, _<_};
 ghost use lib.ListN.{length};
-ghost use Rattle.spec.specs.Index.{greatest-number, keys-of};
-ghost use Rattle.models.specs.Window.{run, offset-at};
+ghost use Rattle.spec.specs.Index.{keys-of};
+ghost use Rattle.models.specs.Window.{run, offset-at, agrees-line, run-list};
 ghost use Rattle.models.specs.WordStarts.{lexicon-at};
 ghost use Rattle.laws.specs.Window.Window.{Within, Reaches};
+ghost use Rattle.laws.specs.Window.AgreeingLines.{Lines-agree, Range-agrees};
 ghost use Rattle.laws.specs.Window.Searches.{Searches};
 use crate::extend::extend_at_positions;
-use crate::extend::extend_key;
+use agreement::lone::lone_line;
+use agreement::words::agreeing_words;
 use directory::lines::positions_of;
 use directory::lines::word_at;
-use directory::ranges::equal_range;
-use directory::ranges::line_lower_bound;
 use layout::fields::key_count;
-use layout::fields::value_at;
 use width::Number;
 use width::Sum;
 
-// Extends the window by one of the first `word_lines` lines, those of words, at the offset `key_start`. Answers the greatest reach
-// afterwards.
+// Extends the window by one line whose word agrees at the offset `key_start`. Answers the greatest reach afterwards.
 fn extend_line(
     chars: &[u16],
     word_starts: &[u16],
@@ -41,17 +35,18 @@ fn extend_line(
 ) -> usize
     requires { ⌜
         Searches (now chars) (now «word_starts») (now index) (now «list_starts») (now string) «word_lines» first ×
-        («key_start» < length (now string)) × (line < «word_lines») × Within «max_reach» (now reach) ⌝ }
+        («key_start» < length (now string)) × (line < «word_lines») ×
+        (agrees-line «key_start» (lexicon-at (now chars) (now «word_starts»)) (now index) (now string) line ≡ true) ×
+        Within «max_reach» (now reach) ⌝ }
     ensures { λ r. ⌜
         Reaches (offset-at «key_start» (lexicon-at (now (chars .entry)) (now («word_starts» .entry))) (now (index .entry))
         (now (string .entry)) first line (now (reach .entry))) (now (reach .exit)) r ⌝ }
 {
-    let key = word_at(chars, word_starts, index, line);
+    let word = word_at(chars, word_starts, index, line);
     let positions = positions_of(index, list_starts, line);
-    extend_key(
-        key,
-        string,
+    extend_at_positions(
         positions,
+        word.len(),
         0,
         key_start,
         first,
@@ -60,8 +55,52 @@ fn extend_line(
     )
 }
 
-// Extends the window by the lines `from` to `to` - 1, all of words, at the offset `key_start`. Answers the greatest reach afterwards.
-fn extend_lines(
+// Extends the window by the listed lines, whose words agree at the offset `key_start`. Answers the greatest reach afterwards.
+fn extend_listed(
+    chars: &[u16],
+    word_starts: &[u16],
+    index: &[Number],
+    list_starts: &[Sum],
+    string: &[u16],
+    key_start: usize,
+    word_lines: usize,
+    lines: &[Number],
+    first: usize,
+    reach: &mut [Number],
+    max_reach: usize,
+) -> usize
+    requires { ⌜
+        Searches (now chars) (now «word_starts») (now index) (now «list_starts») (now string) «word_lines» first ×
+        («key_start» < length (now string)) ×
+        Lines-agree «key_start» (lexicon-at (now chars) (now «word_starts»)) (now index) (now string) «word_lines» (now lines) ×
+        Within «max_reach» (now reach) ⌝ }
+    ensures { λ r. ⌜
+        Reaches (run-list (offset-at «key_start» (lexicon-at (now (chars .entry)) (now («word_starts» .entry))) (now (index .entry))
+        (now (string .entry)) first) (now (lines .entry)) (now (reach .entry))) (now (reach .exit)) r ⌝ }
+{
+    let mut highest = max_reach;
+    let mut i = 0;
+    while i < lines.len() {
+        highest = extend_line(
+            chars,
+            word_starts,
+            index,
+            list_starts,
+            string,
+            key_start,
+            word_lines,
+            lines[i] as usize,
+            first,
+            reach,
+            highest,
+        );
+        i += 1;
+    }
+    highest
+}
+
+// Extends the window by the lines `from` to `to` - 1, whose words agree at the offset `key_start`. Answers the greatest reach afterwards.
+fn extend_range(
     chars: &[u16],
     word_starts: &[u16],
     index: &[Number],
@@ -77,7 +116,9 @@ fn extend_lines(
 ) -> usize
     requires { ⌜
         Searches (now chars) (now «word_starts») (now index) (now «list_starts») (now string) «word_lines» first ×
-        («key_start» < length (now string)) × (to ≤ «word_lines») × Within «max_reach» (now reach) ⌝ }
+        («key_start» < length (now string)) × (to ≤ «word_lines») ×
+        Range-agrees «key_start» (lexicon-at (now chars) (now «word_starts»)) (now index) (now string) from to ×
+        Within «max_reach» (now reach) ⌝ }
     ensures { λ r. ⌜
         Reaches (run (offset-at «key_start» (lexicon-at (now (chars .entry)) (now («word_starts» .entry))) (now (index .entry))
         (now (string .entry)) first) from to (now (reach .entry))) (now (reach .exit)) r ⌝ }
@@ -103,14 +144,6 @@ fn extend_lines(
     highest
 }
 
-// Whether to take another equal range of the lines `low` to `high` - 1, which share `depth` of `left` characters: not if few are left.
-fn goes_on(low: usize, high: usize, depth: usize, left: usize) -> bool
-    requires { ⌜ low ≤ greatest-number ⌝ }
-    ensures { λ r. ⌜ r ≡ (ltb depth left && ltb (low + 4) high) ⌝ }
-{
-    depth < left && low + 4 < high
-}
-
 // Extends the window by all lines of words, the first `word_lines`, at the offset `key_start`. Answers the greatest reach afterwards.
 pub(crate) fn extend_words(
     chars: &[u16],
@@ -131,43 +164,16 @@ pub(crate) fn extend_words(
         Reaches (run (offset-at «key_start» (lexicon-at (now (chars .entry)) (now («word_starts» .entry))) (now (index .entry))
         (now (string .entry)) first) 0 «word_lines» (now (reach .entry))) (now (reach .exit)) r ⌝ }
 {
-    let left = string.len() - key_start;
-    let mut highest = max_reach;
-    let mut low = 0;
-    let mut high = word_lines;
-    let mut depth = 0;
-    while goes_on(low, high, depth, left) {
-        if word_at(chars, word_starts, index, low).len() == depth {
-            highest = extend_line(
-                chars,
-                word_starts,
-                index,
-                list_starts,
-                string,
-                key_start,
-                word_lines,
-                low,
-                first,
-                reach,
-                highest,
-            );
-            low += 1;
-        } else {
-            let range = equal_range(
-                chars,
-                index,
-                word_starts,
-                low,
-                high,
-                depth,
-                string[key_start + depth],
-            );
-            low = range.from;
-            high = range.to;
-            depth += 1;
-        }
-    }
-    extend_lines(
+    let agreeing = agreeing_words(
+        chars,
+        word_starts,
+        index,
+        string,
+        key_start,
+        word_lines,
+    );
+    let lines = agreeing.lines;
+    let highest = extend_listed(
         chars,
         word_starts,
         index,
@@ -175,8 +181,21 @@ pub(crate) fn extend_words(
         string,
         key_start,
         word_lines,
-        low,
-        high,
+        &lines[..agreeing.count],
+        first,
+        reach,
+        max_reach,
+    );
+    extend_range(
+        chars,
+        word_starts,
+        index,
+        list_starts,
+        string,
+        key_start,
+        word_lines,
+        agreeing.from,
+        agreeing.to,
         first,
         reach,
         highest,
@@ -204,14 +223,10 @@ pub(crate) fn extend_lone(
         Reaches (run (offset-at «key_start» (lexicon-at (now (chars .entry)) (now («word_starts» .entry))) (now (index .entry))
         (now (string .entry)) first) «word_lines» (keys-of (now (index .entry))) (now (reach .entry))) (now (reach .exit)) r ⌝ }
 {
-    let keys = key_count(index);
-    let character = string[key_start] as usize;
-    let line = line_lower_bound(index, word_lines, keys, 1, character);
-    if line < keys {
-        if value_at(index, line) == character {
-            let positions = positions_of(index, list_starts, line);
-            return extend_at_positions(positions, 1, 0, key_start, first, reach, max_reach);
-        }
+    let line = lone_line(index, word_lines, string[key_start]);
+    if key_count(index) <= line {
+        return max_reach;
     }
-    max_reach
+    let positions = positions_of(index, list_starts, line);
+    extend_at_positions(positions, 1, 0, key_start, first, reach, max_reach)
 }

@@ -13,6 +13,14 @@ use Rattle.basics.specs.Steps.{those-from, those-from-get, those-from-put, thos
 use Rattle.spec.specs.Dictionary.{Lexicon}
 use Rattle.models.specs.Window.{agrees-line, agreeing-lines}
 
+-- the listed lines are among the first w, and agree
+abbrev pub Lines-agree : (o : ℕ) → Lexicon → (numbers string : List ℕ) → (w : ℕ) → (lines : List ℕ) → Type 0
+Lines-agree o lex xs s w is = (i : ℕ) → In i is → (i < w) × (agrees-line o lex xs s i ≡ true)
+
+-- the lines `from` to `to` − 1 agree
+abbrev pub Range-agrees : (o : ℕ) → Lexicon → (numbers string : List ℕ) → (from to : ℕ) → Type 0
+Range-agrees o lex xs s from to = (i : ℕ) → from ≤ i → i < to → agrees-line o lex xs s i ≡ true
+
 module _ (o : ℕ) (lex : Lexicon) (xs s : List ℕ) where
   abbrev those : (a b : ℕ) → List ℕ
   those a b = agreeing-lines o lex xs s a b
@@ -90,7 +98,7 @@ module _ (o : ℕ) (lex : Lexicon) (xs s : List ℕ) where
         }
 
     -- a listed line is one of the first w, and agrees
-    pub listed-agrees : (i : ℕ) → In i (take count lines) → (i < w) × (agrees-line o lex xs s i ≡ true)
+    pub listed-agrees : Lines-agree o lex xs s w (take count lines)
     unfolding agreeing-lines
     listed-agrees i m =
         let here : In i (those 0 w) = rw (h .found) (in-append-left i (take count lines) (those lo hi) m) in

@@ -1,19 +1,23 @@
--- `extend_line` meets its contract: the line's word and positions are those that `extend_key` takes. Assumes nothing.
+-- `extend_line` meets its contract: a word that agrees extends the reach at each of its positions. Assumes nothing.
+use mathlib.Core.Path.{ap, _∙_}
+use mathlib.Core.List.{List}
+use Prim.Native.Nat.{ℕ}
 use borrow.Author.Needs.{needs}
+use Rattle.spec.specs.Search.{agrees}
+use Rattle.laws.specs.Window.Extending.{extends-all}
 use Rattle.laws.specs.Window.Searches.{word-line, word-fits, word-list-rises, word-offset}
 use Rattle.cover.proofs.lines.extend_line.Statement.{statement}
 use Rattle.cover.proofs.lines.extend_line.Tie as tie
 
 word-at-requires : tie.Need-word-at-requires
-word-at-requires c κs =
-    let s = c .before .before .before .before .before .before in word-line (s .pre .0) (s .pre .2)
+word-at-requires c κs = let s = c .before .before .before .before .before .before in word-line (s .pre .0) (s .pre .2)
 
-extend-key-requires : tie.Need-extend-key-requires
-extend-key-requires c κs =
+extend-at-positions-requires : tie.Need-extend-at-positions-requires
+extend-at-positions-requires c κs =
     let s = c .before .before .before .before .before .before .before .before .before in
     let key = c .before .before .word-at .ensures in (
       word-fits (s .pre .0) (s .pre .2) key (s .pre .1),
-      s .pre .3,
+      s .pre .4,
       word-list-rises (s .pre .0) (s .pre .2) key (c .before .positions-of .ensures),
     )
 
@@ -21,9 +25,13 @@ returns : tie.Need-returns
 returns c =
     let listed = c .before .before .before .before in
     let s = listed .before .before .before .before .before .before .before .before in
-    word-offset (s .pre .0) (s .pre .2) (listed .before .word-at .ensures) (listed .positions-of .ensures) (s .args .reach .now)
-    (s .args .key-start) (c .before .before .extend-key .ensures)
+    let a = s .args in
+    let key = listed .before .word-at .ensures in
+    word-offset (s .pre .0) (s .pre .2) key (listed .positions-of .ensures) (a .reach .now) (a .key-start)
+    (extends-all 0 (a .key-start) (a .string .now) (listed .before .word-at .result .now) (a .first) (listed .positions-of .result .now)
+    (a .reach .now) (ap (λ (k : List ℕ). agrees (a .string .now) 0 k (a .key-start)) key ∙ s .pre .3)
+    (c .before .before .extend-at-positions .ensures))
 
 pub extend-line-spec : {M : Type 1} → statement M
 extend-line-spec =
-    tie.close (tie.spec word-at-requires (λ c κs. search needs) extend-key-requires (λ c. search needs) returns)
+    tie.close (tie.spec word-at-requires (λ c κs. search needs) extend-at-positions-requires (λ c. search needs) returns)

@@ -12,7 +12,7 @@ ghost use Rattle.laws.specs.Directory.Tables.{Reads};
 ghost use Rattle.laws.specs.Window.LineRanges.{Split};
 use directory::lines::word_at;
 use directory::ranges::count_word_lines;
-use postings::agreement::agrees_at;
+use crate::offset::agrees_at;
 use width::Number;
 
 // Whether a key agrees with the string at an offset of 0 or below.

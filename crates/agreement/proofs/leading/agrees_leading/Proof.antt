@@ -9,8 +9,8 @@ use Rattle.spec.specs.Search.{agrees, agrees-at}
 use Rattle.laws.specs.Search.Offset.{agrees-offset}
 use Rattle.laws.specs.Search.Offset32.{offset-fits32, offset-held}
 use Rattle.laws.specs.Window.LeadingLines.{Apart-to, apart-start, apart-next, apart-pass, apart-end, leading-found}
-use Rattle.cover.proofs.leading_lines.agrees_leading.Statement.{statement}
-use Rattle.cover.proofs.leading_lines.agrees_leading.Tie as tie
+use Rattle.agreement.proofs.leading.agrees_leading.Statement.{statement}
+use Rattle.agreement.proofs.leading.agrees_leading.Tie as tie
 
 abbrev Inv-loop : tie.InvT-loop
 Inv-loop key string character i₀ i = Apart-to string key i

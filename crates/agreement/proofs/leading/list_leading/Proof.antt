@@ -6,8 +6,8 @@ use Rattle.models.specs.WordStarts.{lexicon-at}
 use Rattle.laws.specs.Window.LineRanges.{Split, kinds-rise, split-found, word-lines-few}
 use Rattle.laws.specs.Window.LeadingLines.{leading-short, leading-taken}
 use borrow.Author.Needs.{needs}
-use Rattle.cover.proofs.leading_lines.list_leading.Statement.{statement}
-use Rattle.cover.proofs.leading_lines.list_leading.Tie as tie
+use Rattle.agreement.proofs.leading.list_leading.Statement.{statement}
+use Rattle.agreement.proofs.leading.list_leading.Tie as tie
 
 -- the lines of words end there
 split :

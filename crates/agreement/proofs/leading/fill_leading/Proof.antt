@@ -10,8 +10,8 @@ use Rattle.models.specs.WordStarts.{lexicon-at}
 use Rattle.laws.specs.Directory.Tables.{spelt-short}
 use Rattle.laws.specs.Window.LeadingLines.{Leading, leading-start, leading-passed, leading-room, leading-listed, leading-count}
 use Rattle.laws.specs.Window.LeadingLines.{leading-written}
-use Rattle.cover.proofs.leading_lines.fill_leading.Statement.{statement}
-use Rattle.cover.proofs.leading_lines.fill_leading.Tie as tie
+use Rattle.agreement.proofs.leading.fill_leading.Statement.{statement}
+use Rattle.agreement.proofs.leading.fill_leading.Tie as tie
 
 abbrev Inv-loop : tie.InvT-loop
 Inv-loop chars word-starts index string word-lines lines₀ count₀ line₀ lines count line =

@@ -1,0 +1,58 @@
+-- `extend_lone` meets its contract: the character has one line, or none. Assumes nothing.
+use mathlib.Core.Path.{refl}
+use Prim.Native.Nat.{_<_}
+use native.Mathlib.Omega.{arith}
+use lib.ListN.{getD}
+use Rattle.spec.specs.Index.{keys-of}
+use borrow.Author.Needs.{needs}
+use Rattle.laws.specs.Window.LineRanges.{lone-rise, lone-done, lone-found, lone-none}
+use Rattle.laws.specs.Window.ListRange.{listed-rise}
+use Rattle.laws.specs.Window.ExtendAtPositions.{offset-fits}
+use Rattle.cover.proofs.lines.extend_lone.Statement.{statement}
+use Rattle.cover.proofs.lines.extend_lone.Tie as tie
+
+lone-line-requires : tie.Need-lone-line-requires
+lone-line-requires c κs =
+    let h = c .before .before .before .before .before .before .before .pre .0 in
+    (h .opened .reads .can .fits, lone-rise (h .opened .reads .can) (h .split))
+
+returns : tie.Need-returns
+returns c =
+    let s = c .before .before .before .before .before .before .before .before .before .before in
+    let a = s .args in
+    let h = s .pre .0 in
+    lone-none (h .opened .reads .can) (h .split) (a .string .now) (a .key-start) (getD (a .string .now) (a .key-start) 0) refl
+    (c .before .before .lone-line .ensures) (a .first) (omega arith) (a .reach .now) (a .max-reach) (s .pre .2)
+
+extend-at-positions-requires : tie.Need-extend-at-positions-requires
+extend-at-positions-requires c κs =
+    let s = c .before .before .before .before .before .before .before .before .before .before .before .before in
+    let a = s .args in
+    let h = s .pre .0 in (
+      offset-fits 1 (a .key-start) (a .first) (omega arith) (omega arith) (h .first-small),
+      s .pre .2,
+      listed-rise (h .opened .reads .can) (c .before .before .before .before .lone-line .result) (omega arith) (c .before .positions-of .result .now)
+          (c .before .positions-of .ensures),
+    )
+
+returns-2 : tie.Need-returns-2
+returns-2 c =
+    let s = c .before .before .before .before .before .before .before .before .before .before .before .before .before .before .before in
+    let a = s .args in
+    let can = s .pre .0 .opened .reads .can in
+    let split = s .pre .0 .split in
+    let line = c .before .before .before .before .before .before .before .lone-line in
+    let positions = c .before .before .before .before .positions-of in
+    let below : line .result < keys-of (a .index .now) = omega (arith, c .before .before .before .before .before .if1 .left, c .before .before .before .before .before .before .key-count .ensures .0) in
+    let character = getD (a .string .now) (a .key-start) 0 in
+    lone-found can split (a .string .now) (a .key-start) character refl (line .ensures) (a .first) below (a .reach .now)
+    (lone-done can split (a .string .now) (a .key-start) character refl (line .result) (line .ensures .from) below
+    (line .ensures .is below) (s .pre .1) (a .first) (positions .result .now) (positions .ensures) (a .reach .now)
+    (c .before .before .extend-at-positions .ensures))
+
+pub extend-lone-spec : {M : Type 1} → statement M
+extend-lone-spec =
+    tie.close
+    (tie.spec
+    (λ c. search needs) (λ c. search needs) lone-line-requires (λ c κs. search needs) returns (λ c κs. search needs)
+    extend-at-positions-requires (λ c. search needs) returns-2)
