@@ -10,9 +10,9 @@ ghost use Rattle.models.specs.Window.{agrees-leading, leading-lines};
 ghost use Rattle.models.specs.WordStarts.{lexicon-at};
 ghost use Rattle.laws.specs.Directory.Tables.{Reads};
 ghost use Rattle.laws.specs.Window.LineRanges.{Split};
+use crate::offset::agrees_at;
 use directory::lines::word_at;
 use directory::ranges::count_word_lines;
-use crate::offset::agrees_at;
 use width::Number;
 
 // Whether a key agrees with the string at an offset of 0 or below.

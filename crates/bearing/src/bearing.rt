@@ -33,12 +33,5 @@ pub fn flag_bearing(
     let mut lines: [Number; 4096] = [0; 4096];
     let leading = list_leading(chars, word_starts, index, string, &mut lines);
     flag_list(&lines[..leading.count], flags);
-    flag_offsets(
-        chars,
-        word_starts,
-        index,
-        string,
-        leading.words,
-        flags,
-    );
+    flag_offsets(chars, word_starts, index, string, leading.words, flags);
 }

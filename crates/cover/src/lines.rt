@@ -44,15 +44,7 @@ fn extend_line(
 {
     let word = word_at(chars, word_starts, index, line);
     let positions = positions_of(index, list_starts, line);
-    extend_at_positions(
-        positions,
-        word.len(),
-        0,
-        key_start,
-        first,
-        reach,
-        max_reach,
-    )
+    extend_at_positions(positions, word.len(), 0, key_start, first, reach, max_reach)
 }
 
 // Extends the window by the listed lines, whose words agree at the offset `key_start`. Answers the greatest reach afterwards.
@@ -164,14 +156,7 @@ pub(crate) fn extend_words(
         Reaches (run (offset-at «key_start» (lexicon-at (now (chars .entry)) (now («word_starts» .entry))) (now (index .entry))
         (now (string .entry)) first) 0 «word_lines» (now (reach .entry))) (now (reach .exit)) r ⌝ }
 {
-    let agreeing = agreeing_words(
-        chars,
-        word_starts,
-        index,
-        string,
-        key_start,
-        word_lines,
-    );
+    let agreeing = agreeing_words(chars, word_starts, index, string, key_start, word_lines);
     let lines = agreeing.lines;
     let highest = extend_listed(
         chars,
