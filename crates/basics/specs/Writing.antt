@@ -106,6 +106,10 @@ tail-back at now part = take at now ++ (part ++ drop (length now - at) (drop at 
 pub lent-tail-is : (at : ℕ) (now : List ℕ) → lent-tail at now ≡ drop at now
 lent-tail-is at now = take-all (length now - at) (drop at now) (omega (arith, length-drop at now))
 
+-- the rest fits into it
+pub lent-room : {all old now todo : List ℕ} {at : ℕ} → Writing all old now todo at → length todo ≤ length (lent-tail at now)
+lent-room {now} {at} w = omega (arith, ap length (lent-tail-is at now), length-drop at now)
+
 pub tail-written :
     {all old now todo : List ℕ} (part : List ℕ) {at : ℕ} → Writing all old now todo at → part ≡ over todo (lent-tail at now) →
     tail-back at now part ≡ over all old

@@ -1,10 +1,10 @@
 -- Header, directory and positions written one after the other are the numbers of an index. Assumes nothing.
-use mathlib.Core.Path.{_≡_, refl, ap, _∙_}
+use mathlib.Core.Path.{_≡_, refl, _∙_}
 use mathlib.Core.List.{List, [], _∷_, _++_}
 use Prim.Native.Nat.{ℕ, _+_, _*_, _≤_}
 use native.Mathlib.Omega.{arith}
 use lib.ListN.{length, take, drop, length-append, length-drop}
-use Rattle.basics.specs.Writing.{over, Writing, starts, appends, lent-tail, tail-back, lent-tail-is, tail-written}
+use Rattle.basics.specs.Writing.{over, Writing, starts, appends, lent-tail, tail-back, lent-room, tail-written}
 use Rattle.spec.specs.Numbers.{Line, directory, all-positions, numbers}
 use Rattle.spec.specs.Index.{header}
 
@@ -39,14 +39,7 @@ module _ (n : ℕ) (ls : List Line) (keys : ℕ) (k : keys ≡ length ls) (old :
         rw (e, len) (appends (directory ls) (all-positions ls) header-written)
 
     pub positions-room : length (all-positions ls) ≤ length (lent-tail (header + 3 * keys) now)
-    positions-room =
-        omega (
-          arith,
-          ap length (lent-tail-is (header + 3 * keys) now),
-          length-drop (header + 3 * keys) now,
-          directory-written .room,
-          directory-written .len,
-        )
+    positions-room = lent-room directory-written
 
     pub positions-start : header + 3 * keys ≤ length now
     positions-start = omega (arith, directory-written .room, directory-written .len)

@@ -1,87 +1,86 @@
 -- The walks that write the cut-down index: header, directory, positions. Assumes nothing.
-use mathlib.Core.Path.{_≡_, refl, sym, ap, _∙_, subst}
-use mathlib.Core.Bool.{true, false}
-use mathlib.Core.List.{List, _∷_, _++_}
+use mathlib.Core.Path.{_≡_, ap, _∙_}
+use mathlib.Core.List.{List, [], _∷_, _++_}
 use Prim.Native.Nat.{ℕ, _+_, _*_, _-_, _≤_, _<_}
 use native.Mathlib.Numerals.{add-one}
 use native.Mathlib.Omega.{arith}
-use lib.ListN.{length, getD, take, drop, set, length-append, drop-of-length-le}
-use lib.Seq.{drop-cons}
+use lib.ListN.{length, getD, take, drop, set, length-append, length-drop, drop-of-length-le}
+use lib.Seq.{drop-cons, length-take-le}
 use Rattle.spec.specs.Dictionary.{Lexicon}
 use Rattle.spec.specs.Words.{key}
-use Rattle.spec.specs.Numbers.{line, directory, all-positions, numbers}
+use Rattle.spec.specs.Numbers.{line, directory, all-positions}
 use Rattle.spec.specs.Index.{header, n-of, keys-of, kind-at, value-at, count-at, counts-from, lines-in}
 use Rattle.spec.specs.Cut.{bearing, cut-down}
 use Rattle.spec.specs.Calls.{in-front}
 use Rattle.models.specs.Window.{list-start}
-use Rattle.laws.specs.Numbers.Slices.{Fits, length-numbers}
-use Rattle.laws.specs.Directory.Opened.{counts-next, list-room}
-use Rattle.basics.specs.Writing.{over, Writing, starts, has-room, writes, appends, written}
-use Rattle.laws.specs.Cut.ExactFlags.{bearing-from, bears-at, bearing-done, bearing-kept, bearing-left, positions-length, Is-size}
+use Rattle.laws.specs.Numbers.Slices.{length-numbers}
+use Rattle.laws.specs.Directory.Opened.{counts-next, Is-line}
+use Rattle.laws.specs.Build.IndexWriting.{directory-room, directory-written}
+use Rattle.basics.specs.Writing.{over, Writing, starts, has-room, writes, appends, written, lent-tail, tail-back, tail-written}
+use Rattle.laws.specs.Cut.ExactFlags.{bearing-from, bearing-done, Flagged-lines, flagged-next, unflagged-next, positions-length}
+use Rattle.laws.specs.Cut.ExactFlags.{Is-size}
 
 -- THE DIRECTORY
 
--- three numbers written one after another
-pub writes-three :
-    {all old now : List ℕ} (a b c : ℕ) (todo : List ℕ) {at : ℕ} → Writing all old now (a ∷ b ∷ c ∷ todo) at →
-    Writing all old (set (set (set now at a) (at + 1) b) (at + 2) c) todo (at + 3)
-writes-three {all} {old} {now} a b c todo {at} w =
-    let one = writes a (b ∷ c ∷ todo) w in
-    let two = writes b (c ∷ todo) one in
-    let second : at + 1 + 1 ≡ at + 2 = omega arith in
-    let third : at + 2 + 1 ≡ at + 3 = omega arith in
-    rw third at (writes c todo (rw second at two))
+-- `keys` of the first i lines bear, and are in the directory
+pub record Listing (lex : Lexicon) (xs s fs old out : List ℕ) (keys i : ℕ) : Type 0 where
+  pub lines : Flagged-lines lex xs s fs
+  pub within : i ≤ keys-of xs
+  pub few : keys ≤ i
+  pub way :
+      Writing (take header old ++ directory (bearing-from lex xs s 0)) old out (directory (bearing-from lex xs s i)) (header + 3 * keys)
 
-module _ (lex : Lexicon) (xs s : List ℕ) where
-  -- the bearing lines before line i are in the directory
-  pub record Listing (from : ℕ) (old out : List ℕ) (at i : ℕ) : Type 0 where
-    pub within : i ≤ keys-of xs
-    pub way :
-        Writing (take from old ++ directory (bearing-from lex xs s 0)) old out (directory (bearing-from lex xs s i)) at
+pub listing-start :
+    {lex : Lexicon} {xs s fs : List ℕ} → Flagged-lines lex xs s fs → (out : List ℕ) →
+    header + length (directory (bearing-from lex xs s 0)) ≤ length out → Listing lex xs s fs out out 0 0
+listing-start {lex} {xs} {s} lines out room =
+    record { lines = lines; within = omega arith; few = omega arith; way = starts out (directory (bearing-from lex xs s 0)) header room }
 
-  pub listing-start :
-      (from : ℕ) (out : List ℕ) → from + length (directory (bearing-from lex xs s 0)) ≤ length out → Listing from out out from 0
-  listing-start from out room =
-      record { within = omega arith; way = starts out (directory (bearing-from lex xs s 0)) from room }
+module _ {lex : Lexicon} {xs s fs old out : List ℕ} {keys i : ℕ} (h : Listing lex xs s fs old out keys i) where
+  pub listing-end : keys-of xs ≤ i → out ≡ over (take header old ++ directory (bearing-from lex xs s 0)) old
+  unfolding directory
+  listing-end past =
+      written (take header old ++ directory (bearing-from lex xs s 0)) old out (header + 3 * keys)
+      (rw (bearing-done lex xs s i past) at (h .way))
 
-  module _ {from : ℕ} {old out : List ℕ} {at i : ℕ} (h : Listing from old out at i) where
-    pub listing-end : keys-of xs ≤ i → out ≡ over (take from old ++ directory (bearing-from lex xs s 0)) old
-    unfolding directory
-    listing-end past =
-        written (take from old ++ directory (bearing-from lex xs s 0)) old out at (rw (bearing-done lex xs s i past) at (h .way))
+  module _ (below : i < keys-of xs) where
+    module _ (some : getD fs i 0 ≡ 0 → ⊥) where
+      three :
+          directory (bearing-from lex xs s i)
+          ≡ kind-at xs i ∷ value-at xs i ∷ count-at xs i ∷ directory (bearing-from lex xs s (i + 1))
+      unfolding directory line key
+      three =
+          ap directory (flagged-next (h .lines) i below some)
+          ∙ ap
+          (λ (c : ℕ). kind-at xs i ∷ value-at xs i ∷ c ∷ directory (bearing-from lex xs s (i + 1)))
+          (positions-length (h .lines) i below)
 
-    module _ (below : i < keys-of xs) where
-      module _ (t : bears-at lex xs s i ≡ true) (fits : Fits xs) where
-        three :
-            directory (bearing-from lex xs s i)
-            ≡ kind-at xs i ∷ value-at xs i ∷ count-at xs i ∷ directory (bearing-from lex xs s (i + 1))
-        unfolding directory line key
-        three =
-            ap directory (bearing-kept lex xs s i below t)
-            ∙ ap
-            (λ (c : ℕ). kind-at xs i ∷ value-at xs i ∷ c ∷ directory (bearing-from lex xs s (i + 1)))
-            (positions-length lex xs s i below fits)
+      pub listing-room : header + 3 * keys + 3 ≤ length out
+      listing-room = omega (arith, ap length three)
 
-        way-now :
-            Writing (take from old ++ directory (bearing-from lex xs s 0)) old out
-            (kind-at xs i ∷ value-at xs i ∷ count-at xs i ∷ directory (bearing-from lex xs s (i + 1))) at
-        way-now = rw three at (h .way)
+      pub listing-step :
+          {kind value count : ℕ} → kind ≡ kind-at xs i → value ≡ value-at xs i → count ≡ count-at xs i → {now : List ℕ} →
+          now ≡ over (take (header + 3 * keys) out ++ (kind ∷ value ∷ count ∷ [])) out → Listing lex xs s fs old now (keys + 1) (i + 1)
+      listing-step {kind} {value} {count} k v n e =
+          let next : header + 3 * (keys + 1) ≡ header + 3 * keys + 3 = omega arith in
+          record {
+            lines = h .lines;
+            within = omega arith;
+            few = omega arith;
+            way =
+                rw (e, next)
+                (appends (kind ∷ value ∷ count ∷ []) (directory (bearing-from lex xs s (i + 1)))
+                (rw (k, v, n) (rw three at (h .way))));
+          }
 
-        pub listing-room : at + 2 < length out
-        listing-room = omega (arith, way-now .room, way-now .len)
-
-        pub listing-step :
-            Listing from old (set (set (set out at (kind-at xs i)) (at + 1) (value-at xs i)) (at + 2) (count-at xs i)) (at + 3) (i + 1)
-        listing-step =
-            record {
-              within = omega arith;
-              way =
-                  writes-three (kind-at xs i) (value-at xs i)
-                  (count-at xs i) (directory (bearing-from lex xs s (i + 1))) way-now;
-            }
-
-      pub listing-pass : bears-at lex xs s i ≡ false → Listing from old out at (i + 1)
-      listing-pass f = record { within = omega arith; way = rw (bearing-left lex xs s i below f) at (h .way) }
+    pub listing-pass : getD fs i 0 ≡ 0 → Listing lex xs s fs old out keys (i + 1)
+    listing-pass none =
+        record {
+          lines = h .lines;
+          within = omega arith;
+          few = omega arith;
+          way = rw (unflagged-next (h .lines) i below none) at (h .way);
+        }
 
 -- THE POSITIONS
 
@@ -115,93 +114,71 @@ module _ (bs : List ℕ) (from : ℕ) where
             way = rw z at (writes (getD bs j 0) (drop (j + 1) bs) (rw cut at (h .way)));
           }
 
-module _ (lex : Lexicon) (xs s : List ℕ) where
-  -- the positions of the bearing lines before line i are written; those of line i start at `start` in the index
-  pub record Placing (old out : List ℕ) (start at i : ℕ) : Type 0 where
-    pub within : i ≤ keys-of xs
-    pub start-is : start ≡ list-start xs i
-    pub way :
-        Writing (all-positions (bearing-from lex xs s 0)) old out (all-positions (bearing-from lex xs s i)) at
+-- the positions of the bearing lines before line i are written; those of line i start at `from` in the index
+pub record Placing (lex : Lexicon) (xs s fs old out : List ℕ) (from at i : ℕ) : Type 0 where
+  pub lines : Flagged-lines lex xs s fs
+  pub from-is : from ≡ list-start xs i
+  pub way : Writing (all-positions (bearing-from lex xs s 0)) old out (all-positions (bearing-from lex xs s i)) at
 
-  pub placing-start :
-      (out : List ℕ) → length (all-positions (bearing-from lex xs s 0)) ≤ length out → Placing out out (header + 3 * keys-of xs) 0 0
-  unfolding counts-from
-  placing-start out room =
-      record {
-        within = omega arith;
-        start-is = omega arith;
-        way = starts out (all-positions (bearing-from lex xs s 0)) 0 (omega (arith, room));
-      }
+pub placing-start :
+    {lex : Lexicon} {xs s fs : List ℕ} → Flagged-lines lex xs s fs → (out : List ℕ) →
+    length (all-positions (bearing-from lex xs s 0)) ≤ length out → {from : ℕ} → from ≡ header + 3 * keys-of xs →
+    Placing lex xs s fs out out from 0 0
+unfolding counts-from
+placing-start {lex} {xs} {s} lines out room is =
+    record {
+      lines = lines;
+      from-is = omega arith;
+      way = starts out (all-positions (bearing-from lex xs s 0)) 0 (omega (arith, room));
+    }
 
-  module _ {old out : List ℕ} {start at i : ℕ} (h : Placing old out start at i) where
-    pub placing-end : keys-of xs ≤ i → out ≡ over (all-positions (bearing-from lex xs s 0)) old
-    unfolding all-positions
-    placing-end past =
-        written (all-positions (bearing-from lex xs s 0)) old out at (rw (bearing-done lex xs s i past) at (h .way))
+module _ {lex : Lexicon} {xs s fs old out : List ℕ} {from at i : ℕ} (h : Placing lex xs s fs old out from at i) where
+  pub placing-end : keys-of xs ≤ i → out ≡ over (all-positions (bearing-from lex xs s 0)) old
+  unfolding all-positions
+  placing-end past =
+      written (all-positions (bearing-from lex xs s 0)) old out at (rw (bearing-done lex xs s i past) at (h .way))
 
-    module _ (below : i < keys-of xs) (fits : Fits xs) where
-      pub placing-there : start + count-at xs i ≤ length xs
-      placing-there = omega (arith, list-room xs i below fits)
+  -- line i, as the walk has it
+  module _ {kind value begin end : ℕ} (here : Is-line xs i kind value begin end) where
+    next-from : end ≡ list-start xs (i + 1)
+    next-from = omega (arith, counts-next i xs)
 
-      next-start : start + count-at xs i ≡ list-start xs (i + 1)
-      next-start = omega (arith, counts-next i xs)
+    part-long : length (take (end - begin) (drop begin xs)) ≡ end - begin
+    part-long = length-take-le (end - begin) (drop begin xs) (omega (arith, length-drop begin xs))
 
-      -- the part of the index lent on
-      part : List ℕ
-      part = take (start + count-at xs i - start) (drop start xs)
+    module _ (some : getD fs i 0 ≡ 0 → ⊥) where
+      way-here :
+          Writing (all-positions (bearing-from lex xs s 0)) old out
+          (take (end - begin) (drop begin xs) ++ all-positions (bearing-from lex xs s (i + 1))) at
+      unfolding all-positions line
+      way-here =
+          let size : end - begin ≡ count-at xs i = omega arith in
+          rw (size, here .from-is) (rw (flagged-next (h .lines) i (here .below) some) at (h .way))
 
-      part-is : part ≡ take (count-at xs i) (drop (list-start xs i) xs)
-      unfolding part
-      part-is =
-          let z : start + count-at xs i - start ≡ count-at xs i = omega arith in
-          rw (z, h .start-is)
+      pub placing-room : at + length (take (end - begin) (drop begin xs)) ≤ length out
+      placing-room =
+          omega (
+            arith,
+            way-here .room,
+            length-append (take (end - begin) (drop begin xs)) (all-positions (bearing-from lex xs s (i + 1))),
+          )
 
-      pub placing-counted : length (take (start + count-at xs i - start) (drop start xs)) ≡ count-at xs i
-      unfolding part
-      placing-counted = ap length part-is ∙ positions-length lex xs s i below fits
+      pub placing-step :
+          {now : List ℕ} → now ≡ over (take at out ++ take (end - begin) (drop begin xs)) out →
+          Placing lex xs s fs old now end (at + (end - begin)) (i + 1)
+      placing-step e =
+          record {
+            lines = h .lines;
+            from-is = next-from;
+            way =
+                rw e
+                (rw part-long at
+                (appends (take (end - begin) (drop begin xs)) (all-positions (bearing-from lex xs s (i + 1))) way-here));
+          }
 
-      counted : start + count-at xs i - start ≡ count-at xs i
-      counted = omega arith
-
-      module _ (t : bears-at lex xs s i ≡ true) where
-        way-here :
-            Writing (all-positions (bearing-from lex xs s 0)) old out
-            (take (start + count-at xs i - start) (drop start xs) ++ all-positions (bearing-from lex xs s (i + 1))) at
-        unfolding all-positions line part
-        way-here =
-            rw part-is (rw (bearing-kept lex xs s i below t) at (h .way))
-
-        pub placing-room : at + length (take (start + count-at xs i - start) (drop start xs)) ≤ length out
-        placing-room =
-            omega (
-              arith,
-              way-here .room,
-              way-here .len,
-              length-append (take (start + count-at xs i - start) (drop start xs)) (all-positions (bearing-from lex xs s (i + 1))),
-            )
-
-        pub placing-step :
-            (now : List ℕ) → now ≡ over (take at out ++ take (start + count-at xs i - start) (drop start xs)) out →
-            Placing old now (start + count-at xs i) (at + (start + count-at xs i - start)) (i + 1)
-        placing-step now e =
-            record {
-              within = omega arith;
-              start-is = next-start;
-              way =
-                  rw e
-                  (subst
-                  (λ (n : ℕ).
-                  Writing (all-positions (bearing-from lex xs s 0)) old
-                  (over (take at out ++ take (start + count-at xs i - start) (drop start xs)) out)
-                  (all-positions (bearing-from lex xs s (i + 1))) (at + n))
-                  (placing-counted ∙ sym counted)
-                  (appends
-                  (take (start + count-at xs i - start) (drop start xs)) (all-positions (bearing-from lex xs s (i + 1))) way-here));
-            }
-
-      pub placing-pass : bears-at lex xs s i ≡ false → Placing old out (start + count-at xs i) at (i + 1)
-      placing-pass f =
-          record { within = omega arith; start-is = next-start; way = rw (bearing-left lex xs s i below f) at (h .way) }
+    pub placing-pass : getD fs i 0 ≡ 0 → Placing lex xs s fs old out end at (i + 1)
+    placing-pass none =
+        record { lines = h .lines; from-is = next-from; way = rw (unflagged-next (h .lines) i (here .below) none) at (h .way) }
 
 -- THE WHOLE
 
@@ -213,13 +190,29 @@ unfolding cut-down
 cut-long {lex} {xs} {s} size =
     omega (arith, length-numbers (n-of xs) (bearing lex s (lines-in xs)))
 
--- the cut-down index is the numbers of the bearing lines
-module _ (lex : Lexicon) (xs s old : List ℕ) where
-  pub cut-room :
-      length (cut-down lex xs s) ≤ length old → length (numbers (n-of xs) (bearing lex s (lines-in xs))) ≤ length old
-  unfolding cut-down
-  cut-room room = room
+-- the header and the directory are written; the positions follow from `at` on
+abbrev pub Cut-listed : (lex : Lexicon) → (xs s old now : List ℕ) → (at : ℕ) → Type 0
+Cut-listed lex xs s old now at = Writing (cut-down lex xs s) old now (all-positions (bearing lex s (lines-in xs))) at
 
-  pub cut-written : over (numbers (n-of xs) (bearing lex s (lines-in xs))) old ≡ in-front (cut-down lex xs s) old
-  unfolding cut-down in-front
-  cut-written = refl
+module _ {lex : Lexicon} {xs s : List ℕ} {keys entries : ℕ} (size : Is-size lex xs s keys entries) (old : List ℕ)
+    (room : length (cut-down lex xs s) ≤ length old) {n : ℕ} (is : n ≡ n-of xs) {head : List ℕ} (e : head ≡ over (n ∷ keys ∷ []) old) where
+  headed : head ≡ over (n-of xs ∷ keys ∷ []) old
+  headed = rw is at e
+
+  pub cut-directory-room : header + length (directory (bearing lex s (lines-in xs))) ≤ length head
+  unfolding cut-down
+  cut-directory-room = rw headed (directory-room (n-of xs) (bearing lex s (lines-in xs)) keys (size .keys-are) old room)
+
+  pub cut-listed :
+      {now : List ℕ} → now ≡ over (take header head ++ directory (bearing lex s (lines-in xs))) head → {at : ℕ} → at ≡ header + 3 * keys →
+      Cut-listed lex xs s old now at
+  unfolding cut-down
+  cut-listed {now} d a =
+      rw a (directory-written (n-of xs) (bearing lex s (lines-in xs)) keys (size .keys-are) old room now (rw headed at d))
+
+-- the positions, written through the part of the slice from `at` on
+pub cut-written :
+    {all old now todo : List ℕ} {at : ℕ} → Writing all old now todo at → {part : List ℕ} → part ≡ over todo (lent-tail at now) →
+    tail-back at now part ≡ in-front all old
+unfolding in-front
+cut-written w {part} e = tail-written part w e

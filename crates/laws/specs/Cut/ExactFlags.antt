@@ -9,7 +9,7 @@ use lib.Seq.{length-take-le}
 use Rattle.spec.specs.Dictionary.{Lexicon}
 use Rattle.spec.specs.Words.{spells}
 use Rattle.spec.specs.Numbers.{Line, line, all-positions}
-use Rattle.spec.specs.Index.{keys-of, count-at, key-at, lines-in}
+use Rattle.spec.specs.Index.{greatest-number, keys-of, count-at, key-at, lines-in}
 use Rattle.spec.specs.Cut.{bears, bearing}
 use Rattle.models.specs.Window.{list-start}
 use Rattle.laws.specs.Numbers.Slices.{Fits}
@@ -33,18 +33,6 @@ module _ (lex : Lexicon) (xs s : List ℕ) where
   unfolding bearing line
   bearing-cut i below = rw (lines-next xs i below)
 
-  pub bearing-kept : (i : ℕ) → i < keys-of xs → bears-at i ≡ true → bearing-from i ≡ line-of xs i ∷ bearing-from (i + 1)
-  bearing-kept i below t = rw t at (bearing-cut i below)
-
-  pub bearing-left : (i : ℕ) → i < keys-of xs → bears-at i ≡ false → bearing-from i ≡ bearing-from (i + 1)
-  bearing-left i below f = rw f at (bearing-cut i below)
-
-  pub positions-length :
-      (i : ℕ) → i < keys-of xs → Fits xs → length (take (count-at xs i) (drop (list-start xs i) xs)) ≡ count-at xs i
-  positions-length i below fits =
-      length-take-le (count-at xs i) (drop (list-start xs i) xs)
-      (omega (arith, length-drop (list-start xs i) xs, list-room xs i below fits))
-
   -- EXACT FLAGS
 
   -- the first n flags are exact: 1 if the line bears, else 0
@@ -52,88 +40,103 @@ module _ (lex : Lexicon) (xs s : List ℕ) where
     pub room : keys-of xs ≤ length fs
     pub at : (i : ℕ) → i < n → getD fs i 0 ≡ cond (bears-at i) 1 0
 
-  pub exact-flags-get : {n : ℕ} {fs : List ℕ} → Exact-flags n fs → (i : ℕ) → i < n → (getD fs i 0 ≡ 0 → ⊥) → bears-at i ≡ true
-  exact-flags-get h i b some = by-test (bears-at i) refl
+-- the slice is long enough for its lines, and each line's flag is exact
+pub record Flagged-lines (lex : Lexicon) (xs s fs : List ℕ) : Type 0 where
+  pub fits : Fits xs
+  pub exact : Exact-flags lex xs s (keys-of xs) fs
+
+module _ {lex : Lexicon} {xs s fs : List ℕ} (lines : Flagged-lines lex xs s fs) (i : ℕ) (below : i < keys-of xs) where
+  -- a flagged line is the next of the bearing ones
+  pub flagged-next : (getD fs i 0 ≡ 0 → ⊥) → bearing-from lex xs s i ≡ line-of xs i ∷ bearing-from lex xs s (i + 1)
+  flagged-next some = by-test (bears-at lex xs s i) refl
     where
-      by-test : (t : Bool) → bears-at i ≡ t → t ≡ true
-      by-test true e = refl
-      by-test false e = absurd (some (h .at i b ∙ rw e))
+      by-test : (t : Bool) → bears-at lex xs s i ≡ t → bearing-from lex xs s i ≡ line-of xs i ∷ bearing-from lex xs s (i + 1)
+      by-test true e = rw e at (bearing-cut lex xs s i below)
+      by-test false e = absurd (some (lines .exact .at i below ∙ rw e))
 
-  pub exact-flags-none : {n : ℕ} {fs : List ℕ} → Exact-flags n fs → (i : ℕ) → i < n → getD fs i 0 ≡ 0 → bears-at i ≡ false
-  exact-flags-none {fs} h i b none = by-test (bears-at i) refl
+  -- any other is none of them
+  pub unflagged-next : getD fs i 0 ≡ 0 → bearing-from lex xs s i ≡ bearing-from lex xs s (i + 1)
+  unflagged-next none = by-test (bears-at lex xs s i) refl
     where
-      by-test : (t : Bool) → bears-at i ≡ t → t ≡ false
-      by-test true e = let one : getD fs i 0 ≡ 1 = h .at i b ∙ rw e in absurd (omega arith)
-      by-test false e = refl
+      by-test : (t : Bool) → bears-at lex xs s i ≡ t → bearing-from lex xs s i ≡ bearing-from lex xs s (i + 1)
+      by-test true e = let one : getD fs i 0 ≡ 1 = lines .exact .at i below ∙ rw e in absurd (omega arith)
+      by-test false e = rw e at (bearing-cut lex xs s i below)
 
-  -- THE SIZE
+  pub positions-length : length (take (count-at xs i) (drop (list-start xs i) xs)) ≡ count-at xs i
+  positions-length =
+      length-take-le (count-at xs i) (drop (list-start xs i) xs)
+      (omega (arith, length-drop (list-start xs i) xs, list-room xs i below (lines .fits)))
 
-  -- `keys` of the first i lines bear, with `entries` entries
-  pub record Counting (keys entries i : ℕ) : Type 0 where
-    pub within : i ≤ keys-of xs
-    pub keys-left : keys + length (bearing-from i) ≡ length (bearing-from 0)
-    pub entries-left : entries + length (all-positions (bearing-from i)) ≡ length (all-positions (bearing-from 0))
-    pub keys-few : keys ≤ i
-    pub entries-few : entries ≤ 65535 * i
+-- THE SIZE
 
-  pub counting-start : Counting 0 0 0
-  counting-start =
-      record {
-        within = omega arith;
-        keys-left = omega arith;
-        entries-left = omega arith;
-        keys-few = omega arith;
-        entries-few = omega arith;
-      }
+-- `keys` of the first i lines bear, with `entries` entries
+pub record Counting (lex : Lexicon) (xs s fs : List ℕ) (keys entries i : ℕ) : Type 0 where
+  pub lines : Flagged-lines lex xs s fs
+  pub within : i ≤ keys-of xs
+  pub keys-left : keys + length (bearing-from lex xs s i) ≡ length (bearing-from lex xs s 0)
+  pub entries-left : entries + length (all-positions (bearing-from lex xs s i)) ≡ length (all-positions (bearing-from lex xs s 0))
+  pub keys-few : keys ≤ i
+  pub entries-few : entries ≤ greatest-number * i
 
-  module _ {keys entries i : ℕ} (h : Counting keys entries i) (below : i < keys-of xs) where
-    pub counting-bears :
-        bears-at i ≡ true → count-at xs i ≤ 65535 → Fits xs → Counting (keys + 1) (entries + count-at xs i) (i + 1)
-    unfolding all-positions line
-    counting-bears t small fits =
-        record {
-          within = omega arith;
-          keys-left = omega (arith, ap length kept);
-          entries-left =
-              omega (
-                arith,
-                ap (λ (l : List Line). length (all-positions l)) kept,
-                length-append (take (count-at xs i) (drop (list-start xs i) xs)) (all-positions (bearing-from (i + 1))),
-                positions-length i below fits,
-              );
-          keys-few = omega arith;
-          entries-few = omega arith;
-        }
-      where
-        kept : bearing-from i ≡ line-of xs i ∷ bearing-from (i + 1)
-        kept = bearing-kept i below t
-
-    pub counting-passes : bears-at i ≡ false → Counting keys entries (i + 1)
-    counting-passes f =
-        record {
-          within = omega arith;
-          keys-left = rw (bearing-left i below f) at (h .keys-left);
-          entries-left = rw (bearing-left i below f) at (h .entries-left);
-          keys-few = omega arith;
-          entries-few = omega arith;
-        }
+pub counting-start : {lex : Lexicon} {xs s fs : List ℕ} → Flagged-lines lex xs s fs → Counting lex xs s fs 0 0 0
+counting-start lines =
+    record {
+      lines = lines;
+      within = omega arith;
+      keys-left = omega arith;
+      entries-left = omega arith;
+      keys-few = omega arith;
+      entries-few = omega arith;
+    }
 
 -- the number of bearing keys and of their positions
 pub record Is-size (lex : Lexicon) (xs s : List ℕ) (keys entries : ℕ) : Type 0 where
   pub keys-are : keys ≡ length (bearing lex s (lines-in xs))
   pub entries-are : entries ≡ length (all-positions (bearing lex s (lines-in xs)))
-  pub keys-small : keys ≤ 65535
-  pub entries-small : entries ≤ 65535 * 65535
+  pub keys-small : keys ≤ greatest-number
+  pub entries-small : entries ≤ greatest-number * greatest-number
 
-pub counting-end :
-    {lex : Lexicon} {xs s : List ℕ} {keys entries i : ℕ} → Counting lex xs s keys entries i → keys-of xs ≤ i → keys-of xs ≤ 65535 →
-    Is-size lex xs s keys entries
-unfolding all-positions
-counting-end {lex} {xs} {s} {i} h past few =
-    let none : bearing-from lex xs s i ≡ [] = bearing-done lex xs s i past in
-    record {
-      keys-are = omega (arith, ap length none);
-      entries-are = omega (arith, ap (λ (l : List Line). length (all-positions l)) none);
-      keys-small = omega arith;
-      entries-small = omega arith;
-    }
+module _ {lex : Lexicon} {xs s fs : List ℕ} {keys entries i : ℕ} (h : Counting lex xs s fs keys entries i) where
+  pub counting-step :
+      i < keys-of xs → (getD fs i 0 ≡ 0 → ⊥) → {count : ℕ} → count ≡ count-at xs i → count ≤ greatest-number →
+      Counting lex xs s fs (keys + 1) (entries + count) (i + 1)
+  unfolding all-positions line
+  counting-step below some is small =
+      let kept = flagged-next (h .lines) i below some in
+      record {
+        lines = h .lines;
+        within = omega arith;
+        keys-left = omega (arith, ap length kept);
+        entries-left =
+            omega (
+              arith,
+              ap (λ (l : List Line). length (all-positions l)) kept,
+              length-append (take (count-at xs i) (drop (list-start xs i) xs)) (all-positions (bearing-from lex xs s (i + 1))),
+              positions-length (h .lines) i below,
+            );
+        keys-few = omega arith;
+        entries-few = omega arith;
+      }
+
+  pub counting-pass : i < keys-of xs → getD fs i 0 ≡ 0 → Counting lex xs s fs keys entries (i + 1)
+  counting-pass below none =
+      let left = unflagged-next (h .lines) i below none in
+      record {
+        lines = h .lines;
+        within = omega arith;
+        keys-left = rw left at (h .keys-left);
+        entries-left = rw left at (h .entries-left);
+        keys-few = omega arith;
+        entries-few = omega arith;
+      }
+
+  pub counting-end : keys-of xs ≤ i → keys-of xs ≤ greatest-number → Is-size lex xs s keys entries
+  unfolding all-positions
+  counting-end past few =
+      let none : bearing-from lex xs s i ≡ [] = bearing-done lex xs s i past in
+      record {
+        keys-are = omega (arith, ap length none);
+        entries-are = omega (arith, ap (λ (l : List Line). length (all-positions l)) none);
+        keys-small = omega arith;
+        entries-small = omega arith;
+      }
