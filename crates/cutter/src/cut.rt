@@ -8,156 +8,155 @@ ghost use Rattle.spec.specs.Replaced.{replaced};
 ghost use Rattle.spec.specs.Dictionary.{lexicon};
 ghost use Rattle.spec.specs.Index.{keys-of};
 ghost use Rattle.spec.specs.Cut.{cut-down};
-ghost use Rattle.spec.specs.Calls.{index-refusal, accepted, Cut-says};
-ghost use Rattle.laws.specs.Directory.Tables.{Can-read};
+ghost use Rattle.spec.specs.Calls.{index-refusal, Cut-says};
+ghost use Rattle.models.specs.WordStarts.{lexicon-at};
+ghost use Rattle.laws.specs.Directory.Tables.{Can-read, Reads};
 ghost use Rattle.laws.specs.Search.Sizing.{Is-string, Sized};
 use crate::cutting::size_flagged;
 use crate::cutting::write_cut;
 use bearing::bearing::flag_bearing;
 use directory::tables::fill_word_starts;
 use folding::forms::replaced_string;
+use layout::fields::key_count;
+use layout::fields::line_start;
 use opening::opened::open_index;
 use spec::Answer;
+use width::Number;
 
 // Cuts the index down for a string taken as it is, with a cleared flag lent for each line.
 fn cut_lent<'a>(
     chars: &'a [u16],
-    lengths: &[u16],
-    index: &'a [u16],
+    word_starts: &[u16],
+    index: &'a [Number],
     string: &[u16],
     flags: &mut [u8],
-    output: &mut [u16],
+    output: &mut [Number],
 ) -> Answer
     requires { ⌜
-        Can-read (now chars) (now lengths) (now index) × Is-string (now string) × (keys-of (now index) ≤ length (now flags)) ×
+        Reads (now chars) (now «word_starts») (now index) × Is-string (now string) × (keys-of (now index) ≤ length (now flags)) ×
         (now flags ≡ replicate (length (now flags)) 0) ⌝ }
     ensures { λ r. ⌜
-        Sized (cut-down (lexicon (now (chars .entry)) (now (lengths .entry))) (now (index .entry)) (now (string .entry))) r
+        Sized (cut-down (lexicon-at (now (chars .entry)) (now («word_starts» .entry))) (now (index .entry)) (now (string .entry))) r
         (now (output .entry)) (now (output .exit)) ⌝ }
 {
-    let mut word_starts = [0u16; 4096];
-    fill_word_starts(lengths, &mut word_starts);
-    flag_bearing(chars, lengths, index, &word_starts, string, flags);
-    let size = size_flagged(chars, lengths, index, string, flags);
-    let count = 2 + 3 * size.keys + size.entries;
+    flag_bearing(chars, word_starts, index, string, flags);
+    let size = size_flagged(chars, word_starts, index, string, flags);
+    let count = line_start(size.keys) + size.entries;
     if output.len() < count {
         return Answer {
             refusal: 8,
             count: 0,
         };
     }
-    write_cut(chars, lengths, index, string, flags, size, output);
+    write_cut(chars, word_starts, index, string, flags, size, output);
     Answer { refusal: 0, count }
 }
 
 // Cuts down an index of at most 1,024 lines, with local flags.
 fn cut_few_lines<'a>(
     chars: &'a [u16],
-    lengths: &[u16],
-    index: &'a [u16],
+    word_starts: &[u16],
+    index: &'a [Number],
     string: &[u16],
-    output: &mut [u16],
+    output: &mut [Number],
 ) -> Answer
-    requires { ⌜ Can-read (now chars) (now lengths) (now index) × Is-string (now string) × (keys-of (now index) ≤ 1024) ⌝ }
+    requires { ⌜ Reads (now chars) (now «word_starts») (now index) × Is-string (now string) × (keys-of (now index) ≤ 1024) ⌝ }
     ensures { λ r. ⌜
-        Sized (cut-down (lexicon (now (chars .entry)) (now (lengths .entry))) (now (index .entry)) (now (string .entry))) r
+        Sized (cut-down (lexicon-at (now (chars .entry)) (now («word_starts» .entry))) (now (index .entry)) (now (string .entry))) r
         (now (output .entry)) (now (output .exit)) ⌝ }
 {
     let mut flags = [0u8; 1024];
-    cut_lent(chars, lengths, index, string, &mut flags, output)
+    cut_lent(chars, word_starts, index, string, &mut flags, output)
 }
 
 // Cuts down an index of at most 8,192 lines, with local flags.
 fn cut_some_lines<'a>(
     chars: &'a [u16],
-    lengths: &[u16],
-    index: &'a [u16],
+    word_starts: &[u16],
+    index: &'a [Number],
     string: &[u16],
-    output: &mut [u16],
+    output: &mut [Number],
 ) -> Answer
-    requires { ⌜ Can-read (now chars) (now lengths) (now index) × Is-string (now string) × (keys-of (now index) ≤ 8192) ⌝ }
+    requires { ⌜ Reads (now chars) (now «word_starts») (now index) × Is-string (now string) × (keys-of (now index) ≤ 8192) ⌝ }
     ensures { λ r. ⌜
-        Sized (cut-down (lexicon (now (chars .entry)) (now (lengths .entry))) (now (index .entry)) (now (string .entry))) r
+        Sized (cut-down (lexicon-at (now (chars .entry)) (now («word_starts» .entry))) (now (index .entry)) (now (string .entry))) r
         (now (output .entry)) (now (output .exit)) ⌝ }
 {
     let mut flags = [0u8; 8192];
-    cut_lent(chars, lengths, index, string, &mut flags, output)
+    cut_lent(chars, word_starts, index, string, &mut flags, output)
 }
 
 // Cuts down an index of any number of lines, with 65,536 local flags.
 fn cut_many_lines<'a>(
     chars: &'a [u16],
-    lengths: &[u16],
-    index: &'a [u16],
+    word_starts: &[u16],
+    index: &'a [Number],
     string: &[u16],
-    output: &mut [u16],
+    output: &mut [Number],
 ) -> Answer
-    requires { ⌜ Can-read (now chars) (now lengths) (now index) × Is-string (now string) × (keys-of (now index) ≤ 65535) ⌝ }
+    requires { ⌜ Reads (now chars) (now «word_starts») (now index) × Is-string (now string) ⌝ }
     ensures { λ r. ⌜
-        Sized (cut-down (lexicon (now (chars .entry)) (now (lengths .entry))) (now (index .entry)) (now (string .entry))) r
+        Sized (cut-down (lexicon-at (now (chars .entry)) (now («word_starts» .entry))) (now (index .entry)) (now (string .entry))) r
         (now (output .entry)) (now (output .exit)) ⌝ }
 {
     let mut flags = [0u8; 65536];
-    cut_lent(chars, lengths, index, string, &mut flags, output)
+    cut_lent(chars, word_starts, index, string, &mut flags, output)
 }
 
-// Cuts down an index of `keys` lines, with the smallest array of flags that is long enough.
+// Cuts down an index, with the smallest array of flags that is long enough.
 fn cut_lines<'a>(
     chars: &'a [u16],
-    lengths: &[u16],
-    index: &'a [u16],
-    keys: usize,
+    word_starts: &[u16],
+    index: &'a [Number],
     string: &[u16],
-    output: &mut [u16],
+    output: &mut [Number],
 ) -> Answer
-    requires { ⌜
-        Can-read (now chars) (now lengths) (now index) × Is-string (now string) × (keys-of (now index) ≤ 65535) ×
-        (keys ≡ keys-of (now index)) ⌝ }
+    requires { ⌜ Reads (now chars) (now «word_starts») (now index) × Is-string (now string) ⌝ }
     ensures { λ r. ⌜
-        Sized (cut-down (lexicon (now (chars .entry)) (now (lengths .entry))) (now (index .entry)) (now (string .entry))) r
+        Sized (cut-down (lexicon-at (now (chars .entry)) (now («word_starts» .entry))) (now (index .entry)) (now (string .entry))) r
         (now (output .entry)) (now (output .exit)) ⌝ }
 {
+    let keys = key_count(index);
     if keys <= 1024 {
-        return cut_few_lines(chars, lengths, index, string, output);
+        return cut_few_lines(chars, word_starts, index, string, output);
     }
     if keys <= 8192 {
-        return cut_some_lines(chars, lengths, index, string, output);
+        return cut_some_lines(chars, word_starts, index, string, output);
     }
-    cut_many_lines(chars, lengths, index, string, output)
+    cut_many_lines(chars, word_starts, index, string, output)
 }
 
-// Cuts the index down for a string as it is lent, which is replaced first.
+// Cuts the index down for a string as it is lent, which is replaced first, with a local table of word starts.
 fn cut_string<'a>(
     chars: &'a [u16],
     lengths: &[u16],
-    index: &'a [u16],
-    keys: usize,
+    index: &'a [Number],
     string: &[u16],
-    output: &mut [u16],
+    output: &mut [Number],
 ) -> Answer
-    requires { ⌜
-        Can-read (now chars) (now lengths) (now index) × Is-string (now string) × (keys-of (now index) ≤ 65535) ×
-        (keys ≡ keys-of (now index)) ⌝ }
+    requires { ⌜ Can-read (now chars) (now lengths) (now index) × Is-string (now string) ⌝ }
     ensures { λ r. ⌜
         Sized (cut-down (lexicon (now (chars .entry)) (now (lengths .entry))) (now (index .entry)) (replaced (now (string .entry)))) r
         (now (output .entry)) (now (output .exit)) ⌝ }
 {
     let len = string.len();
     let own = replaced_string(string);
-    cut_lines(chars, lengths, index, keys, &own[..len], output)
+    let mut word_starts = [0u16; 4097];
+    fill_word_starts(lengths, &mut word_starts);
+    let starts = lengths.len() + 1;
+    cut_lines(chars, &word_starts[..starts], index, &own[..len], output)
 }
 
 // Cuts an opened index down: writes the cut-down index for a string, and answers how many numbers it has, or the refusal.
 fn cut_opened<'a>(
     chars: &'a [u16],
     lengths: &'a [u16],
-    index: &'a [u16],
+    index: &'a [Number],
     refusal: u32,
-    keys: usize,
     string: &'a [u16],
-    output: &mut [u16],
+    output: &mut [Number],
 ) -> Answer
-    requires { ⌜ (refusal ≡ index-refusal (now chars) (now lengths) (now index)) × (keys ≡ accepted refusal (keys-of (now index)) 0) ⌝ }
+    requires { ⌜ refusal ≡ index-refusal (now chars) (now lengths) (now index) ⌝ }
     ensures { λ r. ⌜
         Cut-says (now (chars .entry)) (now (lengths .entry)) (now (index .entry)) (now (string .entry)) r (now (output .entry))
         (now (output .exit)) ⌝ }
@@ -178,16 +177,16 @@ fn cut_opened<'a>(
             count: 0,
         };
     }
-    cut_string(chars, lengths, index, keys, string, output)
+    cut_string(chars, lengths, index, string, output)
 }
 
 // Cuts an index down for a string: opens it, and cuts the opened index down.
 pub fn cut_index<'a>(
     chars: &'a [u16],
     lengths: &'a [u16],
-    index: &'a [u16],
+    index: &'a [Number],
     string: &'a [u16],
-    output: &mut [u16],
+    output: &mut [Number],
 ) -> Answer
     ensures { λ r. ⌜
         Cut-says (now (chars .entry)) (now (lengths .entry)) (now (index .entry)) (now (string .entry)) r (now (output .entry))
@@ -199,7 +198,6 @@ pub fn cut_index<'a>(
         lengths,
         opened.numbers,
         opened.refusal,
-        opened.keys,
         string,
         output,
     )

@@ -5,17 +5,26 @@
 // directory. The cost is linear in the directory and in the positions written.
 ghost use mathlib.Core.Path.{_≡_};
 ghost use mathlib.Core.List.{_++_};
-ghost use Prim.Native.Nat.{_+_, _*_, _≤_, _<_};
+ghost use Prim.Native.Nat.{_+_, _≤_};
 ghost use lib.ListN.{length, take};
-ghost use Rattle.spec.specs.Dictionary.{lexicon};
+ghost use Rattle.basics.specs.Writing.{over};
 ghost use Rattle.spec.specs.Numbers.{directory, all-positions};
-ghost use Rattle.spec.specs.Index.{keys-of, lines-in};
+ghost use Rattle.spec.specs.Index.{header, lines-in};
 ghost use Rattle.spec.specs.Cut.{bearing, cut-down};
 ghost use Rattle.spec.specs.Calls.{in-front};
-ghost use Rattle.laws.specs.Numbers.Slices.{Fits};
-ghost use Rattle.basics.specs.Writing.{over};
-ghost use Rattle.laws.specs.Cut.ExactFlags.{Exact-flags, Is-size};
+ghost use Rattle.models.specs.WordStarts.{lexicon-at};
+ghost use Rattle.laws.specs.Cut.ExactFlags.{Flagged-lines, Is-size};
 use copying::slices::write_list;
+use layout::fields::count_at;
+use layout::fields::key_count;
+use layout::fields::kind_at;
+use layout::fields::line_start;
+use layout::fields::text_len;
+use layout::fields::value_at;
+use layout::lines::next_line;
+use layout::write::write_header;
+use layout::write::write_line;
+use width::Number;
 
 // How many keys bear on a string, and how many positions they have.
 pub struct Size {
@@ -26,17 +35,17 @@ pub struct Size {
 // How many lines are flagged, and how many positions they have.
 pub(crate) fn size_flagged(
     chars: &[u16],
-    lengths: &[u16],
-    index: &[u16],
+    word_starts: &[u16],
+    index: &[Number],
     string: &[u16],
     flags: &[u8],
 ) -> Size
-    requires { ⌜
-        Fits (now index) × Exact-flags (lexicon (now chars) (now lengths)) (now index) (now string) (keys-of (now index)) (now flags) ⌝ }
+    requires { ⌜ Flagged-lines (lexicon-at (now chars) (now «word_starts»)) (now index) (now string) (now flags) ⌝ }
     ensures { λ r. ⌜
-        Is-size (lexicon (now (chars .entry)) (now (lengths .entry))) (now (index .entry)) (now (string .entry)) (r .keys) (r .entries) ⌝ }
+        Is-size (lexicon-at (now (chars .entry)) (now («word_starts» .entry))) (now (index .entry)) (now (string .entry)) (r .keys)
+        (r .entries) ⌝ }
 {
-    let count = index[1] as usize;
+    let count = key_count(index);
     let mut keys = 0;
     let mut entries = 0;
     let mut line = 0;
@@ -45,42 +54,45 @@ pub(crate) fn size_flagged(
         line += 1;
         if flags[here] != 0 {
             keys += 1;
-            entries += index[2 + 3 * here + 2] as usize;
+            entries += count_at(index, here);
         }
     }
     Size { keys, entries }
 }
 
-// Writes the flagged directory lines, from the index `from` on.
+// Writes the flagged directory lines after the header.
 fn write_directory(
     chars: &[u16],
-    lengths: &[u16],
-    index: &[u16],
+    word_starts: &[u16],
+    index: &[Number],
     string: &[u16],
     flags: &[u8],
-    from: usize,
-    output: &mut [u16],
+    output: &mut [Number],
 )
     requires { ⌜
-        Fits (now index) × Exact-flags (lexicon (now chars) (now lengths)) (now index) (now string) (keys-of (now index)) (now flags) ×
-        (from + length (directory (bearing (lexicon (now chars) (now lengths)) (now string) (lines-in (now index)))) ≤ length
+        Flagged-lines (lexicon-at (now chars) (now «word_starts»)) (now index) (now string) (now flags) ×
+        (header + length (directory (bearing (lexicon-at (now chars) (now «word_starts»)) (now string) (lines-in (now index)))) ≤ length
         (now output)) ⌝ }
     ensures { λ r. ⌜
-        now (output .exit) ≡ over (take from (now (output .entry)) ++
-        directory (bearing (lexicon (now (chars .entry)) (now (lengths .entry))) (now (string .entry))
+        now (output .exit) ≡ over (take header (now (output .entry)) ++
+        directory (bearing (lexicon-at (now (chars .entry)) (now («word_starts» .entry))) (now (string .entry))
         (lines-in (now (index .entry))))) (now (output .entry)) ⌝ }
 {
-    let count = index[1] as usize;
-    let mut at = from;
+    let count = key_count(index);
+    let mut keys = 0;
     let mut line = 0;
     while line < count {
         let here = line;
         line += 1;
         if flags[here] != 0 {
-            output[at] = index[2 + 3 * here];
-            output[at + 1] = index[2 + 3 * here + 1];
-            output[at + 2] = index[2 + 3 * here + 2];
-            at += 3;
+            write_line(
+                output,
+                keys,
+                kind_at(index, here),
+                value_at(index, here),
+                count_at(index, here),
+            );
+            keys += 1;
         }
     }
 }
@@ -88,29 +100,31 @@ fn write_directory(
 // Writes the positions of the flagged lines from the start of `part`, which holds nothing else.
 fn write_positions(
     chars: &[u16],
-    lengths: &[u16],
-    index: &[u16],
+    word_starts: &[u16],
+    index: &[Number],
     string: &[u16],
     flags: &[u8],
-    part: &mut [u16],
+    part: &mut [Number],
 )
     requires { ⌜
-        Fits (now index) × Exact-flags (lexicon (now chars) (now lengths)) (now index) (now string) (keys-of (now index)) (now flags) ×
-        (length (all-positions (bearing (lexicon (now chars) (now lengths)) (now string) (lines-in (now index)))) ≤ length (now part)) ⌝ }
+        Flagged-lines (lexicon-at (now chars) (now «word_starts»)) (now index) (now string) (now flags) ×
+        (length (all-positions (bearing (lexicon-at (now chars) (now «word_starts»)) (now string) (lines-in (now index)))) ≤ length
+        (now part)) ⌝ }
     ensures { λ r. ⌜
-        now (part .exit) ≡ over (all-positions (bearing (lexicon (now (chars .entry)) (now (lengths .entry))) (now (string .entry))
-        (lines-in (now (index .entry))))) (now (part .entry)) ⌝ }
+        now (part .exit) ≡ over (all-positions (bearing (lexicon-at (now (chars .entry)) (now («word_starts» .entry)))
+        (now (string .entry)) (lines-in (now (index .entry))))) (now (part .entry)) ⌝ }
 {
-    let count = index[1] as usize;
-    let mut start = 2 + 3 * count;
+    let count = key_count(index);
+    let mut from = line_start(count);
     let mut at = 0;
-    let mut line = 0;
-    while line < count {
-        let here = line;
-        let begin = start;
-        let end = begin + index[2 + 3 * here + 2] as usize;
-        start = end;
-        line += 1;
+    let mut number = 0;
+    while number < count {
+        let here = number;
+        let line = next_line(index, here, from);
+        let begin = line.from;
+        let end = line.to;
+        from = end;
+        number += 1;
         if flags[here] != 0 {
             write_list(&index[begin..end], at, part);
             at += end - begin;
@@ -121,25 +135,31 @@ fn write_positions(
 // Writes the cut-down index, whose size is known, to the start of the output.
 pub(crate) fn write_cut(
     chars: &[u16],
-    lengths: &[u16],
-    index: &[u16],
+    word_starts: &[u16],
+    index: &[Number],
     string: &[u16],
     flags: &[u8],
     size: Size,
-    output: &mut [u16],
+    output: &mut [Number],
 )
     requires { ⌜
-        Fits (now index) × Exact-flags (lexicon (now chars) (now lengths)) (now index) (now string) (keys-of (now index)) (now flags) ×
-        Is-size (lexicon (now chars) (now lengths)) (now index) (now string) (size .keys) (size .entries) ×
-        (length (cut-down (lexicon (now chars) (now lengths)) (now index) (now string)) ≤ length (now output)) ⌝ }
+        Flagged-lines (lexicon-at (now chars) (now «word_starts»)) (now index) (now string) (now flags) ×
+        Is-size (lexicon-at (now chars) (now «word_starts»)) (now index) (now string) (size .keys) (size .entries) ×
+        (length (cut-down (lexicon-at (now chars) (now «word_starts»)) (now index) (now string)) ≤ length (now output)) ⌝ }
     ensures { λ r. ⌜
-        now (output .exit) ≡ in-front (cut-down (lexicon (now (chars .entry)) (now (lengths .entry))) (now (index .entry))
+        now (output .exit) ≡ in-front (cut-down (lexicon-at (now (chars .entry)) (now («word_starts» .entry))) (now (index .entry))
         (now (string .entry))) (now (output .entry)) ⌝ }
 {
     let keys = size.keys;
-    output[0] = index[0];
-    output[1] = keys as u16;
-    write_directory(chars, lengths, index, string, flags, 2, output);
-    let after = 2 + 3 * keys;
-    write_positions(chars, lengths, index, string, flags, &mut output[after..]);
+    write_header(output, text_len(index), keys);
+    write_directory(chars, word_starts, index, string, flags, output);
+    let after = line_start(keys);
+    write_positions(
+        chars,
+        word_starts,
+        index,
+        string,
+        flags,
+        &mut output[after..],
+    );
 }

@@ -12,7 +12,4 @@ cut-lent-requires c κs =
     (s .pre .0, s .pre .1, cleared-room 65536 (keys-of (s .args .index .now)) (omega arith), cleared-whole 65536)
 
 pub cut-many-lines-spec : {M : Type 1} → statement M
-cut-many-lines-spec =
-    tie.close
-    (tie.spec
-    (λ c. search needs) cut-lent-requires (λ c. search needs) (λ c. search needs))
+cut-many-lines-spec = tie.close (tie.spec (λ c. search needs) cut-lent-requires (λ c. search needs) (λ c. search needs))

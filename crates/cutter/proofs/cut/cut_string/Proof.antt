@@ -1,25 +1,35 @@
--- `cut_string` meets its contract: the string that the index is cut down for is the replaced one. Assumes nothing.
+-- `cut_string` meets its contract: the string that the index is cut down for is the replaced one, and the table of word starts that is lent
+-- on has the dictionary's lengths. Assumes nothing.
 use borrow.Author.Needs.{needs}
+use lib.ListN.{replicate}
+use Rattle.laws.specs.Directory.Tables.{front-long, front-lengths, front-reads}
 use Rattle.laws.specs.Search.Sizing.{own-long, own-string}
 use Rattle.cutter.proofs.cut.cut_string.Statement.{statement}
 use Rattle.cutter.proofs.cut.cut_string.Tie as tie
 
 slice-aggregate-cut-lines : tie.Need-slice-aggregate-cut-lines
 slice-aggregate-cut-lines c =
-    let start = c .before .before .before .before .before .before .before in
-    own-long (start .args .string .now) (c .before .replaced-string .result) (c .before .replaced-string .ensures)
+    let s = c .before .before .before .before .before .before .before .before .before .before in
+    front-long (s .pre .0) (replicate 4097 0) (c .before .before .fill-word-starts .ensures)
 
 cut-lines-requires : tie.Need-cut-lines-requires
 cut-lines-requires c κs =
-    let start = c .before .before .before .before .before .before .before .before in
-    let own = c .before .before .replaced-string in
-    (start .pre .0, own-string (start .args .string .now) (own .result) (own .ensures) (start .pre .1), start .pre .2, start .pre .3)
+    let s = c .before .before .before .before .before .before .before .before .before .before .before .before in (
+      front-reads (s .pre .0) (replicate 4097 0) (c .before .before .before .before .fill-word-starts .ensures),
+      own-string _ _ (c .before .before .before .before .before .before .replaced-string .ensures) (s .pre .1),
+    )
 
 returns : tie.Need-returns
-returns c = rw (c .before .before .before .before .before .replaced-string .ensures) at (c .before .before .cut-lines .ensures)
+returns c =
+    let filled = c .before .before .before .before .before .before .before in
+    let s = filled .before .before .before .before .before .before .before .before in
+    let lengths = front-lengths (s .pre .0) (replicate 4097 0) (filled .fill-word-starts .ensures) in
+    rw (lengths, filled .before .before .replaced-string .ensures) at (c .before .before .cut-lines .ensures)
 
 pub cut-string-spec : {M : Type 1} → statement M
 cut-string-spec =
     tie.close
     (tie.spec
-    (λ c κs. search needs) (λ c. search needs) slice-aggregate-cut-lines cut-lines-requires (λ c. search needs) returns)
+    (λ c κs. search needs) (λ c. search needs) (λ c κs. search needs) (λ c. search needs) (λ c. search needs) slice-aggregate-cut-lines
+    (λ c. search needs) (λ c. own-long _ _ (c .before .before .before .before .before .replaced-string .ensures)) cut-lines-requires
+    (λ c. search needs) returns)
