@@ -19,7 +19,7 @@ use width::Number;
 // Lines of words that agree: `count` of them by number, then the lines `from` to `to` - 1, whose words share `depth` characters with the
 // string.
 pub struct Agreeing {
-    pub lines: [Number; 36],
+    pub lines: [u16; 36],
     pub count: usize,
     pub from: usize,
     pub to: usize,
@@ -44,7 +44,7 @@ fn refine(
         («key_start» + r .depth < length (now (string .entry)) → r .to ≤ r .from + 4) ⌝ }
 {
     let left = string.len() - key_start;
-    let mut lines: [Number; 36] = [0; 36];
+    let mut lines = [0u16; 36];
     let mut count = 0;
     let mut low = 0;
     let mut high = word_lines;
@@ -60,7 +60,7 @@ fn refine(
             };
         }
         if word_at(chars, word_starts, index, low).len() == depth {
-            lines[count] = low as Number;
+            lines[count] = low as u16;
             count += 1;
             low += 1;
         } else {
@@ -108,7 +108,7 @@ fn compare_few(
         low += 1;
         let word = word_at(chars, word_starts, index, line);
         if agrees_at(word, string, key_start as i32) {
-            lines[count] = line as Number;
+            lines[count] = line as u16;
             count += 1;
         }
     }

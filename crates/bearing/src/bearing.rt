@@ -30,7 +30,7 @@ pub fn flag_bearing(
         Exact-flags (lexicon-at (now (chars .entry)) (now («word_starts» .entry))) (now (index .entry)) (now (string .entry))
         (keys-of (now (index .entry))) (now (flags .exit)) ⌝ }
 {
-    let mut lines: [Number; 4096] = [0; 4096];
+    let mut lines = [0u16; 4096];
     let leading = list_leading(chars, word_starts, index, string, &mut lines);
     flag_list(&lines[..leading.count], flags);
     flag_offsets(chars, word_starts, index, string, leading.words, flags);

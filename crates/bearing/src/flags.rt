@@ -2,10 +2,9 @@
 ghost use Prim.Native.Nat.{_≤_};
 ghost use lib.ListN.{length};
 ghost use Rattle.laws.specs.Cut.Flagging.{Ones, All-below, Ones-at};
-use width::Number;
 
 // Flags the listed lines.
-pub(crate) fn flag_list(lines: &[Number], flags: &mut [u8])
+pub(crate) fn flag_list(lines: &[u16], flags: &mut [u8])
     requires { ⌜ All-below (now lines) (length (now flags)) ⌝ }
     ensures { λ r. ⌜ Ones-at (now (lines .entry)) (now (flags .entry)) (now (flags .exit)) ⌝ }
 {

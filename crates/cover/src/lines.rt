@@ -56,7 +56,7 @@ fn extend_listed(
     string: &[u16],
     key_start: usize,
     word_lines: usize,
-    lines: &[Number],
+    lines: &[u16],
     first: usize,
     reach: &mut [Number],
     max_reach: usize,

@@ -8,9 +8,10 @@ ghost use Rattle.spec.specs.Calls.{in-front};
 ghost use Rattle.spec.specs.First.{first-of};
 ghost use Rattle.models.specs.Window.{found-in, count-in};
 ghost use Rattle.laws.specs.Window.Finding.{Next-found};
+use width::Number;
 
 // The first start whose reach is `len` or more, counted from `first`; 0 where there is none.
-pub fn first_found(reach: &[u16], len: usize, first: usize) -> usize
+pub fn first_found(reach: &[Number], len: usize, first: usize) -> usize
     requires { ⌜ first + length (now reach) ≤ 65536 ⌝ }
     ensures { λ r. ⌜ r ≡ first-of (found-in len first (now (reach .entry))) ⌝ }
 {
@@ -25,7 +26,7 @@ pub fn first_found(reach: &[u16], len: usize, first: usize) -> usize
 }
 
 // How many starts have a reach of `len` or more.
-pub(crate) fn count_found(reach: &[u16], len: usize) -> usize
+pub(crate) fn count_found(reach: &[Number], len: usize) -> usize
     ensures { λ r. ⌜ r ≡ count-in len (now (reach .entry)) ⌝ }
 {
     let mut count = 0;
@@ -38,7 +39,7 @@ pub(crate) fn count_found(reach: &[u16], len: usize) -> usize
 }
 
 // The first index from `from` on whose reach is `len` or more, where there is one.
-fn next_found(reach: &[u16], len: usize, from: usize) -> usize
+fn next_found(reach: &[Number], len: usize, from: usize) -> usize
     requires { ⌜ 1 ≤ count-in len (drop from (now reach)) ⌝ }
     ensures { λ r. ⌜ Next-found len (now (reach .entry)) from r ⌝ }
 {
@@ -50,7 +51,13 @@ fn next_found(reach: &[u16], len: usize, from: usize) -> usize
 }
 
 // Writes the starts whose reach is `len` or more, of which there are `count`, to the start of the output.
-pub(crate) fn write_found(reach: &[u16], len: usize, first: usize, count: usize, output: &mut [u16])
+pub(crate) fn write_found(
+    reach: &[Number],
+    len: usize,
+    first: usize,
+    count: usize,
+    output: &mut [Number],
+)
     requires { ⌜
         (count ≡ length (found-in len first (now reach))) × (count ≤ length (now output)) × (first + length (now reach) ≤ 65536) ⌝ }
     ensures { λ r. ⌜ now (output .exit) ≡ in-front (found-in len first (now (reach .entry))) (now (output .entry)) ⌝ }
@@ -59,7 +66,7 @@ pub(crate) fn write_found(reach: &[u16], len: usize, first: usize, count: usize,
     let mut i = 0;
     while written < count {
         let here = next_found(reach, len, i);
-        output[written] = (first + here) as u16;
+        output[written] = (first + here) as Number;
         written += 1;
         i = here + 1;
     }

@@ -9,20 +9,21 @@ ghost use Prim.Native.Nat.{ℕ, suc, _+_, _≤_};
 ghost use lib.ListN.{length};
 ghost use Rattle.basics.specs.Absent.{Least-absent};
 ghost use Rattle.basics.specs.Bools.{Reflects};
-ghost use Rattle.spec.specs.Dictionary.{lexicon};
 ghost use Rattle.spec.specs.Index.{n-of, lines-in};
 ghost use Rattle.models.specs.Reception.{reconstructed-over};
 ghost use Rattle.laws.specs.Text.Facts.{All-stand};
-ghost use Rattle.laws.specs.Directory.Tables.{Can-read, Word-starts};
+ghost use Rattle.models.specs.WordStarts.{lexicon-at};
+ghost use Rattle.laws.specs.Directory.Tables.{Reads};
 ghost use Rattle.laws.specs.TextScan.ZSearch.{Prefix-lengths};
 ghost use Rattle.laws.specs.TextScan.ReconstructedSearch.{Finds};
 use reconstruction::checked::reconstruct_checked;
+use width::Number;
 use zsearch::prefix_lengths::fill_prefix_lengths;
 use zsearch::sentinel::sentinel_of;
 use zsearch::zarray::fill_zarray;
 
 // Fills the window with the length of the longest prefix of the string that matches at each start of a text.
-fn reach_prefixes(text: &[u16], string: &[u16], reach: &mut [u16])
+fn reach_prefixes(text: &[Number], string: &[u16], reach: &mut [Number])
     requires { ⌜ (length (now string) ≤ 256) × (length (now reach) + length (now string) ≤ suc (length (now text))) ⌝ }
     ensures { λ r. ⌜ Prefix-lengths (now (string .entry)) (now (text .entry)) (now (reach .exit)) ⌝ }
 {
@@ -34,31 +35,30 @@ fn reach_prefixes(text: &[u16], string: &[u16], reach: &mut [u16])
 // Reconstructs the text in the slice lent for it, and answers whether every entry stands there. Only then is the window filled.
 pub fn reach_reconstructed(
     chars: &[u16],
-    lengths: &[u16],
-    index: &[u16],
     word_starts: &[u16],
+    index: &[Number],
     string: &[u16],
-    text: &mut [u16],
-    reach: &mut [u16],
+    text: &mut [Number],
+    reach: &mut [Number],
 ) -> bool
     requires { ⌜
-        Can-read (now chars) (now lengths) (now index) × Word-starts (now lengths) (length (now lengths)) (now «word_starts») ×
+        Reads (now chars) (now «word_starts») (now index) ×
         (length (now string) ≤ 256) × (length (now text) ≡ n-of (now index)) ×
         (length (now reach) + length (now string) ≤ suc (n-of (now index))) ⌝ }
     ensures told { λ r. ⌜
-        (r ≡ true → Finds (lexicon (now (chars .entry)) (now (lengths .entry))) (now (index .entry)) (now (string .entry))
+        (r ≡ true → Finds (lexicon-at (now (chars .entry)) (now («word_starts» .entry))) (now (index .entry)) (now (string .entry))
         (now (reach .exit))) ⌝ }
     ensures kept { λ r. ⌜ (r ≡ false → now (reach .exit) ≡ now (reach .entry)) ⌝ }
     ensures reconstructed { λ r. ⌜
         ((g : ℕ) → Least-absent (now (string .entry)) g → (now (text .exit) ≡ reconstructed-over
-        (lexicon (now (chars .entry)) (now (lengths .entry))) (lines-in (now (index .entry))) (n-of (now (index .entry))) g) ×
-        Reflects r (All-stand (lexicon (now (chars .entry)) (now (lengths .entry))) (lines-in (now (index .entry)))
-        (reconstructed-over (lexicon (now (chars .entry)) (now (lengths .entry))) (lines-in (now (index .entry)))
+        (lexicon-at (now (chars .entry)) (now («word_starts» .entry))) (lines-in (now (index .entry))) (n-of (now (index .entry))) g) ×
+        Reflects r (All-stand (lexicon-at (now (chars .entry)) (now («word_starts» .entry))) (lines-in (now (index .entry)))
+        (reconstructed-over (lexicon-at (now (chars .entry)) (now («word_starts» .entry))) (lines-in (now (index .entry)))
         (n-of (now (index .entry))) g))) ⌝ }
     ensures reached { λ r. ⌜ (r ≡ true → Prefix-lengths (now (string .entry)) (now (text .exit)) (now (reach .exit))) ⌝ }
 {
     let sentinel = sentinel_of(string);
-    if !reconstruct_checked(chars, lengths, word_starts, index, sentinel, text) {
+    if !reconstruct_checked(chars, word_starts, index, sentinel, text) {
         return false;
     }
     reach_prefixes(text, string, reach);

@@ -3,24 +3,26 @@
 ghost use mathlib.Core.Path.{_≡_};
 ghost use Prim.Native.Nat.{_+_, _-_, _≤_};
 ghost use lib.ListN.{length, replicate};
-ghost use Rattle.spec.specs.Dictionary.{lexicon};
 ghost use Rattle.spec.specs.Index.{lines-in};
 ghost use Rattle.models.specs.Window.{found-in, leading-all, offsets-all, leading-lines};
+ghost use Rattle.models.specs.WordStarts.{lexicon-at};
 ghost use Rattle.laws.specs.Directory.Tables.{Opened};
 ghost use Rattle.laws.specs.Window.Window.{Within, Reaches};
 ghost use Rattle.laws.specs.Search.Sizing.{Is-string, Sized};
 ghost use Rattle.laws.specs.Window.Searching.{Window-says};
-ghost use Rattle.laws.specs.Window.LineRanges.{Split};
+ghost use Rattle.laws.specs.Window.Searches.{Searches};
 ghost use Rattle.laws.specs.First.Found.{First-in};
 use crate::finding::count_found;
 use crate::finding::first_found;
 use crate::finding::write_found;
-use cover::leading_lines::list_leading;
+use agreement::leading::list_leading;
 use cover::window::extend_window;
 use spec::Answer;
+use width::Number;
+use width::Sum;
 
 // Writes the starts whose reach is `len` or more, counted from `first`, and answers how many they are, or 8.
-pub fn answer_window(reach: &[u16], len: usize, first: usize, output: &mut [u16]) -> Answer
+pub fn answer_window(reach: &[Number], len: usize, first: usize, output: &mut [Number]) -> Answer
     requires { ⌜ first + length (now reach) ≤ 65536 ⌝ }
     ensures { λ r. ⌜ Sized (found-in len first (now (reach .entry))) r (now (output .entry)) (now (output .exit)) ⌝ }
 {
@@ -36,33 +38,31 @@ pub fn answer_window(reach: &[u16], len: usize, first: usize, output: &mut [u16]
 }
 
 // Extends a window by every key at every offset, with the leading lines listed in a slice that is lent. Answers the greatest reach.
-fn extend_listing<'a>(
-    chars: &'a [u16],
-    lengths: &[u16],
-    index: &'a [u16],
+fn extend_listing(
+    chars: &[u16],
     word_starts: &[u16],
-    list_starts: &[u32],
+    index: &[Number],
+    list_starts: &[Sum],
     string: &[u16],
     lines: &mut [u16],
     first: usize,
-    reach: &mut [u16],
+    reach: &mut [Number],
 ) -> usize
     requires { ⌜
-        Opened (now chars) (now lengths) (now index) (now «word_starts») (now «list_starts») × Is-string (now string) ×
+        Opened (now chars) (now «word_starts») (now index) (now «list_starts») × Is-string (now string) ×
         (4096 ≤ length (now lines)) × (first ≤ 65536) × Within 0 (now reach) ⌝ }
     ensures { λ r. ⌜
-        Reaches (offsets-all (length (now (string .entry)) - 1) 1 (lexicon (now (chars .entry)) (now (lengths .entry)))
+        Reaches (offsets-all (length (now (string .entry)) - 1) 1 (lexicon-at (now (chars .entry)) (now («word_starts» .entry)))
         (lines-in (now (index .entry))) (now (string .entry)) first
-        (leading-all (lexicon (now (chars .entry)) (now (lengths .entry))) (lines-in (now (index .entry))) (now (string .entry)) first
+        (leading-all (lexicon-at (now (chars .entry)) (now («word_starts» .entry))) (lines-in (now (index .entry))) (now (string .entry)) first
         (now (reach .entry)))) (now (reach .exit)) r ⌝ }
 {
-    let leading = list_leading(chars, lengths, index, word_starts, string, lines);
+    let leading = list_leading(chars, word_starts, index, string, lines);
     let count = leading.count;
     extend_window(
         chars,
-        lengths,
-        index,
         word_starts,
+        index,
         list_starts,
         string,
         leading.words,
@@ -73,30 +73,28 @@ fn extend_listing<'a>(
 }
 
 // Searches the starts of a cleared window: writes those found, and answers how many they are, or 8.
-pub fn search_window<'a>(
-    chars: &'a [u16],
-    lengths: &[u16],
-    index: &'a [u16],
+pub fn search_window(
+    chars: &[u16],
     word_starts: &[u16],
-    list_starts: &[u32],
+    index: &[Number],
+    list_starts: &[Sum],
     string: &[u16],
     first: usize,
-    reach: &mut [u16],
-    output: &mut [u16],
+    reach: &mut [Number],
+    output: &mut [Number],
 ) -> Answer
     requires { ⌜
-        Opened (now chars) (now lengths) (now index) (now «word_starts») (now «list_starts») × Is-string (now string) ×
+        Opened (now chars) (now «word_starts») (now index) (now «list_starts») × Is-string (now string) ×
         (first + length (now reach) ≤ 65536) × (now reach ≡ replicate (length (now reach)) 0) ⌝ }
     ensures { λ r. ⌜
-        Window-says (lexicon (now (chars .entry)) (now (lengths .entry))) (now (index .entry)) (now (string .entry))
+        Window-says (lexicon-at (now (chars .entry)) (now («word_starts» .entry))) (now (index .entry)) (now (string .entry))
         (length (now (reach .entry))) first r (now (output .entry)) (now (output .exit)) ⌝ }
 {
     let mut lines = [0u16; 4096];
     let max_reach = extend_listing(
         chars,
-        lengths,
-        index,
         word_starts,
+        index,
         list_starts,
         string,
         &mut lines,
@@ -114,32 +112,29 @@ pub fn search_window<'a>(
 }
 
 // The first start found in a cleared window; 0 where there is none.
-pub fn first_in_window<'a>(
-    chars: &'a [u16],
-    lengths: &[u16],
-    index: &'a [u16],
+pub fn first_in_window(
+    chars: &[u16],
     word_starts: &[u16],
-    list_starts: &[u32],
+    index: &[Number],
+    list_starts: &[Sum],
     string: &[u16],
     word_lines: usize,
     lines: &[u16],
     first: usize,
-    reach: &mut [u16],
+    reach: &mut [Number],
 ) -> usize
     requires { ⌜
-        Opened (now chars) (now lengths) (now index) (now «word_starts») (now «list_starts») × Is-string (now string) ×
-        Split (now index) «word_lines» ×
-        (now lines ≡ leading-lines (lexicon (now chars) (now lengths)) (now index) (now string) «word_lines») ×
+        Searches (now chars) (now «word_starts») (now index) (now «list_starts») (now string) «word_lines» first ×
+        (now lines ≡ leading-lines (lexicon-at (now chars) (now «word_starts»)) (now index) (now string) «word_lines») ×
         (first + length (now reach) ≤ 65536) × (now reach ≡ replicate (length (now reach)) 0) ⌝ }
     ensures { λ r. ⌜
-        First-in (lexicon (now (chars .entry)) (now (lengths .entry))) (now (index .entry)) (now (string .entry))
+        First-in (lexicon-at (now (chars .entry)) (now («word_starts» .entry))) (now (index .entry)) (now (string .entry))
         (length (now (reach .entry))) first r ⌝ }
 {
     let max_reach = extend_window(
         chars,
-        lengths,
-        index,
         word_starts,
+        index,
         list_starts,
         string,
         word_lines,

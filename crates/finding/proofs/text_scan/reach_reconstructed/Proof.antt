@@ -7,7 +7,7 @@ use borrow.Author.Needs.{needs}
 use borrow.Author.Tests.{not-true, not-false}
 use Rattle.basics.specs.Bools.{clash}
 use Rattle.basics.specs.Absent.{absent-at}
-use Rattle.spec.specs.Dictionary.{lexicon}
+use Rattle.models.specs.WordStarts.{lexicon-at}
 use Rattle.spec.specs.Index.{n-of, lines-in}
 use Rattle.laws.specs.TextScan.ReconstructedSearch.{reconstructed-finds, reconstructed-once}
 use Rattle.finding.proofs.text_scan.reach_reconstructed.Statement.{statement}
@@ -15,15 +15,15 @@ use Rattle.finding.proofs.text_scan.reach_reconstructed.Tie as tie
 
 returns : tie.Need-returns
 returns c =
-    let a = c .before .before .before .before .before .before .before .before .before .before .before .before .before .args in
+    let a = c .before .before .before .before .before .before .before .before .before .before .before .before .args in
     let sentinel = c .before .before .before .before .before .sentinel-of in
     let shown = c .before .before .before .reconstruct-checked in (
       λ t. clash t refl,
       (
         λ f. refl,
         (
-          reconstructed-once (lexicon (a .chars .now) (a .lengths .now)) (lines-in (a .index .now)) (n-of (a .index .now)) (a .string .now)
-              (shown .last .1 .1 .1 .1 .1 .0) (sentinel .result) (shown .result) false (sentinel .ensures) (shown .ensures .0)
+          reconstructed-once (lexicon-at (a .chars .now) (a .word-starts .now)) (lines-in (a .index .now)) (n-of (a .index .now)) (a .string .now)
+              (shown .last .1 .1 .1 .1 .0) (sentinel .result) (shown .result) false (sentinel .ensures) (shown .ensures .0)
               (shown .ensures .1) (not-true (shown .result) (c .if1 .taken)),
           λ t. clash t refl,
         ),
@@ -33,22 +33,22 @@ returns c =
 returns-2 : tie.Need-returns-2
 returns-2 c =
     let half = c .before .before .before .before .before .before .before .before .before in
-    let s = half .before .before .before .before .before .before .before .before .before in
+    let s = half .before .before .before .before .before .before .before .before in
     let a = s .args in
     let sentinel = c .before .before .before .before .before .before .before .before .before .before .sentinel-of in
     let shown = c .before .before .before .before .before .before .before .before .reconstruct-checked in
     let yes-all = not-false (shown .result) (c .before .before .before .before .before .if1 .left) in
     let told = c .before .before .reach-prefixes in (
       λ t.
-          reconstructed-finds (lexicon (a .chars .now) (a .lengths .now)) (a .index .now) (n-of (a .index .now)) (sentinel .result)
-          (shown .last .1 .1 .1 .1 .1 .0) (a .string .now) (told .last .1 .1 .0)
+          reconstructed-finds (lexicon-at (a .chars .now) (a .word-starts .now)) (a .index .now) (n-of (a .index .now)) (sentinel .result)
+          (shown .last .1 .1 .1 .1 .0) (a .string .now) (told .last .1 .1 .0)
           (record { is = shown .ensures .0; all = shown .ensures .1 .holds yes-all })
           (absent-at (a .string .now) (sentinel .result) (sentinel .ensures .absent)) (omega arith) (told .ensures),
       (
         λ f. clash refl f,
         (
-          reconstructed-once (lexicon (a .chars .now) (a .lengths .now)) (lines-in (a .index .now)) (n-of (a .index .now)) (a .string .now)
-              (shown .last .1 .1 .1 .1 .1 .0) (sentinel .result) (shown .result) true (sentinel .ensures) (shown .ensures .0)
+          reconstructed-once (lexicon-at (a .chars .now) (a .word-starts .now)) (lines-in (a .index .now)) (n-of (a .index .now)) (a .string .now)
+              (shown .last .1 .1 .1 .1 .0) (sentinel .result) (shown .result) true (sentinel .ensures) (shown .ensures .0)
               (shown .ensures .1) yes-all,
           λ t. told .ensures,
         ),

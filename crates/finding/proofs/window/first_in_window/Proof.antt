@@ -2,7 +2,7 @@
 -- that does is. Assumes nothing.
 use native.Mathlib.Omega.{arith}
 use lib.ListN.{length}
-use Rattle.spec.specs.Dictionary.{lexicon}
+use Rattle.models.specs.WordStarts.{lexicon-at}
 use Rattle.laws.specs.Window.Searching.{cleared-within}
 use Rattle.laws.specs.First.Found as laws
 use borrow.Author.Needs.{needs}
@@ -11,31 +11,24 @@ use Rattle.finding.proofs.window.first_in_window.Tie as tie
 
 extend-window-requires : tie.Need-extend-window-requires
 extend-window-requires c κs =
-    let s = c .before .before .before .before .before .before .before .before .before in (
-      s .pre .0,
-      s .pre .2,
-      s .pre .3,
-      s .pre .1 .some,
-      s .pre .1 .short,
-      omega arith,
-      cleared-within (length (s .args .reach .now)) (s .args .reach .now) (s .pre .5),
-    )
+    let s = c .before .before .before .before .before .before .before .before in
+    (s .pre .0, s .pre .1, cleared-within (length (s .args .reach .now)) (s .args .reach .now) (s .pre .3))
 
 returns : tie.Need-returns
 returns c =
-    let s = c .before .before .before .before .before .before .before .before .before .before .before .before .before in
+    let s = c .before .before .before .before .before .before .before .before .before .before .before .before in
     let a = s .args in
     let window = c .before .before .before .extend-window in
-    laws.first-in-none (lexicon (a .chars .now) (a .lengths .now)) (a .index .now) (a .string .now) (length (a .reach .now)) (a .first)
-    (a .reach .now) (s .pre .5) (window .ensures) (c .if1 .taken)
+    laws.first-in-none (lexicon-at (a .chars .now) (a .word-starts .now)) (a .index .now) (a .string .now) (length (a .reach .now)) (a .first)
+    (a .reach .now) (s .pre .3) (window .ensures) (c .if1 .taken)
 
 returns-2 : tie.Need-returns-2
 returns-2 c =
-    let s = c .before .before .before .before .before .before .before .before .before .before .before .before .before .before .before in
+    let s = c .before .before .before .before .before .before .before .before .before .before .before .before .before .before in
     let a = s .args in
     let window = c .before .before .before .before .before .extend-window in
-    laws.first-in-window (lexicon (a .chars .now) (a .lengths .now)) (a .index .now) (a .string .now) (length (a .reach .now)) (a .first)
-    (a .reach .now) (s .pre .5) (window .ensures) (c .first-found .result) (c .first-found .ensures)
+    laws.first-in-window (lexicon-at (a .chars .now) (a .word-starts .now)) (a .index .now) (a .string .now) (length (a .reach .now)) (a .first)
+    (a .reach .now) (s .pre .3) (window .ensures) (c .first-found .result) (c .first-found .ensures)
 
 pub first-in-window-spec : {M : Type 1} → statement M
 first-in-window-spec =

@@ -3,7 +3,7 @@
 use mathlib.Core.Path.{refl}
 use native.Mathlib.Omega.{arith}
 use lib.ListN.{length}
-use Rattle.spec.specs.Dictionary.{lexicon}
+use Rattle.models.specs.WordStarts.{lexicon-at}
 use Rattle.laws.specs.Window.Searching.{cleared-within, says-none, says-answered}
 use borrow.Author.Needs.{needs}
 use Rattle.finding.proofs.window.search_window.Statement.{statement}
@@ -11,26 +11,26 @@ use Rattle.finding.proofs.window.search_window.Tie as tie
 
 extend-listing-requires : tie.Need-extend-listing-requires
 extend-listing-requires c κs =
-    let s = c .before .before .before .before .before .before .before .before .before .before in
+    let s = c .before .before .before .before .before .before .before .before .before in
     (s .pre .0, s .pre .1, omega arith, omega arith, cleared-within (length (s .args .reach .now)) (s .args .reach .now) (s .pre .3))
 
 returns : tie.Need-returns
 returns c =
-    let s = c .before .before .before .before .before .before .before .before .before .before .before .before .before .before .before in
+    let s = c .before .before .before .before .before .before .before .before .before .before .before .before .before .before in
     let a = s .args in
     let window = c .before .before .before .before .extend-listing in
-    says-none (lexicon (a .chars .now) (a .lengths .now)) (a .index .now) (a .string .now) (length (a .reach .now)) (a .first)
+    says-none (lexicon-at (a .chars .now) (a .word-starts .now)) (a .index .now) (a .string .now) (length (a .reach .now)) (a .first)
     (a .output .now)
     (a .reach .now) (s .pre .3) (window .ensures) (c .if1 .taken) (record { refusal = 0; count = 0 }) refl refl
 
 returns-2 : tie.Need-returns-2
 returns-2 c =
     let half = c .before .before .before .before .before .before .before .before .before .before in
-    let s = half .before .before .before .before .before .before .before .before .before .before in
+    let s = half .before .before .before .before .before .before .before .before .before in
     let a = s .args in
     let window = c .before .before .before .before .before .before .before .before .before .extend-listing in
     let answered = c .before .before .answer-window in
-    says-answered (lexicon (a .chars .now) (a .lengths .now)) (a .index .now) (a .string .now) (length (a .reach .now)) (a .first)
+    says-answered (lexicon-at (a .chars .now) (a .word-starts .now)) (a .index .now) (a .string .now) (length (a .reach .now)) (a .first)
     (a .output .now)
     (a .reach .now) (s .pre .3) (window .ensures) (answered .result) (answered .last .1 .1 .1 .0) (answered .ensures)
 
