@@ -6,12 +6,13 @@ use mathlib.Core.List.{List, [], _∷_, _++_, append-assoc}
 use Prim.Native.Nat.{ℕ, suc, _+_, _-_, _≤_, _<_}
 use native.Mathlib.Numerals.{add-one}
 use native.Mathlib.Omega.{arith}
-use lib.ListN.{length, take, set, length-set}
+use lib.ListN.{length, take, set, length-set, length-append}
 use lib.Seq.{take-suc-set}
 use Rattle.basics.specs.Member.{In, in-append-get, in-append-left}
 use Rattle.basics.specs.Steps.{those-from, those-from-get, those-from-put, those-from-none, those-from-append, those-from-fewer}
 use Rattle.spec.specs.Dictionary.{Lexicon}
 use Rattle.models.specs.Window.{agrees-line, agreeing-lines}
+use Rattle.laws.specs.Build.PostingsByKey.{those-short}
 
 -- the listed lines are among the first w, and agree
 abbrev pub Lines-agree : (o : ℕ) → Lexicon → (numbers string : List ℕ) → (w : ℕ) → (lines : List ℕ) → Type 0
@@ -115,3 +116,13 @@ module _ (o : ℕ) (lex : Lexicon) (xs s : List ℕ) where
         (λ (r : In i (those lo hi)).
         let there = those-from-get (hi - lo) lo (agrees-line o lex xs s) i r in inr (there .0, omega arith))
         (in-append-get i (take count lines) (those lo hi) (rw (h .found) at all))
+
+    -- no more are listed than there are lines
+    pub listed-few : length (take count lines) ≤ w
+    unfolding agreeing-lines
+    listed-few =
+        omega (
+          arith,
+          those-short (w - 0) 0 (agrees-line o lex xs s),
+          ap length (h .found) ∙ length-append (take count lines) (those lo hi),
+        )
