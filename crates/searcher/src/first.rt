@@ -6,6 +6,7 @@ ghost use Prim.Native.Nat.{_≤_};
 ghost use lib.ListN.{length};
 ghost use Rattle.spec.specs.Replaced.{replaced};
 ghost use Rattle.spec.specs.Dictionary.{lexicon};
+ghost use Rattle.models.specs.WordStarts.{lexicon-at};
 ghost use Rattle.spec.specs.Index.{keys-of};
 ghost use Rattle.spec.specs.First.{first-position};
 ghost use Rattle.spec.specs.Calls.{index-refusal, accepted, First-says};
@@ -16,59 +17,52 @@ use crate::search::starts_of;
 use directory::tables::fill_list_starts;
 use directory::tables::fill_word_starts;
 use folding::forms::replaced_string;
+use layout::fields::text_len;
 use opening::opened::open_index;
 use spec::FirstAnswer;
+use width::Number;
+use width::Sum;
 
 // The first found position of a string taken as it is, in a readable index with its tables of starts lent; 0 where there is none.
-fn first_plain<'a>(
-    chars: &'a [u16],
-    lengths: &[u16],
-    index: &'a [u16],
+fn first_plain(
+    chars: &[u16],
     word_starts: &[u16],
-    list_starts: &[u32],
+    index: &[Number],
+    list_starts: &[Sum],
     string: &[u16],
 ) -> usize
-    requires { ⌜ Opened (now chars) (now lengths) (now index) (now «word_starts») (now «list_starts») × Is-string (now string) ⌝ }
-    ensures { λ r. ⌜ r ≡ first-position (lexicon (now (chars .entry)) (now (lengths .entry))) (now (index .entry)) (now (string .entry)) ⌝ }
+    requires { ⌜ Opened (now chars) (now «word_starts») (now index) (now «list_starts») × Is-string (now string) ⌝ }
+    ensures { λ r. ⌜ r ≡ first-position (lexicon-at (now (chars .entry)) (now («word_starts» .entry))) (now (index .entry)) (now (string .entry)) ⌝ }
 {
-    let starts = starts_of(index[0] as usize, string.len());
-    first_of_starts(
-        chars,
-        lengths,
-        index,
-        word_starts,
-        list_starts,
-        string,
-        starts,
-    )
+    let starts = starts_of(text_len(index), string.len());
+    first_of_starts(chars, word_starts, index, list_starts, string, starts)
 }
 
 // The first found position of a string as it is lent, which is replaced first, in a readable index with its tables of starts lent.
-fn first_tabled<'a>(
-    chars: &'a [u16],
-    lengths: &[u16],
-    index: &'a [u16],
+fn first_tabled(
+    chars: &[u16],
     word_starts: &[u16],
-    list_starts: &[u32],
+    index: &[Number],
+    list_starts: &[Sum],
     string: &[u16],
 ) -> usize
-    requires { ⌜ Opened (now chars) (now lengths) (now index) (now «word_starts») (now «list_starts») × Is-string (now string) ⌝ }
+    requires { ⌜ Opened (now chars) (now «word_starts») (now index) (now «list_starts») × Is-string (now string) ⌝ }
     ensures { λ r. ⌜
-        r ≡ first-position (lexicon (now (chars .entry)) (now (lengths .entry))) (now (index .entry)) (replaced (now (string .entry))) ⌝ }
+        r ≡ first-position (lexicon-at (now (chars .entry)) (now («word_starts» .entry))) (now (index .entry)) (replaced (now (string .entry))) ⌝ }
 {
     let len = string.len();
     let own = replaced_string(string);
-    first_plain(chars, lengths, index, word_starts, list_starts, &own[..len])
+    first_plain(chars, word_starts, index, list_starts, &own[..len])
 }
 
 // The first found position in a readable index, whose tables of starts are filled first, one of them lent.
 fn first_filled<'a>(
     chars: &'a [u16],
     lengths: &[u16],
-    index: &'a [u16],
+    index: &'a [Number],
     keys: usize,
     string: &[u16],
-    list_starts: &mut [u32],
+    list_starts: &mut [Sum],
 ) -> usize
     requires { ⌜
         Can-read (now chars) (now lengths) (now index) × (keys ≡ keys-of (now index)) × Is-string (now string) ×
@@ -76,17 +70,18 @@ fn first_filled<'a>(
     ensures { λ r. ⌜
         r ≡ first-position (lexicon (now (chars .entry)) (now (lengths .entry))) (now (index .entry)) (replaced (now (string .entry))) ⌝ }
 {
-    let mut word_starts = [0u16; 4096];
+    let mut word_starts = [0u16; 4097];
     fill_word_starts(lengths, &mut word_starts);
+    let starts = lengths.len() + 1;
     fill_list_starts(index, keys, list_starts);
-    first_tabled(chars, lengths, index, &word_starts, list_starts, string)
+    first_tabled(chars, &word_starts[..starts], index, list_starts, string)
 }
 
 // The first found position in an index of at most 1,024 lines, with a local table.
 fn first_few_lines<'a>(
     chars: &'a [u16],
     lengths: &[u16],
-    index: &'a [u16],
+    index: &'a [Number],
     keys: usize,
     string: &[u16],
 ) -> usize
@@ -94,7 +89,7 @@ fn first_few_lines<'a>(
     ensures { λ r. ⌜
         r ≡ first-position (lexicon (now (chars .entry)) (now (lengths .entry))) (now (index .entry)) (replaced (now (string .entry))) ⌝ }
 {
-    let mut list_starts = [0u32; 1024];
+    let mut list_starts: [Sum; 1024] = [0; 1024];
     first_filled(chars, lengths, index, keys, string, &mut list_starts)
 }
 
@@ -102,7 +97,7 @@ fn first_few_lines<'a>(
 fn first_some_lines<'a>(
     chars: &'a [u16],
     lengths: &[u16],
-    index: &'a [u16],
+    index: &'a [Number],
     keys: usize,
     string: &[u16],
 ) -> usize
@@ -110,7 +105,7 @@ fn first_some_lines<'a>(
     ensures { λ r. ⌜
         r ≡ first-position (lexicon (now (chars .entry)) (now (lengths .entry))) (now (index .entry)) (replaced (now (string .entry))) ⌝ }
 {
-    let mut list_starts = [0u32; 8192];
+    let mut list_starts: [Sum; 8192] = [0; 8192];
     first_filled(chars, lengths, index, keys, string, &mut list_starts)
 }
 
@@ -118,7 +113,7 @@ fn first_some_lines<'a>(
 fn first_many_lines<'a>(
     chars: &'a [u16],
     lengths: &[u16],
-    index: &'a [u16],
+    index: &'a [Number],
     keys: usize,
     string: &[u16],
 ) -> usize
@@ -126,7 +121,7 @@ fn first_many_lines<'a>(
     ensures { λ r. ⌜
         r ≡ first-position (lexicon (now (chars .entry)) (now (lengths .entry))) (now (index .entry)) (replaced (now (string .entry))) ⌝ }
 {
-    let mut list_starts = [0u32; 65536];
+    let mut list_starts: [Sum; 65536] = [0; 65536];
     first_filled(chars, lengths, index, keys, string, &mut list_starts)
 }
 
@@ -134,7 +129,7 @@ fn first_many_lines<'a>(
 fn first_lines<'a>(
     chars: &'a [u16],
     lengths: &[u16],
-    index: &'a [u16],
+    index: &'a [Number],
     keys: usize,
     string: &[u16],
 ) -> usize
@@ -155,7 +150,7 @@ fn first_lines<'a>(
 fn first_opened<'a>(
     chars: &'a [u16],
     lengths: &'a [u16],
-    index: &'a [u16],
+    index: &'a [Number],
     refusal: u32,
     keys: usize,
     string: &'a [u16],
@@ -193,7 +188,7 @@ fn first_opened<'a>(
 pub fn first_index<'a>(
     chars: &'a [u16],
     lengths: &'a [u16],
-    index: &'a [u16],
+    index: &'a [Number],
     string: &'a [u16],
 ) -> FirstAnswer
     ensures { λ r. ⌜ First-says (now (chars .entry)) (now (lengths .entry)) (now (index .entry)) (now (string .entry)) r ⌝ }

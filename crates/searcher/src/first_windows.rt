@@ -5,42 +5,44 @@
 ghost use mathlib.Core.Path.{_≡_};
 ghost use Prim.Native.Nat.{_+_, _≤_};
 ghost use lib.ListN.{length, replicate};
-ghost use Rattle.spec.specs.Dictionary.{lexicon};
+ghost use Rattle.spec.specs.Dictionary.{longest-text};
+ghost use Rattle.models.specs.WordStarts.{lexicon-at};
 ghost use Rattle.models.specs.Window.{leading-lines};
 ghost use Rattle.laws.specs.Directory.Tables.{Opened};
 ghost use Rattle.laws.specs.Window.LineRanges.{Split};
+ghost use Rattle.laws.specs.Window.Searches.{Searches};
 ghost use Rattle.laws.specs.Search.Sizing.{Is-string};
 ghost use Rattle.laws.specs.First.Found.{First-in};
-use cover::leading_lines::list_leading;
+use agreement::leading::list_leading;
 use finding::window::first_in_window;
+use width::Number;
+use width::Sum;
 
 // The first found of `starts` starts from `first` on, in a cleared window that is lent.
-fn first_in_lent<'a>(
-    chars: &'a [u16],
-    lengths: &[u16],
-    index: &'a [u16],
+fn first_in_lent(
+    chars: &[u16],
     word_starts: &[u16],
-    list_starts: &[u32],
+    index: &[Number],
+    list_starts: &[Sum],
     string: &[u16],
     word_lines: usize,
     lines: &[u16],
     first: usize,
     starts: usize,
-    reach: &mut [u16],
+    reach: &mut [Number],
 ) -> usize
     requires { ⌜
-        Opened (now chars) (now lengths) (now index) (now «word_starts») (now «list_starts») × Is-string (now string) ×
-        Split (now index) «word_lines» ×
-        (now lines ≡ leading-lines (lexicon (now chars) (now lengths)) (now index) (now string) «word_lines») × (first + starts ≤ 65536) ×
+        Searches (now chars) (now «word_starts») (now index) (now «list_starts») (now string) «word_lines» first ×
+        (now lines ≡ leading-lines (lexicon-at (now chars) (now «word_starts»)) (now index) (now string) «word_lines») ×
+        (first + starts ≤ 65536) ×
         (starts ≤ length (now reach)) × (now reach ≡ replicate (length (now reach)) 0) ⌝ }
     ensures { λ r. ⌜
-        First-in (lexicon (now (chars .entry)) (now (lengths .entry))) (now (index .entry)) (now (string .entry)) starts first r ⌝ }
+        First-in (lexicon-at (now (chars .entry)) (now («word_starts» .entry))) (now (index .entry)) (now (string .entry)) starts first r ⌝ }
 {
     first_in_window(
         chars,
-        lengths,
-        index,
         word_starts,
+        index,
         list_starts,
         string,
         word_lines,
@@ -51,12 +53,11 @@ fn first_in_lent<'a>(
 }
 
 // The first found of at most 1,024 starts from `first` on, in a local window.
-fn first_in_short<'a>(
-    chars: &'a [u16],
-    lengths: &[u16],
-    index: &'a [u16],
+fn first_in_short(
+    chars: &[u16],
     word_starts: &[u16],
-    list_starts: &[u32],
+    index: &[Number],
+    list_starts: &[Sum],
     string: &[u16],
     word_lines: usize,
     lines: &[u16],
@@ -64,19 +65,18 @@ fn first_in_short<'a>(
     starts: usize,
 ) -> usize
     requires { ⌜
-        Opened (now chars) (now lengths) (now index) (now «word_starts») (now «list_starts») × Is-string (now string) ×
-        Split (now index) «word_lines» ×
-        (now lines ≡ leading-lines (lexicon (now chars) (now lengths)) (now index) (now string) «word_lines») × (first + starts ≤ 65536) ×
+        Searches (now chars) (now «word_starts») (now index) (now «list_starts») (now string) «word_lines» first ×
+        (now lines ≡ leading-lines (lexicon-at (now chars) (now «word_starts»)) (now index) (now string) «word_lines») ×
+        (first + starts ≤ 65536) ×
         (starts ≤ 1024) ⌝ }
     ensures { λ r. ⌜
-        First-in (lexicon (now (chars .entry)) (now (lengths .entry))) (now (index .entry)) (now (string .entry)) starts first r ⌝ }
+        First-in (lexicon-at (now (chars .entry)) (now («word_starts» .entry))) (now (index .entry)) (now (string .entry)) starts first r ⌝ }
 {
-    let mut reach = [0u16; 1024];
+    let mut reach: [Number; 1024] = [0; 1024];
     first_in_lent(
         chars,
-        lengths,
-        index,
         word_starts,
+        index,
         list_starts,
         string,
         word_lines,
@@ -88,12 +88,11 @@ fn first_in_short<'a>(
 }
 
 // The first found of at most 8,192 starts from `first` on, in a local window.
-fn first_in_middle<'a>(
-    chars: &'a [u16],
-    lengths: &[u16],
-    index: &'a [u16],
+fn first_in_middle(
+    chars: &[u16],
     word_starts: &[u16],
-    list_starts: &[u32],
+    index: &[Number],
+    list_starts: &[Sum],
     string: &[u16],
     word_lines: usize,
     lines: &[u16],
@@ -101,19 +100,18 @@ fn first_in_middle<'a>(
     starts: usize,
 ) -> usize
     requires { ⌜
-        Opened (now chars) (now lengths) (now index) (now «word_starts») (now «list_starts») × Is-string (now string) ×
-        Split (now index) «word_lines» ×
-        (now lines ≡ leading-lines (lexicon (now chars) (now lengths)) (now index) (now string) «word_lines») × (first + starts ≤ 65536) ×
+        Searches (now chars) (now «word_starts») (now index) (now «list_starts») (now string) «word_lines» first ×
+        (now lines ≡ leading-lines (lexicon-at (now chars) (now «word_starts»)) (now index) (now string) «word_lines») ×
+        (first + starts ≤ 65536) ×
         (starts ≤ 8192) ⌝ }
     ensures { λ r. ⌜
-        First-in (lexicon (now (chars .entry)) (now (lengths .entry))) (now (index .entry)) (now (string .entry)) starts first r ⌝ }
+        First-in (lexicon-at (now (chars .entry)) (now («word_starts» .entry))) (now (index .entry)) (now (string .entry)) starts first r ⌝ }
 {
-    let mut reach = [0u16; 8192];
+    let mut reach: [Number; 8192] = [0; 8192];
     first_in_lent(
         chars,
-        lengths,
-        index,
         word_starts,
+        index,
         list_starts,
         string,
         word_lines,
@@ -125,12 +123,11 @@ fn first_in_middle<'a>(
 }
 
 // The first found of any number of starts from `first` on, in a local window of 65,536.
-fn first_in_long<'a>(
-    chars: &'a [u16],
-    lengths: &[u16],
-    index: &'a [u16],
+fn first_in_long(
+    chars: &[u16],
     word_starts: &[u16],
-    list_starts: &[u32],
+    index: &[Number],
+    list_starts: &[Sum],
     string: &[u16],
     word_lines: usize,
     lines: &[u16],
@@ -138,18 +135,17 @@ fn first_in_long<'a>(
     starts: usize,
 ) -> usize
     requires { ⌜
-        Opened (now chars) (now lengths) (now index) (now «word_starts») (now «list_starts») × Is-string (now string) ×
-        Split (now index) «word_lines» ×
-        (now lines ≡ leading-lines (lexicon (now chars) (now lengths)) (now index) (now string) «word_lines») × (first + starts ≤ 65536) ⌝ }
+        Searches (now chars) (now «word_starts») (now index) (now «list_starts») (now string) «word_lines» first ×
+        (now lines ≡ leading-lines (lexicon-at (now chars) (now «word_starts»)) (now index) (now string) «word_lines») ×
+        (first + starts ≤ 65536) ⌝ }
     ensures { λ r. ⌜
-        First-in (lexicon (now (chars .entry)) (now (lengths .entry))) (now (index .entry)) (now (string .entry)) starts first r ⌝ }
+        First-in (lexicon-at (now (chars .entry)) (now («word_starts» .entry))) (now (index .entry)) (now (string .entry)) starts first r ⌝ }
 {
-    let mut reach = [0u16; 65536];
+    let mut reach: [Number; 65536] = [0; 65536];
     first_in_lent(
         chars,
-        lengths,
-        index,
         word_starts,
+        index,
         list_starts,
         string,
         word_lines,
@@ -161,30 +157,28 @@ fn first_in_long<'a>(
 }
 
 // The first found of `starts` starts: in one window if it holds all, else in 8,192 starts and then in the rest.
-fn first_by_windows<'a>(
-    chars: &'a [u16],
-    lengths: &[u16],
-    index: &'a [u16],
+fn first_by_windows(
+    chars: &[u16],
     word_starts: &[u16],
-    list_starts: &[u32],
+    index: &[Number],
+    list_starts: &[Sum],
     string: &[u16],
     word_lines: usize,
     lines: &[u16],
     starts: usize,
 ) -> usize
     requires { ⌜
-        Opened (now chars) (now lengths) (now index) (now «word_starts») (now «list_starts») × Is-string (now string) ×
+        Opened (now chars) (now «word_starts») (now index) (now «list_starts») × Is-string (now string) ×
         Split (now index) «word_lines» ×
-        (now lines ≡ leading-lines (lexicon (now chars) (now lengths)) (now index) (now string) «word_lines») × (starts ≤ 65535) ⌝ }
+        (now lines ≡ leading-lines (lexicon-at (now chars) (now «word_starts»)) (now index) (now string) «word_lines») × (starts ≤ longest-text) ⌝ }
     ensures { λ r. ⌜
-        First-in (lexicon (now (chars .entry)) (now (lengths .entry))) (now (index .entry)) (now (string .entry)) starts 1 r ⌝ }
+        First-in (lexicon-at (now (chars .entry)) (now («word_starts» .entry))) (now (index .entry)) (now (string .entry)) starts 1 r ⌝ }
 {
     if starts <= 1024 {
         return first_in_short(
             chars,
-            lengths,
-            index,
             word_starts,
+            index,
             list_starts,
             string,
             word_lines,
@@ -196,9 +190,8 @@ fn first_by_windows<'a>(
     if starts <= 8192 {
         return first_in_middle(
             chars,
-            lengths,
-            index,
             word_starts,
+            index,
             list_starts,
             string,
             word_lines,
@@ -209,9 +202,8 @@ fn first_by_windows<'a>(
     }
     let near = first_in_middle(
         chars,
-        lengths,
-        index,
         word_starts,
+        index,
         list_starts,
         string,
         word_lines,
@@ -224,9 +216,8 @@ fn first_by_windows<'a>(
     }
     first_in_long(
         chars,
-        lengths,
-        index,
         word_starts,
+        index,
         list_starts,
         string,
         word_lines,
@@ -237,29 +228,27 @@ fn first_by_windows<'a>(
 }
 
 // The first found of `starts` starts, with the leading lines listed once for all windows, in a slice that is lent.
-fn first_listing<'a>(
-    chars: &'a [u16],
-    lengths: &[u16],
-    index: &'a [u16],
+fn first_listing(
+    chars: &[u16],
     word_starts: &[u16],
-    list_starts: &[u32],
+    index: &[Number],
+    list_starts: &[Sum],
     string: &[u16],
     starts: usize,
     lines: &mut [u16],
 ) -> usize
     requires { ⌜
-        Opened (now chars) (now lengths) (now index) (now «word_starts») (now «list_starts») × Is-string (now string) × (starts ≤ 65535) ×
+        Opened (now chars) (now «word_starts») (now index) (now «list_starts») × Is-string (now string) × (starts ≤ longest-text) ×
         (4096 ≤ length (now lines)) ⌝ }
     ensures { λ r. ⌜
-        First-in (lexicon (now (chars .entry)) (now (lengths .entry))) (now (index .entry)) (now (string .entry)) starts 1 r ⌝ }
+        First-in (lexicon-at (now (chars .entry)) (now («word_starts» .entry))) (now (index .entry)) (now (string .entry)) starts 1 r ⌝ }
 {
-    let leading = list_leading(chars, lengths, index, word_starts, string, lines);
+    let leading = list_leading(chars, word_starts, index, string, lines);
     let count = leading.count;
     first_by_windows(
         chars,
-        lengths,
-        index,
         word_starts,
+        index,
         list_starts,
         string,
         leading.words,
@@ -269,26 +258,24 @@ fn first_listing<'a>(
 }
 
 // The first found of `starts` starts by the entries, with a local list of the leading lines.
-pub(crate) fn first_by_entries<'a>(
-    chars: &'a [u16],
-    lengths: &[u16],
-    index: &'a [u16],
+pub(crate) fn first_by_entries(
+    chars: &[u16],
     word_starts: &[u16],
-    list_starts: &[u32],
+    index: &[Number],
+    list_starts: &[Sum],
     string: &[u16],
     starts: usize,
 ) -> usize
     requires { ⌜
-        Opened (now chars) (now lengths) (now index) (now «word_starts») (now «list_starts») × Is-string (now string) × (starts ≤ 65535) ⌝ }
+        Opened (now chars) (now «word_starts») (now index) (now «list_starts») × Is-string (now string) × (starts ≤ longest-text) ⌝ }
     ensures { λ r. ⌜
-        First-in (lexicon (now (chars .entry)) (now (lengths .entry))) (now (index .entry)) (now (string .entry)) starts 1 r ⌝ }
+        First-in (lexicon-at (now (chars .entry)) (now («word_starts» .entry))) (now (index .entry)) (now (string .entry)) starts 1 r ⌝ }
 {
     let mut lines = [0u16; 4096];
     first_listing(
         chars,
-        lengths,
-        index,
         word_starts,
+        index,
         list_starts,
         string,
         starts,

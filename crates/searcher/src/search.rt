@@ -6,7 +6,8 @@ ghost use mathlib.Core.Path.{_≡_};
 ghost use Prim.Native.Nat.{suc, _-_, _≤_};
 ghost use lib.ListN.{length};
 ghost use Rattle.spec.specs.Replaced.{replaced};
-ghost use Rattle.spec.specs.Dictionary.{lexicon};
+ghost use Rattle.spec.specs.Dictionary.{longest-text, lexicon};
+ghost use Rattle.models.specs.WordStarts.{lexicon-at};
 ghost use Rattle.spec.specs.Index.{keys-of};
 ghost use Rattle.spec.specs.Search.{find};
 ghost use Rattle.spec.specs.Calls.{index-refusal, accepted, Search-says};
@@ -16,12 +17,15 @@ use crate::starts::search_starts;
 use directory::tables::fill_list_starts;
 use directory::tables::fill_word_starts;
 use folding::forms::replaced_string;
+use layout::fields::text_len;
 use opening::opened::open_index;
 use spec::Answer;
+use width::Number;
+use width::Sum;
 
 // How many starts there are at which a string of this length fits into n characters.
 pub(crate) fn starts_of(n: usize, len: usize) -> usize
-    requires { ⌜ n ≤ 65535 ⌝ }
+    requires { ⌜ n ≤ longest-text ⌝ }
     ensures { λ r. ⌜ r ≡ suc n - len ⌝ }
 {
     if n < len {
@@ -31,26 +35,24 @@ pub(crate) fn starts_of(n: usize, len: usize) -> usize
 }
 
 // Searches a readable index, with its tables of starts lent, for a string taken as it is.
-fn search_plain<'a>(
-    chars: &'a [u16],
-    lengths: &[u16],
-    index: &'a [u16],
+fn search_plain(
+    chars: &[u16],
     word_starts: &[u16],
-    list_starts: &[u32],
+    index: &[Number],
+    list_starts: &[Sum],
     string: &[u16],
-    output: &mut [u16],
+    output: &mut [Number],
 ) -> Answer
-    requires { ⌜ Opened (now chars) (now lengths) (now index) (now «word_starts») (now «list_starts») × Is-string (now string) ⌝ }
+    requires { ⌜ Opened (now chars) (now «word_starts») (now index) (now «list_starts») × Is-string (now string) ⌝ }
     ensures { λ r. ⌜
-        Sized (find (lexicon (now (chars .entry)) (now (lengths .entry))) (now (index .entry)) (now (string .entry))) r
+        Sized (find (lexicon-at (now (chars .entry)) (now («word_starts» .entry))) (now (index .entry)) (now (string .entry))) r
         (now (output .entry)) (now (output .exit)) ⌝ }
 {
-    let starts = starts_of(index[0] as usize, string.len());
+    let starts = starts_of(text_len(index), string.len());
     search_starts(
         chars,
-        lengths,
-        index,
         word_starts,
+        index,
         list_starts,
         string,
         starts,
@@ -59,42 +61,33 @@ fn search_plain<'a>(
 }
 
 // Searches a readable index, with its tables of starts lent, for a string as it is lent, which is replaced first.
-pub fn search_tabled<'a>(
-    chars: &'a [u16],
-    lengths: &[u16],
-    index: &'a [u16],
+pub fn search_tabled(
+    chars: &[u16],
     word_starts: &[u16],
-    list_starts: &[u32],
+    index: &[Number],
+    list_starts: &[Sum],
     string: &[u16],
-    output: &mut [u16],
+    output: &mut [Number],
 ) -> Answer
-    requires { ⌜ Opened (now chars) (now lengths) (now index) (now «word_starts») (now «list_starts») × Is-string (now string) ⌝ }
+    requires { ⌜ Opened (now chars) (now «word_starts») (now index) (now «list_starts») × Is-string (now string) ⌝ }
     ensures { λ r. ⌜
-        Sized (find (lexicon (now (chars .entry)) (now (lengths .entry))) (now (index .entry)) (replaced (now (string .entry)))) r
+        Sized (find (lexicon-at (now (chars .entry)) (now («word_starts» .entry))) (now (index .entry)) (replaced (now (string .entry)))) r
         (now (output .entry)) (now (output .exit)) ⌝ }
 {
     let len = string.len();
     let own = replaced_string(string);
-    search_plain(
-        chars,
-        lengths,
-        index,
-        word_starts,
-        list_starts,
-        &own[..len],
-        output,
-    )
+    search_plain(chars, word_starts, index, list_starts, &own[..len], output)
 }
 
 // Searches a readable index, whose tables of starts are filled first, one of them lent.
 fn search_filled<'a>(
     chars: &'a [u16],
     lengths: &[u16],
-    index: &'a [u16],
+    index: &'a [Number],
     keys: usize,
     string: &[u16],
-    list_starts: &mut [u32],
-    output: &mut [u16],
+    list_starts: &mut [Sum],
+    output: &mut [Number],
 ) -> Answer
     requires { ⌜
         Can-read (now chars) (now lengths) (now index) × (keys ≡ keys-of (now index)) × Is-string (now string) ×
@@ -103,14 +96,14 @@ fn search_filled<'a>(
         Sized (find (lexicon (now (chars .entry)) (now (lengths .entry))) (now (index .entry)) (replaced (now (string .entry)))) r
         (now (output .entry)) (now (output .exit)) ⌝ }
 {
-    let mut word_starts = [0u16; 4096];
+    let mut word_starts = [0u16; 4097];
     fill_word_starts(lengths, &mut word_starts);
+    let starts = lengths.len() + 1;
     fill_list_starts(index, keys, list_starts);
     search_tabled(
         chars,
-        lengths,
+        &word_starts[..starts],
         index,
-        &word_starts,
         list_starts,
         string,
         output,
@@ -121,17 +114,17 @@ fn search_filled<'a>(
 fn search_few_lines<'a>(
     chars: &'a [u16],
     lengths: &[u16],
-    index: &'a [u16],
+    index: &'a [Number],
     keys: usize,
     string: &[u16],
-    output: &mut [u16],
+    output: &mut [Number],
 ) -> Answer
     requires { ⌜ Can-read (now chars) (now lengths) (now index) × (keys ≡ keys-of (now index)) × Is-string (now string) × (keys ≤ 1024) ⌝ }
     ensures { λ r. ⌜
         Sized (find (lexicon (now (chars .entry)) (now (lengths .entry))) (now (index .entry)) (replaced (now (string .entry)))) r
         (now (output .entry)) (now (output .exit)) ⌝ }
 {
-    let mut list_starts = [0u32; 1024];
+    let mut list_starts: [Sum; 1024] = [0; 1024];
     search_filled(
         chars,
         lengths,
@@ -147,17 +140,17 @@ fn search_few_lines<'a>(
 fn search_some_lines<'a>(
     chars: &'a [u16],
     lengths: &[u16],
-    index: &'a [u16],
+    index: &'a [Number],
     keys: usize,
     string: &[u16],
-    output: &mut [u16],
+    output: &mut [Number],
 ) -> Answer
     requires { ⌜ Can-read (now chars) (now lengths) (now index) × (keys ≡ keys-of (now index)) × Is-string (now string) × (keys ≤ 8192) ⌝ }
     ensures { λ r. ⌜
         Sized (find (lexicon (now (chars .entry)) (now (lengths .entry))) (now (index .entry)) (replaced (now (string .entry)))) r
         (now (output .entry)) (now (output .exit)) ⌝ }
 {
-    let mut list_starts = [0u32; 8192];
+    let mut list_starts: [Sum; 8192] = [0; 8192];
     search_filled(
         chars,
         lengths,
@@ -173,17 +166,17 @@ fn search_some_lines<'a>(
 fn search_many_lines<'a>(
     chars: &'a [u16],
     lengths: &[u16],
-    index: &'a [u16],
+    index: &'a [Number],
     keys: usize,
     string: &[u16],
-    output: &mut [u16],
+    output: &mut [Number],
 ) -> Answer
     requires { ⌜ Can-read (now chars) (now lengths) (now index) × (keys ≡ keys-of (now index)) × Is-string (now string) ⌝ }
     ensures { λ r. ⌜
         Sized (find (lexicon (now (chars .entry)) (now (lengths .entry))) (now (index .entry)) (replaced (now (string .entry)))) r
         (now (output .entry)) (now (output .exit)) ⌝ }
 {
-    let mut list_starts = [0u32; 65536];
+    let mut list_starts: [Sum; 65536] = [0; 65536];
     search_filled(
         chars,
         lengths,
@@ -199,10 +192,10 @@ fn search_many_lines<'a>(
 fn search_lines<'a>(
     chars: &'a [u16],
     lengths: &[u16],
-    index: &'a [u16],
+    index: &'a [Number],
     keys: usize,
     string: &[u16],
-    output: &mut [u16],
+    output: &mut [Number],
 ) -> Answer
     requires { ⌜ Can-read (now chars) (now lengths) (now index) × (keys ≡ keys-of (now index)) × Is-string (now string) ⌝ }
     ensures { λ r. ⌜
@@ -222,11 +215,11 @@ fn search_lines<'a>(
 fn search_opened<'a>(
     chars: &'a [u16],
     lengths: &'a [u16],
-    index: &'a [u16],
+    index: &'a [Number],
     refusal: u32,
     keys: usize,
     string: &'a [u16],
-    output: &mut [u16],
+    output: &mut [Number],
 ) -> Answer
     requires { ⌜ (refusal ≡ index-refusal (now chars) (now lengths) (now index)) × (keys ≡ accepted refusal (keys-of (now index)) 0) ⌝ }
     ensures { λ r. ⌜
@@ -256,9 +249,9 @@ fn search_opened<'a>(
 pub fn search_index<'a>(
     chars: &'a [u16],
     lengths: &'a [u16],
-    index: &'a [u16],
+    index: &'a [Number],
     string: &'a [u16],
-    output: &mut [u16],
+    output: &mut [Number],
 ) -> Answer
     ensures { λ r. ⌜
         Search-says (now (chars .entry)) (now (lengths .entry)) (now (index .entry)) (now (string .entry)) r (now (output .entry))

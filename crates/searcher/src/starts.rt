@@ -3,37 +3,38 @@
 ghost use mathlib.Core.Path.{_≡_};
 ghost use Prim.Native.Nat.{_≤_};
 ghost use lib.ListN.{length, replicate};
-ghost use Rattle.spec.specs.Dictionary.{lexicon};
+ghost use Rattle.spec.specs.Dictionary.{longest-text};
+ghost use Rattle.models.specs.WordStarts.{lexicon-at};
 ghost use Rattle.laws.specs.Directory.Tables.{Opened};
 ghost use Rattle.laws.specs.Search.Sizing.{Is-string};
 ghost use Rattle.laws.specs.Window.Searching.{Window-says};
 use crate::window::search_cleared;
 use spec::Answer;
+use width::Number;
+use width::Sum;
 
 // Searches the starts at which the string fits, of which there are `starts`, in a cleared window that is lent.
-fn search_lent<'a>(
-    chars: &'a [u16],
-    lengths: &[u16],
-    index: &'a [u16],
+fn search_lent(
+    chars: &[u16],
     word_starts: &[u16],
-    list_starts: &[u32],
+    index: &[Number],
+    list_starts: &[Sum],
     string: &[u16],
     starts: usize,
-    reach: &mut [u16],
-    output: &mut [u16],
+    reach: &mut [Number],
+    output: &mut [Number],
 ) -> Answer
     requires { ⌜
-        Opened (now chars) (now lengths) (now index) (now «word_starts») (now «list_starts») × Is-string (now string) × (starts ≤ 65535) ×
+        Opened (now chars) (now «word_starts») (now index) (now «list_starts») × Is-string (now string) × (starts ≤ longest-text) ×
         (starts ≤ length (now reach)) × (now reach ≡ replicate (length (now reach)) 0) ⌝ }
     ensures { λ r. ⌜
-        Window-says (lexicon (now (chars .entry)) (now (lengths .entry))) (now (index .entry)) (now (string .entry)) starts 1 r
+        Window-says (lexicon-at (now (chars .entry)) (now («word_starts» .entry))) (now (index .entry)) (now (string .entry)) starts 1 r
         (now (output .entry)) (now (output .exit)) ⌝ }
 {
     search_cleared(
         chars,
-        lengths,
-        index,
         word_starts,
+        index,
         list_starts,
         string,
         &mut reach[..starts],
@@ -42,28 +43,26 @@ fn search_lent<'a>(
 }
 
 // Searches at most 1,024 starts, in a local window.
-fn search_in_short<'a>(
-    chars: &'a [u16],
-    lengths: &[u16],
-    index: &'a [u16],
+fn search_in_short(
+    chars: &[u16],
     word_starts: &[u16],
-    list_starts: &[u32],
+    index: &[Number],
+    list_starts: &[Sum],
     string: &[u16],
     starts: usize,
-    output: &mut [u16],
+    output: &mut [Number],
 ) -> Answer
     requires { ⌜
-        Opened (now chars) (now lengths) (now index) (now «word_starts») (now «list_starts») × Is-string (now string) × (starts ≤ 1024) ⌝ }
+        Opened (now chars) (now «word_starts») (now index) (now «list_starts») × Is-string (now string) × (starts ≤ 1024) ⌝ }
     ensures { λ r. ⌜
-        Window-says (lexicon (now (chars .entry)) (now (lengths .entry))) (now (index .entry)) (now (string .entry)) starts 1 r
+        Window-says (lexicon-at (now (chars .entry)) (now («word_starts» .entry))) (now (index .entry)) (now (string .entry)) starts 1 r
         (now (output .entry)) (now (output .exit)) ⌝ }
 {
-    let mut reach = [0u16; 1024];
+    let mut reach: [Number; 1024] = [0; 1024];
     search_lent(
         chars,
-        lengths,
-        index,
         word_starts,
+        index,
         list_starts,
         string,
         starts,
@@ -73,28 +72,26 @@ fn search_in_short<'a>(
 }
 
 // Searches at most 8,192 starts, in a local window.
-fn search_in_middle<'a>(
-    chars: &'a [u16],
-    lengths: &[u16],
-    index: &'a [u16],
+fn search_in_middle(
+    chars: &[u16],
     word_starts: &[u16],
-    list_starts: &[u32],
+    index: &[Number],
+    list_starts: &[Sum],
     string: &[u16],
     starts: usize,
-    output: &mut [u16],
+    output: &mut [Number],
 ) -> Answer
     requires { ⌜
-        Opened (now chars) (now lengths) (now index) (now «word_starts») (now «list_starts») × Is-string (now string) × (starts ≤ 8192) ⌝ }
+        Opened (now chars) (now «word_starts») (now index) (now «list_starts») × Is-string (now string) × (starts ≤ 8192) ⌝ }
     ensures { λ r. ⌜
-        Window-says (lexicon (now (chars .entry)) (now (lengths .entry))) (now (index .entry)) (now (string .entry)) starts 1 r
+        Window-says (lexicon-at (now (chars .entry)) (now («word_starts» .entry))) (now (index .entry)) (now (string .entry)) starts 1 r
         (now (output .entry)) (now (output .exit)) ⌝ }
 {
-    let mut reach = [0u16; 8192];
+    let mut reach: [Number; 8192] = [0; 8192];
     search_lent(
         chars,
-        lengths,
-        index,
         word_starts,
+        index,
         list_starts,
         string,
         starts,
@@ -104,28 +101,26 @@ fn search_in_middle<'a>(
 }
 
 // Searches any number of starts, in a local window of 65,536.
-fn search_in_long<'a>(
-    chars: &'a [u16],
-    lengths: &[u16],
-    index: &'a [u16],
+fn search_in_long(
+    chars: &[u16],
     word_starts: &[u16],
-    list_starts: &[u32],
+    index: &[Number],
+    list_starts: &[Sum],
     string: &[u16],
     starts: usize,
-    output: &mut [u16],
+    output: &mut [Number],
 ) -> Answer
     requires { ⌜
-        Opened (now chars) (now lengths) (now index) (now «word_starts») (now «list_starts») × Is-string (now string) × (starts ≤ 65535) ⌝ }
+        Opened (now chars) (now «word_starts») (now index) (now «list_starts») × Is-string (now string) × (starts ≤ longest-text) ⌝ }
     ensures { λ r. ⌜
-        Window-says (lexicon (now (chars .entry)) (now (lengths .entry))) (now (index .entry)) (now (string .entry)) starts 1 r
+        Window-says (lexicon-at (now (chars .entry)) (now («word_starts» .entry))) (now (index .entry)) (now (string .entry)) starts 1 r
         (now (output .entry)) (now (output .exit)) ⌝ }
 {
-    let mut reach = [0u16; 65536];
+    let mut reach: [Number; 65536] = [0; 65536];
     search_lent(
         chars,
-        lengths,
-        index,
         word_starts,
+        index,
         list_starts,
         string,
         starts,
@@ -135,28 +130,26 @@ fn search_in_long<'a>(
 }
 
 // Searches the starts at which the string fits, of which there are `starts`, in the smallest window that is long enough.
-pub(crate) fn search_starts<'a>(
-    chars: &'a [u16],
-    lengths: &[u16],
-    index: &'a [u16],
+pub(crate) fn search_starts(
+    chars: &[u16],
     word_starts: &[u16],
-    list_starts: &[u32],
+    index: &[Number],
+    list_starts: &[Sum],
     string: &[u16],
     starts: usize,
-    output: &mut [u16],
+    output: &mut [Number],
 ) -> Answer
     requires { ⌜
-        Opened (now chars) (now lengths) (now index) (now «word_starts») (now «list_starts») × Is-string (now string) × (starts ≤ 65535) ⌝ }
+        Opened (now chars) (now «word_starts») (now index) (now «list_starts») × Is-string (now string) × (starts ≤ longest-text) ⌝ }
     ensures { λ r. ⌜
-        Window-says (lexicon (now (chars .entry)) (now (lengths .entry))) (now (index .entry)) (now (string .entry)) starts 1 r
+        Window-says (lexicon-at (now (chars .entry)) (now («word_starts» .entry))) (now (index .entry)) (now (string .entry)) starts 1 r
         (now (output .entry)) (now (output .exit)) ⌝ }
 {
     if starts <= 1024 {
         return search_in_short(
             chars,
-            lengths,
-            index,
             word_starts,
+            index,
             list_starts,
             string,
             starts,
@@ -166,9 +159,8 @@ pub(crate) fn search_starts<'a>(
     if starts <= 8192 {
         return search_in_middle(
             chars,
-            lengths,
-            index,
             word_starts,
+            index,
             list_starts,
             string,
             starts,
@@ -177,9 +169,8 @@ pub(crate) fn search_starts<'a>(
     }
     search_in_long(
         chars,
-        lengths,
-        index,
         word_starts,
+        index,
         list_starts,
         string,
         starts,

@@ -6,12 +6,12 @@ use Rattle.searcher.proofs.first.first_tabled.Tie as tie
 
 slice-aggregate-first-plain : tie.Need-slice-aggregate-first-plain
 slice-aggregate-first-plain c =
-    let start = c .before .before .before .before .before .before .before .before in
+    let start = c .before .before .before .before .before .before .before in
     own-long (start .args .string .now) (c .before .replaced-string .result) (c .before .replaced-string .ensures)
 
 first-plain-requires : tie.Need-first-plain-requires
 first-plain-requires c κs =
-    let start = c .before .before .before .before .before .before .before .before in (
+    let start = c .before .before .before .before .before .before .before in (
       start .pre .0,
       own-string (start .args .string .now) (c .before .replaced-string .result) (c .before .replaced-string .ensures) (start .pre .1),
     )

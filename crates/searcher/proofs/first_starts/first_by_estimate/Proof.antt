@@ -7,7 +7,7 @@ use Rattle.searcher.proofs.first_starts.first_by_estimate.Tie as tie
 
 first-by-text-in-requires : tie.Need-first-by-text-in-requires
 first-by-text-in-requires c κs =
-    let s = c .before .before .before .before .before .before .before in
+    let s = c .before .before .before .before .before .before in
     (s .pre .0, s .pre .1, cleared-room 65536 (s .args .starts) (omega arith), s .pre .3)
 
 pub first-by-estimate-spec : {M : Type 1} → statement M

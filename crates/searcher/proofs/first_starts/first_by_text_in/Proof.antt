@@ -3,7 +3,7 @@ use mathlib.Core.Path.{sym}
 use native.Mathlib.Omega.{arith}
 use lib.ListN.{length, take}
 use lib.Seq.{length-take-le}
-use Rattle.spec.specs.Dictionary.{lexicon}
+use Rattle.models.specs.WordStarts.{lexicon-at}
 use Rattle.laws.specs.First.Found.{first-in-count}
 use borrow.Author.Needs.{needs}
 use Rattle.searcher.proofs.first_starts.first_by_text_in.Statement.{statement}
@@ -11,20 +11,20 @@ use Rattle.searcher.proofs.first_starts.first_by_text_in.Tie as tie
 
 slice-aggregate-first-by-text : tie.Need-slice-aggregate-first-by-text
 slice-aggregate-first-by-text c =
-    let s = c .before .before .before .before .before .before .before .before in sym
+    let s = c .before .before .before .before .before .before .before in sym
     (length-take-le (s .args .starts) (s .args .room .now) (s .pre .2))
 
 first-by-text-requires : tie.Need-first-by-text-requires
 first-by-text-requires c κs =
-    let s = c .before .before .before .before .before .before .before .before in
+    let s = c .before .before .before .before .before .before .before in
     (s .pre .0, s .pre .1, omega (arith, length-take-le (s .args .starts) (s .args .room .now) (s .pre .2)))
 
 returns : tie.Need-returns
 returns c =
-    let s = c .before .before .before .before .before .before .before .before .before .before .before in
+    let s = c .before .before .before .before .before .before .before .before .before .before in
     let a = s .args in
     let found = c .before .before .first-by-text in
-    first-in-count (lexicon (a .chars .now) (a .lengths .now)) (a .index .now) (a .string .now) (length (take (a .starts) (a .room .now))) 1
+    first-in-count (lexicon-at (a .chars .now) (a .word-starts .now)) (a .index .now) (a .string .now) (length (take (a .starts) (a .room .now))) 1
     (a .starts) (found .result) (length-take-le (a .starts) (a .room .now) (s .pre .2)) (found .ensures)
 
 pub first-by-text-in-spec : {M : Type 1} → statement M

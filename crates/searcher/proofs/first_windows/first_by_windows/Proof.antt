@@ -1,7 +1,7 @@
 -- `first_by_windows` meets its contract: where none of 8,192 starts is found, the first found is that of the others. Assumes nothing.
 use Prim.Native.Nat.{_-_}
 use native.Mathlib.Omega.{arith}
-use Rattle.spec.specs.Dictionary.{lexicon}
+use Rattle.models.specs.WordStarts.{lexicon-at}
 use Rattle.laws.specs.First.Found.{first-in-first, first-in-second}
 use borrow.Author.Needs.{needs}
 use Rattle.searcher.proofs.first_windows.first_by_windows.Statement.{statement}
@@ -9,17 +9,17 @@ use Rattle.searcher.proofs.first_windows.first_by_windows.Tie as tie
 
 returns-3 : tie.Need-returns-3
 returns-3 c =
-    let a = c .before .before .before .before .before .before .before .before .before .before .before .args in
+    let a = c .before .before .before .before .before .before .before .before .before .before .args in
     let near = c .before .first-in-middle2 in
-    first-in-first (lexicon (a .chars .now) (a .lengths .now)) (a .index .now) (a .string .now) (a .starts) 8192 (a .starts - 8192) 1
+    first-in-first (lexicon-at (a .chars .now) (a .word-starts .now)) (a .index .now) (a .string .now) (a .starts) 8192 (a .starts - 8192) 1
     (omega arith) (near .result) (near .ensures)
     (c .if3 .taken)
 
 returns-4 : tie.Need-returns-4
 returns-4 c =
-    let a = c .before .before .before .before .before .before .before .before .before .before .before .before .args in
+    let a = c .before .before .before .before .before .before .before .before .before .before .before .args in
     let near = c .before .before .first-in-middle2 in
-    first-in-second (lexicon (a .chars .now) (a .lengths .now)) (a .index .now) (a .string .now) (a .starts) 8192 (a .starts - 8192) 1
+    first-in-second (lexicon-at (a .chars .now) (a .word-starts .now)) (a .index .now) (a .string .now) (a .starts) 8192 (a .starts - 8192) 1
     (omega arith) (near .result) (near .ensures)
     (omega arith) (c .before .if3 .left) (c .first-in-long .result) (c .first-in-long .ensures)
 

@@ -3,7 +3,7 @@ use mathlib.Core.Path.{sym}
 use native.Mathlib.Omega.{arith}
 use lib.ListN.{length, take}
 use lib.Seq.{length-take-le}
-use Rattle.spec.specs.Dictionary.{lexicon}
+use Rattle.models.specs.WordStarts.{lexicon-at}
 use Rattle.laws.specs.Window.Searching.{cleared-part}
 use Rattle.laws.specs.First.Found.{first-in-count}
 use borrow.Author.Needs.{needs}
@@ -12,29 +12,27 @@ use Rattle.searcher.proofs.first_windows.first_in_lent.Tie as tie
 
 slice-aggregate-first-in-window : tie.Need-slice-aggregate-first-in-window
 slice-aggregate-first-in-window c =
-    let s = c .before .before .before .before .before .before .before .before .before in sym
-    (length-take-le (s .args .starts) (s .args .reach .now) (s .pre .5))
+    let s = c .before .before .before .before .before .before .before .before in sym
+    (length-take-le (s .args .starts) (s .args .reach .now) (s .pre .3))
 
 first-in-window-requires : tie.Need-first-in-window-requires
 first-in-window-requires c κs =
-    let s = c .before .before .before .before .before .before .before .before .before in
+    let s = c .before .before .before .before .before .before .before .before in
     let a = s .args in (
       s .pre .0,
       s .pre .1,
-      s .pre .2,
-      s .pre .3,
-      omega (arith, length-take-le (a .starts) (a .reach .now) (s .pre .5)),
-      cleared-part (length (a .reach .now)) (a .starts) (a .reach .now) (s .pre .6) (s .pre .5),
+      omega (arith, length-take-le (a .starts) (a .reach .now) (s .pre .3)),
+      cleared-part (length (a .reach .now)) (a .starts) (a .reach .now) (s .pre .4) (s .pre .3),
     )
 
 returns : tie.Need-returns
 returns c =
-    let s = c .before .before .before .before .before .before .before .before .before .before .before .before in
+    let s = c .before .before .before .before .before .before .before .before .before .before .before in
     let a = s .args in
     let found = c .before .before .first-in-window in
-    first-in-count (lexicon (a .chars .now) (a .lengths .now)) (a .index .now) (a .string .now) (length (take (a .starts) (a .reach .now)))
+    first-in-count (lexicon-at (a .chars .now) (a .word-starts .now)) (a .index .now) (a .string .now) (length (take (a .starts) (a .reach .now)))
     (a .first)
-    (a .starts) (found .result) (length-take-le (a .starts) (a .reach .now) (s .pre .5)) (found .ensures)
+    (a .starts) (found .result) (length-take-le (a .starts) (a .reach .now) (s .pre .3)) (found .ensures)
 
 pub first-in-lent-spec : {M : Type 1} → statement M
 first-in-lent-spec =

@@ -7,8 +7,8 @@ use Rattle.searcher.proofs.first_windows.first_in_long.Tie as tie
 
 first-in-lent-requires : tie.Need-first-in-lent-requires
 first-in-lent-requires c κs =
-    let s = c .before .before .before .before .before .before .before .before in
-    (s .pre .0, s .pre .1, s .pre .2, s .pre .3, s .pre .4, cleared-room 65536 (s .args .starts) (omega arith), cleared-whole 65536)
+    let s = c .before .before .before .before .before .before .before in
+    (s .pre .0, s .pre .1, s .pre .2, cleared-room 65536 (s .args .starts) (omega arith), cleared-whole 65536)
 
 pub first-in-long-spec : {M : Type 1} → statement M
 first-in-long-spec =

@@ -8,7 +8,7 @@ use Rattle.searcher.proofs.first_windows.first_listing.Tie as tie
 slice-aggregate-first-by-windows : tie.Need-slice-aggregate-first-by-windows
 slice-aggregate-first-by-windows c =
     let listed = c .before .before .before .list-leading in
-    sym (length-take-le (listed .result .count) (listed .last .1 .1 .1 .1 .1 .0) (listed .ensures .1))
+    sym (length-take-le (listed .result .count) (listed .last .1 .1 .1 .1 .0) (listed .ensures .1))
 
 pub first-listing-spec : {M : Type 1} → statement M
 first-listing-spec =

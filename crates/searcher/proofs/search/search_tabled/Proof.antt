@@ -6,12 +6,12 @@ use Rattle.searcher.proofs.search.search_tabled.Tie as tie
 
 slice-aggregate-search-plain : tie.Need-slice-aggregate-search-plain
 slice-aggregate-search-plain c =
-    let start = c .before .before .before .before .before .before .before .before .before in
+    let start = c .before .before .before .before .before .before .before .before in
     own-long (start .args .string .now) (c .before .replaced-string .result) (c .before .replaced-string .ensures)
 
 search-plain-requires : tie.Need-search-plain-requires
 search-plain-requires c κs =
-    let start = c .before .before .before .before .before .before .before .before .before .before in
+    let start = c .before .before .before .before .before .before .before .before .before in
     let own = c .before .before .replaced-string in
     (start .pre .0, own-string (start .args .string .now) (own .result) (own .ensures) (start .pre .1))
 

@@ -7,7 +7,7 @@ use Rattle.searcher.proofs.starts.search_in_long.Tie as tie
 
 search-lent-requires : tie.Need-search-lent-requires
 search-lent-requires c κs =
-    let s = c .before .before .before .before .before .before .before .before .before in
+    let s = c .before .before .before .before .before .before .before .before in
     (s .pre .0, s .pre .1, s .pre .2, cleared-room 65536 (s .args .starts) (omega arith), cleared-whole 65536)
 
 pub search-in-long-spec : {M : Type 1} → statement M

@@ -3,7 +3,7 @@ use mathlib.Core.Path.{sym}
 use native.Mathlib.Omega.{arith}
 use lib.ListN.{length, take}
 use lib.Seq.{length-take-le}
-use Rattle.spec.specs.Dictionary.{lexicon}
+use Rattle.models.specs.WordStarts.{lexicon-at}
 use Rattle.laws.specs.Window.Searching.{cleared-part, says-count}
 use borrow.Author.Needs.{needs}
 use Rattle.searcher.proofs.starts.search_lent.Statement.{statement}
@@ -11,12 +11,12 @@ use Rattle.searcher.proofs.starts.search_lent.Tie as tie
 
 slice-aggregate-search-cleared : tie.Need-slice-aggregate-search-cleared
 slice-aggregate-search-cleared c =
-    let s = c .before .before .before .before .before .before .before .before .before in sym
+    let s = c .before .before .before .before .before .before .before .before in sym
     (length-take-le (s .args .starts) (s .args .reach .now) (s .pre .3))
 
 search-cleared-requires : tie.Need-search-cleared-requires
 search-cleared-requires c κs =
-    let s = c .before .before .before .before .before .before .before .before .before .before in
+    let s = c .before .before .before .before .before .before .before .before .before in
     let a = s .args in (
       s .pre .0,
       s .pre .1,
@@ -26,11 +26,11 @@ search-cleared-requires c κs =
 
 returns : tie.Need-returns
 returns c =
-    let s = c .before .before .before .before .before .before .before .before .before .before .before .before .before .before .before in
+    let s = c .before .before .before .before .before .before .before .before .before .before .before .before .before .before in
     let a = s .args in
     let searched = c .before .before .before .before .search-cleared in
-    says-count (lexicon (a .chars .now) (a .lengths .now)) (a .index .now) (a .string .now) (length (take (a .starts) (a .reach .now)))
-    (a .starts) 1 (searched .result) (a .output .now) (searched .last .1 .1 .1 .1 .1 .1 .1 .0)
+    says-count (lexicon-at (a .chars .now) (a .word-starts .now)) (a .index .now) (a .string .now) (length (take (a .starts) (a .reach .now)))
+    (a .starts) 1 (searched .result) (a .output .now) (searched .last .1 .1 .1 .1 .1 .1 .0)
     (length-take-le (a .starts) (a .reach .now) (s .pre .3)) (searched .ensures)
 
 pub search-lent-spec : {M : Type 1} → statement M

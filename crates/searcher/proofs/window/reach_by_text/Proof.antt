@@ -8,8 +8,8 @@ use Rattle.searcher.proofs.window.reach_by_text.Tie as tie
 
 reach-in-front-requires : tie.Need-reach-in-front-requires
 reach-in-front-requires c κs =
-    let s = c .before .before .before .before .before .before .before .before in
-    (s .pre .0, s .pre .1, s .pre .2, cleared-room 65536 (n-of (s .args .index .now)) (omega arith), s .pre .3)
+    let s = c .before .before .before .before .before .before .before in
+    (s .pre .0, s .pre .1, cleared-room 65536 (n-of (s .args .index .now)) (omega arith), s .pre .2)
 
 pub reach-by-text-spec : {M : Type 1} → statement M
 reach-by-text-spec =

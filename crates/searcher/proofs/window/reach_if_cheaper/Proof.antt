@@ -10,10 +10,9 @@ use Rattle.searcher.proofs.window.reach_by_text.Reads as reach-by-text-
 
 reach-by-text-requires : tie.Need-reach-by-text-requires
 reach-by-text-requires c κs =
-    let s = c .before .before .before .before .before .before .before .before .before in (
+    let s = c .before .before .before .before .before .before .before .before in (
       s .pre .0,
-      s .pre .1,
-      s .pre .2 .short,
+      s .pre .1 .short,
       c .before .before .prefers-text-scan .ensures (not-false (c .before .before .prefers-text-scan .result) (c .before .if1 .left)),
     )
 
