@@ -15,17 +15,19 @@ use directory::tables::fill_list_starts;
 use directory::tables::fill_word_starts;
 use opening::opened::open_index;
 use printer::print::put_index_lines;
+use width::Number;
+use width::Sum;
 
 // Writes the lines of a readable index and of all finds, with a table lent for the starts of the `keys` lines.
 fn put_filled<'a>(
     chars: &'a [u16],
     lengths: &[u16],
-    index: &'a [u16],
+    index: &'a [Number],
     keys: usize,
     strings: &[u16],
     counts: &[u16],
-    list_starts: &mut [u32],
-    found: &mut [u16],
+    list_starts: &mut [Sum],
+    found: &mut [Number],
     out: &mut [u8],
 ) -> usize
     requires { ⌜
@@ -36,15 +38,15 @@ fn put_filled<'a>(
         Wrote (shown (now (chars .entry)) (now (lengths .entry)) (now (index .entry)) (now (strings .entry)) (now (counts .entry))) 0
         (now (out .entry)) r (now (out .exit)) ⌝ }
 {
-    let mut word_starts = [0u16; 4096];
+    let mut word_starts = [0u16; 4097];
     fill_word_starts(lengths, &mut word_starts);
+    let starts = lengths.len() + 1;
     fill_list_starts(index, keys, list_starts);
     let end = put_index_lines(out, 0, index);
     put_finds(
         chars,
-        lengths,
+        &word_starts[..starts],
         index,
-        &word_starts,
         list_starts,
         strings,
         counts,
@@ -58,11 +60,11 @@ fn put_filled<'a>(
 fn put_opened<'a>(
     chars: &'a [u16],
     lengths: &'a [u16],
-    index: &'a [u16],
+    index: &'a [Number],
     keys: usize,
     strings: &'a [u16],
     counts: &'a [u16],
-    found: &mut [u16],
+    found: &mut [Number],
     out: &mut [u8],
 ) -> usize
     requires { ⌜
@@ -72,7 +74,7 @@ fn put_opened<'a>(
         Wrote (shown (now (chars .entry)) (now (lengths .entry)) (now (index .entry)) (now (strings .entry)) (now (counts .entry))) 0
         (now (out .entry)) r (now (out .exit)) ⌝ }
 {
-    let mut list_starts = [0u32; 2667];
+    let mut list_starts: [Sum; 2667] = [0; 2667];
     put_filled(
         chars,
         lengths,
@@ -90,10 +92,10 @@ fn put_opened<'a>(
 fn put_lines<'a>(
     chars: &'a [u16],
     lengths: &'a [u16],
-    index: &'a [u16],
+    index: &'a [Number],
     strings: &'a [u16],
     counts: &'a [u16],
-    found: &mut [u16],
+    found: &mut [Number],
     out: &mut [u8],
 ) -> usize
     requires { ⌜
@@ -123,9 +125,9 @@ fn put_built<'a>(
     text: &[u16],
     strings: &'a [u16],
     counts: &'a [u16],
-    index: &mut [u16],
-    work: &mut [u16],
-    found: &mut [u16],
+    index: &mut [Number],
+    work: &mut [Number],
+    found: &mut [Number],
     out: &mut [u8],
 ) -> usize
     requires { ⌜ Parts-good (now chars) (now lengths) (now text) (now strings) (now counts) ⌝ }
@@ -153,9 +155,9 @@ pub(crate) fn put_printed<'a>(
         Wrote (printed-of (now (chars .entry)) (now (lengths .entry)) (now (text .entry)) (now (strings .entry)) (now (counts .entry))) 0
         (now (out .entry)) r (now (out .exit)) ⌝ }
 {
-    let mut index = [0u16; 8002];
-    let mut work = [0u16; 16000];
-    let mut found = [0u16; 2000];
+    let mut index: [Number; 8002] = [0; 8002];
+    let mut work: [Number; 16000] = [0; 16000];
+    let mut found: [Number; 2000] = [0; 2000];
     put_built(
         chars,
         lengths,

@@ -4,7 +4,7 @@ use native.Mathlib.Omega.{arith}
 use borrow.Author.Needs.{needs}
 use lib.Seq.{length-take-le}
 use Rattle.spec.specs.Replaced.{replaced}
-use Rattle.spec.specs.Dictionary.{lexicon}
+use Rattle.models.specs.WordStarts.{lexicon-at}
 use Rattle.spec.specs.Search.{find}
 use Rattle.laws.specs.Text.WidthFolding.{length-replaced}
 use Rattle.laws.specs.JobSheet.AcceptedCalls.{In-hand, found-in-hand}
@@ -13,14 +13,14 @@ use Rattle.jobsheet.proofs.finds.put_find.Tie as tie
 
 -- the positions found are the first numbers of the slice lent for them
 positions-in-hand :
-    (c : tie.After-search-tabled) → let a = c .before .before .before .before .before .before .before .before .before .before .args in
-    In-hand (find (lexicon (a .chars .now) (a .lengths .now)) (a .index .now) (replaced (a .string .now)))
-    (c .search-tabled .result .count) (c .search-tabled .last .1 .1 .1 .1 .1 .1 .0)
+    (c : tie.After-search-tabled) → let a = c .before .before .before .before .before .before .before .before .before .args in
+    In-hand (find (lexicon-at (a .chars .now) (a .word-starts .now)) (a .index .now) (replaced (a .string .now)))
+    (c .search-tabled .result .count) (c .search-tabled .last .1 .1 .1 .1 .1 .0)
 positions-in-hand c =
-    let s = c .before .before .before .before .before .before .before .before .before .before in
+    let s = c .before .before .before .before .before .before .before .before .before in
     let a = s .args in
-    found-in-hand (lexicon (a .chars .now) (a .lengths .now)) (a .index .now) (c .search-tabled .result)
-    (a .found .now) (c .search-tabled .last .1 .1 .1 .1 .1 .1 .0)
+    found-in-hand (lexicon-at (a .chars .now) (a .word-starts .now)) (a .index .now) (c .search-tabled .result)
+    (a .found .now) (c .search-tabled .last .1 .1 .1 .1 .1 .0)
     (record {
       some = omega (arith, length-replaced (a .string .now));
       short = omega (arith, length-replaced (a .string .now));
@@ -31,13 +31,13 @@ slice-aggregate-put-found-line : tie.Need-slice-aggregate-put-found-line
 slice-aggregate-put-found-line c =
     let searched = c .before .before .before .before .search-tabled in
     sym
-    (length-take-le (searched .result .count) (searched .last .1 .1 .1 .1 .1 .1 .0)
+    (length-take-le (searched .result .count) (searched .last .1 .1 .1 .1 .1 .0)
     (positions-in-hand (c .before .before .before .before) .room))
 
 put-found-line-requires : tie.Need-put-found-line-requires
 put-found-line-requires c κs =
     rw (positions-in-hand (c .before .before .before .before) .is)
-    (c .before .before .before .before .before .before .before .before .before .before .before .before .before .before .pre .1)
+    (c .before .before .before .before .before .before .before .before .before .before .before .before .before .pre .1)
 
 returns : tie.Need-returns
 returns c =

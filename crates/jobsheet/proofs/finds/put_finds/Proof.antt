@@ -4,22 +4,22 @@ use mathlib.Core.Path.{_≡_, refl, _∙_}
 use Prim.Native.Nat.{_+_, _-_, _≤_}
 use native.Mathlib.Omega.{arith}
 use lib.ListN.{length, getD}
-use Rattle.spec.specs.Dictionary.{lexicon}
+use Rattle.models.specs.WordStarts.{lexicon-at}
 use Rattle.laws.specs.JobSheet.FindWalk.{Finds-printed, finds-start, finds-end, string-fits, string-is, find-fits, finds-step}
 use Rattle.jobsheet.proofs.finds.put_finds.Statement.{statement}
 use Rattle.jobsheet.proofs.finds.put_finds.Tie as tie
 
 abbrev Inv-loop : tie.InvT-loop
-Inv-loop chars lengths index word-starts list-starts strings counts found₀ out₀ at end₀ from₀ i₀ found out end from i =
-    (length found ≡ length found₀) × Finds-printed (lexicon chars lengths) index strings counts at out₀ from end i out
+Inv-loop chars word-starts index list-starts strings counts found₀ out₀ at end₀ from₀ i₀ found out end from i =
+    (length found ≡ length found₀) × Finds-printed (lexicon-at chars word-starts) index strings counts at out₀ from end i out
 
 abbrev μ-loop : tie.MeasureT-loop
-μ-loop chars lengths index word-starts list-starts strings counts found₀ out₀ at end₀ from₀ i₀ found out end from i = length counts - i
+μ-loop chars word-starts index list-starts strings counts found₀ out₀ at end₀ from₀ i₀ found out end from i = length counts - i
 
 -- the next string is there
 next-fits :
     (c : tie.In-loop Inv-loop μ-loop) → let a =
-    c .before .before .before .before .before .before .before .before .before .before .before .args in
+    c .before .before .before .before .before .before .before .before .before .before .args in
     c .before .loop .from + getD (a .counts .now) (c .before .loop .i) 0 ≤ length (a .strings .now)
 next-fits c =
     let l = c .before .loop in
@@ -28,20 +28,20 @@ next-fits c =
 
 loop-holds : tie.Need-loop-holds Inv-loop μ-loop
 loop-holds c =
-    let s = c .before .before .before .before .before .before .before .before .before in
+    let s = c .before .before .before .before .before .before .before .before in
     let a = s .args in (
       refl,
-      finds-start (lexicon (a .chars .now) (a .lengths .now)) (a .index .now) (a .strings .now) (a .counts .now) (a .at) (a .out .now)
+      finds-start (lexicon-at (a .chars .now) (a .word-starts .now)) (a .index .now) (a .strings .now) (a .counts .now) (a .at) (a .out .now)
           (s .pre .0 .1 .tested)
           (s .pre .0 .1 .fits) (s .pre .1),
     )
 
 cast-next : tie.Need-cast-next Inv-loop μ-loop
-cast-next c = omega (arith, c .shared-slice-known8 .given (c .before .before .loop .i))
+cast-next c = omega (arith, c .shared-slice-known7 .given (c .before .before .loop .i))
 
 put-find-requires : tie.Need-put-find-requires Inv-loop μ-loop
 put-find-requires c κs =
-    let s = c .before .before .before .before .before .before .before .before .before .before .before .before .before .before .before in
+    let s = c .before .before .before .before .before .before .before .before .before .before .before .before .before .before in
     let l = c .before .before .before .before .before .loop in
     let taken = c .before .before .before .before .loop-test .taken in (
       (
@@ -56,7 +56,7 @@ loop-again : tie.Need-loop-again Inv-loop μ-loop
 loop-again c =
     let l = c .before .before .before .before .before .before .before .before .before .before .loop in
     let put = c .before .before .before .before .put-find in (
-      put .kept .1 .1 .1 .1 .1 .1 .0 ∙ l .inv .0,
+      put .kept .1 .1 .1 .1 .1 .0 ∙ l .inv .0,
       finds-step (l .inv .1) (c .before .before .before .before .before .before .before .before .before .loop-test .taken) (put .ensures),
     )
 

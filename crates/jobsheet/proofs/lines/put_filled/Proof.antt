@@ -2,10 +2,12 @@
 -- that holds both. Assumes nothing.
 use native.Mathlib.Omega.{arith}
 use borrow.Author.Needs.{needs}
+use lib.ListN.{replicate}
 use Rattle.basics.specs.Placed.{Writing, writing-last}
 use Rattle.spec.specs.Dictionary.{lexicon, words-from}
 use Rattle.spec.specs.JobAnswer.{found-lines}
 use Rattle.models.specs.JobSheet.{shown}
+use Rattle.laws.specs.Directory.Tables.{front-long, front-lengths, front-reads}
 use Rattle.laws.specs.JobSheet.AcceptedCalls.{usable-whole}
 use Rattle.laws.specs.JobSheet.JobAnswering.{index-lines-fit, then-finds}
 use Rattle.jobsheet.proofs.lines.put_filled.Statement.{statement}
@@ -44,36 +46,36 @@ at-finds c =
     )) (s .pre .1 .0) (s .pre .1 .2)
     (c .put-index-lines .ensures)
 
+slice-aggregate-put-finds : tie.Need-slice-aggregate-put-finds
+slice-aggregate-put-finds c = front-long (c .before .before .before .before .before .before .before .before .before .before .before .before .before .before .before .before .before .before .before .before .pre .0 .1) (replicate 4097 0) (c .before .before .before .before .before .before .before .before .before .before .fill-word-starts .ensures)
+
 put-finds-requires : tie.Need-put-finds-requires
 put-finds-requires c κs =
     let half = c .before .before .before .before .before .before .before .before .before .before .before in
     let s = half .before .before .before .before .before .before .before .before .before .before .before .before in (
       (
         record {
-          can = s .pre .0 .1;
-          word-starts =
-              c .before .before .before .before .before .before .before .before .before .before .before .before .before .fill-word-starts
-              .ensures;
-          list-starts = c .before .before .before .before .before .before .before .before .before .before .fill-list-starts
-              .ensures;
+          reads = front-reads (s .pre .0 .1) (replicate 4097 0) (c .before .before .before .before .before .before .before .before .before .before .before .before .before .fill-word-starts .ensures);
+          list-starts = c .before .before .before .before .before .before .before .before .before .before .fill-list-starts .ensures;
         },
         s .pre .1 .0,
         omega arith,
       ),
-      at-finds (c .before .before .before .before .before .before) .room,
+      rw (front-lengths (s .pre .0 .1) (replicate 4097 0) (c .before .before .before .before .before .before .before .before .before .before .before .before .before .fill-word-starts .ensures)) (at-finds (c .before .before .before .before .before .before) .room),
     )
 
 returns : tie.Need-returns
 returns c =
     let half = c .before .before .before .before .before .before .before .before .before .before .before .before .before .before in
-    let a = half .before .before .before .before .before .before .before .before .before .before .before .before .before .before .args in
+    let s = half .before .before .before .before .before .before .before .before .before .before .before .before .before .before in
+    let a = s .args in
     writing-last (found-lines (lexicon (a .chars .now) (a .lengths .now)) (a .index .now) (words-from (a .counts .now) (a .strings .now)))
     (at-finds (c .before .before .before .before .before .before .before .before .before .before .before))
-    (c .before .before .before .before .put-finds .ensures)
+    (rw (front-lengths (s .pre .0 .1) (replicate 4097 0) (c .before .before .before .before .before .before .before .before .before .before .before .before .before .before .before .before .before .before .fill-word-starts .ensures)) at (c .before .before .before .before .put-finds .ensures))
 
 pub put-filled-spec : {M : Type 1} → statement M
 put-filled-spec =
     tie.close
     (tie.spec
-    (λ c. search needs) (λ c κs. search needs) (λ c κs. search needs) put-index-lines-requires (λ c. search needs) put-finds-requires
-    (λ c. search needs) (λ c. search needs) (λ c. search needs) returns)
+    (λ c. search needs) (λ c κs. search needs) (λ c. search needs) (λ c κs. search needs) put-index-lines-requires (λ c. search needs)
+    slice-aggregate-put-finds put-finds-requires (λ c. search needs) (λ c. search needs) (λ c. search needs) returns)
