@@ -16,7 +16,7 @@ use directory::ranges::count_word_lines;
 use width::Number;
 
 // Whether a key agrees with the string at an offset of 0 or below.
-fn agrees_leading(key: &[u16], string: &[u16]) -> bool
+pub fn agrees_leading(key: &[u16], string: &[u16]) -> bool
     requires { ⌜ (length (now key) ≤ 32) × (1 ≤ length (now string)) ⌝ }
     ensures { λ r. ⌜ r ≡ agrees-leading (now (string .entry)) (now (key .entry)) ⌝ }
 {

@@ -16,10 +16,9 @@ use directory::lines::word_at;
 use directory::ranges::equal_range;
 use width::Number;
 
-// Lines of words that agree: `count` of them by number, then the lines `from` to `to` - 1, whose words share `depth` characters with the
+// Lines of words that agree: the first `count` of a list, then the lines `from` to `to` - 1, whose words share `depth` characters with the
 // string.
 pub struct Agreeing {
-    pub lines: [u16; 36],
     pub count: usize,
     pub from: usize,
     pub to: usize,
@@ -34,17 +33,17 @@ fn refine(
     string: &[u16],
     key_start: usize,
     word_lines: usize,
+    lines: &mut [u16],
 ) -> Agreeing
     requires { ⌜
         Reads (now chars) (now «word_starts») (now index) × Split (now index) «word_lines» × («key_start» < length (now string)) ×
-        (length (now string) ≤ 256) ⌝ }
+        (length (now string) ≤ 256) × (36 ≤ length (now lines)) ⌝ }
     ensures { λ r. ⌜
         Refining (now (chars .entry)) (now («word_starts» .entry)) (now (index .entry)) (now (string .entry)) «key_start» «word_lines»
-        (r .lines) (r .count) (r .from) (r .to) (r .depth) ×
+        (now (lines .exit)) (r .count) (r .from) (r .to) (r .depth) ×
         («key_start» + r .depth < length (now (string .entry)) → r .to ≤ r .from + 4) ⌝ }
 {
     let left = string.len() - key_start;
-    let mut lines = [0u16; 36];
     let mut count = 0;
     let mut low = 0;
     let mut high = word_lines;
@@ -52,7 +51,6 @@ fn refine(
     while low + 4 < high {
         if left <= depth {
             return Agreeing {
-                lines,
                 count,
                 from: low,
                 to: high,
@@ -72,7 +70,6 @@ fn refine(
         }
     }
     Agreeing {
-        lines,
         count,
         from: low,
         to: high,
@@ -89,17 +86,17 @@ fn compare_few(
     key_start: usize,
     word_lines: usize,
     refined: Agreeing,
+    lines: &mut [u16],
 ) -> Agreeing
     requires { ⌜
         Reads (now chars) (now «word_starts») (now index) × Split (now index) «word_lines» × («key_start» ≤ 256) ×
-        Agreeing-listed «key_start» (lexicon-at (now chars) (now «word_starts»)) (now index) (now string) «word_lines» (refined .lines)
-        (refined .count) (refined .from) (refined .to) × (length (refined .lines) ≡ 36) × (refined .count ≤ 32) ×
+        Agreeing-listed «key_start» (lexicon-at (now chars) (now «word_starts»)) (now index) (now string) «word_lines» (now lines)
+        (refined .count) (refined .from) (refined .to) × (36 ≤ length (now lines)) × (refined .count ≤ 32) ×
         (refined .to ≤ refined .from + 4) ⌝ }
     ensures { λ r. ⌜
         Agreeing-listed «key_start» (lexicon-at (now (chars .entry)) (now («word_starts» .entry))) (now (index .entry)) (now (string .entry))
-        «word_lines» (r .lines) (r .count) (r .from) (r .to) × (r .to ≤ r .from) ⌝ }
+        «word_lines» (now (lines .exit)) (r .count) (r .from) (r .to) × (r .to ≤ r .from) ⌝ }
 {
-    let mut lines = refined.lines;
     let mut count = refined.count;
     let mut low = refined.from;
     let high = refined.to;
@@ -113,7 +110,6 @@ fn compare_few(
         }
     }
     Agreeing {
-        lines,
         count,
         from: high,
         to: high,
@@ -121,7 +117,7 @@ fn compare_few(
     }
 }
 
-// The lines of words, the first `word_lines`, that agree with the string at the offset `key_start`.
+// The lines of words, the first `word_lines`, that agree with the string at the offset `key_start`; some of them go into `lines`.
 pub fn agreeing_words(
     chars: &[u16],
     word_starts: &[u16],
@@ -129,17 +125,26 @@ pub fn agreeing_words(
     string: &[u16],
     key_start: usize,
     word_lines: usize,
+    lines: &mut [u16],
 ) -> Agreeing
     requires { ⌜
         Reads (now chars) (now «word_starts») (now index) × Split (now index) «word_lines» × («key_start» < length (now string)) ×
-        (length (now string) ≤ 256) ⌝ }
+        (length (now string) ≤ 256) × (36 ≤ length (now lines)) ⌝ }
     ensures { λ r. ⌜
         Agreeing-listed «key_start» (lexicon-at (now (chars .entry)) (now («word_starts» .entry))) (now (index .entry)) (now (string .entry))
-        «word_lines» (r .lines) (r .count) (r .from) (r .to) ×
+        «word_lines» (now (lines .exit)) (r .count) (r .from) (r .to) ×
         Range-agrees «key_start» (lexicon-at (now (chars .entry)) (now («word_starts» .entry))) (now (index .entry)) (now (string .entry))
         (r .from) (r .to) ⌝ }
 {
-    let refined = refine(chars, word_starts, index, string, key_start, word_lines);
+    let refined = refine(
+        chars,
+        word_starts,
+        index,
+        string,
+        key_start,
+        word_lines,
+        lines,
+    );
     if string.len() <= key_start + refined.depth {
         return refined;
     }
@@ -151,5 +156,6 @@ pub fn agreeing_words(
         key_start,
         word_lines,
         refined,
+        lines,
     )
 }

@@ -1,7 +1,7 @@
 // Flags the directory lines whose keys bear on a string: those that agree with it at some offset.
 //
-// At offsets of 0 and below, words are compared with the string and listed. At offsets from 0 up binary search over the sorted directory gives
-// the lines that agree.
+// At offsets of 0 and below each word is compared with the string. At offsets above 0 binary search over the sorted directory gives the lines
+// that agree.
 ghost use mathlib.Core.Path.{_≡_};
 ghost use Prim.Native.Nat.{_≤_};
 ghost use lib.ListN.{length, replicate};
@@ -10,9 +10,10 @@ ghost use Rattle.models.specs.WordStarts.{lexicon-at};
 ghost use Rattle.laws.specs.Directory.Tables.{Reads};
 ghost use Rattle.laws.specs.Search.Sizing.{Is-string};
 ghost use Rattle.laws.specs.Cut.ExactFlags.{Exact-flags};
-use crate::flags::flag_list;
+use crate::leading::flag_leading;
+use crate::offsets::flag_lone;
 use crate::offsets::flag_offsets;
-use agreement::leading::list_leading;
+use directory::ranges::count_word_lines;
 use width::Number;
 
 // Sets the flag of each line whose key bears on the string. All flags are 0 on entry.
@@ -30,8 +31,8 @@ pub fn flag_bearing(
         Exact-flags (lexicon-at (now (chars .entry)) (now («word_starts» .entry))) (now (index .entry)) (now (string .entry))
         (keys-of (now (index .entry))) (now (flags .exit)) ⌝ }
 {
-    let mut lines = [0u16; 4096];
-    let leading = list_leading(chars, word_starts, index, string, &mut lines);
-    flag_list(&lines[..leading.count], flags);
-    flag_offsets(chars, word_starts, index, string, leading.words, flags);
+    let word_lines = count_word_lines(index);
+    flag_leading(chars, word_starts, index, string, word_lines, flags);
+    flag_lone(chars, word_starts, index, string, 0, word_lines, flags);
+    flag_offsets(chars, word_starts, index, string, word_lines, flags);
 }

@@ -1,4 +1,5 @@
 // Which directory lines have keys that bear on a string.
 pub mod bearing;
 mod flags;
+mod leading;
 mod offsets;

@@ -34,15 +34,23 @@ fn flag_words(
         Flagged (lexicon-at (now (chars .entry)) (now («word_starts» .entry))) (now (index .entry)) (now (string .entry)) 0 «key_start» 0
         «word_lines» (now (flags .exit)) ⌝ }
 {
-    let agreeing = agreeing_words(chars, word_starts, index, string, key_start, word_lines);
-    let lines = agreeing.lines;
+    let mut lines = [0u16; 36];
+    let agreeing = agreeing_words(
+        chars,
+        word_starts,
+        index,
+        string,
+        key_start,
+        word_lines,
+        &mut lines,
+    );
     flag_list(&lines[..agreeing.count], flags);
     flag_run(agreeing.from, agreeing.to, flags);
 }
 
 // Flags the line of the lone character that agrees with the string at the offset `key_start`, if there is one. The lines of lone characters
 // follow the first `word_lines`.
-fn flag_lone(
+pub(crate) fn flag_lone(
     chars: &[u16],
     word_starts: &[u16],
     index: &[Number],
@@ -105,7 +113,7 @@ fn flag_offset(
     );
 }
 
-// Flags the lines whose keys agree with the string at an offset from 0 to the string's length less 1.
+// Flags the lines whose keys agree with the string at an offset from 1 to its length less 1. Those that agree at 0 are flagged before.
 pub(crate) fn flag_offsets(
     chars: &[u16],
     word_starts: &[u16],
@@ -116,13 +124,15 @@ pub(crate) fn flag_offsets(
 )
     requires { ⌜
         Bears-on (now chars) (now «word_starts») (now index) (now string) «word_lines» ×
-        Flags (lexicon-at (now chars) (now «word_starts»)) (now index) (now string) (now flags) ⌝ }
+        Flags (lexicon-at (now chars) (now «word_starts»)) (now index) (now string) (now flags) ×
+        Flagged (lexicon-at (now chars) (now «word_starts»)) (now index) (now string) 0 0 0 (keys-of (now index))
+        (now flags) ⌝ }
     ensures { λ r. ⌜
         Offsets (lexicon-at (now (chars .entry)) (now («word_starts» .entry))) (now (index .entry)) (now (string .entry))
         (now (flags .entry)) (now (flags .exit)) (length (now (string .entry))) ⌝ }
 {
     let last = string.len() - 1;
-    let mut key_start = 0;
+    let mut key_start = 1;
     while key_start <= last {
         flag_offset(
             chars,

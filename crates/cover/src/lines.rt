@@ -156,8 +156,16 @@ pub(crate) fn extend_words(
         Reaches (run (offset-at «key_start» (lexicon-at (now (chars .entry)) (now («word_starts» .entry))) (now (index .entry))
         (now (string .entry)) first) 0 «word_lines» (now (reach .entry))) (now (reach .exit)) r ⌝ }
 {
-    let agreeing = agreeing_words(chars, word_starts, index, string, key_start, word_lines);
-    let lines = agreeing.lines;
+    let mut lines = [0u16; 36];
+    let agreeing = agreeing_words(
+        chars,
+        word_starts,
+        index,
+        string,
+        key_start,
+        word_lines,
+        &mut lines,
+    );
     let highest = extend_listed(
         chars,
         word_starts,

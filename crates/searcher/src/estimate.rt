@@ -56,8 +56,16 @@ fn estimate_words(
     requires { ⌜ Bears-on (now chars) (now «word_starts») (now index) (now string) «word_lines» × («key_start» < length (now string)) ⌝ }
     ensures { λ r. ⌜ r ≤ 2 ^ 49 ⌝ }
 {
-    let agreeing = agreeing_words(chars, word_starts, index, string, key_start, word_lines);
-    let lines = agreeing.lines;
+    let mut lines = [0u16; 36];
+    let agreeing = agreeing_words(
+        chars,
+        word_starts,
+        index,
+        string,
+        key_start,
+        word_lines,
+        &mut lines,
+    );
     let listed = &lines[..agreeing.count];
     let mut sum = 0;
     let mut i = 0;

@@ -3,13 +3,13 @@
 use mathlib.Core.Path.{_≡_, refl, ap, _∙_}
 use mathlib.Core.Bool.{Bool, true, false, cond}
 use mathlib.Core.Logic.{⊎-elim}
-use mathlib.Core.List.{List}
+use mathlib.Core.List.{List, [], _∷_, _++_, append-nil}
 use Prim.Native.Nat.{ℕ, _+_, _-_, _≤_, _<_}
 use native.Mathlib.Omega.{arith}
 use lib.ListN.{length, getD, set}
 use Rattle.basics.specs.Bools.{le-or-lt}
 use Rattle.basics.specs.Member.{In}
-use Rattle.basics.specs.Steps.{any-from-get, any-from-put, those-from-get, those-from-put}
+use Rattle.basics.specs.Steps.{any-from-get, any-from-put, those-from, those-from-get, those-from-put, those-from-append}
 use Rattle.spec.specs.Dictionary.{Lexicon, lexicon}
 use Rattle.spec.specs.Words.{spells}
 use Rattle.spec.specs.Index.{keys-of, key-at}
@@ -32,8 +32,10 @@ module _ (lex : Lexicon) (xs s : List ℕ) where
     pub way : Flagging lex xs s old fs
     pub done : (q : ℕ) → q < o → Flagged lex xs s 0 q 0 (keys-of xs) fs
 
-  pub offsets-start : {fs : List ℕ} → Flags lex xs s fs → Offsets fs fs 0
-  offsets-start {fs} h = record { way = flagging-start lex xs s h; done = λ q b. absurd (omega arith) }
+  -- the offset 0 is done
+  pub offsets-start : {fs : List ℕ} → Flags lex xs s fs → Flagged lex xs s 0 0 0 (keys-of xs) fs → Offsets fs fs 1
+  offsets-start h zero-done =
+      record { way = flagging-start lex xs s h; done = λ q b. let e : q ≡ 0 = omega arith in rw e zero-done }
 
   pub offsets-next :
       {old fs : List ℕ} (now : List ℕ) {o : ℕ} → Offsets old fs o → Flagging lex xs s fs now × Flagged lex xs s 0 o 0 (keys-of xs) now →
@@ -47,19 +49,40 @@ module _ (lex : Lexicon) (xs s : List ℕ) where
             (λ (p : q < o). flagged-kept lex xs s 0 q 0 (keys-of xs) (next .0) (omega arith) (h .done q p)) (le-or-lt o q);
       }
 
-  -- ALL OFFSETS BELOW 0
+  -- ALL OFFSETS OF 0 AND BELOW
 
-  -- the first n lines are done at every offset at which the key starts before the string
+  -- the first n lines are done at every offset of 0 or below
   pub record Backs (old fs : List ℕ) (n : ℕ) : Type 0 where
     pub way : Flagging lex xs s old fs
-    pub done : (p : ℕ) → 1 ≤ p → Flagged lex xs s p 0 0 n fs
+    pub done : (p : ℕ) → Flagged lex xs s p 0 0 n fs
+
+  pub backs-kept : {old mid fs : List ℕ} {n : ℕ} → Backs old mid n → Flagging lex xs s mid fs → n ≤ keys-of xs → Backs old fs n
+  backs-kept {n} h on within =
+      record { way = flagging-on lex xs s (h .way) on; done = λ p. flagged-kept lex xs s p 0 0 n on within (h .done p) }
+
+  -- the leading ones of no lines, and of one line more
+  pub leading-none : leading-lines lex xs s 0 ≡ []
+  unfolding leading-lines those-from
+  leading-none = refl
+
+  pub leading-more : (i : ℕ) → is-leading lex xs s i ≡ true → leading-lines lex xs s (i + 1) ≡ leading-lines lex xs s i ++ i ∷ []
+  unfolding leading-lines those-from
+  leading-more i t =
+      let z : 0 + i ≡ i = omega arith in
+      those-from-append i 1 0 (is-leading lex xs s) ∙ rw (z, t)
+
+  pub leading-same : (i : ℕ) → is-leading lex xs s i ≡ false → leading-lines lex xs s (i + 1) ≡ leading-lines lex xs s i
+  unfolding leading-lines those-from
+  leading-same i f =
+      let z : 0 + i ≡ i = omega arith in
+      those-from-append i 1 0 (is-leading lex xs s) ∙ rw (z, f, append-nil (those-from i 0 (is-leading lex xs s)))
 
   -- the leading lines have all of these
   pub backs-leading :
       {w : ℕ} {is fs now : List ℕ} → is ≡ leading-lines lex xs s w → Flags lex xs s fs → Ones-at is fs now → Backs fs now w
   unfolding leading-lines agrees-leading
   backs-leading {w} {is} {fs} {now} e h ones =
-      record { way = flagging-list lex xs s h ones bear; done = λ p some i a b t. omega (arith, ones .listed i (there p i b t)) }
+      record { way = flagging-list lex xs s h ones bear; done = λ p i a b t. omega (arith, ones .listed i (there p i b t)) }
     where
       bear : (i : ℕ) → In i is → bears-at lex xs s i ≡ true
       bear i m =
@@ -101,7 +124,7 @@ module _
         (λ (p : i < w).
         omega (
           arith,
-          backs .done (a - b) (omega arith) i (omega arith) p (agrees-put s (a - b) (key i) 0 (agree-move (a - b) 0 (omega arith) h)),
+          backs .done (a - b) i (omega arith) p (agrees-put s (a - b) (key i) 0 (agree-move (a - b) 0 (omega arith) h)),
           offsets .way .kept i below,
         ))
         (le-or-lt w i)

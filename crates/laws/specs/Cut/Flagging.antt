@@ -66,43 +66,43 @@ pub record Ones-at (is old fs : List ℕ) : Type 0 where
   pub listed : (i : ℕ) → In i is → getD fs i 0 ≡ 1
   pub others : (i : ℕ) → In i is ⊎ (getD fs i 0 ≡ getD old i 0)
 
-pub ones-at-none : (is fs : List ℕ) → Ones-at (take 0 is) fs fs
-ones-at-none is fs = record { len = refl; listed = λ i m. absurd m; others = λ i. inr refl }
+pub ones-at-none : (fs : List ℕ) → Ones-at [] fs fs
+ones-at-none fs = record { len = refl; listed = λ i m. absurd m; others = λ i. inr refl }
 
+-- one more line is flagged
+pub ones-at-more : {is old fs : List ℕ} → Ones-at is old fs → (n : ℕ) → n < length fs → Ones-at (is ++ n ∷ []) old (set fs n 1)
+ones-at-more {is} {old} {fs} h n room =
+    record {
+      len = length-set fs n 1 ∙ h .len;
+      listed =
+          λ i m.
+          ⊎-elim (λ (p : In i is). now i (eqb i n) refl (h .listed i p))
+          (λ (p : In i (n ∷ [])). ⊎-elim (λ (e : i ≡ n). rw e same) (λ z. absurd z) p) (in-append-get i is (n ∷ []) m);
+      others =
+          λ i.
+          ⊎-elim (λ (p : In i is). inl (in-append-left i is (n ∷ []) p))
+          (λ (p : getD fs i 0 ≡ getD old i 0). there i (eqb i n) refl p) (h .others i);
+    }
+  where
+    same : getD (set fs n 1) n 0 ≡ 1
+    same = getD-set-same fs n 1 0 room
+
+    now : (i : ℕ) (b : Bool) → eqb i n ≡ b → getD fs i 0 ≡ 1 → getD (set fs n 1) i 0 ≡ 1
+    now i true t one = let e : i ≡ n = eqb-true i n t in rw e same
+    now i false t one = getD-set-other fs n i 1 0 (eqb-false i n t) ∙ one
+
+    there :
+        (i : ℕ) (b : Bool) → eqb i n ≡ b → getD fs i 0 ≡ getD old i 0 → In i (is ++ n ∷ []) ⊎ (getD (set fs n 1) i 0 ≡ getD old i 0)
+    there i true t kept = inl (in-append-right i is (n ∷ []) (inl (eqb-true i n t)))
+    there i false t kept = inr (getD-set-other fs n i 1 0 (eqb-false i n t) ∙ kept)
+
+-- the next line of a list is flagged
 pub ones-at-next :
     (is : List ℕ) {old fs : List ℕ} (j : ℕ) → Ones-at (take j is) old fs → j < length is → getD is j 0 < length fs →
     Ones-at (take (j + 1) is) old (set fs (getD is j 0) 1)
-ones-at-next is {old} {fs} j h below room =
-    rw more
-    (record {
-      len = length-set fs (getD is j 0) 1 ∙ h .len;
-      listed =
-          λ i m.
-          ⊎-elim (λ (p : In i (take j is)). now i (eqb i (getD is j 0)) refl (h .listed i p))
-          (λ (p : In i (getD is j 0 ∷ [])). ⊎-elim (λ (e : i ≡ getD is j 0). rw e same) (λ z. absurd z) p)
-          (in-append-get i (take j is) (getD is j 0 ∷ []) m);
-      others =
-          λ i.
-          ⊎-elim (λ (p : In i (take j is)). inl (in-append-left i (take j is) (getD is j 0 ∷ []) p))
-          (λ (p : getD fs i 0 ≡ getD old i 0). there i (eqb i (getD is j 0)) refl p) (h .others i);
-    })
-  where
-    more : take (j + 1) is ≡ take j is ++ getD is j 0 ∷ []
-    more = rw (add-one j) (take-suc is j 0 below)
-
-    same : getD (set fs (getD is j 0) 1) (getD is j 0) 0 ≡ 1
-    same = getD-set-same fs (getD is j 0) 1 0 room
-
-    now : (i : ℕ) (b : Bool) → eqb i (getD is j 0) ≡ b → getD fs i 0 ≡ 1 → getD (set fs (getD is j 0) 1) i 0 ≡ 1
-    now i true t one = let e : i ≡ getD is j 0 = eqb-true i (getD is j 0) t in rw e same
-    now i false t one = getD-set-other fs (getD is j 0) i 1 0 (eqb-false i (getD is j 0) t) ∙ one
-
-    there :
-        (i : ℕ) (b : Bool) → eqb i (getD is j 0) ≡ b → getD fs i 0 ≡ getD old i 0 →
-        In i (take j is ++ getD is j 0 ∷ []) ⊎ (getD (set fs (getD is j 0) 1) i 0 ≡ getD old i 0)
-    there i true t kept =
-        inl (in-append-right i (take j is) (getD is j 0 ∷ []) (inl (eqb-true i (getD is j 0) t)))
-    there i false t kept = inr (getD-set-other fs (getD is j 0) i 1 0 (eqb-false i (getD is j 0) t) ∙ kept)
+ones-at-next is j h below room =
+    let more : take (j + 1) is ≡ take j is ++ getD is j 0 ∷ [] = rw (add-one j) (take-suc is j 0 below) in
+    rw more (ones-at-more h (getD is j 0) room)
 
 -- a run of lines is a list of lines
 pub ones-run : {from to : ℕ} {old fs : List ℕ} → Ones from to old fs → (i : ℕ) → ((from ≤ i) × (i < to)) ⊎ (getD fs i 0 ≡ getD old i 0)

@@ -26,13 +26,13 @@ pub record Refining (cs ws xs s : List ℕ) (o w : ℕ) (lines : List ℕ) (coun
   pub few : count ≤ d
   pub free : lo < hi → length (spells (lexicon-at cs ws) (key-at xs lo)) ≡ d → count < d
   pub deep : d ≤ 32
-  pub len : length lines ≡ 36
+  pub len : 36 ≤ length lines
 
 module _ {cs ws xs : List ℕ} (reads : Reads cs ws xs) {w : ℕ} (split : Split xs w) where
   abbrev word : ℕ → List ℕ
   word i = spells (lexicon-at cs ws) (key-at xs i)
 
-  pub refining-start : {s : List ℕ} {o : ℕ} {lines : List ℕ} → length lines ≡ 36 → Refining cs ws xs s o w lines 0 0 w 0
+  pub refining-start : {s : List ℕ} {o : ℕ} {lines : List ℕ} → 36 ≤ length lines → Refining cs ws xs s o w lines 0 0 w 0
   refining-start {s} {o} {lines} len =
       record {
         shared = shared-prefix-start (lexicon-at cs ws) xs s o w;
@@ -64,7 +64,7 @@ module _ {cs ws xs : List ℕ} (reads : Reads cs ws xs) {w : ℕ} (split : Split
             few = omega (arith, h .free some ends);
             free = λ more e. absurd (longer more e);
             deep = h .deep;
-            len = length-set lines count lo ∙ h .len;
+            len = omega (arith, length-set lines count lo);
           }
 
     -- else all have another character

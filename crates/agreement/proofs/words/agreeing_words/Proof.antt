@@ -7,19 +7,19 @@ use Rattle.agreement.proofs.words.agreeing_words.Tie as tie
 
 returns : tie.Need-returns
 returns c =
-    let s = c .before .before .before .before .before .before .before in
-    let found = c .before .before .refine .ensures .0 in
+    let s = c .before .before .before .before .before .before .before .before .before .before .before in
+    let found = c .before .before .before .before .refine .ensures .0 in
     (found .listed, refining-all (s .pre .0) (s .pre .1) found (s .pre .2) (omega arith))
 
 compare-few-requires : tie.Need-compare-few-requires
 compare-few-requires c κs =
-    let s = c .before .before .before .before .before .before .before in
-    let found = c .before .before .refine .ensures in
+    let s = c .before .before .before .before .before .before .before .before .before .before .before .before in
+    let found = c .before .before .before .before .before .refine .ensures in
     (s .pre .0, s .pre .1, omega arith, found .0 .listed, found .0 .len, omega arith, found .1 (omega arith))
 
 pub agreeing-words-spec : {M : Type 1} → statement M
 agreeing-words-spec =
     tie.close
     (tie.spec
-    (λ c κs. search needs) (λ c. search needs) returns compare-few-requires
-    (λ c. (c .compare-few .ensures .0, λ i a b. absurd (omega arith))))
+    (λ c κs. search needs) (λ c. search needs) (λ c. search needs) returns compare-few-requires (λ c. search needs)
+    (λ c. (c .before .before .compare-few .ensures .0, λ i a b. absurd (omega arith))))

@@ -16,14 +16,14 @@ use Rattle.agreement.proofs.words.compare_few.Tie as tie
 
 abbrev Inv-loop : tie.InvT-loop
 Inv-loop chars word-starts index string key-start word-lines refined lines₀ count₀ low₀ high lines count low =
-    Agreeing-listed key-start (lexicon-at chars word-starts) index string word-lines lines count low high × (length lines ≡ 36) ×
+    Agreeing-listed key-start (lexicon-at chars word-starts) index string word-lines lines count low high × (length lines ≡ length lines₀) ×
     (count + (high - low) ≤ 36)
 
 abbrev μ-loop : tie.MeasureT-loop
 μ-loop chars word-starts index string key-start word-lines refined lines₀ count₀ low₀ high lines count low = high - low
 
 loop-holds : tie.Need-loop-holds Inv-loop μ-loop
-loop-holds c = let s = c .before .before .before .before .before in (s .pre .3, s .pre .4, omega arith)
+loop-holds c = let s = c .before .before .before .before .before in (s .pre .3, refl, omega arith)
 
 word-at-requires : tie.Need-word-at-requires Inv-loop μ-loop
 word-at-requires c κs =
@@ -78,4 +78,4 @@ compare-few-spec =
     (tie.spec
     Inv-loop μ-loop loop-holds (λ c. omega arith) word-at-requires (λ c. start-fits (c .before .before .before .before .before .before .before .before .args .key-start) (omega arith))
     (λ c κs. tt) (λ c. omega arith) (λ c. omega arith) (λ c. omega arith)
-    (λ c. omega arith) (λ c. omega arith) loop-again (λ c. omega arith) loop-again-2 returns)
+    (λ c. omega arith) (λ c. omega arith) loop-again (λ c. omega arith) loop-again-2 (λ c. c .before .loop .inv .1) returns)

@@ -3,52 +3,54 @@
 use mathlib.Core.Path.{_≡_, refl, sym, ap, _∙_}
 use Prim.Native.Nat.{_+_, _-_}
 use native.Mathlib.Omega.{arith}
-use lib.ListN.{length}
+use lib.ListN.{length, length-set}
 use Rattle.laws.specs.Window.AgreeingWords.{Refining, refining-start, refining-push, refining-deep, refining-column, refining-step}
 use Rattle.agreement.proofs.words.refine.Statement.{statement}
 use Rattle.agreement.proofs.words.refine.Tie as tie
 
 abbrev Inv-loop : tie.InvT-loop
-Inv-loop chars word-starts index string key-start word-lines left lines₀ count₀ low₀ high₀ depth₀ lines count low high depth =
-    Refining chars word-starts index string key-start word-lines lines count low high depth × (left ≡ length string - key-start)
+Inv-loop chars word-starts index string key-start word-lines lines₀ left count₀ low₀ high₀ depth₀ lines count low high depth =
+    Refining chars word-starts index string key-start word-lines lines count low high depth × (left ≡ length string - key-start) ×
+    (length lines ≡ length lines₀)
 
 abbrev μ-loop : tie.MeasureT-loop
-μ-loop chars word-starts index string key-start word-lines left lines₀ count₀ low₀ high₀ depth₀ lines count low high depth =
+μ-loop chars word-starts index string key-start word-lines lines₀ left count₀ low₀ high₀ depth₀ lines count low high depth =
     (high - low) + (32 - depth)
 
 loop-holds : tie.Need-loop-holds Inv-loop μ-loop
 loop-holds c =
-    let s = c .before .before .before .before in
-    (refining-start (s .pre .0) (s .pre .1) refl, refl)
+    let s = c .before .before .before .before .before in
+    (refining-start (s .pre .0) (s .pre .1) (s .pre .4), refl, refl)
 
 returns : tie.Need-returns Inv-loop μ-loop
 returns c = (c .before .before .loop .inv .0, λ more. absurd (omega (arith, more)))
 
 word-at-requires : tie.Need-word-at-requires Inv-loop μ-loop
 word-at-requires c κs =
-    let s = c .before .before .before .before .before .before .before in
+    let s = c .before .before .before .before .before .before .before .before in
     let l = c .before .before .loop in
     (s .pre .0, omega arith, s .pre .1 .words (l .low) (omega arith))
 
 loop-again : tie.Need-loop-again Inv-loop μ-loop
 loop-again c =
-    let s = c .before .before .before .before .before .before .before .before .before in
+    let s = c .before .before .before .before .before .before .before .before .before .before in
     let l = c .before .before .before .before .loop in (
       refining-push (s .pre .0) (s .pre .1) (l .inv .0) (omega arith) (s .pre .2)
           (sym (ap length (c .before .word-at .ensures)) ∙ c .if2 .taken),
       l .inv .1,
+      length-set (l .lines) (l .count) (l .low) ∙ l .inv .2,
     )
 
 equal-range-requires : tie.Need-equal-range-requires Inv-loop μ-loop
 equal-range-requires c κs =
-    let s = c .before .before .before .before .before .before .before .before .before .before in
+    let s = c .before .before .before .before .before .before .before .before .before .before .before in
     let l = c .before .before .before .before .before .loop in
     refining-column (s .pre .0) (s .pre .1) (l .inv .0) (omega arith)
     (λ e. c .before .if2 .left (ap length (c .before .before .word-at .ensures) ∙ e))
 
 loop-less-2 : tie.Need-loop-less-2 Inv-loop μ-loop
 loop-less-2 c =
-    let s = c .before .before .before .before .before .before .before .before .before .before .before in
+    let s = c .before .before .before .before .before .before .before .before .before .before .before .before in
     let l = c .before .before .before .before .before .before .loop in
     omega (
       arith,
@@ -58,19 +60,20 @@ loop-less-2 c =
 
 loop-again-2 : tie.Need-loop-again-2 Inv-loop μ-loop
 loop-again-2 c =
-    let s = c .before .before .before .before .before .before .before .before .before .before .before in
+    let s = c .before .before .before .before .before .before .before .before .before .before .before .before in
     let l = c .before .before .before .before .before .before .loop in (
       refining-step (s .pre .0) (s .pre .1) (l .inv .0) (omega arith)
           (λ e. c .before .before .if2 .left (ap length (c .before .before .before .word-at .ensures) ∙ e)) refl (omega arith)
           (c .equal-range .ensures .0) (c .equal-range .ensures .1),
       l .inv .1,
+      l .inv .2,
     )
 
 pub refine-spec : {M : Type 1} → statement M
 refine-spec =
     tie.close
     (tie.spec
-    Inv-loop μ-loop (λ c. omega arith) loop-holds (λ c. omega arith) returns word-at-requires (λ c. omega arith) (λ c. omega arith)
-    (λ c. omega arith) (λ c. omega arith) (λ c. omega arith) (λ c. omega arith) loop-again (λ c. omega arith) (λ c. omega arith)
-    (λ c. omega arith) equal-range-requires (λ c. omega arith) loop-less-2 loop-again-2
-    (λ c. (c .before .loop .inv .0, λ more. omega arith)))
+    Inv-loop μ-loop (λ c. omega arith) loop-holds (λ c. omega arith) (λ c. c .before .before .loop .inv .2) returns word-at-requires
+    (λ c. omega arith) (λ c. omega arith) (λ c. omega arith) (λ c. omega arith) (λ c. omega arith) (λ c. omega arith) loop-again
+    (λ c. omega arith) (λ c. omega arith) (λ c. omega arith) equal-range-requires (λ c. omega arith) loop-less-2 loop-again-2
+    (λ c. c .before .loop .inv .2) (λ c. (c .before .loop .inv .0, λ more. omega arith)))

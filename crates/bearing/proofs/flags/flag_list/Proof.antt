@@ -35,6 +35,6 @@ pub flag-list-spec : {M : Type 1} → statement M
 flag-list-spec =
     tie.close
     (tie.spec
-    Inv-loop μ-loop (λ c. (ones-at-none (c .args .lines .now) (c .args .flags .now), omega arith)) (λ c. search needs) (λ c. search needs)
+    Inv-loop μ-loop (λ c. (ones-at-none (c .args .flags .now), omega arith)) (λ c. search needs) (λ c. search needs)
     (λ c. omega (arith, c .shared-slice-known .given (c .before .before .loop .i))) (λ c. room c) (λ c. omega arith) (λ c. omega arith)
     loop-again (λ c. c .before .loop .inv .0 .len) returns)

@@ -21,7 +21,7 @@ loop-holds : tie.Need-loop-holds Inv-loop μ-loop
 loop-holds c =
     let s = c .before .before .before .before .before in
     let a = s .args in
-    (omega arith, offsets-start (lexicon-at (a .chars .now) (a .word-starts .now)) (a .index .now) (a .string .now) (s .pre .1))
+    (omega arith, offsets-start (lexicon-at (a .chars .now) (a .word-starts .now)) (a .index .now) (a .string .now) (s .pre .1) (s .pre .2))
 
 loop-again : tie.Need-loop-again Inv-loop μ-loop
 loop-again c =
@@ -43,6 +43,6 @@ pub flag-offsets-spec : {M : Type 1} → statement M
 flag-offsets-spec =
     tie.close
     (tie.spec
-    Inv-loop μ-loop (λ c. search needs) loop-holds
+    Inv-loop μ-loop (λ c. omega arith) loop-holds
     (λ c κs. (c .before .before .before .before .before .before .before .before .pre .0, omega arith, c .before .before .loop .inv .1 .way .flags)) (λ c. search needs) (λ c. omega arith)
     loop-again (λ c. c .before .loop .inv .1 .way .len) returns)

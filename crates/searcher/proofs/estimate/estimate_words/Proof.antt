@@ -28,14 +28,14 @@ abbrev μ-loop2 : tie.MeasureT-loop2
 
 loop-holds : tie.Need-loop-holds Inv-loop μ-loop Inv-loop2 μ-loop2
 loop-holds c =
-    let a = c .before .before .before .before .before .before .before .args in
+    let a = c .before .before .before .before .before .before .before .before .args in
     let few = listed-few (a .key-start) (lexicon-at (a .chars .now) (a .word-starts .now)) (a .index .now) (a .string .now)
     (c .before .before .agreeing-words .ensures .0) in
     (omega arith, omega (arith, few), omega arith)
 
 estimate-line-requires : tie.Need-estimate-line-requires Inv-loop μ-loop Inv-loop2 μ-loop2
 estimate-line-requires c κs =
-    let s = c .before .before .before .before .before .before .before .before .before .before in
+    let s = c .before .before .before .before .before .before .before .before .before .before .before in
     let a = s .args in
     let h = s .pre .0 in
     let l = c .before .before .loop in
@@ -49,16 +49,16 @@ estimate-line-requires c κs =
 
 estimate-line-requires-2 : tie.Need-estimate-line-requires-2 Inv-loop μ-loop Inv-loop2 μ-loop2
 estimate-line-requires-2 c κs =
-    let h = c .before .before .before .before .before .before .before .before .before .before .before .before .pre .0 in
+    let h = c .before .before .before .before .before .before .before .before .before .before .before .before .before .pre .0 in
     (h .reads, omega arith, h .split .words (c .before .before .loop2 .line) (omega arith))
 
 pub estimate-words-spec : {M : Type 1} → statement M
 estimate-words-spec =
     tie.close
     (tie.spec
-    Inv-loop μ-loop Inv-loop2 μ-loop2 (λ c κs. search needs) (λ c. search needs)
+    Inv-loop μ-loop Inv-loop2 μ-loop2 (λ c. search needs) (λ c κs. search needs) (λ c. search needs)
     (λ c. let found = c .before .before .agreeing-words in
-    sym (length-take-le (found .result .count) (found .result .lines) (found .ensures .0 .room)))
+    sym (length-take-le (found .result .count) (found .last .1 .1 .1 .1 .1 .1 .0) (found .ensures .0 .room)))
     loop-holds (λ c κs. search needs) estimate-line-requires (λ c. omega arith) (λ c. omega arith) (λ c. omega arith)
     (λ c. (omega arith, omega arith, omega arith)) (λ c. (omega arith, omega arith)) estimate-line-requires-2 (λ c. omega arith)
     (λ c. omega arith) (λ c. omega arith) (λ c. (omega arith, omega arith)) (λ c. omega arith))
