@@ -1,7 +1,8 @@
 // The lines of words that agree with a string at an offset from 0 up.
 //
 // Words are sorted, so those that share the string's next characters are one range of lines. Each further character takes the equal range
-// within the last one, by binary search. A word that ends on the way agrees, and where the string ends all words left do. Where at most four
+// within the last one, by binary search. A word that ends on the way agrees, and where the string ends all words left do. Where at most
+// four
 // lines are left they are compared. Search, estimate and cut-down index each walk what is found here.
 ghost use mathlib.Core.Path.{_≡_};
 ghost use Prim.Native.Nat.{_+_, _≤_, _<_};
@@ -94,7 +95,8 @@ fn compare_few(
         (refined .count) (refined .from) (refined .to) × (36 ≤ length (now lines)) × (refined .count ≤ 32) ×
         (refined .to ≤ refined .from + 4) ⌝ }
     ensures { λ r. ⌜
-        Agreeing-listed «key_start» (lexicon-at (now (chars .entry)) (now («word_starts» .entry))) (now (index .entry)) (now (string .entry))
+        Agreeing-listed «key_start» (lexicon-at (now (chars .entry)) (now («word_starts» .entry))) (now (index .entry))
+        (now (string .entry))
         «word_lines» (now (lines .exit)) (r .count) (r .from) (r .to) × (r .to ≤ r .from) ⌝ }
 {
     let mut count = refined.count;
@@ -131,7 +133,8 @@ pub fn agreeing_words(
         Reads (now chars) (now «word_starts») (now index) × Split (now index) «word_lines» × («key_start» < length (now string)) ×
         (length (now string) ≤ 256) × (36 ≤ length (now lines)) ⌝ }
     ensures { λ r. ⌜
-        Agreeing-listed «key_start» (lexicon-at (now (chars .entry)) (now («word_starts» .entry))) (now (index .entry)) (now (string .entry))
+        Agreeing-listed «key_start» (lexicon-at (now (chars .entry)) (now («word_starts» .entry))) (now (index .entry))
+        (now (string .entry))
         «word_lines» (now (lines .exit)) (r .count) (r .from) (r .to) ×
         Range-agrees «key_start» (lexicon-at (now (chars .entry)) (now («word_starts» .entry))) (now (index .entry)) (now (string .entry))
         (r .from) (r .to) ⌝ }

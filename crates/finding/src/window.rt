@@ -54,7 +54,8 @@ fn extend_listing(
     ensures { λ r. ⌜
         Reaches (offsets-all (length (now (string .entry)) - 1) 1 (lexicon-at (now (chars .entry)) (now («word_starts» .entry)))
         (lines-in (now (index .entry))) (now (string .entry)) first
-        (leading-all (lexicon-at (now (chars .entry)) (now («word_starts» .entry))) (lines-in (now (index .entry))) (now (string .entry)) first
+        (leading-all (lexicon-at (now (chars .entry)) (now («word_starts» .entry))) (lines-in (now (index .entry)))
+        (now (string .entry)) first
         (now (reach .entry)))) (now (reach .exit)) r ⌝ }
 {
     let leading = list_leading(chars, word_starts, index, string, lines);

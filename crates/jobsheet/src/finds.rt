@@ -32,7 +32,8 @@ fn put_find(
         Opened (now chars) (now «word_starts») (now index) (now «list_starts») × Is-string (now string) ×
         (n-of (now index) ≤ length (now found)) ⌝ }
     requires { ⌜
-        at + length (found-line (find (lexicon-at (now chars) (now «word_starts»)) (now index) (replaced (now string)))) ≤ length (now out) ⌝ }
+        at + length (found-line (find (lexicon-at (now chars) (now «word_starts»)) (now index) (replaced (now string)))) ≤ length
+        (now out) ⌝ }
     ensures { λ r. ⌜
         Wrote (found-line (find (lexicon-at (now (chars .entry)) (now («word_starts» .entry))) (now (index .entry))
         (replaced (now (string .entry))))) at (now (out .entry)) r (now (out .exit)) ⌝ }

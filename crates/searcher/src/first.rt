@@ -32,7 +32,8 @@ fn first_plain(
     string: &[u16],
 ) -> usize
     requires { ⌜ Opened (now chars) (now «word_starts») (now index) (now «list_starts») × Is-string (now string) ⌝ }
-    ensures { λ r. ⌜ r ≡ first-position (lexicon-at (now (chars .entry)) (now («word_starts» .entry))) (now (index .entry)) (now (string .entry)) ⌝ }
+    ensures { λ r. ⌜ r ≡ first-position (lexicon-at (now (chars .entry)) (now («word_starts» .entry))) (now (index .entry))
+        (now (string .entry)) ⌝ }
 {
     let starts = starts_of(text_len(index), string.len());
     first_of_starts(chars, word_starts, index, list_starts, string, starts)
@@ -48,7 +49,8 @@ fn first_tabled(
 ) -> usize
     requires { ⌜ Opened (now chars) (now «word_starts») (now index) (now «list_starts») × Is-string (now string) ⌝ }
     ensures { λ r. ⌜
-        r ≡ first-position (lexicon-at (now (chars .entry)) (now («word_starts» .entry))) (now (index .entry)) (replaced (now (string .entry))) ⌝ }
+        r ≡ first-position (lexicon-at (now (chars .entry)) (now («word_starts» .entry))) (now (index .entry))
+        (replaced (now (string .entry))) ⌝ }
 {
     let len = string.len();
     let own = replaced_string(string);

@@ -37,7 +37,8 @@ fn first_in_lent(
         (first + starts ≤ 65536) ×
         (starts ≤ length (now reach)) × (now reach ≡ replicate (length (now reach)) 0) ⌝ }
     ensures { λ r. ⌜
-        First-in (lexicon-at (now (chars .entry)) (now («word_starts» .entry))) (now (index .entry)) (now (string .entry)) starts first r ⌝ }
+        First-in (lexicon-at (now (chars .entry)) (now («word_starts» .entry))) (now (index .entry))
+        (now (string .entry)) starts first r ⌝ }
 {
     first_in_window(
         chars,
@@ -70,7 +71,8 @@ fn first_in_short(
         (first + starts ≤ 65536) ×
         (starts ≤ 1024) ⌝ }
     ensures { λ r. ⌜
-        First-in (lexicon-at (now (chars .entry)) (now («word_starts» .entry))) (now (index .entry)) (now (string .entry)) starts first r ⌝ }
+        First-in (lexicon-at (now (chars .entry)) (now («word_starts» .entry))) (now (index .entry))
+        (now (string .entry)) starts first r ⌝ }
 {
     let mut reach: [Number; 1024] = [0; 1024];
     first_in_lent(
@@ -105,7 +107,8 @@ fn first_in_middle(
         (first + starts ≤ 65536) ×
         (starts ≤ 8192) ⌝ }
     ensures { λ r. ⌜
-        First-in (lexicon-at (now (chars .entry)) (now («word_starts» .entry))) (now (index .entry)) (now (string .entry)) starts first r ⌝ }
+        First-in (lexicon-at (now (chars .entry)) (now («word_starts» .entry))) (now (index .entry))
+        (now (string .entry)) starts first r ⌝ }
 {
     let mut reach: [Number; 8192] = [0; 8192];
     first_in_lent(
@@ -139,7 +142,8 @@ fn first_in_long(
         (now lines ≡ leading-lines (lexicon-at (now chars) (now «word_starts»)) (now index) (now string) «word_lines») ×
         (first + starts ≤ 65536) ⌝ }
     ensures { λ r. ⌜
-        First-in (lexicon-at (now (chars .entry)) (now («word_starts» .entry))) (now (index .entry)) (now (string .entry)) starts first r ⌝ }
+        First-in (lexicon-at (now (chars .entry)) (now («word_starts» .entry))) (now (index .entry))
+        (now (string .entry)) starts first r ⌝ }
 {
     let mut reach: [Number; 65536] = [0; 65536];
     first_in_lent(
@@ -170,7 +174,8 @@ fn first_by_windows(
     requires { ⌜
         Opened (now chars) (now «word_starts») (now index) (now «list_starts») × Is-string (now string) ×
         Split (now index) «word_lines» ×
-        (now lines ≡ leading-lines (lexicon-at (now chars) (now «word_starts»)) (now index) (now string) «word_lines») × (starts ≤ longest-text) ⌝ }
+        (now lines ≡ leading-lines (lexicon-at (now chars) (now «word_starts»)) (now index) (now string) «word_lines») ×
+        (starts ≤ longest-text) ⌝ }
     ensures { λ r. ⌜
         First-in (lexicon-at (now (chars .entry)) (now («word_starts» .entry))) (now (index .entry)) (now (string .entry)) starts 1 r ⌝ }
 {

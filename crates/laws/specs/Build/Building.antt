@@ -12,9 +12,10 @@ use Rattle.basics.specs.Bools.{and-put, true-or-false, le-or-lt}
 use Rattle.basics.specs.Writing.{over}
 use Rattle.spec.specs.declared.Answer.{Answer}
 use Rattle.spec.specs.Replaced.{replaced}
-use Rattle.spec.specs.Dictionary.{Lexicon, lexicon, dictionary-refusal, admitted}
+use Rattle.spec.specs.Dictionary.{longest-text, Lexicon, lexicon, dictionary-refusal, admitted}
 use Rattle.spec.specs.Numbers.{numbers, index-of}
 use Rattle.spec.specs.Calls.{text-too-long, work-short, output-short, or-else, build-refusal, in-front, Puts}
+use Rattle.spec.specs.Index.{header, greatest-number}
 use Rattle.models.specs.Inversion.{inverted, token-numbers}
 use Rattle.laws.specs.Text.Facts.{Chars, Good-lexicon}
 use Rattle.laws.specs.Text.WidthFolding.{length-replaced, replaced-chars}
@@ -61,7 +62,7 @@ early-refusal cs ls ts w = or-else (dictionary-refusal cs ls) (cond (text-too-lo
 -- what holds if none of them is met
 pub record Reached (cs ls ts : List ℕ) (w : ℕ) : Type 0 where
   pub admits : dictionary-refusal cs ls ≡ 0
-  pub short : length ts ≤ 65535
+  pub short : length ts ≤ longest-text
   pub room : 8 * length ts ≤ w
 
 module _ (cs ls ts : List ℕ) (w : ℕ) where
@@ -70,20 +71,20 @@ module _ (cs ls ts : List ℕ) (w : ℕ) where
   early-dictionary some = rw (ne-eqb (dictionary-refusal cs ls) 0 some)
 
   module _ (admits : dictionary-refusal cs ls ≡ 0) where
-    pub early-text : 65535 < length ts → early-refusal cs ls ts w ≡ 4
+    pub early-text : longest-text < length ts → early-refusal cs ls ts w ≡ 4
     unfolding early-refusal or-else text-too-long
-    early-text len = rw (eq-eqb (dictionary-refusal cs ls) 0 admits, lt-ltb 65535 (length ts) len)
+    early-text len = rw (eq-eqb (dictionary-refusal cs ls) 0 admits, lt-ltb longest-text (length ts) len)
 
-    module _ (short : length ts ≤ 65535) where
+    module _ (short : length ts ≤ longest-text) where
       pub early-work : w < 8 * length ts → early-refusal cs ls ts w ≡ 7
       unfolding early-refusal or-else text-too-long work-short
       early-work small =
-          rw (eq-eqb (dictionary-refusal cs ls) 0 admits, le-ltb 65535 (length ts) short, lt-ltb w (8 * length ts) small)
+          rw (eq-eqb (dictionary-refusal cs ls) 0 admits, le-ltb longest-text (length ts) short, lt-ltb w (8 * length ts) small)
 
       pub early-none : 8 * length ts ≤ w → early-refusal cs ls ts w ≡ 0
       unfolding early-refusal or-else text-too-long work-short
       early-none room =
-          rw (eq-eqb (dictionary-refusal cs ls) 0 admits, le-ltb 65535 (length ts) short, le-ltb w (8 * length ts) room)
+          rw (eq-eqb (dictionary-refusal cs ls) 0 admits, le-ltb longest-text (length ts) short, le-ltb w (8 * length ts) room)
 
   pub reached : early-refusal cs ls ts w ≡ 0 → Reached cs ls ts w
   reached none = record { admits = admits; short = short; room = room }
@@ -94,10 +95,10 @@ module _ (cs ls ts : List ℕ) (w : ℕ) where
           (λ (e : eqb (dictionary-refusal cs ls) 0 ≡ false). sym (early-dictionary (eqb-false (dictionary-refusal cs ls) 0 e)) ∙ none)
           (true-or-false (eqb (dictionary-refusal cs ls) 0))
 
-      short : length ts ≤ 65535
+      short : length ts ≤ longest-text
       short =
-          ⊎-elim (λ (h : length ts ≤ 65535). h) (λ (h : 65535 < length ts). absurd (omega (arith, early-text admits h)))
-          (le-or-lt (length ts) 65535)
+          ⊎-elim (λ (h : length ts ≤ longest-text). h) (λ (h : longest-text < length ts). absurd (omega (arith, early-text admits h)))
+          (le-or-lt (length ts) longest-text)
 
       room : 8 * length ts ≤ w
       room =
@@ -108,10 +109,10 @@ module _ (cs ls ts : List ℕ) (w : ℕ) where
   pub build-early : (o : ℕ) → (early-refusal cs ls ts w ≡ 0 → ⊥) → build-refusal cs ls ts o w ≡ early-refusal cs ls ts w
   unfolding build-refusal early-refusal or-else text-too-long work-short
   build-early o some =
-      go (eqb (dictionary-refusal cs ls) 0) refl (ltb 65535 (length ts)) refl (ltb w (8 * length ts)) refl
+      go (eqb (dictionary-refusal cs ls) 0) refl (ltb longest-text (length ts)) refl (ltb w (8 * length ts)) refl
     where
       go :
-          (a : Bool) → eqb (dictionary-refusal cs ls) 0 ≡ a → (b : Bool) → ltb 65535 (length ts) ≡ b → (c : Bool) →
+          (a : Bool) → eqb (dictionary-refusal cs ls) 0 ≡ a → (b : Bool) → ltb longest-text (length ts) ≡ b → (c : Bool) →
           ltb w (8 * length ts) ≡ c →
           cond a (cond b 4 (cond c 7 (cond (output-short (length (index-of (lexicon cs ls) (replaced ts))) o) 8 0)))
           (dictionary-refusal cs ls)
@@ -128,7 +129,7 @@ module _ (cs ls ts : List ℕ) (w : ℕ) where
   unfolding build-refusal or-else text-too-long work-short output-refusal
   build-late o none =
       let r : Reached cs ls ts w = reached none in
-      rw (eq-eqb (dictionary-refusal cs ls) 0 (r .admits), le-ltb 65535 (length ts) (r .short), le-ltb w (8 * length ts) (r .room))
+      rw (eq-eqb (dictionary-refusal cs ls) 0 (r .admits), le-ltb longest-text (length ts) (r .short), le-ltb w (8 * length ts) (r .room))
 
 -- THE RESULT FROM THE TOKENS
 
@@ -169,25 +170,25 @@ module _ {ts ms links heads pages : List ℕ} {keys entries : ℕ} (can : Linkab
   unfolding inverted
   linked-keys = l .counted .keys-are ∙ ap length (sym lines-are)
 
-  pub few-keys : keys ≤ 65535
+  pub few-keys : keys ≤ greatest-number
   few-keys = omega arith
 
   pub linked-numbers : numbers (length links) (lines-at heads links 0) ≡ token-numbers ms ts
   unfolding token-numbers
   linked-numbers = rw (lines-are, l .linked .len, can .len)
 
-  pub linked-size : 2 + 3 * keys + entries ≡ length (token-numbers ms ts)
+  pub linked-size : header + 3 * keys + entries ≡ length (token-numbers ms ts)
   unfolding token-numbers inverted
   linked-size =
       omega (arith, length-numbers (length ts) (inverted ms ts))
 
   -- the answer: 8 if the output is shorter than the size, else the numbers
   module _ (o : List ℕ) where
-    pub linked-room : 2 + 3 * keys + entries ≤ length o → length (numbers (length links) (lines-at heads links 0)) ≤ length o
+    pub linked-room : header + 3 * keys + entries ≤ length o → length (numbers (length links) (lines-at heads links 0)) ≤ length o
     linked-room h = rw (linked-numbers, ← linked-size) h
 
     pub token-entry-refused :
-        length o < 2 + 3 * keys + entries → Tokens-say ms ts (record { refusal = 8; count = 0 }) o o
+        length o < header + 3 * keys + entries → Tokens-say ms ts (record { refusal = 8; count = 0 }) o o
     token-entry-refused h =
         let eight : output-refusal (length (token-numbers ms ts)) (length o) ≡ 8 =
         output-refused (length (token-numbers ms ts)) (length o) (rw (← linked-size) h) in
@@ -196,13 +197,13 @@ module _ {ts ms links heads pages : List ℕ} {keys entries : ℕ} (can : Linkab
         (λ (z : output-refusal (length (token-numbers ms ts)) (length o) ≡ 0). omega arith) refl refl
 
     pub token-entry-put :
-        (z : List ℕ) → 2 + 3 * keys + entries ≤ length o → z ≡ over (numbers (length links) (lines-at heads links 0)) o →
-        Tokens-say ms ts (record { refusal = 0; count = 2 + 3 * keys + entries }) o z
+        (z : List ℕ) → header + 3 * keys + entries ≤ length o → z ≡ over (numbers (length links) (lines-at heads links 0)) o →
+        Tokens-say ms ts (record { refusal = 0; count = header + 3 * keys + entries }) o z
     token-entry-put z h e =
         let none : output-refusal (length (token-numbers ms ts)) (length o) ≡ 0 =
         output-fits (length (token-numbers ms ts)) (length o) (rw (← linked-size) h) in
         puts-accepted (output-refusal (length (token-numbers ms ts)) (length o)) (token-numbers ms ts)
-        (record { refusal = 0; count = 2 + 3 * keys + entries }) o z (sym none) none linked-size
+        (record { refusal = 0; count = header + 3 * keys + entries }) o z (sym none) none linked-size
         (e ∙ ap (λ (xs : List ℕ). over xs o) linked-numbers)
 
 -- THE WHOLE CALL
@@ -216,7 +217,7 @@ pub reached-lexicon : (cs ls : List ℕ) → Chars cs → dictionary-refusal cs 
 reached-lexicon cs ls chars none = admitted-lexicon cs ls (reached-admitted cs ls chars none)
 
 pub tokens-linkable :
-    {lex : Lexicon} → Good-lexicon lex → {ts ms : List ℕ} → Tokens lex ts ms → length ts ≤ 65535 → Linkable ts ms
+    {lex : Lexicon} → Good-lexicon lex → {ts ms : List ℕ} → Tokens lex ts ms → length ts ≤ longest-text → Linkable ts ms
 tokens-linkable {lex} good {ms} tokens short = record { len = tokens .len; short = short; small = small }
   where
     at-most : (q m : ℕ) → q < length ms → getD ms q 0 ≡ m → m ≤ 4097

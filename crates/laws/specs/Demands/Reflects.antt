@@ -153,7 +153,7 @@ module _ (cs ls : List ℕ) where
 
 pub reflects-text : (ts : List ℕ) → Reflects (text-too-long ts) (Text-too-long ts)
 unfolding text-too-long
-reflects-text ts = reflects-lt 65535 (length ts)
+reflects-text ts = reflects-lt longest-text (length ts)
 
 pub reflects-unreadable : (lex : Lexicon) (xs : List ℕ) → Reflects (unreadable lex xs) (Unreadable lex xs)
 unfolding unreadable

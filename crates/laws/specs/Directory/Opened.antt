@@ -8,7 +8,8 @@ use lib.ListN.{length, getD, take, drop, drop-of-length-le}
 use lib.Seq.{drop-drop}
 use Rattle.spec.specs.Dictionary.{words-from, total}
 use Rattle.spec.specs.Numbers.{Line, line}
-use Rattle.spec.specs.Index.{header, greatest-number, keys-of, kind-at, value-at, count-at, key-at, counts-from, entries-of, lines-from, lines-in}
+use Rattle.spec.specs.Index.{header, greatest-number, keys-of, kind-at, value-at}
+use Rattle.spec.specs.Index.{count-at, key-at, counts-from, entries-of, lines-from, lines-in}
 use Rattle.models.specs.Window.{list-start}
 use Rattle.laws.specs.Numbers.Slices.{length-lines-from, Fits}
 

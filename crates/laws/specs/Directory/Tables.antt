@@ -15,7 +15,8 @@ use Rattle.basics.specs.Writing.{over}
 use Rattle.spec.specs.Dictionary.{longest-text, lexicon, total, ascend}
 use Rattle.spec.specs.Words.{key, spells}
 use Rattle.spec.specs.Numbers.{Line, line}
-use Rattle.spec.specs.Index.{header, n-of, keys-of, kind-at, value-at, count-at, key-at, counts-from, lines-in, kinds-good, keys-ascend}
+use Rattle.spec.specs.Index.{greatest-number, header, n-of, keys-of, kind-at, value-at}
+use Rattle.spec.specs.Index.{count-at, key-at, counts-from, lines-in, kinds-good, keys-ascend}
 use Rattle.spec.specs.Index.{lines-good, lengths-fit, readable}
 use Rattle.spec.specs.Calls.{index-refusal}
 use Rattle.models.specs.Window.{list-start, positions-at}
@@ -40,8 +41,8 @@ pub record Can-read (cs ls xs : List ℕ) : Type 0 where
   pub words-rise : ascend (lexicon cs ls .words) ≡ true
   pub fits : Fits xs
   pub lines : Good-lines (lexicon cs ls) (n-of xs) (lines-in xs)
-  pub n-small : n-of xs ≤ 65535
-  pub keys-small : keys-of xs ≤ 65535
+  pub n-small : n-of xs ≤ longest-text
+  pub keys-small : keys-of xs ≤ greatest-number
 
 -- a readable index, and the table of its dictionary's word starts
 pub record Reads (cs ws xs : List ℕ) : Type 0 where

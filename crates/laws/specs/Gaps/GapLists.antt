@@ -11,7 +11,7 @@ use lib.ListN.{length, getD, drop, drop-of-length-le}
 use lib.Seq.{drop-cons}
 use borrow.Author.Tests.{le-leb, lt-leb, lt-ltb}
 use Rattle.spec.specs.Dictionary.{total}
-use Rattle.spec.specs.Index.{rise-from, last-of}
+use Rattle.spec.specs.Index.{greatest-number, rise-from, last-of}
 use Rattle.spec.specs.Gaps.{gaps-after, sums-after, prefix-sums}
 use Rattle.models.specs.Readability.{list-good}
 use Rattle.laws.specs.Text.Facts.{Rise}
@@ -65,7 +65,7 @@ pub record Summed (ds : List ℕ) (good : Bool) (sum i : ℕ) : Type 0 where
   pub within : i ≤ length ds
   pub added : sum + total (drop i ds) ≡ total ds
   pub tested : (good && rise-from (suc sum) (sums-after sum (drop i ds))) ≡ rise-from 1 (prefix-sums ds)
-  pub small : sum ≤ 65535 * i
+  pub small : sum ≤ greatest-number * i
 
 pub summed-start : (ds : List ℕ) → Summed ds true 0 0
 summed-start ds = record { within = omega arith; added = omega arith; tested = refl; small = omega arith }
@@ -77,7 +77,7 @@ some-gap sum (suc d) = le-leb (suc sum) (sum + suc d) (omega arith) ∙ sym (lt-
 
 module _ {ds : List ℕ} {good : Bool} {sum i : ℕ} (h : Summed ds good sum i) where
   pub summed-step :
-      i < length ds → getD ds i 0 ≤ 65535 → Summed ds (good && ltb 0 (getD ds i 0)) (sum + getD ds i 0) (i + 1)
+      i < length ds → getD ds i 0 ≤ greatest-number → Summed ds (good && ltb 0 (getD ds i 0)) (sum + getD ds i 0) (i + 1)
   unfolding sums-after rise-from total
   summed-step below fits =
       let next : drop i ds ≡ getD ds i 0 ∷ drop (i + 1) ds = rw (add-one, drop-cons ds i 0) in

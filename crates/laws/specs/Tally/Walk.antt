@@ -16,7 +16,7 @@ use Rattle.basics.specs.Member.{In}
 use Rattle.spec.specs.Dictionary.{Lexicon}
 use Rattle.spec.specs.Words.{spells}
 use Rattle.spec.specs.Numbers.{Line, line}
-use Rattle.spec.specs.Index.{header, keys-of, count-at, key-at, counts-from, entries-of, lines-from, lines-in, readable}
+use Rattle.spec.specs.Index.{greatest-number, header, keys-of, count-at, key-at, counts-from, entries-of, lines-from, lines-in, readable}
 use Rattle.spec.specs.Tally.{of-length, tally-from, tally}
 use Rattle.models.specs.Tally.{counted, added}
 use Rattle.laws.specs.Text.Facts.{Is-key}
@@ -107,7 +107,7 @@ small-zeros j = omega (arith, zeros-read 32 j)
 pub record Tallied (lex : Lexicon) (xs given counts : List ℕ) (i : ℕ) : Type 0 where
   pub within : i ≤ keys-of xs
   pub whole : length counts ≡ 32
-  pub bounded : (j : ℕ) → getD counts j 0 ≤ 2 ^ 62 + 65535 * i
+  pub bounded : (j : ℕ) → getD counts j 0 ≤ 2 ^ 62 + greatest-number * i
   pub summed :
       (j : ℕ) → j < 32 →
       getD counts j 0 + counted lex (1 + j) (keys-of xs - i) i xs ≡ getD given j 0 + counted lex (1 + j) (keys-of xs) 0 xs
@@ -123,7 +123,7 @@ tally-start lex xs given len small =
     }
 
 module _ {lex : Lexicon} {xs given counts : List ℕ} {i : ℕ} (h : Tallied lex xs given counts i) where
-  module _ (position : ℕ) (below : i < keys-of xs) (small : count-at xs i ≤ 65535) (room : position < 32)
+  module _ (position : ℕ) (below : i < keys-of xs) (small : count-at xs i ≤ greatest-number) (room : position < 32)
       (len : length (spells lex (key-at xs i)) ≡ position + 1) where
     raised : List ℕ
     raised = set counts position (getD counts position 0 + count-at xs i)
@@ -158,7 +158,7 @@ module _ {lex : Lexicon} {xs given counts : List ℕ} {i : ℕ} (h : Tallied lex
           summed = λ j b. summed j b (here-or-other j);
         }
       where
-        bounded : (j : ℕ) → (j ≡ position) ⊎ (j ≡ position → ⊥) → getD raised j 0 ≤ 2 ^ 62 + 65535 * (i + 1)
+        bounded : (j : ℕ) → (j ≡ position) ⊎ (j ≡ position → ⊥) → getD raised j 0 ≤ 2 ^ 62 + greatest-number * (i + 1)
         bounded j (inl e) = rw e (omega (arith, raised-here, h .bounded position))
         bounded j (inr other) = omega (arith, raised-other j other, h .bounded j)
 

@@ -76,6 +76,7 @@ pub compare-few-spec : {M : Type 1} → statement M
 compare-few-spec =
     tie.close
     (tie.spec
-    Inv-loop μ-loop loop-holds (λ c. omega arith) word-at-requires (λ c. start-fits (c .before .before .before .before .before .before .before .before .args .key-start) (omega arith))
+    Inv-loop μ-loop loop-holds (λ c. omega arith) word-at-requires
+    (λ c. start-fits (c .before .before .before .before .before .before .before .before .args .key-start) (omega arith))
     (λ c κs. tt) (λ c. omega arith) (λ c. omega arith) (λ c. omega arith)
     (λ c. omega arith) (λ c. omega arith) loop-again (λ c. omega arith) loop-again-2 (λ c. c .before .loop .inv .1) returns)

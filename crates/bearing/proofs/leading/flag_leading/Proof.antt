@@ -20,8 +20,11 @@ abbrev μ-loop : tie.MeasureT-loop
 
 loop-holds : tie.Need-loop-holds Inv-loop μ-loop
 loop-holds c =
-    let a = c .before .before .before .before .before .args in
-    (rw (leading-none (lexicon-at (a .chars .now) (a .word-starts .now)) (a .index .now) (a .string .now)) (ones-at-none (a .flags .now)), omega arith)
+    let a = c .before .before .before .before .before .args in (
+      rw (leading-none (lexicon-at (a .chars .now) (a .word-starts .now)) (a .index .now) (a .string .now))
+          (ones-at-none (a .flags .now)),
+      omega arith,
+    )
 
 word-at-requires : tie.Need-word-at-requires Inv-loop μ-loop
 word-at-requires c κs =
@@ -37,15 +40,23 @@ loop-again : tie.Need-loop-again Inv-loop μ-loop
 loop-again c =
     let a = c .before .before .before .before .before .before .before .before .before .before .args in
     let l = c .before .before .before .before .loop in
-    let leading = ap (agrees-leading (a .string .now)) (sym (c .before .before .word-at .ensures)) ∙ sym (c .before .agrees-leading .ensures) ∙ c .if1 .taken in
-    (rw (leading-more (lexicon-at (a .chars .now) (a .word-starts .now)) (a .index .now) (a .string .now) (l .line) leading) (ones-at-more (l .inv .0) (l .line) (omega arith)), omega arith)
+    let leading = ap (agrees-leading (a .string .now)) (sym (c .before .before .word-at .ensures)) ∙ sym
+    (c .before .agrees-leading .ensures) ∙ c .if1 .taken in (
+      rw (leading-more (lexicon-at (a .chars .now) (a .word-starts .now)) (a .index .now) (a .string .now) (l .line) leading)
+          (ones-at-more (l .inv .0) (l .line) (omega arith)),
+      omega arith,
+    )
 
 loop-again-2 : tie.Need-loop-again-2 Inv-loop μ-loop
 loop-again-2 c =
     let a = c .before .before .before .before .before .before .before .before .before .before .args in
     let l = c .before .before .before .before .loop in
-    let leading = ap (agrees-leading (a .string .now)) (sym (c .before .before .word-at .ensures)) ∙ sym (c .before .agrees-leading .ensures) ∙ c .if1 .left in
-    (rw (leading-same (lexicon-at (a .chars .now) (a .word-starts .now)) (a .index .now) (a .string .now) (l .line) leading) (l .inv .0), omega arith)
+    let leading = ap (agrees-leading (a .string .now)) (sym (c .before .before .word-at .ensures)) ∙ sym
+    (c .before .agrees-leading .ensures) ∙ c .if1 .left in (
+      rw (leading-same (lexicon-at (a .chars .now) (a .word-starts .now)) (a .index .now) (a .string .now) (l .line) leading)
+          (l .inv .0),
+      omega arith,
+    )
 
 returns : tie.Need-returns Inv-loop μ-loop
 returns c =

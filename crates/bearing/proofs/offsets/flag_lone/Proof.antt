@@ -24,7 +24,8 @@ returns c =
     let character = getD (a .string .now) (a .key-start) 0 in
     flagged-one (lexicon-at (a .chars .now) (a .word-starts .now)) (a .index .now) (a .string .now) (a .key-start) (a .word-lines)
     (keys-of (a .index .now)) (a .flags .now) (s .pre .2) (line .result) (omega arith)
-    (lone-agrees (h .reads .can) (h .split) (a .string .now) (a .key-start) character refl (line .result) (line .ensures .from) (omega arith)
+    (lone-agrees (h .reads .can) (h .split) (a .string .now) (a .key-start) character refl (line .result) (line .ensures .from)
+    (omega arith)
     (line .ensures .is (omega arith)) (s .pre .1))
     (lone-others (h .reads .can) (h .split) (a .string .now) (a .key-start) character refl (line .ensures))
 

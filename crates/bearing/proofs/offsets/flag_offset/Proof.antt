@@ -11,7 +11,8 @@ returns c =
     let a = s .args in
     let words = c .before .before .before .before .before .before .flag-words in
     let lone = c .before .before .flag-lone in
-    flagged-both (lexicon-at (a .chars .now) (a .word-starts .now)) (a .index .now) (a .string .now) (a .key-start) (a .word-lines) (s .pre .0 .split .within) (a .flags .now)
+    flagged-both (lexicon-at (a .chars .now) (a .word-starts .now)) (a .index .now) (a .string .now) (a .key-start) (a .word-lines)
+    (s .pre .0 .split .within) (a .flags .now)
     (words .last .1 .1 .1 .1 .1 .1 .0) (lone .last .1 .1 .1 .1 .1 .1 .0) (words .ensures) (lone .ensures)
 
 pub flag-offset-spec : {M : Type 1} → statement M

@@ -29,7 +29,8 @@ loop-again c =
     let l = c .before .before .before .before .before .loop in
     let now = c .before .before .flag-offset in (
       omega arith,
-      offsets-next (lexicon-at (a .chars .now) (a .word-starts .now)) (a .index .now) (a .string .now) (now .last .1 .1 .1 .1 .1 .1 .0) (l .inv .1) (now .ensures),
+      offsets-next (lexicon-at (a .chars .now) (a .word-starts .now)) (a .index .now) (a .string .now) (now .last .1 .1 .1 .1 .1 .1 .0)
+          (l .inv .1) (now .ensures),
     )
 
 returns : tie.Need-returns Inv-loop μ-loop
@@ -37,12 +38,15 @@ returns c =
     let a = c .before .before .before .before .before .before .before .args in
     let l = c .before .loop in
     let e : l .key-start ≡ length (a .string .now) = omega arith in
-    subst (Offsets (lexicon-at (a .chars .now) (a .word-starts .now)) (a .index .now) (a .string .now) (a .flags .now) (l .flags)) e (l .inv .1)
+    subst (Offsets (lexicon-at (a .chars .now) (a .word-starts .now)) (a .index .now) (a .string .now) (a .flags .now) (l .flags)) e
+    (l .inv .1)
 
 pub flag-offsets-spec : {M : Type 1} → statement M
 flag-offsets-spec =
     tie.close
     (tie.spec
     Inv-loop μ-loop (λ c. omega arith) loop-holds
-    (λ c κs. (c .before .before .before .before .before .before .before .before .pre .0, omega arith, c .before .before .loop .inv .1 .way .flags)) (λ c. search needs) (λ c. omega arith)
+    (λ c κs.
+    (c .before .before .before .before .before .before .before .before .pre .0, omega arith, c .before .before .loop .inv .1 .way .flags))
+    (λ c. search needs) (λ c. omega arith)
     loop-again (λ c. c .before .loop .inv .1 .way .len) returns)

@@ -17,18 +17,21 @@ flag-list-requires : tie.Need-flag-list-requires
 flag-list-requires c κs =
     let s = c .before .before .before .before .before .before .before .before .before .before in
     let a = s .args in
-    agreeing-below (lexicon-at (a .chars .now) (a .word-starts .now)) (a .index .now) (a .string .now) (c .before .before .before .agreeing-words .ensures .0) (omega arith)
+    agreeing-below (lexicon-at (a .chars .now) (a .word-starts .now)) (a .index .now) (a .string .now)
+    (c .before .before .before .agreeing-words .ensures .0) (omega arith)
 
 returns : tie.Need-returns
 returns c =
     let s = c .before .before .before .before .before .before .before .before .before .before .before .before .before .before .before .before .before in
     let a = s .args in
     let found = c .before .before .before .before .before .before .before .before .before .before .agreeing-words .ensures in
-    flagged-words (lexicon-at (a .chars .now) (a .word-starts .now)) (a .index .now) (a .string .now) (found .0) (s .pre .0 .split .within) (found .1) (s .pre .2)
+    flagged-words (lexicon-at (a .chars .now) (a .word-starts .now)) (a .index .now) (a .string .now) (found .0) (s .pre .0 .split .within)
+    (found .1) (s .pre .2)
     (c .before .before .before .before .before .before .flag-list .ensures) (c .before .before .flag-run .ensures)
 
 pub flag-words-spec : {M : Type 1} → statement M
 flag-words-spec =
     tie.close
     (tie.spec
-    (λ c. search needs) (λ c κs. search needs) (λ c. search needs) slice-aggregate-flag-list flag-list-requires (λ c κs. search needs) (λ c. search needs) returns)
+    (λ c. search needs) (λ c κs. search needs) (λ c. search needs) slice-aggregate-flag-list flag-list-requires (λ c κs. search needs)
+    (λ c. search needs) returns)

@@ -31,7 +31,8 @@ extend-at-positions-requires c κs =
     let h = s .pre .0 in (
       offset-fits 1 (a .key-start) (a .first) (omega arith) (omega arith) (h .first-small),
       s .pre .2,
-      listed-rise (h .opened .reads .can) (c .before .before .before .before .lone-line .result) (omega arith) (c .before .positions-of .result .now)
+      listed-rise (h .opened .reads .can) (c .before .before .before .before .lone-line .result) (omega arith)
+          (c .before .positions-of .result .now)
           (c .before .positions-of .ensures),
     )
 
@@ -43,7 +44,8 @@ returns-2 c =
     let split = s .pre .0 .split in
     let line = c .before .before .before .before .before .before .before .lone-line in
     let positions = c .before .before .before .before .positions-of in
-    let below : line .result < keys-of (a .index .now) = omega (arith, c .before .before .before .before .before .if1 .left, c .before .before .before .before .before .before .key-count .ensures .0) in
+    let below : line .result < keys-of (a .index .now) = omega
+    (arith, c .before .before .before .before .before .if1 .left, c .before .before .before .before .before .before .key-count .ensures .0) in
     let character = getD (a .string .now) (a .key-start) 0 in
     lone-found can split (a .string .now) (a .key-start) character refl (line .ensures) (a .first) below (a .reach .now)
     (lone-done can split (a .string .now) (a .key-start) character refl (line .result) (line .ensures .from) below

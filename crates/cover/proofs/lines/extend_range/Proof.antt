@@ -19,8 +19,11 @@ abbrev μ-loop : tie.MeasureT-loop
 loop-holds : tie.Need-loop-holds Inv-loop μ-loop
 loop-holds c =
     let s = c .before .before .before .before .before .before in
-    let a = s .args in
-    (left-start (offset-at (a .key-start) (lexicon-at (a .chars .now) (a .word-starts .now)) (a .index .now) (a .string .now) (a .first)) (a .from) (a .to) (a .reach .now) (a .max-reach) (s .pre .4), omega arith)
+    let a = s .args in (
+      left-start (offset-at (a .key-start) (lexicon-at (a .chars .now) (a .word-starts .now)) (a .index .now) (a .string .now) (a .first))
+          (a .from) (a .to) (a .reach .now) (a .max-reach) (s .pre .4),
+      omega arith,
+    )
 
 extend-line-requires : tie.Need-extend-line-requires Inv-loop μ-loop
 extend-line-requires c κs =
@@ -34,7 +37,8 @@ loop-again c =
     let a = turn .before .before .before .before .before .before .before .before .args in
     let l = turn .before .loop in
     let done = c .before .before .extend-line in (
-      left-step (offset-at (a .key-start) (lexicon-at (a .chars .now) (a .word-starts .now)) (a .index .now) (a .string .now) (a .first)) (a .from) (a .to) (a .reach .now) (l .reach) (l .highest) (l .line) (a .to) (l .inv .0) (turn .loop-test .taken)
+      left-step (offset-at (a .key-start) (lexicon-at (a .chars .now) (a .word-starts .now)) (a .index .now) (a .string .now) (a .first))
+          (a .from) (a .to) (a .reach .now) (l .reach) (l .highest) (l .line) (a .to) (l .inv .0) (turn .loop-test .taken)
           (done .kept .1 .1 .1 .1 .1 .1 .1 .1 .1 .0) (done .ensures),
       omega arith,
     )
@@ -43,7 +47,8 @@ returns : tie.Need-returns Inv-loop μ-loop
 returns c =
     let a = c .before .before .before .before .before .before .before .before .args in
     let l = c .before .loop in
-    left-end (offset-at (a .key-start) (lexicon-at (a .chars .now) (a .word-starts .now)) (a .index .now) (a .string .now) (a .first)) (a .from) (a .to) (a .reach .now) (l .reach) (l .highest) (l .line) (a .to) (l .inv .0) (c .loop-test .left)
+    left-end (offset-at (a .key-start) (lexicon-at (a .chars .now) (a .word-starts .now)) (a .index .now) (a .string .now) (a .first))
+    (a .from) (a .to) (a .reach .now) (l .reach) (l .highest) (l .line) (a .to) (l .inv .0) (c .loop-test .left)
 
 pub extend-range-spec : {M : Type 1} → statement M
 extend-range-spec =

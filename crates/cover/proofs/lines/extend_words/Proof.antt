@@ -16,19 +16,27 @@ slice-aggregate-extend-listed c =
 extend-listed-requires : tie.Need-extend-listed-requires
 extend-listed-requires c κs =
     let s = c .before .before .before .before .before .before .before .before .before .before .before in
-    let a = s .args in
-    (s .pre .0, s .pre .1, listed-agrees (a .key-start) (lexicon-at (a .chars .now) (a .word-starts .now)) (a .index .now) (a .string .now) (c .before .before .before .agreeing-words .ensures .0), s .pre .2)
+    let a = s .args in (
+      s .pre .0,
+      s .pre .1,
+      listed-agrees (a .key-start) (lexicon-at (a .chars .now) (a .word-starts .now)) (a .index .now) (a .string .now)
+          (c .before .before .before .agreeing-words .ensures .0),
+      s .pre .2,
+    )
 
 returns : tie.Need-returns
 returns c =
     let s = c .before .before .before .before .before .before .before .before .before .before .before .before .before .before .before .before .before .before in
     let a = s .args in
-    agreeing-reaches (a .key-start) (lexicon-at (a .chars .now) (a .word-starts .now)) (a .index .now) (a .string .now) (a .first) (c .before .before .before .before .before .before .before .before .before .before .agreeing-words .ensures .0) (a .reach .now) (c .before .before .before .before .before .before .extend-listed .ensures)
+    agreeing-reaches (a .key-start) (lexicon-at (a .chars .now) (a .word-starts .now)) (a .index .now) (a .string .now) (a .first)
+    (c .before .before .before .before .before .before .before .before .before .before .agreeing-words .ensures .0) (a .reach .now)
+    (c .before .before .before .before .before .before .extend-listed .ensures)
     (c .before .before .extend-range .ensures)
 
 pub extend-words-spec : {M : Type 1} → statement M
 extend-words-spec =
     tie.close
     (tie.spec
-    (λ c. search needs) (λ c κs. search needs) (λ c. search needs) slice-aggregate-extend-listed extend-listed-requires (λ c κs. search needs)
+    (λ c. search needs) (λ c κs. search needs) (λ c. search needs) slice-aggregate-extend-listed extend-listed-requires
+    (λ c κs. search needs)
     (λ c. search needs) returns)

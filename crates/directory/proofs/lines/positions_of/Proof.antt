@@ -31,7 +31,8 @@ returns : tie.Need-returns
 returns c =
     let s = c .before .before .before .before .before .before .before in
     let start = c .before .before .before .line-start .result + getD (s .args .list-starts .now) (s .args .line) 0 in
-    positions-are (s .pre .0) (s .args .line) (s .pre .2) (s .pre .1) {start = start} {end = start + c .before .count-at .result} (omega arith)
+    positions-are (s .pre .0) (s .args .line) (s .pre .2) (s .pre .1) {start = start} {end = start + c .before .count-at .result}
+    (omega arith)
     (omega arith)
 
 pub positions-of-spec : {M : Type 1} → statement M

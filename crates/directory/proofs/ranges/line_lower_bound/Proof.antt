@@ -31,4 +31,5 @@ line-lower-bound-spec =
     (tie.spec
     Inv-loop μ-loop (λ c. bisected-start (c .before .pre .2) (c .before .args .least)) (λ c. omega arith) (λ c. omega arith)
     (λ c κs. (omega arith, omega arith)) (λ c. omega arith) (λ c. omega arith) loop-again (λ c. omega arith) loop-again-2
-    (λ c. bisected-end (c .before .before .before .pre .2) (c .before .before .before .args .least) (c .before .loop .inv) (c .loop-test .left)))
+    (λ c. bisected-end (c .before .before .before .pre .2) (c .before .before .before .args .least) (c .before .loop .inv)
+    (c .loop-test .left)))

@@ -22,7 +22,8 @@ returns c =
       (
         λ f. refl,
         (
-          reconstructed-once (lexicon-at (a .chars .now) (a .word-starts .now)) (lines-in (a .index .now)) (n-of (a .index .now)) (a .string .now)
+          reconstructed-once (lexicon-at (a .chars .now) (a .word-starts .now)) (lines-in (a .index .now)) (n-of (a .index .now))
+              (a .string .now)
               (shown .last .1 .1 .1 .1 .0) (sentinel .result) (shown .result) false (sentinel .ensures) (shown .ensures .0)
               (shown .ensures .1) (not-true (shown .result) (c .if1 .taken)),
           λ t. clash t refl,
@@ -47,7 +48,8 @@ returns-2 c =
       (
         λ f. clash refl f,
         (
-          reconstructed-once (lexicon-at (a .chars .now) (a .word-starts .now)) (lines-in (a .index .now)) (n-of (a .index .now)) (a .string .now)
+          reconstructed-once (lexicon-at (a .chars .now) (a .word-starts .now)) (lines-in (a .index .now)) (n-of (a .index .now))
+              (a .string .now)
               (shown .last .1 .1 .1 .1 .0) (sentinel .result) (shown .result) true (sentinel .ensures) (shown .ensures .0)
               (shown .ensures .1) yes-all,
           λ t. told .ensures,

@@ -19,7 +19,8 @@ returns c =
     let s = c .before .before .before .before .before .before .before .before .before .before .before .before in
     let a = s .args in
     let window = c .before .before .before .extend-window in
-    laws.first-in-none (lexicon-at (a .chars .now) (a .word-starts .now)) (a .index .now) (a .string .now) (length (a .reach .now)) (a .first)
+    laws.first-in-none (lexicon-at (a .chars .now) (a .word-starts .now)) (a .index .now) (a .string .now) (length (a .reach .now))
+    (a .first)
     (a .reach .now) (s .pre .3) (window .ensures) (c .if1 .taken)
 
 returns-2 : tie.Need-returns-2
@@ -27,7 +28,8 @@ returns-2 c =
     let s = c .before .before .before .before .before .before .before .before .before .before .before .before .before .before in
     let a = s .args in
     let window = c .before .before .before .before .before .extend-window in
-    laws.first-in-window (lexicon-at (a .chars .now) (a .word-starts .now)) (a .index .now) (a .string .now) (length (a .reach .now)) (a .first)
+    laws.first-in-window (lexicon-at (a .chars .now) (a .word-starts .now)) (a .index .now) (a .string .now) (length (a .reach .now))
+    (a .first)
     (a .reach .now) (s .pre .3) (window .ensures) (c .first-found .result) (c .first-found .ensures)
 
 pub first-in-window-spec : {M : Type 1} → statement M

@@ -31,7 +31,8 @@ loop-holds c =
     let s = c .before .before .before .before .before .before .before .before in
     let a = s .args in (
       refl,
-      finds-start (lexicon-at (a .chars .now) (a .word-starts .now)) (a .index .now) (a .strings .now) (a .counts .now) (a .at) (a .out .now)
+      finds-start (lexicon-at (a .chars .now) (a .word-starts .now)) (a .index .now) (a .strings .now) (a .counts .now) (a .at)
+          (a .out .now)
           (s .pre .0 .1 .tested)
           (s .pre .0 .1 .fits) (s .pre .1),
     )

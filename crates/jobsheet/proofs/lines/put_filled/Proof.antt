@@ -47,7 +47,8 @@ at-finds c =
     (c .put-index-lines .ensures)
 
 slice-aggregate-put-finds : tie.Need-slice-aggregate-put-finds
-slice-aggregate-put-finds c = front-long (c .before .before .before .before .before .before .before .before .before .before .before .before .before .before .before .before .before .before .before .before .pre .0 .1) (replicate 4097 0) (c .before .before .before .before .before .before .before .before .before .before .fill-word-starts .ensures)
+slice-aggregate-put-finds c = front-long
+    (c .before .before .before .before .before .before .before .before .before .before .before .before .before .before .before .before .before .before .before .before .pre .0 .1) (replicate 4097 0) (c .before .before .before .before .before .before .before .before .before .before .fill-word-starts .ensures)
 
 put-finds-requires : tie.Need-put-finds-requires
 put-finds-requires c κs =
@@ -55,13 +56,15 @@ put-finds-requires c κs =
     let s = half .before .before .before .before .before .before .before .before .before .before .before .before in (
       (
         record {
-          reads = front-reads (s .pre .0 .1) (replicate 4097 0) (c .before .before .before .before .before .before .before .before .before .before .before .before .before .fill-word-starts .ensures);
+          reads = front-reads (s .pre .0 .1) (replicate 4097 0)
+              (c .before .before .before .before .before .before .before .before .before .before .before .before .before .fill-word-starts .ensures);
           list-starts = c .before .before .before .before .before .before .before .before .before .before .fill-list-starts .ensures;
         },
         s .pre .1 .0,
         omega arith,
       ),
-      rw (front-lengths (s .pre .0 .1) (replicate 4097 0) (c .before .before .before .before .before .before .before .before .before .before .before .before .before .fill-word-starts .ensures)) (at-finds (c .before .before .before .before .before .before) .room),
+      rw (front-lengths (s .pre .0 .1) (replicate 4097 0)
+          (c .before .before .before .before .before .before .before .before .before .before .before .before .before .fill-word-starts .ensures)) (at-finds (c .before .before .before .before .before .before) .room),
     )
 
 returns : tie.Need-returns
@@ -71,7 +74,8 @@ returns c =
     let a = s .args in
     writing-last (found-lines (lexicon (a .chars .now) (a .lengths .now)) (a .index .now) (words-from (a .counts .now) (a .strings .now)))
     (at-finds (c .before .before .before .before .before .before .before .before .before .before .before))
-    (rw (front-lengths (s .pre .0 .1) (replicate 4097 0) (c .before .before .before .before .before .before .before .before .before .before .before .before .before .before .before .before .before .before .fill-word-starts .ensures)) at (c .before .before .before .before .put-finds .ensures))
+    (rw (front-lengths (s .pre .0 .1) (replicate 4097 0)
+    (c .before .before .before .before .before .before .before .before .before .before .before .before .before .before .before .before .before .before .fill-word-starts .ensures)) at (c .before .before .before .before .put-finds .ensures))
 
 pub put-filled-spec : {M : Type 1} → statement M
 put-filled-spec =

@@ -7,13 +7,15 @@ use Rattle.searcher.proofs.first.first_filled.Tie as tie
 
 slice-aggregate-first-tabled : tie.Need-slice-aggregate-first-tabled
 slice-aggregate-first-tabled c =
-    front-long (c .before .before .before .before .before .before .before .before .before .before .before .before .before .pre .0) (replicate 4097 0) (c .before .before .before .before .before .before .fill-word-starts .ensures)
+    front-long (c .before .before .before .before .before .before .before .before .before .before .before .before .before .pre .0)
+    (replicate 4097 0) (c .before .before .before .before .before .before .fill-word-starts .ensures)
 
 first-tabled-requires : tie.Need-first-tabled-requires
 first-tabled-requires c κs =
     let s = c .before .before .before .before .before .before .before .before .before .before .before .before .before .before in (
       record {
-        reads = front-reads (s .pre .0) (replicate 4097 0) (c .before .before .before .before .before .before .before .fill-word-starts .ensures);
+        reads = front-reads (s .pre .0) (replicate 4097 0)
+            (c .before .before .before .before .before .before .before .fill-word-starts .ensures);
         list-starts = c .before .before .before .before .fill-list-starts .ensures;
       },
       s .pre .2,

@@ -19,7 +19,8 @@ returns-2 c =
     let a = c .before .before .before .before .before .before .before .before .before .before .before .before .args in
     let told = c .before .before .before .before .reach-by-text in
     let found = c .first-by-entries in
-    first-in-count (lexicon-at (a .chars .now) (a .word-starts .now)) (a .index .now) (a .string .now) (length (told .last .1 .1 .1 .1 .0)) 1
+    first-in-count (lexicon-at (a .chars .now) (a .word-starts .now)) (a .index .now) (a .string .now)
+    (length (told .last .1 .1 .1 .1 .0)) 1
     (length (a .reach .now))
     (found .result) (told .kept .1 .1 .1 .1 .0) (found .ensures)
 

@@ -24,7 +24,8 @@ returns c =
     let s = c .before .before .before .before .before .before .before .before .before .before in
     let a = s .args in
     let found = c .before .before .first-by-text in
-    first-in-count (lexicon-at (a .chars .now) (a .word-starts .now)) (a .index .now) (a .string .now) (length (take (a .starts) (a .room .now))) 1
+    first-in-count (lexicon-at (a .chars .now) (a .word-starts .now)) (a .index .now) (a .string .now)
+    (length (take (a .starts) (a .room .now))) 1
     (a .starts) (found .result) (length-take-le (a .starts) (a .room .now) (s .pre .2)) (found .ensures)
 
 pub first-by-text-in-spec : {M : Type 1} → statement M

@@ -19,7 +19,8 @@ returns-4 : tie.Need-returns-4
 returns-4 c =
     let a = c .before .before .before .before .before .before .before .before .before .before .before .args in
     let near = c .before .before .first-in-middle2 in
-    first-in-second (lexicon-at (a .chars .now) (a .word-starts .now)) (a .index .now) (a .string .now) (a .starts) 8192 (a .starts - 8192) 1
+    first-in-second (lexicon-at (a .chars .now) (a .word-starts .now)) (a .index .now) (a .string .now) (a .starts) 8192
+    (a .starts - 8192) 1
     (omega arith) (near .result) (near .ensures)
     (omega arith) (c .before .if3 .left) (c .first-in-long .result) (c .first-in-long .ensures)
 

@@ -30,7 +30,8 @@ returns c =
     let s = c .before .before .before .before .before .before .before .before .before .before .before in
     let a = s .args in
     let found = c .before .before .first-in-window in
-    first-in-count (lexicon-at (a .chars .now) (a .word-starts .now)) (a .index .now) (a .string .now) (length (take (a .starts) (a .reach .now)))
+    first-in-count (lexicon-at (a .chars .now) (a .word-starts .now)) (a .index .now) (a .string .now)
+    (length (take (a .starts) (a .reach .now)))
     (a .first)
     (a .starts) (found .result) (length-take-le (a .starts) (a .reach .now) (s .pre .3)) (found .ensures)
 

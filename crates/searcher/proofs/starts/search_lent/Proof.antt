@@ -29,7 +29,8 @@ returns c =
     let s = c .before .before .before .before .before .before .before .before .before .before .before .before .before .before in
     let a = s .args in
     let searched = c .before .before .before .before .search-cleared in
-    says-count (lexicon-at (a .chars .now) (a .word-starts .now)) (a .index .now) (a .string .now) (length (take (a .starts) (a .reach .now)))
+    says-count (lexicon-at (a .chars .now) (a .word-starts .now)) (a .index .now) (a .string .now)
+    (length (take (a .starts) (a .reach .now)))
     (a .starts) 1 (searched .result) (a .output .now) (searched .last .1 .1 .1 .1 .1 .1 .0)
     (length-take-le (a .starts) (a .reach .now) (s .pre .3)) (searched .ensures)
 

@@ -8,7 +8,8 @@ use Rattle.searcher.proofs.window.reach_in_front.Tie as tie
 
 slice-aggregate-reach-reconstructed : tie.Need-slice-aggregate-reach-reconstructed
 slice-aggregate-reach-reconstructed c =
-    sym (length-take-le (c .before .text-len .result) (c .before .before .before .before .before .before .before .before .args .room .now) (omega arith))
+    sym (length-take-le (c .before .text-len .result) (c .before .before .before .before .before .before .before .before .args .room .now)
+    (omega arith))
 
 reach-reconstructed-requires : tie.Need-reach-reconstructed-requires
 reach-reconstructed-requires c κs =
