@@ -45,7 +45,8 @@ backs c =
 
 flag-lone-requires : tie.Need-flag-lone-requires
 flag-lone-requires c κs =
-    (on (c .before .before .before .before .before), c .before .before .before .before .before .before .before .before .before .before .before .pre .1 .some, backs (c .before .before .before) .way .flags)
+    let counted = c .before .before .before .before .before in
+    (on counted, counted .before .before .before .before .before .before .pre .1 .some, backs (c .before .before .before) .way .flags)
 
 flag-offsets-requires : tie.Need-flag-offsets-requires
 flag-offsets-requires c κs =
@@ -66,7 +67,8 @@ flag-offsets-requires c κs =
 
 returns : tie.Need-returns
 returns c =
-    let s = c .before .before .before .before .before .before .before .before .before .before .before .before .before .before .before .before .before .before in
+    let half = c .before .before .before .before .before .before .before .before .before in
+    let s = half .before .before .before .before .before .before .before .before .before in
     let a = s .args in
     let split = on (c .before .before .before .before .before .before .before .before .before .before .before .before) .split in
     flags-exact-flags (s .pre .0 .can) split (s .pre .1)

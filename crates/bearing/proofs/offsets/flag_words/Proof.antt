@@ -22,7 +22,8 @@ flag-list-requires c κs =
 
 returns : tie.Need-returns
 returns c =
-    let s = c .before .before .before .before .before .before .before .before .before .before .before .before .before .before .before .before .before in
+    let half = c .before .before .before .before .before .before .before .before .before in
+    let s = half .before .before .before .before .before .before .before .before in
     let a = s .args in
     let found = c .before .before .before .before .before .before .before .before .before .before .agreeing-words .ensures in
     flagged-words (lexicon-at (a .chars .now) (a .word-starts .now)) (a .index .now) (a .string .now) (found .0) (s .pre .0 .split .within)

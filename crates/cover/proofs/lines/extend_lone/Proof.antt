@@ -44,8 +44,8 @@ returns-2 c =
     let split = s .pre .0 .split in
     let line = c .before .before .before .before .before .before .before .lone-line in
     let positions = c .before .before .before .before .positions-of in
-    let below : line .result < keys-of (a .index .now) = omega
-    (arith, c .before .before .before .before .before .if1 .left, c .before .before .before .before .before .before .key-count .ensures .0) in
+    let told = c .before .before .before .before .before in
+    let below : line .result < keys-of (a .index .now) = omega (arith, told .if1 .left, told .before .key-count .ensures .0) in
     let character = getD (a .string .now) (a .key-start) 0 in
     lone-found can split (a .string .now) (a .key-start) character refl (line .ensures) (a .first) below (a .reach .now)
     (lone-done can split (a .string .now) (a .key-start) character refl (line .result) (line .ensures .from) below

@@ -26,7 +26,8 @@ extend-listed-requires c κs =
 
 returns : tie.Need-returns
 returns c =
-    let s = c .before .before .before .before .before .before .before .before .before .before .before .before .before .before .before .before .before .before in
+    let half = c .before .before .before .before .before .before .before .before .before in
+    let s = half .before .before .before .before .before .before .before .before .before in
     let a = s .args in
     agreeing-reaches (a .key-start) (lexicon-at (a .chars .now) (a .word-starts .now)) (a .index .now) (a .string .now) (a .first)
     (c .before .before .before .before .before .before .before .before .before .before .agreeing-words .ensures .0) (a .reach .now)

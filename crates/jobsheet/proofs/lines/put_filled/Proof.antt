@@ -47,35 +47,35 @@ at-finds c =
     (c .put-index-lines .ensures)
 
 slice-aggregate-put-finds : tie.Need-slice-aggregate-put-finds
-slice-aggregate-put-finds c = front-long
-    (c .before .before .before .before .before .before .before .before .before .before .before .before .before .before .before .before .before .before .before .before .pre .0 .1) (replicate 4097 0) (c .before .before .before .before .before .before .before .before .before .before .fill-word-starts .ensures)
+slice-aggregate-put-finds c =
+    let filled = c .before .before .before .before .before .before .before .before .before .before in
+    front-long (filled .before .before .before .before .before .before .before .before .before .before .pre .0 .1) (replicate 4097 0) (filled .fill-word-starts .ensures)
 
 put-finds-requires : tie.Need-put-finds-requires
 put-finds-requires c κs =
-    let half = c .before .before .before .before .before .before .before .before .before .before .before in
-    let s = half .before .before .before .before .before .before .before .before .before .before .before .before in (
+    let filled = c .before .before .before .before .before .before .before .before .before .before .before .before .before in
+    let s = filled .before .before .before .before .before .before .before .before .before .before in
+    let table = filled .fill-word-starts .ensures in (
       (
         record {
-          reads = front-reads (s .pre .0 .1) (replicate 4097 0)
-              (c .before .before .before .before .before .before .before .before .before .before .before .before .before .fill-word-starts .ensures);
+          reads = front-reads (s .pre .0 .1) (replicate 4097 0) table;
           list-starts = c .before .before .before .before .before .before .before .before .before .before .fill-list-starts .ensures;
         },
         s .pre .1 .0,
         omega arith,
       ),
-      rw (front-lengths (s .pre .0 .1) (replicate 4097 0)
-          (c .before .before .before .before .before .before .before .before .before .before .before .before .before .fill-word-starts .ensures)) (at-finds (c .before .before .before .before .before .before) .room),
+      rw (front-lengths (s .pre .0 .1) (replicate 4097 0) table) (at-finds (c .before .before .before .before .before .before) .room),
     )
 
 returns : tie.Need-returns
 returns c =
-    let half = c .before .before .before .before .before .before .before .before .before .before .before .before .before .before in
-    let s = half .before .before .before .before .before .before .before .before .before .before .before .before .before .before in
+    let half = c .before .before .before .before .before .before .before .before .before in
+    let filled = half .before .before .before .before .before .before .before .before .before in
+    let s = filled .before .before .before .before .before .before .before .before .before .before in
     let a = s .args in
+    let lengths = front-lengths (s .pre .0 .1) (replicate 4097 0) (filled .fill-word-starts .ensures) in
     writing-last (found-lines (lexicon (a .chars .now) (a .lengths .now)) (a .index .now) (words-from (a .counts .now) (a .strings .now)))
-    (at-finds (c .before .before .before .before .before .before .before .before .before .before .before))
-    (rw (front-lengths (s .pre .0 .1) (replicate 4097 0)
-    (c .before .before .before .before .before .before .before .before .before .before .before .before .before .before .before .before .before .before .fill-word-starts .ensures)) at (c .before .before .before .before .put-finds .ensures))
+    (at-finds (c .before .before .before .before .before .before .before .before .before .before .before)) (rw lengths at (c .before .before .before .before .put-finds .ensures))
 
 pub put-filled-spec : {M : Type 1} → statement M
 put-filled-spec =

@@ -7,15 +7,15 @@ use Rattle.searcher.proofs.search.search_filled.Tie as tie
 
 slice-aggregate-search-tabled : tie.Need-slice-aggregate-search-tabled
 slice-aggregate-search-tabled c =
-    front-long (c .before .before .before .before .before .before .before .before .before .before .before .before .before .before .pre .0)
-    (replicate 4097 0) (c .before .before .before .before .before .before .fill-word-starts .ensures)
+    let filled = c .before .before .before .before .before .before in
+    front-long (filled .before .before .before .before .before .before .before .before .pre .0) (replicate 4097 0) (filled .fill-word-starts .ensures)
 
 search-tabled-requires : tie.Need-search-tabled-requires
 search-tabled-requires c κs =
-    let s = c .before .before .before .before .before .before .before .before .before .before .before .before .before .before .before .before in (
+    let filled = c .before .before .before .before .before .before .before .before in
+    let s = filled .before .before .before .before .before .before .before .before in (
       record {
-        reads = front-reads (s .pre .0) (replicate 4097 0)
-            (c .before .before .before .before .before .before .before .before .fill-word-starts .ensures);
+        reads = front-reads (s .pre .0) (replicate 4097 0) (filled .fill-word-starts .ensures);
         list-starts = c .before .before .before .before .before .fill-list-starts .ensures;
       },
       s .pre .2,
