@@ -20,7 +20,9 @@ use folding::forms::replaced_string;
 use layout::fields::key_count;
 use layout::fields::line_start;
 use opening::opened::open_index;
+use opening::string::string_refusal;
 use spec::Answer;
+use width::LONGEST;
 use width::Number;
 
 // Cuts the index down for a string taken as it is, with a cleared flag lent for each line.
@@ -86,7 +88,7 @@ fn cut_some_lines<'a>(
     cut_lent(chars, word_starts, index, string, &mut flags, output)
 }
 
-// Cuts down an index of any number of lines, with 65,536 local flags.
+// Cuts down an index of any number of lines, with local flags.
 fn cut_many_lines<'a>(
     chars: &'a [u16],
     word_starts: &[u16],
@@ -99,7 +101,7 @@ fn cut_many_lines<'a>(
         Sized (cut-down (lexicon-at (now (chars .entry)) (now («word_starts» .entry))) (now (index .entry)) (now (string .entry))) r
         (now (output .entry)) (now (output .exit)) ⌝ }
 {
-    let mut flags = [0u8; 65536];
+    let mut flags = [0u8; LONGEST];
     cut_lent(chars, word_starts, index, string, &mut flags, output)
 }
 
@@ -161,21 +163,9 @@ fn cut_opened<'a>(
         Cut-says (now (chars .entry)) (now (lengths .entry)) (now (index .entry)) (now (string .entry)) r (now (output .entry))
         (now (output .exit)) ⌝ }
 {
+    let refusal = string_refusal(refusal, string);
     if refusal != 0 {
         return Answer { refusal, count: 0 };
-    }
-    let len = string.len();
-    if len == 0 {
-        return Answer {
-            refusal: 6,
-            count: 0,
-        };
-    }
-    if 256 < len {
-        return Answer {
-            refusal: 6,
-            count: 0,
-        };
     }
     cut_string(chars, lengths, index, string, output)
 }

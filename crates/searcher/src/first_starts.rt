@@ -5,8 +5,8 @@
 ghost use Prim.Native.Nat.{suc, _+_, _≤_};
 ghost use lib.ListN.{length};
 ghost use Rattle.spec.specs.Dictionary.{longest-text};
-ghost use Rattle.models.specs.WordStarts.{lexicon-at};
 ghost use Rattle.spec.specs.Index.{n-of};
+ghost use Rattle.models.specs.WordStarts.{lexicon-at};
 ghost use Rattle.laws.specs.Directory.Tables.{Opened};
 ghost use Rattle.laws.specs.Search.Sizing.{Is-string};
 ghost use Rattle.laws.specs.First.Found.{First-in};
@@ -14,6 +14,7 @@ use crate::estimate::prefers_text_scan;
 use crate::first_windows::first_by_entries;
 use crate::window::reach_by_text;
 use finding::finding::first_found;
+use width::LONGEST;
 use width::Number;
 use width::Sum;
 
@@ -80,7 +81,7 @@ fn first_by_estimate(
     ensures { λ r. ⌜
         First-in (lexicon-at (now (chars .entry)) (now («word_starts» .entry))) (now (index .entry)) (now (string .entry)) starts 1 r ⌝ }
 {
-    let mut room: [Number; 65536] = [0; 65536];
+    let mut room: [Number; LONGEST] = [0; LONGEST];
     first_by_text_in(
         chars,
         word_starts,

@@ -6,15 +6,15 @@ ghost use mathlib.Core.Path.{_≡_};
 ghost use Prim.Native.Nat.{_+_, _≤_};
 ghost use lib.ListN.{length, replicate};
 ghost use Rattle.spec.specs.Dictionary.{longest-text};
-ghost use Rattle.models.specs.WordStarts.{lexicon-at};
 ghost use Rattle.models.specs.Window.{leading-lines};
+ghost use Rattle.models.specs.WordStarts.{lexicon-at};
 ghost use Rattle.laws.specs.Directory.Tables.{Opened};
-ghost use Rattle.laws.specs.Window.LineRanges.{Split};
-ghost use Rattle.laws.specs.Window.Searches.{Searches};
 ghost use Rattle.laws.specs.Search.Sizing.{Is-string};
+ghost use Rattle.laws.specs.Window.Searches.{Searches};
 ghost use Rattle.laws.specs.First.Found.{First-in};
 use agreement::leading::list_leading;
 use finding::window::first_in_window;
+use width::LONGEST;
 use width::Number;
 use width::Sum;
 
@@ -34,11 +34,10 @@ fn first_in_lent(
     requires { ⌜
         Searches (now chars) (now «word_starts») (now index) (now «list_starts») (now string) «word_lines» first ×
         (now lines ≡ leading-lines (lexicon-at (now chars) (now «word_starts»)) (now index) (now string) «word_lines») ×
-        (first + starts ≤ 65536) ×
-        (starts ≤ length (now reach)) × (now reach ≡ replicate (length (now reach)) 0) ⌝ }
+        (first + starts ≤ 65536) × (starts ≤ length (now reach)) × (now reach ≡ replicate (length (now reach)) 0) ⌝ }
     ensures { λ r. ⌜
-        First-in (lexicon-at (now (chars .entry)) (now («word_starts» .entry))) (now (index .entry))
-        (now (string .entry)) starts first r ⌝ }
+        First-in (lexicon-at (now (chars .entry)) (now («word_starts» .entry))) (now (index .entry)) (now (string .entry)) starts first
+        r ⌝ }
 {
     first_in_window(
         chars,
@@ -68,11 +67,10 @@ fn first_in_short(
     requires { ⌜
         Searches (now chars) (now «word_starts») (now index) (now «list_starts») (now string) «word_lines» first ×
         (now lines ≡ leading-lines (lexicon-at (now chars) (now «word_starts»)) (now index) (now string) «word_lines») ×
-        (first + starts ≤ 65536) ×
-        (starts ≤ 1024) ⌝ }
+        (first + starts ≤ 65536) × (starts ≤ 1024) ⌝ }
     ensures { λ r. ⌜
-        First-in (lexicon-at (now (chars .entry)) (now («word_starts» .entry))) (now (index .entry))
-        (now (string .entry)) starts first r ⌝ }
+        First-in (lexicon-at (now (chars .entry)) (now («word_starts» .entry))) (now (index .entry)) (now (string .entry)) starts first
+        r ⌝ }
 {
     let mut reach: [Number; 1024] = [0; 1024];
     first_in_lent(
@@ -104,11 +102,10 @@ fn first_in_middle(
     requires { ⌜
         Searches (now chars) (now «word_starts») (now index) (now «list_starts») (now string) «word_lines» first ×
         (now lines ≡ leading-lines (lexicon-at (now chars) (now «word_starts»)) (now index) (now string) «word_lines») ×
-        (first + starts ≤ 65536) ×
-        (starts ≤ 8192) ⌝ }
+        (first + starts ≤ 65536) × (starts ≤ 8192) ⌝ }
     ensures { λ r. ⌜
-        First-in (lexicon-at (now (chars .entry)) (now («word_starts» .entry))) (now (index .entry))
-        (now (string .entry)) starts first r ⌝ }
+        First-in (lexicon-at (now (chars .entry)) (now («word_starts» .entry))) (now (index .entry)) (now (string .entry)) starts first
+        r ⌝ }
 {
     let mut reach: [Number; 8192] = [0; 8192];
     first_in_lent(
@@ -125,7 +122,7 @@ fn first_in_middle(
     )
 }
 
-// The first found of any number of starts from `first` on, in a local window of 65,536.
+// The first found of any number of starts from `first` on, in a local window.
 fn first_in_long(
     chars: &[u16],
     word_starts: &[u16],
@@ -140,12 +137,12 @@ fn first_in_long(
     requires { ⌜
         Searches (now chars) (now «word_starts») (now index) (now «list_starts») (now string) «word_lines» first ×
         (now lines ≡ leading-lines (lexicon-at (now chars) (now «word_starts»)) (now index) (now string) «word_lines») ×
-        (first + starts ≤ 65536) ⌝ }
+        (first + starts ≤ 65536) × (starts ≤ longest-text) ⌝ }
     ensures { λ r. ⌜
-        First-in (lexicon-at (now (chars .entry)) (now («word_starts» .entry))) (now (index .entry))
-        (now (string .entry)) starts first r ⌝ }
+        First-in (lexicon-at (now (chars .entry)) (now («word_starts» .entry))) (now (index .entry)) (now (string .entry)) starts first
+        r ⌝ }
 {
-    let mut reach: [Number; 65536] = [0; 65536];
+    let mut reach: [Number; LONGEST] = [0; LONGEST];
     first_in_lent(
         chars,
         word_starts,
@@ -172,8 +169,7 @@ fn first_by_windows(
     starts: usize,
 ) -> usize
     requires { ⌜
-        Opened (now chars) (now «word_starts») (now index) (now «list_starts») × Is-string (now string) ×
-        Split (now index) «word_lines» ×
+        Searches (now chars) (now «word_starts») (now index) (now «list_starts») (now string) «word_lines» 1 ×
         (now lines ≡ leading-lines (lexicon-at (now chars) (now «word_starts»)) (now index) (now string) «word_lines») ×
         (starts ≤ longest-text) ⌝ }
     ensures { λ r. ⌜

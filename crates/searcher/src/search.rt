@@ -6,28 +6,32 @@ ghost use mathlib.Core.Path.{_≡_};
 ghost use Prim.Native.Nat.{suc, _-_, _≤_};
 ghost use lib.ListN.{length};
 ghost use Rattle.spec.specs.Replaced.{replaced};
-ghost use Rattle.spec.specs.Dictionary.{longest-text, lexicon};
-ghost use Rattle.models.specs.WordStarts.{lexicon-at};
-ghost use Rattle.spec.specs.Index.{keys-of};
+ghost use Rattle.spec.specs.Dictionary.{lexicon};
+ghost use Rattle.spec.specs.Index.{header, n-of, keys-of};
 ghost use Rattle.spec.specs.Search.{find};
-ghost use Rattle.spec.specs.Calls.{index-refusal, accepted, Search-says};
-ghost use Rattle.laws.specs.Directory.Tables.{Can-read, Opened};
+ghost use Rattle.spec.specs.Calls.{index-refusal, Search-says};
+ghost use Rattle.models.specs.WordStarts.{lexicon-at};
+ghost use Rattle.laws.specs.Directory.Tables.{Can-read, Reads, Opened};
 ghost use Rattle.laws.specs.Search.Sizing.{Is-string, Sized};
 use crate::starts::search_starts;
 use directory::tables::fill_list_starts;
 use directory::tables::fill_word_starts;
 use folding::forms::replaced_string;
+use layout::fields::key_count;
 use layout::fields::text_len;
 use opening::opened::open_index;
+use opening::string::string_refusal;
 use spec::Answer;
+use width::LONGEST;
 use width::Number;
 use width::Sum;
 
-// How many starts there are at which a string of this length fits into n characters.
-pub(crate) fn starts_of(n: usize, len: usize) -> usize
-    requires { ⌜ n ≤ longest-text ⌝ }
-    ensures { λ r. ⌜ r ≡ suc n - len ⌝ }
+// How many starts there are at which a string of this length fits into the text of an index.
+pub(crate) fn starts_of(index: &[Number], len: usize) -> usize
+    requires { ⌜ header ≤ length (now index) ⌝ }
+    ensures { λ r. ⌜ r ≡ suc (n-of (now (index .entry))) - len ⌝ }
 {
+    let n = text_len(index);
     if n < len {
         return 0;
     }
@@ -48,7 +52,7 @@ fn search_plain(
         Sized (find (lexicon-at (now (chars .entry)) (now («word_starts» .entry))) (now (index .entry)) (now (string .entry))) r
         (now (output .entry)) (now (output .exit)) ⌝ }
 {
-    let starts = starts_of(text_len(index), string.len());
+    let starts = starts_of(index, string.len());
     search_starts(
         chars,
         word_starts,
@@ -79,19 +83,108 @@ pub fn search_tabled(
     search_plain(chars, word_starts, index, list_starts, &own[..len], output)
 }
 
-// Searches a readable index, whose tables of starts are filled first, one of them lent.
-fn search_filled<'a>(
-    chars: &'a [u16],
-    lengths: &[u16],
-    index: &'a [Number],
-    keys: usize,
+// Searches a readable index, whose table of list starts is lent and filled first.
+fn search_filled(
+    chars: &[u16],
+    word_starts: &[u16],
+    index: &[Number],
     string: &[u16],
     list_starts: &mut [Sum],
     output: &mut [Number],
 ) -> Answer
     requires { ⌜
-        Can-read (now chars) (now lengths) (now index) × (keys ≡ keys-of (now index)) × Is-string (now string) ×
-        (keys ≤ length (now «list_starts»)) ⌝ }
+        Reads (now chars) (now «word_starts») (now index) × Is-string (now string) × (keys-of (now index) ≤ length (now «list_starts»)) ⌝ }
+    ensures { λ r. ⌜
+        Sized (find (lexicon-at (now (chars .entry)) (now («word_starts» .entry))) (now (index .entry)) (replaced (now (string .entry)))) r
+        (now (output .entry)) (now (output .exit)) ⌝ }
+{
+    fill_list_starts(index, key_count(index), list_starts);
+    search_tabled(chars, word_starts, index, list_starts, string, output)
+}
+
+// Searches an index of at most 1,024 lines, with a local table.
+fn search_few_lines(
+    chars: &[u16],
+    word_starts: &[u16],
+    index: &[Number],
+    string: &[u16],
+    output: &mut [Number],
+) -> Answer
+    requires { ⌜ Reads (now chars) (now «word_starts») (now index) × Is-string (now string) × (keys-of (now index) ≤ 1024) ⌝ }
+    ensures { λ r. ⌜
+        Sized (find (lexicon-at (now (chars .entry)) (now («word_starts» .entry))) (now (index .entry)) (replaced (now (string .entry)))) r
+        (now (output .entry)) (now (output .exit)) ⌝ }
+{
+    let mut list_starts: [Sum; 1024] = [0; 1024];
+    search_filled(chars, word_starts, index, string, &mut list_starts, output)
+}
+
+// Searches an index of at most 8,192 lines, with a local table.
+fn search_some_lines(
+    chars: &[u16],
+    word_starts: &[u16],
+    index: &[Number],
+    string: &[u16],
+    output: &mut [Number],
+) -> Answer
+    requires { ⌜ Reads (now chars) (now «word_starts») (now index) × Is-string (now string) × (keys-of (now index) ≤ 8192) ⌝ }
+    ensures { λ r. ⌜
+        Sized (find (lexicon-at (now (chars .entry)) (now («word_starts» .entry))) (now (index .entry)) (replaced (now (string .entry)))) r
+        (now (output .entry)) (now (output .exit)) ⌝ }
+{
+    let mut list_starts: [Sum; 8192] = [0; 8192];
+    search_filled(chars, word_starts, index, string, &mut list_starts, output)
+}
+
+// Searches an index of any number of lines, with a local table.
+fn search_many_lines(
+    chars: &[u16],
+    word_starts: &[u16],
+    index: &[Number],
+    string: &[u16],
+    output: &mut [Number],
+) -> Answer
+    requires { ⌜ Reads (now chars) (now «word_starts») (now index) × Is-string (now string) ⌝ }
+    ensures { λ r. ⌜
+        Sized (find (lexicon-at (now (chars .entry)) (now («word_starts» .entry))) (now (index .entry)) (replaced (now (string .entry)))) r
+        (now (output .entry)) (now (output .exit)) ⌝ }
+{
+    let mut list_starts: [Sum; LONGEST] = [0; LONGEST];
+    search_filled(chars, word_starts, index, string, &mut list_starts, output)
+}
+
+// Searches a readable index, with the smallest table of list starts that is long enough.
+fn search_lines(
+    chars: &[u16],
+    word_starts: &[u16],
+    index: &[Number],
+    string: &[u16],
+    output: &mut [Number],
+) -> Answer
+    requires { ⌜ Reads (now chars) (now «word_starts») (now index) × Is-string (now string) ⌝ }
+    ensures { λ r. ⌜
+        Sized (find (lexicon-at (now (chars .entry)) (now («word_starts» .entry))) (now (index .entry)) (replaced (now (string .entry)))) r
+        (now (output .entry)) (now (output .exit)) ⌝ }
+{
+    let keys = key_count(index);
+    if keys <= 1024 {
+        return search_few_lines(chars, word_starts, index, string, output);
+    }
+    if keys <= 8192 {
+        return search_some_lines(chars, word_starts, index, string, output);
+    }
+    search_many_lines(chars, word_starts, index, string, output)
+}
+
+// Searches a readable index, with a local table of word starts.
+fn search_words(
+    chars: &[u16],
+    lengths: &[u16],
+    index: &[Number],
+    string: &[u16],
+    output: &mut [Number],
+) -> Answer
+    requires { ⌜ Can-read (now chars) (now lengths) (now index) × Is-string (now string) ⌝ }
     ensures { λ r. ⌜
         Sized (find (lexicon (now (chars .entry)) (now (lengths .entry))) (now (index .entry)) (replaced (now (string .entry)))) r
         (now (output .entry)) (now (output .exit)) ⌝ }
@@ -99,116 +192,7 @@ fn search_filled<'a>(
     let mut word_starts = [0u16; 4097];
     fill_word_starts(lengths, &mut word_starts);
     let starts = lengths.len() + 1;
-    fill_list_starts(index, keys, list_starts);
-    search_tabled(
-        chars,
-        &word_starts[..starts],
-        index,
-        list_starts,
-        string,
-        output,
-    )
-}
-
-// Searches an index of at most 1,024 lines, with a local table.
-fn search_few_lines<'a>(
-    chars: &'a [u16],
-    lengths: &[u16],
-    index: &'a [Number],
-    keys: usize,
-    string: &[u16],
-    output: &mut [Number],
-) -> Answer
-    requires { ⌜ Can-read (now chars) (now lengths) (now index) × (keys ≡ keys-of (now index)) × Is-string (now string) × (keys ≤ 1024) ⌝ }
-    ensures { λ r. ⌜
-        Sized (find (lexicon (now (chars .entry)) (now (lengths .entry))) (now (index .entry)) (replaced (now (string .entry)))) r
-        (now (output .entry)) (now (output .exit)) ⌝ }
-{
-    let mut list_starts: [Sum; 1024] = [0; 1024];
-    search_filled(
-        chars,
-        lengths,
-        index,
-        keys,
-        string,
-        &mut list_starts,
-        output,
-    )
-}
-
-// Searches an index of at most 8,192 lines, with a local table.
-fn search_some_lines<'a>(
-    chars: &'a [u16],
-    lengths: &[u16],
-    index: &'a [Number],
-    keys: usize,
-    string: &[u16],
-    output: &mut [Number],
-) -> Answer
-    requires { ⌜ Can-read (now chars) (now lengths) (now index) × (keys ≡ keys-of (now index)) × Is-string (now string) × (keys ≤ 8192) ⌝ }
-    ensures { λ r. ⌜
-        Sized (find (lexicon (now (chars .entry)) (now (lengths .entry))) (now (index .entry)) (replaced (now (string .entry)))) r
-        (now (output .entry)) (now (output .exit)) ⌝ }
-{
-    let mut list_starts: [Sum; 8192] = [0; 8192];
-    search_filled(
-        chars,
-        lengths,
-        index,
-        keys,
-        string,
-        &mut list_starts,
-        output,
-    )
-}
-
-// Searches an index of any number of lines, with a local table of 65,536.
-fn search_many_lines<'a>(
-    chars: &'a [u16],
-    lengths: &[u16],
-    index: &'a [Number],
-    keys: usize,
-    string: &[u16],
-    output: &mut [Number],
-) -> Answer
-    requires { ⌜ Can-read (now chars) (now lengths) (now index) × (keys ≡ keys-of (now index)) × Is-string (now string) ⌝ }
-    ensures { λ r. ⌜
-        Sized (find (lexicon (now (chars .entry)) (now (lengths .entry))) (now (index .entry)) (replaced (now (string .entry)))) r
-        (now (output .entry)) (now (output .exit)) ⌝ }
-{
-    let mut list_starts: [Sum; 65536] = [0; 65536];
-    search_filled(
-        chars,
-        lengths,
-        index,
-        keys,
-        string,
-        &mut list_starts,
-        output,
-    )
-}
-
-// Searches an index of `keys` lines, with the smallest table that is long enough.
-fn search_lines<'a>(
-    chars: &'a [u16],
-    lengths: &[u16],
-    index: &'a [Number],
-    keys: usize,
-    string: &[u16],
-    output: &mut [Number],
-) -> Answer
-    requires { ⌜ Can-read (now chars) (now lengths) (now index) × (keys ≡ keys-of (now index)) × Is-string (now string) ⌝ }
-    ensures { λ r. ⌜
-        Sized (find (lexicon (now (chars .entry)) (now (lengths .entry))) (now (index .entry)) (replaced (now (string .entry)))) r
-        (now (output .entry)) (now (output .exit)) ⌝ }
-{
-    if keys <= 1024 {
-        return search_few_lines(chars, lengths, index, keys, string, output);
-    }
-    if keys <= 8192 {
-        return search_some_lines(chars, lengths, index, keys, string, output);
-    }
-    search_many_lines(chars, lengths, index, keys, string, output)
+    search_lines(chars, &word_starts[..starts], index, string, output)
 }
 
 // Searches an opened index: writes the positions found, ascending, and answers how many they are, or the refusal.
@@ -217,32 +201,19 @@ fn search_opened<'a>(
     lengths: &'a [u16],
     index: &'a [Number],
     refusal: u32,
-    keys: usize,
     string: &'a [u16],
     output: &mut [Number],
 ) -> Answer
-    requires { ⌜ (refusal ≡ index-refusal (now chars) (now lengths) (now index)) × (keys ≡ accepted refusal (keys-of (now index)) 0) ⌝ }
+    requires { ⌜ refusal ≡ index-refusal (now chars) (now lengths) (now index) ⌝ }
     ensures { λ r. ⌜
         Search-says (now (chars .entry)) (now (lengths .entry)) (now (index .entry)) (now (string .entry)) r (now (output .entry))
         (now (output .exit)) ⌝ }
 {
+    let refusal = string_refusal(refusal, string);
     if refusal != 0 {
         return Answer { refusal, count: 0 };
     }
-    let len = string.len();
-    if len == 0 {
-        return Answer {
-            refusal: 6,
-            count: 0,
-        };
-    }
-    if 256 < len {
-        return Answer {
-            refusal: 6,
-            count: 0,
-        };
-    }
-    search_lines(chars, lengths, index, keys, string, output)
+    search_words(chars, lengths, index, string, output)
 }
 
 // Searches an index for a string: opens it, and searches the opened index.
@@ -263,7 +234,6 @@ pub fn search_index<'a>(
         lengths,
         opened.numbers,
         opened.refusal,
-        opened.keys,
         string,
         output,
     )

@@ -10,6 +10,7 @@ ghost use Rattle.laws.specs.Search.Sizing.{Is-string};
 ghost use Rattle.laws.specs.Window.Searching.{Window-says};
 use crate::window::search_cleared;
 use spec::Answer;
+use width::LONGEST;
 use width::Number;
 use width::Sum;
 
@@ -52,8 +53,7 @@ fn search_in_short(
     starts: usize,
     output: &mut [Number],
 ) -> Answer
-    requires { ⌜
-        Opened (now chars) (now «word_starts») (now index) (now «list_starts») × Is-string (now string) × (starts ≤ 1024) ⌝ }
+    requires { ⌜ Opened (now chars) (now «word_starts») (now index) (now «list_starts») × Is-string (now string) × (starts ≤ 1024) ⌝ }
     ensures { λ r. ⌜
         Window-says (lexicon-at (now (chars .entry)) (now («word_starts» .entry))) (now (index .entry)) (now (string .entry)) starts 1 r
         (now (output .entry)) (now (output .exit)) ⌝ }
@@ -81,8 +81,7 @@ fn search_in_middle(
     starts: usize,
     output: &mut [Number],
 ) -> Answer
-    requires { ⌜
-        Opened (now chars) (now «word_starts») (now index) (now «list_starts») × Is-string (now string) × (starts ≤ 8192) ⌝ }
+    requires { ⌜ Opened (now chars) (now «word_starts») (now index) (now «list_starts») × Is-string (now string) × (starts ≤ 8192) ⌝ }
     ensures { λ r. ⌜
         Window-says (lexicon-at (now (chars .entry)) (now («word_starts» .entry))) (now (index .entry)) (now (string .entry)) starts 1 r
         (now (output .entry)) (now (output .exit)) ⌝ }
@@ -100,7 +99,7 @@ fn search_in_middle(
     )
 }
 
-// Searches any number of starts, in a local window of 65,536.
+// Searches any number of starts, in a local window.
 fn search_in_long(
     chars: &[u16],
     word_starts: &[u16],
@@ -116,7 +115,7 @@ fn search_in_long(
         Window-says (lexicon-at (now (chars .entry)) (now («word_starts» .entry))) (now (index .entry)) (now (string .entry)) starts 1 r
         (now (output .entry)) (now (output .exit)) ⌝ }
 {
-    let mut reach: [Number; 65536] = [0; 65536];
+    let mut reach: [Number; LONGEST] = [0; LONGEST];
     search_lent(
         chars,
         word_starts,

@@ -5,8 +5,8 @@ ghost use mathlib.Core.Bool.{true, false};
 ghost use Prim.Native.Nat.{suc, _+_, _≤_};
 ghost use lib.ListN.{length, replicate};
 ghost use Rattle.spec.specs.Dictionary.{longest-text};
-ghost use Rattle.models.specs.WordStarts.{lexicon-at};
 ghost use Rattle.spec.specs.Index.{n-of};
+ghost use Rattle.models.specs.WordStarts.{lexicon-at};
 ghost use Rattle.laws.specs.Directory.Tables.{Reads, Opened};
 ghost use Rattle.laws.specs.Search.Sizing.{Is-string};
 ghost use Rattle.laws.specs.TextScan.ReconstructedSearch.{Finds};
@@ -17,6 +17,7 @@ use finding::window::answer_window;
 use finding::window::search_window;
 use layout::fields::text_len;
 use spec::Answer;
+use width::LONGEST;
 use width::Number;
 use width::Sum;
 
@@ -30,8 +31,7 @@ fn reach_in_front(
     reach: &mut [Number],
 ) -> bool
     requires { ⌜
-        Reads (now chars) (now «word_starts») (now index) ×
-        (length (now string) ≤ 256) × (n-of (now index) ≤ length (now room)) ×
+        Reads (now chars) (now «word_starts») (now index) × (length (now string) ≤ 256) × (n-of (now index) ≤ length (now room)) ×
         (length (now reach) + length (now string) ≤ suc (n-of (now index))) ⌝ }
     ensures told { λ r. ⌜
         (r ≡ true → Finds (lexicon-at (now (chars .entry)) (now («word_starts» .entry))) (now (index .entry)) (now (string .entry))
@@ -52,14 +52,14 @@ pub(crate) fn reach_by_text(
     reach: &mut [Number],
 ) -> bool
     requires { ⌜
-        Reads (now chars) (now «word_starts») (now index) ×
-        (length (now string) ≤ 256) × (length (now reach) + length (now string) ≤ suc (n-of (now index))) ⌝ }
+        Reads (now chars) (now «word_starts») (now index) × (length (now string) ≤ 256) ×
+        (length (now reach) + length (now string) ≤ suc (n-of (now index))) ⌝ }
     ensures told { λ r. ⌜
         (r ≡ true → Finds (lexicon-at (now (chars .entry)) (now («word_starts» .entry))) (now (index .entry)) (now (string .entry))
         (now (reach .exit))) ⌝ }
     ensures kept { λ r. ⌜ (r ≡ false → now (reach .exit) ≡ now (reach .entry)) ⌝ }
 {
-    let mut room: [Number; 65536] = [0; 65536];
+    let mut room: [Number; LONGEST] = [0; LONGEST];
     reach_in_front(chars, word_starts, index, string, &mut room, reach)
 }
 
@@ -72,8 +72,7 @@ fn reach_if_cheaper(
     reach: &mut [Number],
 ) -> bool
     requires { ⌜
-        Reads (now chars) (now «word_starts») (now index) ×
-        Is-string (now string) × (length (now reach) ≤ longest-text) ⌝ }
+        Reads (now chars) (now «word_starts») (now index) × Is-string (now string) × (length (now reach) ≤ longest-text) ⌝ }
     ensures told { λ r. ⌜
         (r ≡ true → Finds (lexicon-at (now (chars .entry)) (now («word_starts» .entry))) (now (index .entry)) (now (string .entry))
         (now (reach .exit))) ⌝ }

@@ -66,10 +66,6 @@ module _ (lex : Lexicon) (xs s : List ℕ) (n q : ℕ) where
         sym
         (ap first-of (sym (in-window lex xs s n q [] old clear done) ∙ none-found (length s) max-reach q rs (done .bounded) early))
 
-  -- the same, with the number of starts as the code has it
-  pub first-in-count : (k r : ℕ) → n ≡ k → First-in lex xs s n q r → First-in lex xs s k q r
-  first-in-count k r e h = rw e at h
-
 -- by a window whose reaches are right for the index
 pub first-in-told :
     (lex : Lexicon) (xs s : List ℕ) (n : ℕ) (rs : List ℕ) → Finds lex xs s rs → length rs ≡ n → (r : ℕ) →

@@ -1,18 +1,19 @@
 -- Results that are sized before they are written, and the refusals of the operations on an index and a string. Assumes nothing.
 use mathlib.Core.Path.{_≡_, refl, sym, ap, _∙_}
-use mathlib.Core.Bool.{true, false, cond, _||_}
+use mathlib.Core.Bool.{Bool, cond}
+use mathlib.Core.Logic.{⊎-elim}
 use mathlib.Core.List.{List}
 use Prim.Native.Nat.{ℕ, _≤_, _<_}
 use native.Mathlib.Omega.{arith}
 use lib.Dec.{ltb, eqb}
 use lib.ListN.{length, take}
 use borrow.Author.Tests.{lt-ltb, le-ltb, eq-eqb, ne-eqb}
-use Rattle.basics.specs.Bools.{or-left, or-right, or-none}
+use Rattle.basics.specs.Bools.{or-left, or-right, or-none, le-or-lt}
 use Rattle.spec.specs.declared.Answer.{Answer}
 use Rattle.spec.specs.Replaced.{replaced}
 use Rattle.spec.specs.Calls.{string-wrong, output-short, or-else, index-refusal, string-refusal, find-refusal, in-front, Puts}
 use Rattle.laws.specs.Text.WidthFolding.{length-replaced}
-use Rattle.laws.specs.Dictionary.Answering.{accepted-yes, accepted-no, answers-accepted, answers-refused}
+use Rattle.laws.specs.Dictionary.Answering.{or-else-some, or-else-none, accepted-yes, accepted-no, answers-accepted, answers-refused}
 
 -- a string that may be searched for
 pub record Is-string (s : List ℕ) : Type 0 where
@@ -52,52 +53,68 @@ module _ (ys : List ℕ) (r : Answer) (o : List ℕ) where
 
 -- THE REFUSALS BEFORE A RESULT: 1, 2, 3, 5, then 6
 
+-- by the tests of a string, n the refusal of the index
+module _ (n : ℕ) (s : List ℕ) where
+  pub string-kept : (n ≡ 0 → ⊥) → n ≡ or-else n (cond (string-wrong s) 6 0)
+  string-kept some = sym (or-else-some n (cond (string-wrong s) 6 0) some)
+
+  module _ (none : n ≡ 0) where
+    string-test : {b : Bool} → string-wrong s ≡ b → cond b 6 0 ≡ or-else n (cond (string-wrong s) 6 0)
+    string-test {b} t = rw t (sym (or-else-none n (cond b 6 0) none))
+
+    pub string-empty : length s ≡ 0 → 6 ≡ or-else n (cond (string-wrong s) 6 0)
+    unfolding string-wrong
+    string-empty e = string-test (or-left (ltb 256 (length s)) (eq-eqb (length s) 0 e))
+
+    pub string-long : 256 < length s → 6 ≡ or-else n (cond (string-wrong s) 6 0)
+    unfolding string-wrong
+    string-long h = string-test (or-right (eqb (length s) 0) (lt-ltb 256 (length s) h))
+
+    pub string-accepted : (length s ≡ 0 → ⊥) → length s ≤ 256 → 0 ≡ or-else n (cond (string-wrong s) 6 0)
+    unfolding string-wrong
+    string-accepted some short = string-test (or-none (ne-eqb (length s) 0 some) (le-ltb 256 (length s) short))
+
 module _ (cs ls xs s : List ℕ) where
-  pub string-refused : (index-refusal cs ls xs ≡ 0 → ⊥) → string-refusal cs ls xs s ≡ index-refusal cs ls xs
-  unfolding string-refusal or-else
-  string-refused some = rw (ne-eqb (index-refusal cs ls xs) 0 some)
+  -- so this is the refusal of the call
+  pub string-number :
+      {n r : ℕ} → n ≡ index-refusal cs ls xs → r ≡ or-else n (cond (string-wrong s) 6 0) → r ≡ string-refusal cs ls xs s
+  unfolding string-refusal
+  string-number index e = rw index at e
 
-  module _ (accepts : index-refusal cs ls xs ≡ 0) where
-    string-six : string-wrong s ≡ true → string-refusal cs ls xs s ≡ 6
-    unfolding string-refusal or-else
-    string-six t = rw (accepts, t)
+  -- without one, the index is accepted and the string may be searched for
+  pub string-passes : string-refusal cs ls xs s ≡ 0 → (index-refusal cs ls xs ≡ 0) × Is-string s
+  unfolding string-refusal
+  string-passes e = (none, record { some = some; short = short })
+    where
+      n : ℕ
+      n = index-refusal cs ls xs
 
-    pub string-empty : length s ≡ 0 → string-refusal cs ls xs s ≡ 6
-    unfolding string-wrong
-    string-empty e = string-six (or-left (ltb 256 (length s)) (eq-eqb (length s) 0 e))
+      none : n ≡ 0
+      none =
+          ⊎-elim (λ (z : n ≤ 0). omega arith) (λ (p : 0 < n). string-kept n s (λ z. omega arith) ∙ e)
+          (le-or-lt n 0)
 
-    pub string-long : 256 < length s → string-refusal cs ls xs s ≡ 6
-    unfolding string-wrong
-    string-long h = string-six (or-right (eqb (length s) 0) (lt-ltb 256 (length s) h))
+      some : 1 ≤ length s
+      some =
+          ⊎-elim (λ (z : length s ≤ 0). absurd (omega (arith, string-empty n s none (omega arith) ∙ e))) (λ (p : 0 < length s). omega arith)
+          (le-or-lt (length s) 0)
 
-    pub string-accepted : Is-string s → string-refusal cs ls xs s ≡ 0
-    unfolding string-refusal or-else string-wrong
-    string-accepted is =
-        let good : (eqb (length s) 0 || ltb 256 (length s)) ≡ false =
-        or-none (ne-eqb (length s) 0 (λ (e : length s ≡ 0). omega arith)) (le-ltb 256 (length s) (is .short)) in
-        rw (accepts, good)
+      short : length s ≤ 256
+      short =
+          ⊎-elim (λ (p : length s ≤ 256). p) (λ (z : 256 < length s). absurd (omega (arith, string-long n s none z ∙ e)))
+          (le-or-lt (length s) 256)
 
 -- SEARCH AND THE CUT-DOWN INDEX: these, then 8
 
 module _ (cs ls xs s ys : List ℕ) (r : Answer) (o : List ℕ) where
-  finds-stopped :
-      (n : ℕ) → string-refusal cs ls xs s ≡ n → (n ≡ 0 → ⊥) → r .refusal ≡ n → r .count ≡ 0 →
+  pub finds-refused :
+      (string-refusal cs ls xs s ≡ 0 → ⊥) → r .refusal ≡ string-refusal cs ls xs s → r .count ≡ 0 →
       Puts (find-refusal cs ls xs s (length ys) (length o)) ys r o o
   unfolding find-refusal or-else
-  finds-stopped n is some number none = rw (is, ne-eqb n 0 some) (refused n ys r o some number none)
+  finds-refused some number none =
+      rw (ne-eqb (string-refusal cs ls xs s) 0 some) (refused (string-refusal cs ls xs s) ys r o some number none)
 
-  pub finds-refused :
-      (index-refusal cs ls xs ≡ 0 → ⊥) → r .refusal ≡ index-refusal cs ls xs → r .count ≡ 0 →
-      Puts (find-refusal cs ls xs s (length ys) (length o)) ys r o o
-  finds-refused some = finds-stopped (index-refusal cs ls xs) (string-refused cs ls xs s some) some
-
-  module _ (accepts : index-refusal cs ls xs ≡ 0) where
-    pub finds-empty : length s ≡ 0 → r .refusal ≡ 6 → r .count ≡ 0 → Puts (find-refusal cs ls xs s (length ys) (length o)) ys r o o
-    finds-empty e = finds-stopped 6 (string-empty cs ls xs s accepts e) (λ (z : _≡_ {A = ℕ} 6 0). omega arith)
-
-    pub finds-long : 256 < length s → r .refusal ≡ 6 → r .count ≡ 0 → Puts (find-refusal cs ls xs s (length ys) (length o)) ys r o o
-    finds-long h = finds-stopped 6 (string-long cs ls xs s accepts h) (λ (z : _≡_ {A = ℕ} 6 0). omega arith)
-
-    pub finds-sized : Is-string s → (z : List ℕ) → Sized ys r o z → Puts (find-refusal cs ls xs s (length ys) (length o)) ys r o z
-    unfolding find-refusal or-else Sized
-    finds-sized is z h = rw (string-accepted cs ls xs s accepts is) h
+  pub finds-sized :
+      string-refusal cs ls xs s ≡ 0 → (z : List ℕ) → Sized ys r o z → Puts (find-refusal cs ls xs s (length ys) (length o)) ys r o z
+  unfolding find-refusal or-else Sized
+  finds-sized none z h = rw none h

@@ -10,13 +10,12 @@ use Rattle.spec.specs.Dictionary.{Lexicon, lexicon}
 use Rattle.spec.specs.Index.{n-of, lines-in}
 use Rattle.spec.specs.Search.{found-from, find}
 use Rattle.spec.specs.Cut.{cut-down}
-use Rattle.spec.specs.Calls.{index-refusal, in-front, Search-says, Cut-says}
+use Rattle.spec.specs.Calls.{string-refusal, in-front, Search-says, Cut-says}
 use Rattle.models.specs.Window.{found-in, leading-all, offsets-all, count-in}
 use Rattle.laws.specs.Window.Window.{Within, within-none, Reaches}
 use Rattle.laws.specs.Window.WindowSearch.{window-found}
 use Rattle.laws.specs.Window.Finding.{count-found, none-found}
-use Rattle.laws.specs.Search.Sizing.{Is-string, Sized, sized-short, sized-written, finds-refused, finds-empty, finds-long}
-use Rattle.laws.specs.Search.Sizing.{finds-sized}
+use Rattle.laws.specs.Search.Sizing.{Sized, sized-short, sized-written, finds-refused, finds-sized}
 
 -- the n starts from q on, searched
 unfoldable pub Window-says : Lexicon → (index string : List ℕ) → (n q : ℕ) → Answer → (out out-now : List ℕ) → Type 0
@@ -82,58 +81,25 @@ pub all-starts :
 unfolding Window-says find
 all-starts lex xs s r o z starts e h = rw e at h
 
--- the same, with the number of starts as the code has it
-pub says-count :
-    (lex : Lexicon) (xs s : List ℕ) (n k q : ℕ) (r : Answer) (o z : List ℕ) → n ≡ k → Window-says lex xs s n q r o z →
-    Window-says lex xs s k q r o z
-says-count lex xs s n k q r o z e h = rw e at h
+-- A CALL: refused, or answered by what is found or by the cut-down index
 
--- a new local array is all zeros and has its stated length
-pub cleared-room : (n k : ℕ) → k ≤ n → k ≤ length (replicate {A = ℕ} n 0)
-cleared-room n k h = omega (arith, length-replicate {A = ℕ} n 0)
-
-pub cleared-whole : (n : ℕ) → replicate {A = ℕ} n 0 ≡ replicate (length (replicate {A = ℕ} n 0)) 0
-cleared-whole n = ap (λ (m : ℕ). replicate {A = ℕ} m 0) (sym (length-replicate {A = ℕ} n 0))
-
--- the refusals before the search, and what is answered after them
 module _ (cs ls xs s : List ℕ) (r : Answer) (o : List ℕ) where
   pub search-refused :
-      (index-refusal cs ls xs ≡ 0 → ⊥) → r .refusal ≡ index-refusal cs ls xs → r .count ≡ 0 → Search-says cs ls xs s r o o
+      (string-refusal cs ls xs s ≡ 0 → ⊥) → r .refusal ≡ string-refusal cs ls xs s → r .count ≡ 0 → Search-says cs ls xs s r o o
   unfolding Search-says
   search-refused = finds-refused cs ls xs s (find (lexicon cs ls) xs (replaced s)) r o
 
-  pub search-empty : index-refusal cs ls xs ≡ 0 → length s ≡ 0 → r .refusal ≡ 6 → r .count ≡ 0 → Search-says cs ls xs s r o o
-  unfolding Search-says
-  search-empty = finds-empty cs ls xs s (find (lexicon cs ls) xs (replaced s)) r o
-
-  pub search-long : index-refusal cs ls xs ≡ 0 → 256 < length s → r .refusal ≡ 6 → r .count ≡ 0 → Search-says cs ls xs s r o o
-  unfolding Search-says
-  search-long = finds-long cs ls xs s (find (lexicon cs ls) xs (replaced s)) r o
-
   pub search-says :
-      index-refusal cs ls xs ≡ 0 → Is-string s → (z : List ℕ) → Sized (find (lexicon cs ls) xs (replaced s)) r o z →
-      Search-says cs ls xs s r o z
+      string-refusal cs ls xs s ≡ 0 → (z : List ℕ) → Sized (find (lexicon cs ls) xs (replaced s)) r o z → Search-says cs ls xs s r o z
   unfolding Search-says
   search-says = finds-sized cs ls xs s (find (lexicon cs ls) xs (replaced s)) r o
 
--- THE CUT-DOWN INDEX
-
-module _ (cs ls xs s : List ℕ) (r : Answer) (o : List ℕ) where
   pub cut-refused :
-      (index-refusal cs ls xs ≡ 0 → ⊥) → r .refusal ≡ index-refusal cs ls xs → r .count ≡ 0 → Cut-says cs ls xs s r o o
+      (string-refusal cs ls xs s ≡ 0 → ⊥) → r .refusal ≡ string-refusal cs ls xs s → r .count ≡ 0 → Cut-says cs ls xs s r o o
   unfolding Cut-says
   cut-refused = finds-refused cs ls xs s (cut-down (lexicon cs ls) xs (replaced s)) r o
 
-  pub cut-empty : index-refusal cs ls xs ≡ 0 → length s ≡ 0 → r .refusal ≡ 6 → r .count ≡ 0 → Cut-says cs ls xs s r o o
-  unfolding Cut-says
-  cut-empty = finds-empty cs ls xs s (cut-down (lexicon cs ls) xs (replaced s)) r o
-
-  pub cut-too-long : index-refusal cs ls xs ≡ 0 → 256 < length s → r .refusal ≡ 6 → r .count ≡ 0 → Cut-says cs ls xs s r o o
-  unfolding Cut-says
-  cut-too-long = finds-long cs ls xs s (cut-down (lexicon cs ls) xs (replaced s)) r o
-
   pub cut-says :
-      index-refusal cs ls xs ≡ 0 → Is-string s → (z : List ℕ) → Sized (cut-down (lexicon cs ls) xs (replaced s)) r o z →
-      Cut-says cs ls xs s r o z
+      string-refusal cs ls xs s ≡ 0 → (z : List ℕ) → Sized (cut-down (lexicon cs ls) xs (replaced s)) r o z → Cut-says cs ls xs s r o z
   unfolding Cut-says
   cut-says = finds-sized cs ls xs s (cut-down (lexicon cs ls) xs (replaced s)) r o

@@ -1,74 +1,50 @@
--- `first_opened` meets its contract: for each return one law, whose tests the path has passed. Assumes nothing.
+-- `first_opened` meets its contract: the call is refused, or the readable index is searched. Assumes nothing.
 use mathlib.Core.Path.{_≡_, refl, sym, _∙_}
-use Prim.Native.Nat.{ℕ}
 use native.Mathlib.Omega.{arith}
+use borrow.Author.Needs.{needs}
 use Rattle.spec.specs.Replaced.{replaced}
 use Rattle.spec.specs.Dictionary.{lexicon}
-use Rattle.spec.specs.Index.{keys-of}
-use Rattle.spec.specs.Calls.{index-refusal}
-use Rattle.laws.specs.Dictionary.Answering.{accepted-yes}
-use Rattle.laws.specs.Directory.Tables.{Can-read, can-read}
+use Rattle.spec.specs.Calls.{string-refusal}
+use Rattle.laws.specs.Directory.Tables.{can-read}
+use Rattle.laws.specs.Search.Sizing.{string-number, string-passes}
 use Rattle.laws.specs.First.Found.{first-position-small}
-use Rattle.laws.specs.First.Answers.{first-refused, first-empty, first-long, first-says}
+use Rattle.laws.specs.First.Answers.{first-refused, first-says}
 use Rattle.searcher.proofs.first.first_opened.Statement.{statement}
 use Rattle.searcher.proofs.first.first_opened.Tie as tie
 
-returns : tie.Need-returns
-returns c =
-    let s = c .before .before .before .before .before in
-    let a = s .args in
-    first-refused (a .chars .now) (a .lengths .now) (a .index .now) (a .string .now) (record { refusal = a .refusal; position = 0 })
-    (λ (e : index-refusal (a .chars .now) (a .lengths .now) (a .index .now) ≡ 0). c .if1 .taken (s .pre .0 ∙ e)) (s .pre .0) refl
+-- the refusal of the call
+number :
+    (c : tie.After-string-refusal) →
+    let a = c .before .before .before .before .before .args in
+    c .string-refusal .result ≡ string-refusal (a .chars .now) (a .lengths .now) (a .index .now) (a .string .now)
+number c = string-number _ _ _ _ (c .before .before .before .before .before .pre) (c .string-refusal .ensures)
 
-returns-2 : tie.Need-returns-2
-returns-2 c =
-    let s = c .before .before .before .before .before .before in
-    let a = s .args in
-    first-empty (a .chars .now) (a .lengths .now) (a .index .now) (a .string .now) (record { refusal = 6; position = 0 })
-    (sym (s .pre .0) ∙ c .before .if1 .left)
-    (c .if2 .taken) refl refl
-
-returns-3 : tie.Need-returns-3
-returns-3 c =
-    let s = c .before .before .before .before .before .before .before in
-    let a = s .args in
-    first-long (a .chars .now) (a .lengths .now) (a .index .now) (a .string .now) (record { refusal = 6; position = 0 })
-    (sym (s .pre .0) ∙ c .before .before .if1 .left)
-    (c .if3 .taken) refl refl
-
-first-lines-requires : tie.Need-first-lines-requires
-first-lines-requires c κs =
-    let s = c .before .before .before .before .before .before .before in
-    let a = s .args in
-    let none = c .before .before .if1 .left in
-    let can : Can-read (a .chars .now) (a .lengths .now) (a .index .now) =
-    can-read (a .chars .now) (a .lengths .now) (a .index .now)
-    (λ (i : ℕ). omega (arith, c .before .before .before .before .before .before .shared-slice-known .given i))
-    (λ (i : ℕ). omega (arith, c .before .before .before .before .shared-slice-known3 .given i))
-    (sym (s .pre .0) ∙ none) in (
-      can,
-      s .pre .1 ∙ accepted-yes (a .refusal) (keys-of (a .index .now)) 0 none,
-      record { some = omega arith; short = c .if3 .left },
+first-words-requires : tie.Need-first-words-requires
+first-words-requires c κs =
+    let tested = c .before in
+    let passes = string-passes _ _ _ _ (sym (number tested) ∙ c .if1 .left) in (
+      can-read _ _ _ (λ i. omega (arith, tested .before .before .before .before .shared-slice-known .given i))
+          (λ i. omega (arith, tested .before .before .shared-slice-known3 .given i)) (passes .0),
+      passes .1,
     )
 
 cast-position : tie.Need-cast-position
 cast-position c =
-    let a = c .before .before .before .before .before .before .before .before .args in
+    let a = c .before .before .before .before .before .before .before .args in
     omega (
       arith,
       first-position-small (lexicon (a .chars .now) (a .lengths .now)) (a .index .now) (replaced (a .string .now)),
-      c .before .before .before .before .before .shared-slice-known3 .given 0,
+      c .before .before .before .before .shared-slice-known3 .given 0,
     )
 
-returns-4 : tie.Need-returns-4
-returns-4 c =
-    let s = c .before .before .before .before .before .before .before .before in
-    let a = s .args in
-    first-says (a .chars .now) (a .lengths .now) (a .index .now) (a .string .now)
-    (record { refusal = 0; position = c .first-lines .result })
-    (sym (s .pre .0) ∙ c .before .before .before .if1 .left) (record { some = omega arith; short = c .before .if3 .left }) refl
-    (c .first-lines .ensures)
+returns-2 : tie.Need-returns-2
+returns-2 c =
+    let is = number (c .before .before) in
+    first-says _ _ _ _ _ is (sym is ∙ c .before .if1 .left) (c .first-words .ensures)
 
 pub first-opened-spec : {M : Type 1} → statement M
 first-opened-spec =
-    tie.close (tie.spec returns returns-2 returns-3 first-lines-requires cast-position returns-4)
+    tie.close
+    (tie.spec
+    (λ c κs. search needs) (λ c. first-refused _ _ _ _ _ (number (c .before)) (λ e. c .if1 .taken (number (c .before) ∙ e)) refl)
+    first-words-requires cast-position returns-2)

@@ -1,18 +1,10 @@
 -- `first_by_text_in` meets its contract: the window is the first numbers of the slice lent. Assumes nothing.
 use mathlib.Core.Path.{sym}
 use native.Mathlib.Omega.{arith}
-use lib.ListN.{length, take}
 use lib.Seq.{length-take-le}
-use Rattle.models.specs.WordStarts.{lexicon-at}
-use Rattle.laws.specs.First.Found.{first-in-count}
 use borrow.Author.Needs.{needs}
 use Rattle.searcher.proofs.first_starts.first_by_text_in.Statement.{statement}
 use Rattle.searcher.proofs.first_starts.first_by_text_in.Tie as tie
-
-slice-aggregate-first-by-text : tie.Need-slice-aggregate-first-by-text
-slice-aggregate-first-by-text c =
-    let s = c .before .before .before .before .before .before .before in sym
-    (length-take-le (s .args .starts) (s .args .room .now) (s .pre .2))
 
 first-by-text-requires : tie.Need-first-by-text-requires
 first-by-text-requires c κs =
@@ -22,14 +14,11 @@ first-by-text-requires c κs =
 returns : tie.Need-returns
 returns c =
     let s = c .before .before .before .before .before .before .before .before .before .before in
-    let a = s .args in
-    let found = c .before .before .first-by-text in
-    first-in-count (lexicon-at (a .chars .now) (a .word-starts .now)) (a .index .now) (a .string .now)
-    (length (take (a .starts) (a .room .now))) 1
-    (a .starts) (found .result) (length-take-le (a .starts) (a .room .now) (s .pre .2)) (found .ensures)
+    rw (length-take-le (s .args .starts) (s .args .room .now) (s .pre .2)) at (c .before .before .first-by-text .ensures)
 
 pub first-by-text-in-spec : {M : Type 1} → statement M
 first-by-text-in-spec =
     tie.close
     (tie.spec
-    (λ c. search needs) slice-aggregate-first-by-text first-by-text-requires (λ c. search needs) returns)
+    (λ c. search needs) (λ c. let s = c .before .before .before .before .before .before .before in sym (length-take-le _ _ (s .pre .2)))
+    first-by-text-requires (λ c. search needs) returns)

@@ -1,28 +1,21 @@
 -- `first_by_windows` meets its contract: where none of 8,192 starts is found, the first found is that of the others. Assumes nothing.
 use Prim.Native.Nat.{_-_}
 use native.Mathlib.Omega.{arith}
-use Rattle.models.specs.WordStarts.{lexicon-at}
-use Rattle.laws.specs.First.Found.{first-in-first, first-in-second}
 use borrow.Author.Needs.{needs}
+use Rattle.laws.specs.First.Found.{first-in-first, first-in-second}
 use Rattle.searcher.proofs.first_windows.first_by_windows.Statement.{statement}
 use Rattle.searcher.proofs.first_windows.first_by_windows.Tie as tie
 
 returns-3 : tie.Need-returns-3
 returns-3 c =
-    let a = c .before .before .before .before .before .before .before .before .before .before .args in
-    let near = c .before .first-in-middle2 in
-    first-in-first (lexicon-at (a .chars .now) (a .word-starts .now)) (a .index .now) (a .string .now) (a .starts) 8192 (a .starts - 8192) 1
-    (omega arith) (near .result) (near .ensures)
-    (c .if3 .taken)
+    let starts = c .before .before .before .before .before .before .before .before .before .before .args .starts in
+    first-in-first _ _ _ _ 8192 (starts - 8192) 1 (omega arith) _ (c .before .first-in-middle2 .ensures) (c .if3 .taken)
 
 returns-4 : tie.Need-returns-4
 returns-4 c =
-    let a = c .before .before .before .before .before .before .before .before .before .before .before .args in
-    let near = c .before .before .first-in-middle2 in
-    first-in-second (lexicon-at (a .chars .now) (a .word-starts .now)) (a .index .now) (a .string .now) (a .starts) 8192
-    (a .starts - 8192) 1
-    (omega arith) (near .result) (near .ensures)
-    (omega arith) (c .before .if3 .left) (c .first-in-long .result) (c .first-in-long .ensures)
+    let starts = c .before .before .before .before .before .before .before .before .before .before .before .args .starts in
+    first-in-second _ _ _ _ 8192 (starts - 8192) 1 (omega arith) _ (c .before .before .first-in-middle2 .ensures) (omega arith)
+    (c .before .if3 .left) _ (c .first-in-long .ensures)
 
 pub first-by-windows-spec : {M : Type 1} → statement M
 first-by-windows-spec =

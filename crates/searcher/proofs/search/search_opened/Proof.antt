@@ -1,65 +1,38 @@
--- `search_opened` meets its contract: for each return one law, whose tests the path has passed. Assumes nothing.
+-- `search_opened` meets its contract: the call is refused, or the readable index is searched. Assumes nothing.
 use mathlib.Core.Path.{_≡_, refl, sym, _∙_}
-use Prim.Native.Nat.{ℕ}
 use native.Mathlib.Omega.{arith}
-use Rattle.spec.specs.Index.{keys-of}
-use Rattle.spec.specs.Calls.{index-refusal}
-use Rattle.laws.specs.Dictionary.Answering.{accepted-yes}
-use Rattle.laws.specs.Directory.Tables.{Can-read, can-read}
-use Rattle.laws.specs.Window.Searching.{search-refused, search-empty, search-long, search-says}
 use borrow.Author.Needs.{needs}
+use Rattle.spec.specs.Calls.{string-refusal}
+use Rattle.laws.specs.Directory.Tables.{can-read}
+use Rattle.laws.specs.Search.Sizing.{string-number, string-passes}
+use Rattle.laws.specs.Window.Searching.{search-refused, search-says}
 use Rattle.searcher.proofs.search.search_opened.Statement.{statement}
 use Rattle.searcher.proofs.search.search_opened.Tie as tie
 
-returns : tie.Need-returns
-returns c =
-    let s = c .before .before .before .before .before .before in
-    let a = s .args in
-    search-refused (a .chars .now) (a .lengths .now) (a .index .now) (a .string .now) (record { refusal = a .refusal; count = 0 })
-    (a .output .now)
-    (λ (e : index-refusal (a .chars .now) (a .lengths .now) (a .index .now) ≡ 0). c .if1 .taken (s .pre .0 ∙ e)) (s .pre .0) refl
+-- the refusal of the call
+number :
+    (c : tie.After-string-refusal) →
+    let a = c .before .before .before .before .before .before .args in
+    c .string-refusal .result ≡ string-refusal (a .chars .now) (a .lengths .now) (a .index .now) (a .string .now)
+number c = string-number _ _ _ _ (c .before .before .before .before .before .before .pre) (c .string-refusal .ensures)
+
+search-words-requires : tie.Need-search-words-requires
+search-words-requires c κs =
+    let tested = c .before .before in
+    let passes = string-passes _ _ _ _ (sym (number tested) ∙ c .before .if1 .left) in (
+      can-read _ _ _ (λ i. omega (arith, tested .before .before .before .before .before .shared-slice-known .given i))
+          (λ i. omega (arith, tested .before .before .before .shared-slice-known3 .given i)) (passes .0),
+      passes .1,
+    )
 
 returns-2 : tie.Need-returns-2
 returns-2 c =
-    let s = c .before .before .before .before .before .before .before in
-    let a = s .args in
-    search-empty (a .chars .now) (a .lengths .now) (a .index .now) (a .string .now) (record { refusal = 6; count = 0 }) (a .output .now)
-    (sym (s .pre .0) ∙ c .before .if1 .left) (c .if2 .taken) refl refl
-
-returns-3 : tie.Need-returns-3
-returns-3 c =
-    let s = c .before .before .before .before .before .before .before .before in
-    let a = s .args in
-    search-long (a .chars .now) (a .lengths .now) (a .index .now) (a .string .now) (record { refusal = 6; count = 0 }) (a .output .now)
-    (sym (s .pre .0) ∙ c .before .before .if1 .left) (c .if3 .taken) refl refl
-
-search-lines-requires : tie.Need-search-lines-requires
-search-lines-requires c κs =
-    let s = c .before .before .before .before .before .before .before .before .before in
-    let a = s .args in
-    let none = c .before .before .before .if1 .left in
-    let can : Can-read (a .chars .now) (a .lengths .now) (a .index .now) =
-    can-read (a .chars .now) (a .lengths .now) (a .index .now)
-    (λ (i : ℕ). omega (arith, c .before .before .before .before .before .before .before .before .shared-slice-known .given i))
-    (λ (i : ℕ). omega (arith, c .before .before .before .before .before .before .shared-slice-known3 .given i))
-    (sym (s .pre .0) ∙ none) in (
-      can,
-      s .pre .1 ∙ accepted-yes (a .refusal) (keys-of (a .index .now)) 0 none,
-      record { some = omega arith; short = c .before .if3 .left },
-    )
-
-returns-4 : tie.Need-returns-4
-returns-4 c =
-    let s = c .before .before .before .before .before .before .before .before .before .before .before .before in
-    let a = s .args in
-    let searched = c .before .before .search-lines in
-    search-says (a .chars .now) (a .lengths .now) (a .index .now) (a .string .now) (searched .result) (a .output .now)
-    (sym (s .pre .0) ∙ c .before .before .before .before .before .before .if1 .left)
-    (record { some = omega arith; short = c .before .before .before .before .if3 .left })
-    (searched .last .1 .1 .1 .1 .1 .0) (searched .ensures)
+    let none = c .before .before .before .before in
+    search-says _ _ _ _ _ _ (sym (number (none .before)) ∙ none .if1 .left) _ (c .before .before .search-words .ensures)
 
 pub search-opened-spec : {M : Type 1} → statement M
 search-opened-spec =
     tie.close
     (tie.spec
-    returns returns-2 returns-3 search-lines-requires (λ c. search needs) returns-4)
+    (λ c κs. search needs) (λ c. search-refused _ _ _ _ _ _ (λ e. c .if1 .taken (number (c .before) ∙ e)) (number (c .before)) refl)
+    search-words-requires (λ c. search needs) returns-2)

@@ -1,20 +1,16 @@
 -- `reach_if_cheaper` meets its contract: the text is reconstructed only where the string fits. Assumes nothing.
 use mathlib.Core.Path.{refl}
+use borrow.Author.Needs.{needs}
 use borrow.Author.Tests.{not-false}
 use Rattle.basics.specs.Bools.{clash}
-use borrow.Author.Needs.{needs}
 use Rattle.searcher.proofs.window.reach_if_cheaper.Statement.{statement}
 use Rattle.searcher.proofs.window.reach_if_cheaper.Tie as tie
-use Rattle.searcher.proofs.estimate.prefers_text_scan.Reads as is-dense-reads
-use Rattle.searcher.proofs.window.reach_by_text.Reads as reach-by-text-reads
 
 reach-by-text-requires : tie.Need-reach-by-text-requires
 reach-by-text-requires c κs =
-    let s = c .before .before .before .before .before .before .before .before in (
-      s .pre .0,
-      s .pre .1 .short,
-      c .before .before .prefers-text-scan .ensures (not-false (c .before .before .prefers-text-scan .result) (c .before .if1 .left)),
-    )
+    let s = c .before .before .before .before .before .before .before .before in
+    let prefers = c .before .before .prefers-text-scan in
+    (s .pre .0, s .pre .1 .short, prefers .ensures (not-false (prefers .result) (c .before .if1 .left)))
 
 pub reach-if-cheaper-spec : {M : Type 1} → statement M
 reach-if-cheaper-spec =
