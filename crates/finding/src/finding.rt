@@ -29,13 +29,13 @@ pub fn first_found(reach: &[Number], len: usize, first: usize) -> usize
 pub(crate) fn count_found(reach: &[Number], len: usize) -> usize
     ensures { λ r. ⌜ r ≡ count-in len (now (reach .entry)) ⌝ }
 {
-    let mut count = 0;
+    let mut total = 0;
     let mut i = 0;
     while i < reach.len() {
-        count += (len <= reach[i] as usize) as usize;
+        total += (len <= reach[i] as usize) as usize;
         i += 1;
     }
-    count
+    total
 }
 
 // The first index from `from` on whose reach is `len` or more, where there is one.
