@@ -49,7 +49,8 @@ at-finds c =
 slice-aggregate-put-finds : tie.Need-slice-aggregate-put-finds
 slice-aggregate-put-finds c =
     let filled = c .before .before .before .before .before .before .before .before .before .before in
-    front-long (filled .before .before .before .before .before .before .before .before .before .before .pre .0 .1) (replicate 4097 0) (filled .fill-word-starts .ensures)
+    let s = filled .before .before .before .before .before .before .before .before .before .before in
+    front-long (s .pre .0 .1) (replicate 4097 0) (filled .fill-word-starts .ensures)
 
 put-finds-requires : tie.Need-put-finds-requires
 put-finds-requires c κs =
@@ -74,8 +75,9 @@ returns c =
     let s = filled .before .before .before .before .before .before .before .before .before .before in
     let a = s .args in
     let lengths = front-lengths (s .pre .0 .1) (replicate 4097 0) (filled .fill-word-starts .ensures) in
+    let printed = at-finds (c .before .before .before .before .before .before .before .before .before .before .before) in
     writing-last (found-lines (lexicon (a .chars .now) (a .lengths .now)) (a .index .now) (words-from (a .counts .now) (a .strings .now)))
-    (at-finds (c .before .before .before .before .before .before .before .before .before .before .before)) (rw lengths at (c .before .before .before .before .put-finds .ensures))
+    printed (rw lengths at (c .before .before .before .before .put-finds .ensures))
 
 pub put-filled-spec : {M : Type 1} → statement M
 put-filled-spec =
