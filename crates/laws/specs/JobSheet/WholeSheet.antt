@@ -3,7 +3,7 @@ use mathlib.Core.Path.{_≡_, refl, sym, ap, _∙_}
 use mathlib.Core.Bool.{Bool, true, false, _&&_, cond}
 use mathlib.Core.List.{List, [], _∷_, _++_, append-nil}
 use mathlib.Core.Logic.{⊎-elim}
-use Prim.Native.Nat.{ℕ, suc, _+_, _*_, _≤_}
+use Prim.Native.Nat.{ℕ, suc, _+_, _-_, _*_, _≤_}
 use native.Mathlib.Omega.{arith}
 use lib.Dec.{leb, eqb}
 use lib.ListN.{length, getD, drop, length-append, length-drop}
@@ -39,8 +39,8 @@ pub record Stage (s chars₀ lengths₀ : List ℕ) (cs ls : List ℕ) (rest : L
   pub chars-got : Wrote cs 0 chars₀ used chars
   pub lengths-got : Wrote ls 0 lengths₀ count lengths
 
-pub stage-start : (s chars lengths : List ℕ) → Enough s chars lengths → Stage s chars lengths [] [] (lines s) 0 0 0 chars lengths
-stage-start s chars lengths enough =
+pub stage-start : {s chars lengths : List ℕ} → Enough s chars lengths → Stage s chars lengths [] [] (lines s) 0 0 0 chars lengths
+stage-start {s} {chars} {lengths} enough =
     record {
       enough = enough;
       within = omega arith;
@@ -147,7 +147,7 @@ one-text [] e = absurd (omega arith)
 one-text (t ∷ []) e = append-nil t
 one-text (t ∷ u ∷ us) e = absurd (omega arith)
 
-pub sheet-tested :
+sheet-tested :
     (s : List ℕ) (at words texts text finds : ℕ) → at ≤ length s → lines (drop at s) ≡ left-on s → words ≡ length (words-on s) →
     texts ≡ length (texts-on s) → text ≡ length (run-together (texts-on s)) → finds ≡ length (finds-on s) →
     ((((eqb texts 1 && eqb at (length s)) && leb words 200) && leb text 2000) && leb finds 50) ≡ (in-form s && in-counts s)
@@ -199,34 +199,29 @@ Finds-read s chars₀ lengths₀ at used count chars lengths =
     (left-on s)
     at used count chars lengths
 
-module _ (s chars₀ lengths₀ : List ℕ) (at used count : ℕ) (chars lengths : List ℕ) where
+module _ {s chars₀ lengths₀ : List ℕ} {at used count : ℕ} {chars lengths : List ℕ} where
   pub words-read :
       Enough s chars₀ lengths₀ → Forms-got word-head s 0 0 0 chars₀ lengths₀ at used count chars lengths →
       Words-read s chars₀ lengths₀ at used count chars lengths
   unfolding words-on
-  words-read enough got =
-      stage-step (stage-start s chars₀ lengths₀ enough) got
+  words-read enough got = stage-step (stage-start enough) got
 
-  module _ (at' used' count' : ℕ) (chars' lengths' : List ℕ) where
+  module _ {at' used' count' : ℕ} {chars' lengths' : List ℕ} where
     pub texts-read :
         Words-read s chars₀ lengths₀ at used count chars lengths →
         Forms-got text-head s at used count chars lengths at' used' count' chars' lengths' →
         Texts-read s chars₀ lengths₀ at' used' count' chars' lengths'
     unfolding texts-on
-    texts-read st got =
-        stage-step st got
+    texts-read st got = stage-step st got
 
     pub finds-read :
         Texts-read s chars₀ lengths₀ at used count chars lengths →
         Forms-got find-head s at used count chars lengths at' used' count' chars' lengths' →
         Finds-read s chars₀ lengths₀ at' used' count' chars' lengths'
     unfolding finds-on left-on
-    finds-read st got =
-        stage-step
-        st got
+    finds-read st got = stage-step st got
 
--- how many of each there are
-module _ (s chars₀ lengths₀ : List ℕ) (at used count : ℕ) (chars lengths : List ℕ) where
+  -- how many of each there are
   pub words-used : Words-read s chars₀ lengths₀ at used count chars lengths → used ≡ length (run-together (words-on s))
   words-used st = omega arith
 
@@ -259,31 +254,28 @@ module _ (s chars₀ lengths₀ : List ℕ) (at used count : ℕ) (chars lengths
         length-lengths (finds-on s),
       )
 
-  pub finds-chars-long : Finds-read s chars₀ lengths₀ at used count chars lengths → length chars ≡ length chars₀
-  finds-chars-long st =
-      chars-long
-      st
-
-  pub finds-lengths-long : Finds-read s chars₀ lengths₀ at used count chars lengths → length lengths ≡ length lengths₀
-  finds-lengths-long st =
-      lengths-long
-      st
-
-pub sheet-read :
-    (s chars₀ lengths₀ : List ℕ) (at used count : ℕ) (chars lengths : List ℕ) (good : Bool) (words dictionary text finds : ℕ) →
-    Finds-read s chars₀ lengths₀ at used count chars lengths → words ≡ length (words-on s) →
-    dictionary ≡ length (run-together (words-on s)) →
-    text ≡ length (run-together (texts-on s)) → finds ≡ length (finds-on s) → good ≡ (in-form s && in-counts s) →
-    Sheet-read s chars₀ lengths₀ good words dictionary text finds chars lengths
-sheet-read s chars₀ lengths₀ at used count chars lengths good words dictionary text finds st ew ed et ef tested =
-    record {
-      tested = tested;
-      words-counted = ew;
-      dictionary-counted = ed;
-      text-counted = et;
-      finds-counted = ef;
-      chars-are = st .chars-got .content;
-      lengths-are = st .lengths-got .content;
-      chars-fit = omega arith;
-      lengths-fit = omega arith;
-    }
+module _ {s chars₀ lengths₀ : List ℕ} {at₁ used₁ count₁ at₂ used₂ count₂ at used count : ℕ}
+    {chars₁ lengths₁ chars₂ lengths₂ chars lengths : List ℕ} where
+  pub sheet-read :
+      Words-read s chars₀ lengths₀ at₁ used₁ count₁ chars₁ lengths₁ → Texts-read s chars₀ lengths₀ at₂ used₂ count₂ chars₂ lengths₂ →
+      Finds-read s chars₀ lengths₀ at used count chars lengths →
+      Sheet-read s chars₀ lengths₀
+      ((((eqb (count₂ - count₁) 1 && eqb at (length s)) && leb count₁ 200) && leb (used₂ - used₁) 2000) && leb (count - count₂) 50)
+      count₁ used₁ (used₂ - used₁) (count - count₂) chars lengths
+  sheet-read w t f =
+      let ew : count₁ ≡ length (words-on s) = words-count w in
+      let ed : used₁ ≡ length (run-together (words-on s)) = words-used w in
+      let et : count₂ - count₁ ≡ length (texts-on s) = omega (arith, ew, texts-count t) in
+      let ex : used₂ - used₁ ≡ length (run-together (texts-on s)) = omega (arith, ed, texts-used t) in
+      let ef : count - count₂ ≡ length (finds-on s) = omega (arith, texts-count t, finds-count f) in
+      record {
+        tested = sheet-tested s at count₁ (count₂ - count₁) (used₂ - used₁) (count - count₂) (f .within) (f .left) ew et ex ef;
+        words-counted = ew;
+        dictionary-counted = ed;
+        text-counted = ex;
+        finds-counted = ef;
+        chars-are = f .chars-got .content;
+        lengths-are = f .lengths-got .content;
+        chars-fit = omega arith;
+        lengths-fit = omega arith;
+      }

@@ -6,20 +6,23 @@ use Rattle.laws.specs.JobSheet.FormReading.{form-short, form-other, form-headed
 use Rattle.jobreader.proofs.form.is_form.Statement.{statement}
 use Rattle.jobreader.proofs.form.is_form.Tie as tie
 
+abbrev start : tie.After-has-head → tie.Start
+start c = c .before .before .before .before
+
 returns : tie.Need-returns
 returns c = sym (form-short (c .before .before .before .args .line .now) (c .before .before .before .args .head .now)
     (c .before .before .before .pre) (c .if1 .taken))
 
 returns-2 : tie.Need-returns-2
 returns-2 c =
-    sym (form-other (c .before .before .before .before .before .args .line .now)
-    (c .before .before .before .before .before .args .head .now) (c .before .before .before .before .before .pre)
+    let s = start (c .before) in
+    sym (form-other (s .args .line .now) (s .args .head .now) (s .pre)
     (sym (c .before .has-head .ensures) ∙ not-true (c .before .has-head .result) (c .if2 .taken)))
 
 returns-3 : tie.Need-returns-3
 returns-3 c =
-    c .ends-well .ensures ∙ sym (form-headed (c .before .before .before .before .before .before .args .line .now)
-    (c .before .before .before .before .before .before .args .head .now) (c .before .before .before .before .before .before .pre)
+    let s = start (c .before .before) in
+    c .ends-well .ensures ∙ sym (form-headed (s .args .line .now) (s .args .head .now) (s .pre)
     (sym (c .before .before .has-head .ensures) ∙ not-false (c .before .before .has-head .result) (c .before .if2 .left)))
 
 pub is-form-spec : {M : Type 1} → statement M

@@ -7,17 +7,19 @@ use lib.Seq.{length-take-le}
 use Rattle.jobreader.proofs.job.contents_refusal.Statement.{statement}
 use Rattle.jobreader.proofs.job.contents_refusal.Tie as tie
 
+abbrev start : tie.After-parts-refusal-arg2 → tie.Start
+start c = c .before .before .before .before
+
 slice-aggregate-parts-refusal : tie.Need-slice-aggregate-parts-refusal
 slice-aggregate-parts-refusal c = sym (length-take-le (c .before .before .before .args .dictionary)
     (c .before .before .before .args .chars .now) (c .before .before .before .pre .0))
 
 slice-aggregate-parts-refusal-2 : tie.Need-slice-aggregate-parts-refusal-2
-slice-aggregate-parts-refusal-2 c = sym (length-take-le (c .before .before .before .before .args .words)
-    (c .before .before .before .before .args .lengths .now) (omega arith))
+slice-aggregate-parts-refusal-2 c = sym (length-take-le (start c .args .words) (start c .args .lengths .now) (omega arith))
 
 returns : tie.Need-returns
 returns c =
-    let s = c .before .before .before .before .before .before in
+    let s = start (c .before .before) in
     let len : s .args .words + 1 + s .args .finds - (s .args .words + 1) ≡ s .args .finds = omega arith in
     rw len at (c .parts-refusal .ensures)
 

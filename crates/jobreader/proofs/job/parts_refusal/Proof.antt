@@ -7,27 +7,26 @@ use Rattle.laws.specs.JobSheet.JobReading.{dictionary-first, then-finds}
 use Rattle.jobreader.proofs.job.parts_refusal.Statement.{statement}
 use Rattle.jobreader.proofs.job.parts_refusal.Tie as tie
 
+abbrev start : tie.After-refusal-of → tie.Start
+start c = c .before .before .before .before
+
 returns : tie.Need-returns
 returns c =
-    c .before .refusal-of .ensures
-    ∙ sym (dictionary-first (c .before .before .before .before .before .args .chars .now)
-    (c .before .before .before .before .before .args .words .now) (c .before .before .before .before .before .args .finds .now)
-    (λ (e : dictionary-refusal (c .before .before .before .before .before .args .chars .now)
-    (c .before .before .before .before .before .args .words .now) ≡ 0). c .if1 .taken (c .before .refusal-of .ensures ∙ e)))
+    let a = start (c .before) .args in
+    c .before .refusal-of .ensures ∙ sym (dictionary-first (a .chars .now) (a .words .now) (a .finds .now)
+    (λ (e : dictionary-refusal (a .chars .now) (a .words .now) ≡ 0). c .if1 .taken (c .before .refusal-of .ensures ∙ e)))
 
 returns-2 : tie.Need-returns-2
 returns-2 c =
-    sym (then-finds (c .before .before .before .before .before .before .before .args .chars .now)
-    (c .before .before .before .before .before .before .before .args .words .now)
-    (c .before .before .before .before .before .before .before .args .finds .now) true
+    let a = start (c .before .before .before) .args in
+    sym (then-finds (a .chars .now) (a .words .now) (a .finds .now) true
     (sym (c .before .before .before .refusal-of .ensures) ∙ c .before .before .if1 .left)
     (sym (c .before .some-length-wrong .ensures) ∙ c .if2 .taken))
 
 returns-3 : tie.Need-returns-3
 returns-3 c =
-    sym (then-finds (c .before .before .before .before .before .before .before .args .chars .now)
-    (c .before .before .before .before .before .before .before .args .words .now)
-    (c .before .before .before .before .before .before .before .args .finds .now) false
+    let a = start (c .before .before .before) .args in
+    sym (then-finds (a .chars .now) (a .words .now) (a .finds .now) false
     (sym (c .before .before .before .refusal-of .ensures) ∙ c .before .before .if1 .left)
     (sym (c .before .some-length-wrong .ensures) ∙ c .if2 .left))
 

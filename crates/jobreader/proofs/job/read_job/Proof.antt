@@ -8,6 +8,12 @@ use Rattle.laws.specs.JobSheet.JobReading.{job-parts, parts-tested, sheet-long,
 use Rattle.jobreader.proofs.job.read_job.Statement.{statement}
 use Rattle.jobreader.proofs.job.read_job.Tie as tie
 
+abbrev read : tie.After-struct-known → tie.After-read-sheet
+read c = c .before .before .before .before .before
+
+abbrev start : tie.After-read-sheet-arg → tie.Start
+start c = c .before .before .before .before .before
+
 returns : tie.Need-returns
 returns c =
     let s = c .before .before .before .before .before .args .sheet .now in
@@ -16,35 +22,28 @@ returns c =
 
 returns-2 : tie.Need-returns-2
 returns-2 c =
-    let s =
-    c .before .before .before .before .before .before .before .before .before .before .before .before .before .before .args .sheet .now
-    in
+    let r = read (c .before .before) in
+    let s = start (r .before .before) .args .sheet .now in
     let broken : sheet-refusal s ≡ 11 =
-    sheet-broken s (c .before .before .before .before .before .before .before .before .before .before .if1 .left)
-    (sym (c .before .before .before .before .before .before .before .read-sheet .ensures .tested) ∙
-    not-true (c .before .before .before .before .before .before .before .read-sheet .result .good) (c .before .if2 .taken)) in
+    sheet-broken s (r .before .before .before .if1 .left) (sym (r .read-sheet .ensures .tested) ∙
+    not-true (r .read-sheet .result .good) (c .before .if2 .taken)) in
     (c .refused2 .ensures ∙ sym broken, λ (none : sheet-refusal s ≡ 0). absurd (omega arith))
 
 contents-refusal-requires : tie.Need-contents-refusal-requires
 contents-refusal-requires c κs =
-    let parts = job-parts (c .before .before .before .before .before .before .before .before .read-sheet .ensures)
-    (not-false (c .before .before .before .before .before .before .before .before .read-sheet .result .good)
-    (c .before .before .if2 .left)) in
+    let parts = job-parts (read (c .before .before .before) .read-sheet .ensures)
+    (not-false (read (c .before .before .before) .read-sheet .result .good) (c .before .before .if2 .left)) in
     (omega arith, parts .lengths-fit)
 
 returns-3 : tie.Need-returns-3
 returns-3 c =
-    let half = c .before .before .before .before .before .before .before .before in
-    let s = half .before .before .before .before .before .before .before .before .args .sheet .now in
-    let good = not-false (c .before .before .before .before .before .before .before .before .before .read-sheet .result .good)
-    (c .before .before .before .if2 .left) in
-    let parts = job-parts (c .before .before .before .before .before .before .before .before .before .read-sheet .ensures) good in (
+    let r = read (c .before .before .before .before) in
+    let s = start (r .before .before) .args .sheet .now in
+    let good = not-false (r .read-sheet .result .good) (c .before .before .before .if2 .left) in
+    let parts = job-parts (r .read-sheet .ensures) good in (
       c .contents-refusal .ensures
           ∙ parts-tested parts
-          ∙
-          sym
-          (sheet-whole s (c .before .before .before .before .before .before .before .before .before .before .before .before .if1 .left)
-          (sym (c .before .before .before .before .before .before .before .before .before .read-sheet .ensures .tested) ∙ good)),
+          ∙ sym (sheet-whole s (r .before .before .before .if1 .left) (sym (r .read-sheet .ensures .tested) ∙ good)),
       λ (none : sheet-refusal s ≡ 0). parts,
     )
 

@@ -5,20 +5,23 @@ use Rattle.laws.specs.JobSheet.LineReading.{form-missing, form-there, form-othe
 use Rattle.jobreader.proofs.sheet.form_end.Statement.{statement}
 use Rattle.jobreader.proofs.sheet.form_end.Tie as tie
 
+abbrev start : tie.Else1 → tie.Start
+start c = c .before .before .before .before
+
 returns : tie.Need-returns
 returns c = form-missing (c .before .before .before .before .args .head .now) (c .before .line-end .ensures) (c .if1 .taken)
 
 returns-2 : tie.Need-returns-2
 returns-2 c =
-    form-there (c .before .before .before .before .before .before .before .args .head .now)
+    form-there (start (c .before .before .before) .args .head .now)
     (c .before .before .before .before .line-end .ensures) (c .before .before .before .if1 .left)
     (sym (c .before .is-form .ensures) ∙ c .if2 .taken)
 
 returns-3 : tie.Need-returns-3
 returns-3 c =
-    form-other-line (c .before .before .before .before .before .before .before .args .head .now)
+    form-other-line (start (c .before .before .before) .args .head .now)
     (c .before .before .before .before .line-end .ensures) (c .before .before .before .if1 .left)
-    (sym (c .before .is-form .ensures) ∙ c .if2 .left) (c .before .before .before .before .before .before .before .pre .0)
+    (sym (c .before .is-form .ensures) ∙ c .if2 .left) (start (c .before .before .before) .pre .0)
 
 pub form-end-spec : {M : Type 1} → statement M
 form-end-spec =

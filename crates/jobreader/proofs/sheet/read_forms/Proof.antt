@@ -17,6 +17,9 @@ abbrev μ-loop : tie.MeasureT-loop
 μ-loop sheet at head chars₀ used lengths₀ count from₀ filled₀ i₀ end₀ chars lengths from filled i end =
     length sheet - from
 
+abbrev turn : tie.After-slice-known3 Inv-loop μ-loop → tie.In-loop Inv-loop μ-loop
+turn c = c .before .before .before .before .before
+
 form-end-requires : tie.Need-form-end-requires Inv-loop μ-loop
 form-end-requires c κs = (c .before .before .before .before .pre .0 .within, c .before .before .before .before .pre .1)
 
@@ -35,40 +38,26 @@ put-string-requires c κs = (
 )
 
 cast-lengths : tie.Need-cast-lengths Inv-loop μ-loop
-cast-lengths c = omega (
-  arith,
-  string-short (c .before .before .before .before .before .before .loop .inv .2)
-      (c .before .before .before .before .before .loop-test .taken) (c .before .before .before .before .before .before .loop .inv .0),
-)
+cast-lengths c = omega (arith, string-short (turn c .before .loop .inv .2) (turn c .loop-test .taken) (turn c .before .loop .inv .0))
 
 mul-lengths : tie.Need-mul-lengths Inv-loop μ-loop
-mul-lengths c = omega (
-  arith,
-  length-fits (c .before .before .before .before .before .before .loop .inv .2)
-      (c .before .before .before .before .before .loop-test .taken),
-)
+mul-lengths c = omega (arith, length-fits (turn c .before .loop .inv .2) (turn c .loop-test .taken))
 
 slice-write-lengths : tie.Need-slice-write-lengths Inv-loop μ-loop
-slice-write-lengths c = length-fits (c .before .before .before .before .before .before .loop .inv .2)
-    (c .before .before .before .before .before .loop-test .taken)
+slice-write-lengths c = length-fits (turn c .before .loop .inv .2) (turn c .loop-test .taken)
 
 add-i : tie.Need-add-i Inv-loop μ-loop
-add-i c = omega (
-  arith,
-  length-fits (c .before .before .before .before .before .before .loop .inv .2)
-      (c .before .before .before .before .before .loop-test .taken),
-)
+add-i c = omega (arith, length-fits (turn c .before .loop .inv .2) (turn c .loop-test .taken))
 
 form-end-requires-2 : tie.Need-form-end-requires-2 Inv-loop μ-loop
-form-end-requires-2 c κs = (omega arith, c .before .before .before .before .before .before .loop .inv .1)
+form-end-requires-2 c κs = (omega arith, turn c .before .loop .inv .1)
 
 loop-again : tie.Need-loop-again Inv-loop μ-loop
 loop-again c = (
-  c .before .before .before .before .before .before .before .loop .inv .0,
-  c .before .before .before .before .before .before .before .loop .inv .1,
-  forms-step (c .before .before .before .before .before .before .before .loop .inv .2)
-      (c .before .before .before .before .before .before .loop-test .taken) (c .before .before .before .put-string .ensures)
-      (c .form-end2 .ensures),
+  turn (c .before) .before .loop .inv .0,
+  turn (c .before) .before .loop .inv .1,
+  forms-step (turn (c .before) .before .loop .inv .2)
+      (turn (c .before) .loop-test .taken) (c .before .before .before .put-string .ensures) (c .form-end2 .ensures),
 )
 
 pub read-forms-spec : {M : Type 1} → statement M
