@@ -9,6 +9,12 @@ use Rattle.laws.specs.JobSheet.Printing.{found-line-parts}
 use Rattle.printer.proofs.print.put_found_line.Statement.{statement}
 use Rattle.printer.proofs.print.put_found_line.Tie as tie
 
+abbrev start : tie.After-put-bytes → tie.Start
+start c = c .before .before .before .before .before
+
+abbrev after-count : tie.After-out3 → tie.After-put-decimal
+after-count c = c .before .before .before .before .before
+
 at-head :
     (s : tie.Start) →
     Writing (found-line (s .args .positions .now)) (s .args .at) (s .args .out .now)
@@ -16,21 +22,19 @@ at-head :
 at-head s = writing-as (found-line-parts (s .args .positions .now))
     (writing-start (found-line (s .args .positions .now)) (s .args .at) (s .args .out .now) (s .pre))
 
-at-count :
-    (c : tie.After-put-bytes) → let s = c .before .before .before .before .before in
+at-count : (c : tie.After-put-bytes) → let s = start c in
     Writing (found-line (s .args .positions .now)) (s .args .at) (s .args .out .now)
     (decimal (length (s .args .positions .now)) ++ (listed (s .args .positions .now))) (c .put-bytes .result) (c .put-bytes .last .0)
 at-count c =
-    let s = c .before .before .before .before .before in
+    let s = start c in
     writing-step found-head (decimal (length (s .args .positions .now)) ++ (listed (s .args .positions .now))) (at-head s)
     (c .put-bytes .ensures)
 
-at-list :
-    (c : tie.After-put-decimal) → let s = c .before .before .before .before .before .before .before .before .before in
+at-list : (c : tie.After-put-decimal) → let s = start (c .before .before .before .before) in
     Writing (found-line (s .args .positions .now)) (s .args .at) (s .args .out .now) (listed (s .args .positions .now))
     (c .put-decimal .result) (c .put-decimal .last .0)
 at-list c =
-    let s = c .before .before .before .before .before .before .before .before .before in
+    let s = start (c .before .before .before .before) in
     writing-step (decimal (length (s .args .positions .now))) (listed (s .args .positions .now))
     (at-count (c .before .before .before .before)) (c .put-decimal .ensures)
 
@@ -41,14 +45,13 @@ put-bytes-requires c κs =
 
 put-decimal-requires : tie.Need-put-decimal-requires
 put-decimal-requires c κs =
-    let s = c .before .before .before .before .before .before .before .before in
+    let s = start (c .before .before .before) in
     writing-room (decimal (length (s .args .positions .now))) (listed (s .args .positions .now)) (at-count (c .before .before .before))
 
 returns : tie.Need-returns
 returns c =
-    let s = c .before .before .before .before .before .before .before .before .before .before .before .before .before .before .before in
-    writing-last (listed (s .args .positions .now)) (at-list (c .before .before .before .before .before .before))
-    (c .before .before .put-list .ensures)
+    let s = start (after-count (c .before) .before .before .before .before) in
+    writing-last (listed (s .args .positions .now)) (at-list (after-count (c .before))) (c .before .before .put-list .ensures)
 
 pub put-found-line-spec : {M : Type 1} → statement M
 put-found-line-spec =

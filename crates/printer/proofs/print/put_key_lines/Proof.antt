@@ -12,6 +12,12 @@ Inv-loop out₀ at numbers keys position₀ end₀ i₀ out position end i = Key
 abbrev μ-loop : tie.MeasureT-loop
 μ-loop out₀ at numbers keys position₀ end₀ i₀ out position end i = keys - i
 
+abbrev at-loop : tie.After-put-key-line Inv-loop μ-loop → tie.At-loop Inv-loop μ-loop
+at-loop c = c .before .before .before .before .before
+
+abbrev start : tie.At-loop Inv-loop μ-loop → tie.Start Inv-loop μ-loop
+start c = c .before .before .before .before .before
+
 loop-holds : tie.Need-loop-holds Inv-loop μ-loop
 loop-holds c =
     let s = c .before .before .before .before in
@@ -19,7 +25,7 @@ loop-holds c =
 
 next-line-requires : tie.Need-next-line-requires Inv-loop μ-loop
 next-line-requires c κs =
-    let s = c .before .before .before .before .before .before in
+    let s = start (c .before) in
     (whole-fits (s .pre .0), omega arith, c .before .loop .inv .at-list)
 
 put-key-line-requires : tie.Need-put-key-line-requires Inv-loop μ-loop
@@ -27,7 +33,7 @@ put-key-line-requires c κs = line-fits (c .before .before .before .before .loop
 
 loop-again : tie.Need-loop-again Inv-loop μ-loop
 loop-again c =
-    keys-step (c .before .before .before .before .before .before .before .loop .inv)
+    keys-step (at-loop (c .before .before) .loop .inv)
     (c .before .before .before .before .before .next-line .ensures) (c .before .before .put-key-line .ensures)
 
 pub put-key-lines-spec : {M : Type 1} → statement M

@@ -10,6 +10,15 @@ use Rattle.laws.specs.JobSheet.Printing.{word-name, lone-name, length-hexadecim
 use Rattle.printer.proofs.print.put_key_name.Statement.{statement}
 use Rattle.printer.proofs.print.put_key_name.Tie as tie
 
+abbrev start : tie.After-put-bytes2 → tie.Start
+start c = c .before .before .before .before .before
+
+abbrev after-word-head : tie.After-out2 → tie.After-put-bytes
+after-word-head c = c .before .before .before .before .before
+
+abbrev after-lone-head : tie.After-out4 → tie.After-put-bytes2
+after-lone-head c = c .before .before .before .before .before
+
 at-word :
     (s : tie.Start) → s .args .kind ≡ 0 →
     Writing (key-name (key (s .args .kind) (s .args .value))) (s .args .at) (s .args .out .now) (key-word-head ++ decimal (s .args .value))
@@ -34,12 +43,11 @@ at-lone s ne =
     writing-as (lone-name (s .args .value) (s .args .kind) ne)
     (writing-start (key-name (key (s .args .kind) (s .args .value))) (s .args .at) (s .args .out .now) (s .pre))
 
-at-character :
-    (c : tie.After-put-bytes2) → let s = c .before .before .before .before .before in
+at-character : (c : tie.After-put-bytes2) → let s = start c in
     Writing (key-name (key (s .args .kind) (s .args .value))) (s .args .at) (s .args .out .now) (hexadecimal (s .args .value))
     (c .put-bytes2 .result) (c .put-bytes2 .last .0)
 at-character c =
-    let s = c .before .before .before .before .before in
+    let s = start c in
     writing-step key-lone-head (hexadecimal (s .args .value)) (at-lone s (c .before .before .before .if1 .left)) (c .put-bytes2 .ensures)
 
 put-bytes-requires : tie.Need-put-bytes-requires
@@ -49,9 +57,8 @@ put-bytes-requires c κs =
 
 returns : tie.Need-returns
 returns c =
-    let s = c .before .before .before .before .before .before .before .before .before .before .before in
-    writing-last (decimal (s .args .value)) (at-number (c .before .before .before .before .before .before))
-    (c .before .before .put-decimal .ensures)
+    let s = after-word-head (c .before) .before .before .before .before .before in
+    writing-last (decimal (s .args .value)) (at-number (after-word-head (c .before))) (c .before .before .put-decimal .ensures)
 
 put-bytes-requires-2 : tie.Need-put-bytes-requires-2
 put-bytes-requires-2 c κs =
@@ -60,16 +67,12 @@ put-bytes-requires-2 c κs =
 
 put-hexadecimal-requires : tie.Need-put-hexadecimal-requires
 put-hexadecimal-requires c κs =
-    omega (
-      arith,
-      at-character (c .before .before .before) .room,
-      length-hexadecimal (c .before .before .before .before .before .before .before .before .args .value),
-    )
+    omega (arith, at-character (c .before .before .before) .room, length-hexadecimal (start (c .before .before .before) .args .value))
 
 returns-2 : tie.Need-returns-2
 returns-2 c =
-    let s = c .before .before .before .before .before .before .before .before .before .before .before in
-    writing-last (hexadecimal (s .args .value)) (at-character (c .before .before .before .before .before .before))
+    let s = start (after-lone-head (c .before)) in
+    writing-last (hexadecimal (s .args .value)) (at-character (after-lone-head (c .before)))
     (c .before .before .put-hexadecimal .ensures)
 
 pub put-key-name-spec : {M : Type 1} → statement M

@@ -8,6 +8,12 @@ use Rattle.laws.specs.JobSheet.Printing.{listed-parts}
 use Rattle.printer.proofs.print.put_list.Statement.{statement}
 use Rattle.printer.proofs.print.put_list.Tie as tie
 
+abbrev start : tie.After-put-bytes → tie.Start
+start c = c .before .before .before .before .before
+
+abbrev after-positions : tie.After-put-bytes2 → tie.After-put-positions
+after-positions c = c .before .before .before .before .before
+
 at-opening :
     (s : tie.Start) →
     Writing (listed (s .args .positions .now)) (s .args .at) (s .args .out .now)
@@ -15,20 +21,18 @@ at-opening :
 at-opening s = writing-as (listed-parts (s .args .positions .now))
     (writing-start (listed (s .args .positions .now)) (s .args .at) (s .args .out .now) (s .pre))
 
-at-positions :
-    (c : tie.After-put-bytes) → let s = c .before .before .before .before .before in
+at-positions : (c : tie.After-put-bytes) → let s = start c in
     Writing (listed (s .args .positions .now)) (s .args .at) (s .args .out .now) (spaced (s .args .positions .now) ++ ending-list)
     (c .put-bytes .result) (c .put-bytes .last .0)
 at-positions c =
-    let s = c .before .before .before .before .before in
+    let s = start c in
     writing-step opening-list (spaced (s .args .positions .now) ++ ending-list) (at-opening s) (c .put-bytes .ensures)
 
-at-ending :
-    (c : tie.After-put-positions) → let s = c .before .before .before .before .before .before .before .before .before in
+at-ending : (c : tie.After-put-positions) → let s = start (c .before .before .before .before) in
     Writing (listed (s .args .positions .now)) (s .args .at) (s .args .out .now) ending-list (c .put-positions .result)
     (c .put-positions .last .0)
 at-ending c =
-    let s = c .before .before .before .before .before .before .before .before .before in
+    let s = start (c .before .before .before .before) in
     writing-step (spaced (s .args .positions .now)) ending-list (at-positions (c .before .before .before .before))
     (c .put-positions .ensures)
 
@@ -39,13 +43,11 @@ put-bytes-requires c κs =
 
 put-positions-requires : tie.Need-put-positions-requires
 put-positions-requires c κs =
-    let s = c .before .before .before .before .before .before .before .before in
+    let s = start (c .before .before .before) in
     writing-room (spaced (s .args .positions .now)) ending-list (at-positions (c .before .before .before))
 
 returns : tie.Need-returns
-returns c =
-    writing-last ending-list (at-ending (c .before .before .before .before .before .before .before))
-    (c .before .before .put-bytes2 .ensures)
+returns c = writing-last ending-list (at-ending (after-positions (c .before .before))) (c .before .before .put-bytes2 .ensures)
 
 pub put-list-spec : {M : Type 1} → statement M
 put-list-spec =

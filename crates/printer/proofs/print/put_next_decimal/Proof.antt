@@ -6,6 +6,9 @@ use Rattle.spec.specs.JobAnswer.{decimal, gap}
 use Rattle.printer.proofs.print.put_next_decimal.Statement.{statement}
 use Rattle.printer.proofs.print.put_next_decimal.Tie as tie
 
+abbrev after-gap : tie.After-out2 → tie.After-put-bytes
+after-gap c = c .before .before .before .before .before
+
 at-space :
     (s : tie.Start) →
     Writing (gap ++ decimal (s .args .n)) (s .args .at) (s .args .out .now) (gap ++ decimal (s .args .n)) (s .args .at) (s .args .out .now)
@@ -25,9 +28,8 @@ put-bytes-requires c κs =
 
 returns : tie.Need-returns
 returns c =
-    let s = c .before .before .before .before .before .before .before .before .before .before in
-    writing-last (decimal (s .args .n)) (at-number (c .before .before .before .before .before .before))
-    (c .before .before .put-decimal .ensures)
+    let s = after-gap (c .before) .before .before .before .before in
+    writing-last (decimal (s .args .n)) (at-number (after-gap (c .before))) (c .before .before .put-decimal .ensures)
 
 pub put-next-decimal-spec : {M : Type 1} → statement M
 put-next-decimal-spec =

@@ -11,6 +11,12 @@ use Rattle.laws.specs.JobSheet.Printing.{spaced-none, spaced-some}
 use Rattle.printer.proofs.print.put_positions.Statement.{statement}
 use Rattle.printer.proofs.print.put_positions.Tie as tie
 
+abbrev start : tie.After-shared-slice-known2 → tie.Start
+start c = c .before .before .before .before .before
+
+abbrev after-first : tie.After-put-next-positions → tie.After-put-decimal
+after-first c = c .before .before .before .before .before
+
 abbrev others : List ℕ → List ℕ
 others ps = each-spaced (take (length ps - 1) (drop 1 ps))
 
@@ -22,12 +28,11 @@ at-first s some =
     writing-as (spaced-some (s .args .positions .now) some)
     (writing-start (spaced (s .args .positions .now)) (s .args .at) (s .args .out .now) (s .pre))
 
-at-others :
-    (c : tie.After-put-decimal) → let s = c .before .before .before .before .before .before in
+at-others : (c : tie.After-put-decimal) → let s = start (c .before) in
     Writing (spaced (s .args .positions .now)) (s .args .at) (s .args .out .now) (others (s .args .positions .now))
     (c .put-decimal .result) (c .put-decimal .last .0)
 at-others c =
-    let s = c .before .before .before .before .before .before in
+    let s = start (c .before) in
     writing-step (decimal (getD (s .args .positions .now) 0 0)) (others (s .args .positions .now)) (at-first s (omega arith))
     (c .put-decimal .ensures)
 
@@ -40,13 +45,13 @@ returns c =
 
 put-decimal-requires : tie.Need-put-decimal-requires
 put-decimal-requires c κs =
-    let s = c .before .before .before .before .before in
+    let s = start c in
     writing-room (decimal (getD (s .args .positions .now) 0 0)) (others (s .args .positions .now)) (at-first s (omega arith))
 
 returns-2 : tie.Need-returns-2
 returns-2 c =
-    let s = c .before .before .before .before .before .before .before .before .before .before .before .before .before in
-    writing-last (others (s .args .positions .now)) (at-others (c .before .before .before .before .before .before .before))
+    let s = start (after-first (c .before .before) .before) in
+    writing-last (others (s .args .positions .now)) (at-others (after-first (c .before .before)))
     (c .before .before .put-next-positions .ensures)
 
 pub put-positions-spec : {M : Type 1} → statement M

@@ -7,6 +7,12 @@ use Rattle.laws.specs.JobSheet.Printing.{refused-line-parts}
 use Rattle.printer.proofs.print.put_refused_line.Statement.{statement}
 use Rattle.printer.proofs.print.put_refused_line.Tie as tie
 
+abbrev start : tie.After-out → tie.Start
+start c = c .before .before .before .before .before
+
+abbrev after-number : tie.After-put-bytes2 → tie.After-put-decimal
+after-number c = c .before .before .before .before .before
+
 at-head :
     (s : tie.Start) →
     Writing (refused-line (s .args .refusal)) (s .args .at) (s .args .out .now) (refused-head ++ (decimal (s .args .refusal) ++ ending))
@@ -21,11 +27,10 @@ at-number :
 at-number c = let s = c .before .before .before .before in writing-step refused-head (decimal (s .args .refusal) ++ ending) (at-head s)
     (c .put-bytes .ensures)
 
-at-end :
-    (c : tie.After-put-decimal) → let s = c .before .before .before .before .before .before .before .before in
+at-end : (c : tie.After-put-decimal) → let s = start (c .before .before .before) in
     Writing (refused-line (s .args .refusal)) (s .args .at) (s .args .out .now) ending (c .put-decimal .result) (c .put-decimal .last .0)
 at-end c =
-    let s = c .before .before .before .before .before .before .before .before in
+    let s = start (c .before .before .before) in
     writing-step (decimal (s .args .refusal)) ending (at-number (c .before .before .before .before)) (c .put-decimal .ensures)
 
 put-bytes-requires : tie.Need-put-bytes-requires
@@ -33,12 +38,11 @@ put-bytes-requires c κs = let s = c .before .before .before in writing-room ref
 
 put-decimal-requires : tie.Need-put-decimal-requires
 put-decimal-requires c κs =
-    let s = c .before .before .before .before .before .before .before in
+    let s = start (c .before .before) in
     writing-room (decimal (s .args .refusal)) ending (at-number (c .before .before .before))
 
 returns : tie.Need-returns
-returns c = writing-last ending (at-end (c .before .before .before .before .before .before .before))
-    (c .before .before .put-bytes2 .ensures)
+returns c = writing-last ending (at-end (after-number (c .before .before))) (c .before .before .put-bytes2 .ensures)
 
 pub put-refused-line-spec : {M : Type 1} → statement M
 put-refused-line-spec =
