@@ -99,7 +99,7 @@ words-start cs (l ∷ ls) h some =
       tested = rw (sub-zero l);
     }
 
-module _ (cs ls : List ℕ) (at next i : ℕ) (h : Words-read cs ls at next i) where
+module _ {cs ls : List ℕ} {at next i : ℕ} (h : Words-read cs ls at next i) where
   pub words-end : length ls ≤ i → true ≡ ascend (words-from ls cs)
   unfolding ascend words-from
   words-end past =

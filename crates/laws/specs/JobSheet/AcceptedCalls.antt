@@ -65,8 +65,8 @@ pub record Usable (cs ls xs : List ℕ) : Type 0 where
   pub short : n-of xs ≤ 2000
   pub few : length xs ≤ 8002
 
-pub usable-whole : (cs ls xs : List ℕ) → Usable cs ls xs → Whole xs
-usable-whole cs ls xs u =
+pub usable-whole : {cs ls xs : List ℕ} → Usable cs ls xs → Whole xs
+usable-whole {cs} {ls} {xs} u =
     let fits : Fits xs = readable-fits longest-text (lexicon cs ls) xs (index-accepted cs ls xs (u .accepts) .is-readable) in
     record { headed = fits .has-header; exact = fits .is-long }
 

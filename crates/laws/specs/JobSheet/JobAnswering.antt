@@ -74,7 +74,7 @@ shown-short {cs} {ls} {xs} ss u small few =
     omega (
       arith,
       length-append (index-lines xs) (found-lines (lexicon cs ls) xs ss),
-      index-lines-short xs (usable-whole cs ls xs u) small (omega arith),
+      index-lines-short xs (usable-whole u) small (omega arith),
       found-lines-short (lexicon cs ls) xs (u .short) ss,
     )
 

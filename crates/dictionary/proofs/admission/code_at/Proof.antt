@@ -6,24 +6,12 @@ use Rattle.dictionary.proofs.admission.code_at.Tie as tie
 
 returns : tie.Need-returns
 returns c =
-    let start = c .before .before .before .before .before .before .before in
-    let reads = start .pre in
-    code-read
-    (start .args .chars .now)
-    (start .args .at)
-    (start .args .end)
-    (start .args .second)
-    (start .args .third)
-    (c .before .before .before .before .digit .result)
-    (c .before .before .digit2 .result)
-    (c .digit3 .result)
-    (reads .some)
-    (reads .room)
-    (reads .second)
-    (reads .third)
-    (c .before .before .before .before .digit .ensures .0)
-    (c .before .before .digit2 .ensures .0)
-    (c .digit3 .ensures .0)
+    let first = c .before .before .before .before in
+    let s = first .before .before .before in
+    let a = s .args in
+    let second = c .before .before .digit2 in
+    code-read (a .chars .now) (a .at) (a .end) (a .second) (a .third) (first .digit .result) (second .result) (c .digit3 .result)
+    (s .pre .some) (s .pre .room) (s .pre .second) (s .pre .third) (first .digit .ensures .0) (second .ensures .0) (c .digit3 .ensures .0)
 
 pub code-at-spec : {M : Type 1} → statement M
 code-at-spec =

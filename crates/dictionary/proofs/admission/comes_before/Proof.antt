@@ -16,15 +16,17 @@ abbrev μ-loop : tie.MeasureT-loop
 
 returns : tie.Need-returns Inv-loop μ-loop
 returns c =
-    let start = c .before .before .before .before .before .before .before .before .before in
-    let walk = c .before .before .before .before .loop in
+    let at-loop = c .before .before .before .before in
+    let start = at-loop .before .before .before .before .before in
+    let walk = at-loop .loop in
     sym (before-differ (start .args .left .now) (start .args .right .now) (walk .i) (omega arith) (omega arith) (c .if1 .taken)) ∙
     walk .inv .2
 
 loop-again : tie.Need-loop-again Inv-loop μ-loop
 loop-again c =
-    let start = c .before .before .before .before .before .before .before .before .before in
-    let walk = c .before .before .before .before .loop in (
+    let at-loop = c .before .before .before .before in
+    let start = at-loop .before .before .before .before .before in
+    let walk = at-loop .loop in (
       omega arith,
       omega arith,
       sym (before-same (start .args .left .now) (start .args .right .now) (walk .i) (omega arith) (omega arith) (omega arith)) ∙
@@ -33,8 +35,9 @@ loop-again c =
 
 returns-2 : tie.Need-returns-2 Inv-loop μ-loop
 returns-2 c =
-    let start = c .before .before .before .before .before .before in
-    let walk = c .before .loop in
+    let at-loop = c .before in
+    let start = at-loop .before .before .before .before .before in
+    let walk = at-loop .loop in
     sym (before-read (start .args .left .now) (start .args .right .now) (walk .i) (omega arith) (walk .inv .0) (walk .inv .1)) ∙
     walk .inv .2
 

@@ -16,27 +16,27 @@ returns-2 c = sym (refuses-chars (c .before .before .before .before .args .chars
 
 returns-3 : tie.Need-returns-3
 returns-3 c =
+    let short = c .before .before in
+    let start = short .before .before .before .before in
     sym
-    (refuses-lengths (c .before .before .before .before .before .before .args .chars .now)
-    (c .before .before .before .before .before .before .args .lengths .now) (c .before .before .before .if1 .left)
-    (c .before .before .if2 .left)
+    (refuses-lengths (start .args .chars .now) (start .args .lengths .now) (short .before .if1 .left) (short .if2 .left)
     (sym (c .before .lengths-fit .ensures) ∙ not-true (c .before .lengths-fit .result) (c .if3 .taken)))
 
 words-ascend-requires : tie.Need-words-ascend-requires
 words-ascend-requires c κs =
-    fitting (c .before .before .before .before .before .before .args .chars .now)
-    (c .before .before .before .before .before .before .args .lengths .now) (c .before .before .before .if1 .left)
-    (c .before .before .if2 .left)
+    let short = c .before .before in
+    let start = short .before .before .before .before in
+    fitting (start .args .chars .now) (start .args .lengths .now) (short .before .if1 .left) (short .if2 .left)
     (sym (c .before .lengths-fit .ensures) ∙ not-false (c .before .lengths-fit .result) (c .if3 .left))
 
 returns-4 : tie.Need-returns-4
 returns-4 c =
+    let sizes = c .before .before in
+    let short = sizes .before .before in
+    let start = short .before .before .before .before in
     sym
-    (refuses-order (c .before .before .before .before .before .before .before .before .args .chars .now)
-    (c .before .before .before .before .before .before .before .before .args .lengths .now)
-    (c .before .before .before .before .before .if1 .left) (c .before .before .before .before .if2 .left)
-    (sym (c .before .before .before .lengths-fit .ensures) ∙ not-false (c .before .before .before .lengths-fit .result)
-    (c .before .before .if3 .left))
+    (refuses-order (start .args .chars .now) (start .args .lengths .now) (short .before .if1 .left) (short .if2 .left)
+    (sym (sizes .before .lengths-fit .ensures) ∙ not-false (sizes .before .lengths-fit .result) (sizes .if3 .left))
     (sym (c .before .words-ascend .ensures) ∙ not-true (c .before .words-ascend .result) (c .if4 .taken)))
 
 returns-5 : tie.Need-returns-5

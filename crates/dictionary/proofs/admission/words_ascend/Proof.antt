@@ -22,74 +22,47 @@ returns c = no-words (c .before .before .before .args .chars .now) (c .before .b
 
 prefix-code-requires : tie.Need-prefix-code-requires Inv-loop μ-loop
 prefix-code-requires c κs =
-    let first = words-start (c .before .before .before .before .args .chars .now) (c .before .before .before .before .args .lengths .now)
-    (c .before .before .before .before .pre) (omega arith) in
-    (first .some, omega arith)
+    let first = words-start _ _ (c .before .before .before .before .pre) (omega arith) in (first .some, omega arith)
 
 loop-holds : tie.Need-loop-holds Inv-loop μ-loop
-loop-holds c = (
-  words-start (c .before .before .before .before .before .args .chars .now) (c .before .before .before .before .before .args .lengths .now)
-      (c .before .before .before .before .before .pre) (omega arith),
-  c .prefix-code .ensures,
-)
+loop-holds c = (words-start _ _ (c .before .before .before .before .before .pre) (omega arith), c .prefix-code .ensures)
 
 cast-end : tie.Need-cast-end Inv-loop μ-loop
 cast-end c = omega (arith, c .shared-slice-known4 .given (c .before .before .loop .i))
 
 add-end : tie.Need-add-end Inv-loop μ-loop
-add-end c = omega (
-  arith,
-  next-room (c .before .before .before .before .before .before .before .before .args .chars .now)
-      (c .before .before .before .before .before .before .before .before .args .lengths .now) (c .before .before .loop .at)
-      (c .before .before .loop .next) (c .before .before .loop .i) (c .before .before .loop .inv .0) (c .before .loop-test .taken),
-)
+add-end c = omega (arith, next-room (c .before .before .loop .inv .0) (c .before .loop-test .taken))
 
 prefix-code-requires-2 : tie.Need-prefix-code-requires-2 Inv-loop μ-loop
-prefix-code-requires-2 c κs = (
-  next-some (c .before .before .before .before .before .before .before .before .args .chars .now)
-      (c .before .before .before .before .before .before .before .before .args .lengths .now) (c .before .before .loop .at)
-      (c .before .before .loop .next) (c .before .before .loop .i) (c .before .before .loop .inv .0) (c .before .loop-test .taken),
-  next-room (c .before .before .before .before .before .before .before .before .args .chars .now)
-      (c .before .before .before .before .before .before .before .before .args .lengths .now) (c .before .before .loop .at)
-      (c .before .before .loop .next) (c .before .before .loop .i) (c .before .before .loop .inv .0) (c .before .loop-test .taken),
-)
+prefix-code-requires-2 c κs =
+    let read = c .before .before .loop .inv .0 in (next-some read (c .before .loop-test .taken), next-room read (c .before .loop-test .taken))
 
 neighbours-ascend-requires : tie.Need-neighbours-ascend-requires Inv-loop μ-loop
 neighbours-ascend-requires c κs =
     record {
       first = omega arith;
       second = omega arith;
-      room = next-room (c .before .before .before .before .before .before .before .before .before .args .chars .now)
-          (c .before .before .before .before .before .before .before .before .before .args .lengths .now)
-          (c .before .before .before .loop .at) (c .before .before .before .loop .next) (c .before .before .before .loop .i)
-          (c .before .before .before .loop .inv .0) (c .before .before .loop-test .taken);
+      room = next-room (c .before .before .before .loop .inv .0) (c .before .before .loop-test .taken);
       first-code = c .before .before .before .loop .inv .1;
       second-code = c .prefix-code2 .ensures;
     }
 
 returns-2 : tie.Need-returns-2 Inv-loop μ-loop
-returns-2 c = words-stop (c .before .before .before .before .before .before .before .before .before .before .before .args .chars .now)
-    (c .before .before .before .before .before .before .before .before .before .before .before .args .lengths .now)
-    (c .before .before .before .before .before .loop .at) (c .before .before .before .before .before .loop .next)
-    (c .before .before .before .before .before .loop .i) (c .before .before .before .before .before .loop .inv .0)
-    (c .before .before .before .before .loop-test .taken) (sym (c .before .neighbours-ascend .ensures) ∙
-    not-true (c .before .neighbours-ascend .result) (c .if2 .taken))
+returns-2 c =
+    let turn = c .before .before .before .before in
+    words-stop (turn .before .loop .inv .0) (turn .loop-test .taken)
+    (sym (c .before .neighbours-ascend .ensures) ∙ not-true (c .before .neighbours-ascend .result) (c .if2 .taken))
 
 loop-again : tie.Need-loop-again Inv-loop μ-loop
-loop-again c = (
-  words-step (c .before .before .before .before .before .before .before .before .before .before .before .args .chars .now)
-      (c .before .before .before .before .before .before .before .before .before .before .before .args .lengths .now)
-      (c .before .before .before .before .before .loop .at) (c .before .before .before .before .before .loop .next)
-      (c .before .before .before .before .before .loop .i) (c .before .before .before .before .before .loop .inv .0)
-      (c .before .before .before .before .loop-test .taken) (sym (c .before .neighbours-ascend .ensures) ∙
-      not-false (c .before .neighbours-ascend .result) (c .if2 .left)),
-  c .before .before .prefix-code2 .ensures,
-)
+loop-again c =
+    let turn = c .before .before .before .before in (
+      words-step (turn .before .loop .inv .0) (turn .loop-test .taken)
+          (sym (c .before .neighbours-ascend .ensures) ∙ not-false (c .before .neighbours-ascend .result) (c .if2 .left)),
+      c .before .before .prefix-code2 .ensures,
+    )
 
 returns-3 : tie.Need-returns-3 Inv-loop μ-loop
-returns-3 c = words-end (c .before .before .before .before .before .before .before .args .chars .now)
-    (c .before .before .before .before .before .before .before .args .lengths .now) (c .before .loop .at) (c .before .loop .next)
-    (c .before .loop .i) (c .before .loop .inv .0) (c .loop-test .left)
+returns-3 c = words-end (c .before .loop .inv .0) (c .loop-test .left)
 
 pub words-ascend-spec : {M : Type 1} → statement M
 words-ascend-spec =
