@@ -8,14 +8,14 @@ use Rattle.inversion.proofs.write.put_line.Tie as tie
 returns : tie.Need-returns
 unfolding key
 returns c =
-    rw (code-key-word (c .before .before .before .before .before .before .args .code) (c .before .before .before .before .if1 .taken))
-    (c .before .before .write-line .ensures)
+    let word = c .before .before .before .before in
+    rw (code-key-word (word .before .before .args .code) (word .if1 .taken)) (c .before .before .write-line .ensures)
 
 returns-2 : tie.Need-returns-2
 unfolding key
 returns-2 c =
-    rw (code-key-lone (c .before .before .before .before .before .before .args .code) (c .before .before .before .before .if1 .left))
-    (c .before .before .write-line2 .ensures)
+    let lone = c .before .before .before .before in
+    rw (code-key-lone (lone .before .before .args .code) (lone .if1 .left)) (c .before .before .write-line2 .ensures)
 
 pub put-line-spec : {M : Type 1} → statement M
 put-line-spec =

@@ -22,9 +22,15 @@ Inv-loop heads pages links output₀ line₀ code₀ output line code =
 abbrev μ-loop : tie.MeasureT-loop
 μ-loop heads pages links output₀ line₀ code₀ output line code = length heads - code
 
+abbrev start : tie.After-next-code Inv-loop μ-loop → tie.Start Inv-loop μ-loop
+start c = c .before .before .before .before .before
+
+abbrev turn : tie.After-output Inv-loop μ-loop → tie.In-loop Inv-loop μ-loop
+turn c = c .before .before .before .before .before
+
 room : (c : tie.In-loop Inv-loop μ-loop) → header + 3 * c .before .loop .line + 3 ≤ length (c .before .loop .output)
 room c =
-    let s = c .before .before .before .before .before .before .before in
+    let s = start (c .before .before) in
     let l = c .before .loop in
     let heads = s .args .heads .now in
     let links = s .args .links .now in
@@ -36,17 +42,17 @@ room c =
 
 loop-holds : tie.Need-loop-holds Inv-loop μ-loop
 loop-holds c =
-    let s = c .before .before .before .before .before in
+    let s = start c in
     let a = s .args in
     listing-start directory-by-line (a .heads .now) (a .links .now) (a .output .now) header (s .pre .1) (c .next-code .ensures)
 
 chain-length-requires : tie.Need-chain-length-requires Inv-loop μ-loop
-chain-length-requires c κs = c .before .before .before .before .before .before .before .before .pre .0 .threads
+chain-length-requires c κs = start (c .before .before .before) .pre .0 .threads
     (c .before .before .loop .code) (c .before .loop-test .taken)
 
 put-line-requires : tie.Need-put-line-requires Inv-loop μ-loop
 put-line-requires c κs =
-    let a = c .before .before .before .before .before .before .before .before .before .before .args in
+    let a = start (c .before .before .before .before .before) .args in
     let links = a .links .now in (
       room (c .before .before .before),
       omega arith,
@@ -55,8 +61,8 @@ put-line-requires c κs =
 
 loop-again : tie.Need-loop-again Inv-loop μ-loop
 loop-again c =
-    let s = c .before .before .before .before .before .before .before .before .before .before .before .before .before .before in
-    let l = c .before .before .before .before .before .before .before .before .loop in
+    let s = start (turn (c .before .before) .before .before) in
+    let l = turn (c .before .before) .before .loop in
     let heads = s .args .heads .now in
     let links = s .args .links .now in
     let count = c .before .before .before .before .before .chain-length in
@@ -64,13 +70,13 @@ loop-again c =
     let at : header + 3 * (l .line + 1) ≡ header + 3 * l .line + 3 = omega arith in
     rw at
     (listing-step directory-by-line heads links (s .args .output .now) (l .inv) (s .pre .0 .threads)
-    (c .before .before .before .before .before .before .before .loop-test .taken) (c .next-code2 .ensures)
+    (turn (c .before .before) .loop-test .taken) (c .next-code2 .ensures)
     (code-key (l .code) .kind ∷ code-key (l .code) .value ∷ count .result ∷ []) (written .last .0)
     (line-numbers-are (l .code) (count .result) (chain links (getD heads (l .code) 0)) (count .ensures)) (written .ensures))
 
 returns : tie.Need-returns Inv-loop μ-loop
 returns c =
-    let a = c .before .before .before .before .before .before .before .args in
+    let a = start (c .before .before) .args in
     listing-end directory-by-line (a .heads .now) (a .links .now) (a .output .now) (c .before .loop .inv) (c .loop-test .left)
 
 pub write-directory-spec : {M : Type 1} → statement M
@@ -79,9 +85,6 @@ write-directory-spec =
     (tie.spec
     Inv-loop μ-loop (λ c κs. (c .before .before .before .before .pre .0 .paged, omega arith)) loop-holds (λ c. omega arith)
     (λ c. c .before .loop-test .taken) chain-length-requires put-line-requires
-    (λ c. omega (arith, room (c .before .before .before .before .before .before))) (λ c. omega arith)
-    (λ c κs. (
-      c .before .before .before .before .before .before .before .before .before .before .before .before .before .pre .0 .paged,
-      omega arith,
-    ))
+    (λ c. omega (arith, room (turn (c .before)))) (λ c. omega arith)
+    (λ c κs. (start (turn (c .before) .before .before) .pre .0 .paged, omega arith))
     (λ c. omega arith) loop-again (λ c. c .before .loop .inv .writing .len) returns)

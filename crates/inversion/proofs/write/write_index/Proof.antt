@@ -11,30 +11,30 @@ use Rattle.laws.specs.Build.IndexWriting.{room-is, directory-room, directory-wr
 use Rattle.inversion.proofs.write.write_index.Statement.{statement}
 use Rattle.inversion.proofs.write.write_index.Tie as tie
 
+abbrev start : tie.After-write-header-arg → tie.Start
+start c = c .before .before .before .before .before
+
+abbrev headed : tie.After-output2 → tie.After-write-header
+headed c = c .before .before .before .before .before
+
 abbrev lines : tie.Start → List Line
 lines s = lines-at (s .args .heads .now) (s .args .links .now) 0
 
 -- header and directory are written
 written :
-    (c : tie.After-line-start) →
-    Writing
-    (numbers (length (c .before .before .before .before .before .before .before .before .before .before .before .before .before .args
-    .links .now)) (lines (c .before .before .before .before .before .before .before .before .before .before .before .before .before)))
-    (c .before .before .before .before .before .before .before .before .before .before .before .before .before .args .output .now)
-    (c .before .before .before .write-directory .last .1 .1 .1 .0)
-    (all-positions (lines (c .before .before .before .before .before .before .before .before .before .before .before .before .before)))
-    (c .line-start .result)
+    (c : tie.After-line-start) → let s = start (headed (c .before .before) .before) in
+    Writing (numbers (length (s .args .links .now)) (lines s)) (s .args .output .now)
+    (c .before .before .before .write-directory .last .1 .1 .1 .0) (all-positions (lines s)) (c .line-start .result)
 written c =
-    let s = c .before .before .before .before .before .before .before .before .before .before .before .before .before in
+    let s = start (headed (c .before .before) .before) in
     let a = s .args in
     rw (c .line-start .ensures)
     (directory-written (length (a .links .now)) (lines s) (a .keys) (s .pre .1 .0 .0) (a .output .now) (s .pre .1 .1) _
-    (rw (c .before .before .before .before .before .before .before .write-header .ensures) at
-    (c .before .before .before .write-directory .ensures)))
+    (rw (headed (c .before .before) .write-header .ensures) at (c .before .before .before .write-directory .ensures)))
 
 write-header-requires : tie.Need-write-header-requires
 write-header-requires c κs =
-    let s = c .before .before .before .before .before in
+    let s = start c in
     let a = s .args in (
       omega (arith, room-is (length (a .links .now)) (lines s) (a .keys) (s .pre .1 .0 .0) (a .output .now) (s .pre .1 .1)),
       s .pre .0 .short,
@@ -43,7 +43,7 @@ write-header-requires c κs =
 
 write-directory-requires : tie.Need-write-directory-requires
 write-directory-requires c κs =
-    let s = c .before .before .before .before .before .before .before .before .before in
+    let s = start (c .before .before .before .before) in
     let a = s .args in (
       s .pre .0,
       rw (c .before .before .before .write-header .ensures)
@@ -55,7 +55,7 @@ write-positions-requires c κs =
     let w = written (c .before) in
     let at = c .before .line-start .result in
     let now = c .before .before .before .before .write-directory .last .1 .1 .1 .0 in (
-      c .before .before .before .before .before .before .before .before .before .before .before .before .before .before .pre .0,
+      start (headed (c .before .before .before) .before) .pre .0,
       omega (arith, ap length (lent-tail-is at now), length-drop at now),
     )
 

@@ -19,13 +19,17 @@ Inv-loop heads pages links part₀ here₀ code₀ part here code = Listing all-
 abbrev μ-loop : tie.MeasureT-loop
 μ-loop heads pages links part₀ here₀ code₀ part here code = length heads - code
 
+abbrev start : tie.After-next-code Inv-loop μ-loop → tie.Start Inv-loop μ-loop
+start c = c .before .before .before .before .before
+
+abbrev turn : tie.After-slice-known2 Inv-loop μ-loop → tie.In-loop Inv-loop μ-loop
+turn c = c .before .before .before .before .before
+
 room :
-    (c : tie.In-loop Inv-loop μ-loop) →
-    c .before .loop .here + length (chain (c .before .before .before .before .before .before .before .args .links .now)
-    (getD (c .before .before .before .before .before .before .before .args .heads .now) (c .before .loop .code) 0))
-    ≤ length (c .before .loop .part)
+    (c : tie.In-loop Inv-loop μ-loop) → let a = start (c .before .before) .args in
+    c .before .loop .here + length (chain (a .links .now) (getD (a .heads .now) (c .before .loop .code) 0)) ≤ length (c .before .loop .part)
 room c =
-    let s = c .before .before .before .before .before .before .before in
+    let s = start (c .before .before) in
     let l = c .before .loop in
     let heads = s .args .heads .now in
     let links = s .args .links .now in
@@ -37,30 +41,30 @@ room c =
 
 loop-holds : tie.Need-loop-holds Inv-loop μ-loop
 loop-holds c =
-    let a = c .before .before .before .before .before .args in
+    let a = start c .args in
     listing-start positions-by-line (a .heads .now) (a .links .now) (a .part .now) 0 (omega arith) (c .next-code .ensures)
 
 write-chain-requires : tie.Need-write-chain-requires Inv-loop μ-loop
 write-chain-requires c κs =
-    let s = c .before .before .before .before .before .before .before .before .before in
+    let s = start (c .before .before .before .before) in
     (s .pre .0 .threads (c .before .before .before .loop .code) (c .before .before .loop-test .taken), room (c .before .before))
 
 loop-again : tie.Need-loop-again Inv-loop μ-loop
 loop-again c =
-    let s = c .before .before .before .before .before .before .before .before .before .before .before .before .before in
-    let l = c .before .before .before .before .before .before .before .loop in
+    let s = start (turn (c .before) .before .before) in
+    let l = turn (c .before) .before .loop in
     let heads = s .args .heads .now in
     let links = s .args .links .now in
     let positions = chain links (getD heads (l .code) 0) in
     let written = c .before .before .before .write-chain in
     rw (written .ensures .0)
     (listing-step positions-by-line heads links (s .args .part .now) (l .inv) (s .pre .0 .threads)
-    (c .before .before .before .before .before .before .loop-test .taken) (c .next-code2 .ensures) positions (written .last .1 .1 .0)
+    (turn (c .before) .loop-test .taken) (c .next-code2 .ensures) positions (written .last .1 .1 .0)
     (line-positions-are (l .code) positions) (written .ensures .1))
 
 returns : tie.Need-returns Inv-loop μ-loop
 returns c =
-    let a = c .before .before .before .before .before .before .before .args in
+    let a = start (c .before .before) .args in
     listing-end positions-by-line (a .heads .now) (a .links .now) (a .part .now) (c .before .loop .inv) (c .loop-test .left)
 
 pub write-positions-spec : {M : Type 1} → statement M
@@ -69,8 +73,5 @@ write-positions-spec =
     (tie.spec
     Inv-loop μ-loop (λ c κs. (c .before .before .before .before .pre .0 .paged, omega arith)) loop-holds (λ c. omega arith)
     (λ c. c .before .loop-test .taken) write-chain-requires (λ c. omega arith)
-    (λ c κs. (
-      c .before .before .before .before .before .before .before .before .before .before .before .before .pre .0 .paged,
-      omega arith,
-    ))
+    (λ c κs. (start (turn c .before .before) .pre .0 .paged, omega arith))
     (λ c. omega arith) loop-again (λ c. c .before .loop .inv .writing .len) returns)
