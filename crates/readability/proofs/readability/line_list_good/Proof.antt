@@ -29,23 +29,25 @@ returns-3 c =
 
 returns-4 : tie.Need-returns-4
 returns-4 c =
-    let start = c .before .before .before .before .before .before .before in
+    let some = c .before .before .before .before in
+    let start = some .before .before .before in
     let a = start .args in
     c .gaps-good .ensures
     ∙ good-gaps (a .as-gaps) (a .n) (a .len) (take (a .at + a .count - a .at) (drop (a .at) (a .index .now)))
     (c .before .before .if4 .taken)
     ∙ positions-there (read-as (a .as-gaps)) (a .index .now) (a .at) (a .n) (a .len) (a .count) (start .pre .0)
-    (c .before .before .before .before .before .if1 .left) (c .before .before .before .before .if2 .left)
+    (some .before .if1 .left) (some .if2 .left)
 
 returns-5 : tie.Need-returns-5
 returns-5 c =
-    let start = c .before .before .before .before .before .before .before in
+    let some = c .before .before .before .before in
+    let start = some .before .before .before in
     let a = start .args in
     c .positions-good .ensures
     ∙ good-positions (a .as-gaps) (a .n) (a .len) (take (a .at + a .count - a .at) (drop (a .at) (a .index .now)))
     (c .before .before .if4 .left)
     ∙ positions-there (read-as (a .as-gaps)) (a .index .now) (a .at) (a .n) (a .len) (a .count) (start .pre .0)
-    (c .before .before .before .before .before .if1 .left) (c .before .before .before .before .if2 .left)
+    (some .before .if1 .left) (some .if2 .left)
 
 pub line-list-good-spec : {M : Type 1} → statement M
 line-list-good-spec =

@@ -19,21 +19,24 @@ Inv-loop chars lengths index as-gaps n keys at₀ least₀ i₀ at least i =
 abbrev μ-loop : tie.MeasureT-loop
 μ-loop chars lengths index as-gaps n keys at₀ least₀ i₀ at least i = keys - i
 
+abbrev start : tie.After-key-count Inv-loop μ-loop → tie.Start Inv-loop μ-loop
+start c = c .before .before .before .before .before
+
 loop-holds : tie.Need-loop-holds Inv-loop μ-loop
 loop-holds c =
-    let s = c .before .before .before .before .before .before in
+    let s = start (c .before) in
     let a = s .args in
     (lines-start (read-as (a .as-gaps)) (lexicon (a .chars .now) (a .lengths .now)) (a .index .now) (omega arith) (s .pre .2), omega arith)
 
 lone-lines-requires : tie.Need-lone-lines-requires Inv-loop μ-loop
 lone-lines-requires c κs =
     let l = c .before .before .before in
-    let s = l .before .before .before .before .before .before .before in
+    let s = start (l .before .before) in
     (s .pre .0, s .pre .2, lines-extend (l .loop .inv .0) (omega arith) (omega arith) (l .loop .inv .1))
 
 is-line :
     (c : tie.After-count-at Inv-loop μ-loop) → let l = c .before .before .before .before .before in
-    Line-read (l .before .before .before .before .before .before .before .args .index .now) (l .loop .i)
+    Line-read (start (l .before .before) .args .index .now) (l .loop .i)
     (l .before .before .before .text-len .result) (c .before .before .before .kind-at .result) (c .before .value-at .result)
     (c .count-at .result)
 is-line c = search needs
@@ -41,7 +44,7 @@ is-line c = search needs
 word-line-good-requires : tie.Need-word-line-good-requires Inv-loop μ-loop
 word-line-good-requires c κs =
     let l = c .before .before .before .before .before in
-    (l .before .before .before .before .before .before .before .pre .0, l .loop .inv .0 .room, omega arith, omega arith)
+    (start (l .before .before) .pre .0, l .loop .inv .0 .room, omega arith, omega arith)
 
 returns-2 : tie.Need-returns-2 Inv-loop μ-loop
 returns-2 c =
@@ -51,7 +54,7 @@ returns-2 c =
 
 next-lines :
     (c : tie.Else2 Inv-loop μ-loop) → let read = c .before .before in
-    let l = read .before .before .before .before .before in let a = l .before .before .before .before .before .before .before .args in
+    let l = read .before .before .before .before .before in let a = start (l .before .before) .args in
     Lines-read (read-as (a .as-gaps)) (lexicon (a .chars .now) (a .lengths .now)) (a .index .now) (l .loop .i + 1)
     (l .loop .at + read .count-at .result) (read .before .value-at .result + 1)
 next-lines c =

@@ -21,14 +21,23 @@ Inv-loop chars lengths index from start as-gaps n keys at₀ least₀ words₀ i
 abbrev μ-loop : tie.MeasureT-loop
 μ-loop chars lengths index from start as-gaps n keys at₀ least₀ words₀ i₀ at least words i = keys - i
 
+abbrev start : tie.After-key-count Inv-loop μ-loop → tie.Start Inv-loop μ-loop
+start c = c .before .before .before .before .before
+
+abbrev at-loop : tie.Else1 Inv-loop μ-loop → tie.At-loop Inv-loop μ-loop
+at-loop c = c .before .before .before .before .before
+
+abbrev counted : tie.Else3 Inv-loop μ-loop → tie.After-count-at Inv-loop μ-loop
+counted c = c .before .before .before .before .before
+
 loop-holds : tie.Need-loop-holds Inv-loop μ-loop
 loop-holds c =
-    let s = c .before .before .before .before .before in
+    let s = start c in
     (s .pre .2, passed-start (s .args .chars .now) (s .args .lengths .now) (s .pre .0))
 
 is-line :
     (c : tie.After-count-at Inv-loop μ-loop) → let l = c .before .before .before .before in
-    Line-read (l .before .before .before .before .before .before .args .index .now) (l .loop .i) (l .before .before .text-len .result)
+    Line-read (start (l .before) .args .index .now) (l .loop .i) (l .before .before .text-len .result)
     (c .before .before .kind-at .result) (c .before .value-at .result) (c .count-at .result)
 is-line c = search needs
 
@@ -39,57 +48,53 @@ returns c =
 
 returns-2 : tie.Need-returns-2 Inv-loop μ-loop
 returns-2 c =
-    let l = c .before .before .before .before .before .before .loop in
+    let l = at-loop (c .before) .loop in
     low-stop (l .least) (l .inv .0) (is-line (c .before .before)) (c .before .if1 .left) (c .if2 .taken)
 
 skip-below-requires : tie.Need-skip-below-requires Inv-loop μ-loop
-skip-below-requires c κs =
-    passed-raise (c .before .before .before .value-at .result) (c .if2 .left)
-    (c .before .before .before .before .before .before .loop .inv .1)
+skip-below-requires c κs = passed-raise (c .before .before .before .value-at .result) (c .if2 .left) (at-loop (c .before) .loop .inv .1)
 
 returns-3 : tie.Need-returns-3 Inv-loop μ-loop
 returns-3 c =
     let kind = c .before .before .before .before in
-    let l = kind .before .before .before .before .before .loop in
+    let l = at-loop kind .loop in
     listed-stop (l .least) (l .inv .0) (is-line (kind .before)) (kind .if1 .left) (sym (c .before .is-reached .ensures) ∙ c .if3 .taken)
 
 line-list-good-requires : tie.Need-line-list-good-requires Inv-loop μ-loop
-line-list-good-requires c κs =
-    (c .before .before .before .before .before .before .before .before .before .loop .inv .0 .room, omega arith, omega arith, omega arith)
+line-list-good-requires c κs = (at-loop (c .before .before .before .before) .loop .inv .0 .room, omega arith, omega arith, omega arith)
 
 returns-4 : tie.Need-returns-4 Inv-loop μ-loop
 returns-4 c =
     let reached = c .before .before in
     let low = reached .before .before .before in
     let kind = low .before in
-    let l = kind .before .before .before .before .before .loop in
+    let l = at-loop kind .loop in
     lone-stop (l .least) (l .inv .0) (is-line (kind .before)) (kind .if1 .left) (low .if2 .left)
     (sym (reached .before .is-reached .ensures) ∙ reached .if3 .left)
     (sym (c .before .line-list-good .ensures) ∙ not-true (c .before .line-list-good .result) (c .if4 .taken))
 
-next-lines :
-    (c : tie.Else4 Inv-loop μ-loop) → let read = c .before .before .before .before .before .before .before in
-    let l = read .before .before .before .before in let a = l .before .before .before .before .before .before .args in
+next-lines : (c : tie.Else4 Inv-loop μ-loop) → let read = counted (c .before .before) in
+    let l = read .before .before .before .before in let a = start (l .before) .args in
     Lines-read (read-as (a .as-gaps)) (lexicon (a .chars .now) (a .lengths .now)) (a .index .now) (l .loop .i + 1)
     (l .loop .at + read .count-at .result) (65536 + (read .before .value-at .result + 1))
 next-lines c =
     let reached = c .before .before in
     let low = reached .before .before .before in
     let kind = low .before in
-    let l = kind .before .before .before .before .before .loop in
+    let l = at-loop kind .loop in
     lone-step (l .least) (l .inv .0) (is-line (kind .before)) (kind .if1 .left) (low .if2 .left)
     (sym (reached .before .is-reached .ensures) ∙ reached .if3 .left)
     (sym (c .before .line-list-good .ensures) ∙ not-false (c .before .line-list-good .result) (c .if4 .left))
 
 add-at : tie.Need-add-at Inv-loop μ-loop
 add-at c =
-    let l = c .before .before .before .before .before .before .before .before .before .before .before in
-    omega (arith, next-lines c .room, l .before .before .before .before .before .before .good .1 .1 .0)
+    let l = counted (c .before .before) .before .before .before .before in
+    omega (arith, next-lines c .room, start (l .before) .good .1 .1 .0)
 
 loop-again : tie.Need-loop-again Inv-loop μ-loop
 loop-again c = (
   next-lines c,
-  passed-raise (c .before .before .before .before .before .before .before .before .value-at .result + 1) (omega arith)
+  passed-raise (counted (c .before .before) .before .value-at .result + 1) (omega arith)
       (c .before .before .before .before .skip-below .ensures .passed),
 )
 

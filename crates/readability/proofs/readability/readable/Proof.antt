@@ -19,7 +19,8 @@ returns c =
 
 returns-2 : tie.Need-returns-2
 returns-2 c =
-    let args = c .before .before .before .before .before .before .before .args in
+    let counted = c .before .before in
+    let args = counted .before .before .before .before .before .args in
     directory-missing (read-as (args .as-gaps)) (read-keeps (args .as-gaps)) longest-text (lexicon (args .chars .now) (args .lengths .now))
     (args .index .now) (omega arith)
 

@@ -29,18 +29,20 @@ readable-requires c κs =
 
 returns-2 : tie.Need-returns-2
 returns-2 c =
-    let args = c .before .before .before .before .before .before .before .args in
+    let admitted = c .before .before in
+    let args = admitted .before .before .before .before .before .args in
     let numbers = with-lists (read-as (args .as-gaps)) (args .index .now) in
     refuses-unreadable (args .chars .now) (args .lengths .now) numbers
-    (sym (c .before .before .before .refusal-of .ensures) ∙ c .before .before .if1 .left)
+    (sym (admitted .before .refusal-of .ensures) ∙ admitted .if1 .left)
     (sym (c .before .readable .ensures) ∙ not-true (c .before .readable .result) (c .if2 .taken))
 
 returns-3 : tie.Need-returns-3
 returns-3 c =
-    let args = c .before .before .before .before .before .before .before .args in
+    let admitted = c .before .before in
+    let args = admitted .before .before .before .before .before .args in
     let numbers = with-lists (read-as (args .as-gaps)) (args .index .now) in
     accepts-index (args .chars .now) (args .lengths .now) numbers
-    (sym (c .before .before .before .refusal-of .ensures) ∙ c .before .before .if1 .left)
+    (sym (admitted .before .refusal-of .ensures) ∙ admitted .if1 .left)
     (sym (c .before .readable .ensures) ∙ not-false (c .before .readable .result) (c .if2 .left))
 
 pub refusal-as-spec : {M : Type 1} → statement M

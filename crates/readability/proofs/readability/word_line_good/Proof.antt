@@ -8,6 +8,9 @@ use borrow.Author.Needs.{needs}
 use Rattle.readability.proofs.readability.word_line_good.Statement.{statement}
 use Rattle.readability.proofs.readability.word_line_good.Tie as tie
 
+abbrev start : tie.Else2 → tie.Start
+start c = c .before .before .before .before .before
+
 returns : tie.Need-returns
 returns c =
     let start = c .before .before .before .before in
@@ -23,19 +26,19 @@ returns-2 c =
     (args .count) (drop (args .at) (args .index .now)) (c .if2 .taken)
 
 cast-line-list-good : tie.Need-cast-line-list-good
-cast-line-list-good c = omega (arith, c .shared-slice-known4 .given (c .before .before .before .before .before .before .args .value))
+cast-line-list-good c = omega (arith, c .shared-slice-known4 .given (start (c .before) .args .value))
 
 line-list-good-requires : tie.Need-line-list-good-requires
 line-list-good-requires c κs =
-    let start = c .before .before .before .before .before .before in
-    (start .pre .1, start .pre .2, omega (arith, c .shared-slice-known4 .given (start .args .value)), start .pre .3)
+    let s = start (c .before) in
+    (s .pre .1, s .pre .2, omega (arith, c .shared-slice-known4 .given (s .args .value)), s .pre .3)
 
 returns-3 : tie.Need-returns-3
 returns-3 c =
-    let start = c .before .before .before .before .before .before .before in
-    let args = start .args in
+    let s = start (c .before .before) in
+    let args = s .args in
     c .line-list-good .ensures
-    ∙ word-fits (read-as (args .as-gaps)) (start .pre .0) (args .n) (args .least) (args .value)
+    ∙ word-fits (read-as (args .as-gaps)) (s .pre .0) (args .n) (args .least) (args .value)
     (args .count) (drop (args .at) (args .index .now)) (c .before .before .before .if1 .left) (c .before .before .if2 .left)
 
 pub word-line-good-spec : {M : Type 1} → statement M
