@@ -28,14 +28,16 @@ loop-holds c =
 
 slice-write-slots : tie.Need-slice-write-slots Inv-loop μ-loop
 slice-write-slots c =
-    let text = c .before .before .before .before .before .before .args .text .now in
-    let turn = c .before .before .before .loop in
+    let at-loop = c .before .before .before in
+    let text = at-loop .before .before .before .args .text .now in
+    let turn = at-loop .loop in
     copy-room (replaced text) (turn .i) (turn .inv .1) (omega (arith, length-replaced text))
 
 loop-again : tie.Need-loop-again Inv-loop μ-loop
 loop-again c =
-    let text = c .before .before .before .before .before .before .args .text .now in
-    let turn = c .before .before .before .loop in (
+    let at-loop = c .before .before .before in
+    let text = at-loop .before .before .before .args .text .now in
+    let turn = at-loop .loop in (
       omega arith,
       rw (c .replace .ensures, ← getD-replaced text (turn .i))
           (copy-step (replaced text) (turn .i) (turn .inv .1) (omega (arith, length-replaced text))),

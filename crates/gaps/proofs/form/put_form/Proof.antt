@@ -1,5 +1,6 @@
 -- `put_form` meets its contract: for each return one law, whose tests the path has passed. Assumes nothing.
 use mathlib.Core.Path.{_≡_, refl, sym, _∙_}
+use mathlib.Core.List.{List}
 use Prim.Native.Nat.{ℕ, _<_}
 use native.Mathlib.Omega.{arith}
 use lib.ListN.{length}
@@ -14,58 +15,57 @@ use borrow.Author.Needs.{needs}
 use Rattle.gaps.proofs.form.put_form.Statement.{statement}
 use Rattle.gaps.proofs.form.put_form.Tie as tie
 
+abbrev start : tie.After-refusal-as → tie.Start
+start c = c .before .before .before .before .before
+
+abbrev read : tie.Start → List ℕ
+read s = with-lists (read-as (s .args .restore)) (s .args .index .now)
+
+abbrev form : tie.Start → List ℕ
+form s = with-lists (write-as (s .args .restore)) (s .args .index .now)
+
 returns : tie.Need-returns
 returns c =
-    let start = c .before .before .before .before .before .before in
-    let cs = start .args .chars .now in
-    let ls = start .args .lengths .now in
-    let read = with-lists (read-as (start .args .restore)) (start .args .index .now) in
-    let form = with-lists (write-as (start .args .restore)) (start .args .index .now) in
-    let o = start .args .output .now in
+    let s = start (c .before) in
+    let cs = s .args .chars .now in
+    let ls = s .args .lengths .now in
     let number = c .before .refusal-as .ensures in
-    gaps-refused cs ls read form _ o (λ (none : index-refusal cs ls read ≡ 0). c .if1 .taken (number ∙ none)) number refl
+    gaps-refused cs ls (read s) (form s) _ (s .args .output .now) (λ (none : index-refusal cs ls (read s) ≡ 0). c .if1 .taken (number ∙ none))
+    number refl
 
 returns-2 : tie.Need-returns-2
 returns-2 c =
-    let start = c .before .before .before .before .before .before .before in
-    let cs = start .args .chars .now in
-    let ls = start .args .lengths .now in
-    let read = with-lists (read-as (start .args .restore)) (start .args .index .now) in
-    let form = with-lists (write-as (start .args .restore)) (start .args .index .now) in
-    let o = start .args .output .now in
+    let s = start (c .before .before) in
+    let o = s .args .output .now in
     let none = sym (c .before .before .refusal-as .ensures) ∙ c .before .if1 .left in
-    let short : length o < length form = omega (arith, form-length (start .args .restore) (start .args .index .now)) in
-    gaps-sized cs ls read form _ o none _ (sized-short form _ o short refl refl)
+    let short : length o < length (form s) = omega (arith, form-length (s .args .restore) (s .args .index .now)) in
+    gaps-sized (s .args .chars .now) (s .args .lengths .now) (read s) (form s) _ o none _ (sized-short (form s) _ o short refl refl)
 
 slice-aggregate-write-form : tie.Need-slice-aggregate-write-form
 slice-aggregate-write-form c =
-    let start = c .before .before .before .before .before .before .before .before in
-    sym (length-take-le (length (start .args .index .now)) (start .args .output .now) (c .before .if2 .left))
+    let s = start (c .before .before .before) in
+    sym (length-take-le (length (s .args .index .now)) (s .args .output .now) (c .before .if2 .left))
 
 write-form-requires : tie.Need-write-form-requires
 write-form-requires c κs =
-    let start = c .before .before .before .before .before .before .before .before in
-    let known = c .before .before .before .before .before .before .before in
-    let none = sym (c .before .before .before .refusal-as .ensures) ∙ c .before .before .if1 .left in (
-      writable (start .args .chars .now) (start .args .lengths .now) (start .args .index .now) (start .args .restore)
-          (λ (i : ℕ). omega (arith, known .shared-slice-known .given i)) none,
-      length-take-le (length (start .args .index .now)) (start .args .output .now) (c .before .if2 .left),
+    let tested = c .before .before .before in
+    let s = start tested in
+    let none = sym (tested .refusal-as .ensures) ∙ c .before .before .if1 .left in (
+      writable (s .args .chars .now) (s .args .lengths .now) (s .args .index .now) (s .args .restore)
+          (λ (i : ℕ). omega (arith, tested .before .before .before .before .shared-slice-known .given i)) none,
+      length-take-le (length (s .args .index .now)) (s .args .output .now) (c .before .if2 .left),
     )
 
 returns-3 : tie.Need-returns-3
 returns-3 c =
-    let start = c .before .before .before .before .before .before .before .before .before .before .before in
-    let cs = start .args .chars .now in
-    let ls = start .args .lengths .now in
-    let read = with-lists (read-as (start .args .restore)) (start .args .index .now) in
-    let form = with-lists (write-as (start .args .restore)) (start .args .index .now) in
-    let o = start .args .output .now in
     let room = c .before .before .before .before in
+    let s = start (room .before .before) in
+    let o = s .args .output .now in
     let none = sym (room .before .before .refusal-as .ensures) ∙ room .before .if1 .left in
-    let len = form-length (start .args .restore) (start .args .index .now) in
-    gaps-sized cs ls read form _ o none _
-    (sized-written form _ o _ (omega (arith, len)) refl (sym len)
-    (form-front (start .args .restore) (start .args .index .now) o _ (c .before .before .write-form .ensures)))
+    let len = form-length (s .args .restore) (s .args .index .now) in
+    gaps-sized (s .args .chars .now) (s .args .lengths .now) (read s) (form s) _ o none _
+    (sized-written (form s) _ o _ (omega (arith, len)) refl (sym len)
+    (form-front (s .args .restore) (s .args .index .now) o _ (c .before .before .write-form .ensures)))
 
 pub put-form-spec : {M : Type 1} → statement M
 put-form-spec =

@@ -6,7 +6,8 @@ use Rattle.gaps.proofs.form.to_gaps.Tie as tie
 
 returns : tie.Need-returns
 returns c =
-    let a = c .before .before .before .before .before .before .before .before .args in
+    let asked = c .before .before .before in
+    let a = asked .before .before .before .before .before .args in
     to-gaps-said (a .chars .now) (a .lengths .now) (a .index .now) (c .before .before .put-form .result) (a .output .now) _
     (c .before .before .put-form .ensures)
 

@@ -23,43 +23,47 @@ front c = front-long gaps (length-gaps 0) (c .before .before .before .before .pr
 
 write-positions-requires : tie.Need-write-positions-requires
 write-positions-requires c κs =
-    let l = c .before .before .before .before .before .before .before in
+    let copy = c .before .before .before .before in
+    let l = copy .before .before .before in
     let s = l .before .before .before .before in
     let can = subst (λ (b : Bool). Writable b (s .args .index .now)) (c .before .if1 .taken) (s .pre .0) in (
       can,
       first-is l,
       part-long prefix-sums (length-sums 0) (can .fits) _ (first-is l) (s .args .form .now) _ (s .pre .1)
-          (c .before .before .before .before .write-list .ensures),
+          (copy .write-list .ensures),
     )
 
 write-gaps-requires : tie.Need-write-gaps-requires
 write-gaps-requires c κs =
-    let l = c .before .before .before .before .before .before .before in
+    let copy = c .before .before .before .before in
+    let l = copy .before .before .before in
     let s = l .before .before .before .before in
     let can = subst (λ (b : Bool). Writable b (s .args .index .now)) (c .before .if1 .left) (s .pre .0) in (
       can,
       first-is l,
       part-long gaps (length-gaps 0) (can .fits) _ (first-is l) (s .args .form .now) _ (s .pre .1)
-          (c .before .before .before .before .write-list .ensures),
+          (copy .write-list .ensures),
     )
 
 returns : tie.Need-returns
 returns c =
-    let copy = c .before .before .before .before .before .before .before in
+    let form = c .before .before .before .before in
+    let copy = form .before .before .before in
     let l = copy .before .before .before in
     let s = l .before .before .before .before in
     form-written prefix-sums (length-sums 0) (s .pre .0 .fits) _ (first-is l) (s .args .form .now) _ (s .pre .1)
     (copy .write-list .ensures) _ (c .before .before .write-positions .ensures)
-    ∙ ap (λ (b : Bool). with-lists (write-as b) (s .args .index .now)) (sym (c .before .before .before .before .if1 .taken))
+    ∙ ap (λ (b : Bool). with-lists (write-as b) (s .args .index .now)) (sym (form .if1 .taken))
 
 returns-2 : tie.Need-returns-2
 returns-2 c =
-    let copy = c .before .before .before .before .before .before .before in
+    let form = c .before .before .before .before in
+    let copy = form .before .before .before in
     let l = copy .before .before .before in
     let s = l .before .before .before .before in
     form-written gaps (length-gaps 0) (s .pre .0 .fits) _ (first-is l) (s .args .form .now) _ (s .pre .1)
     (copy .write-list .ensures) _ (c .before .before .write-gaps .ensures)
-    ∙ ap (λ (b : Bool). with-lists (write-as b) (s .args .index .now)) (sym (c .before .before .before .before .if1 .left))
+    ∙ ap (λ (b : Bool). with-lists (write-as b) (s .args .index .now)) (sym (form .if1 .left))
 
 pub write-form-spec : {M : Type 1} → statement M
 write-form-spec =

@@ -38,8 +38,9 @@ loop-holds c =
 
 loop-again : tie.Need-loop-again Inv-loop μ-loop
 loop-again c =
-    let s = c .before .before .before .before .before .before .before .before in
-    let walk = c .before .before .before .before .loop in
+    let at-loop = c .before .before .before .before in
+    let s = at-loop .before .before .before .before in
+    let walk = at-loop .loop in
     let xs = s .args .index .now in
     let start = header + 3 * keys-of xs in
     let f = first-as (s .args .restore) in
@@ -66,7 +67,7 @@ put-firsts-spec =
     (tie.spec
     Inv-loop μ-loop (λ c κs. search needs) loop-holds (λ c. let t = there c in omega arith) (λ c. let t = there c in omega arith)
     (λ c. let t = there (c .before) in omega arith) (λ c κs. search needs)
-    (λ c. let xs = c .before .before .before .before .before .before .before .args .index .now in
+    (λ c. let at-loop = c .before .before .before in let xs = at-loop .before .before .before .before .args .index .now in
     omega (arith, there (c .before .before) .write, length-drop (header + 3 * keys-of xs) xs))
     (λ c. there (c .before .before) .write) (λ c κs. search needs) (λ c. let t = there (c .before .before .before) in omega arith)
     (λ c. search needs) (λ c. search needs) loop-again same-length returns)

@@ -18,11 +18,10 @@ loop-holds c = distances-start (c .before .before .args .run .now) (c .before .b
 
 loop-again : tie.Need-loop-again Inv-loop μ-loop
 loop-again c =
-    let start = c .before .before .before .before .before .before .before in
-    let walk = c .before .before .before .before .loop in
+    let turn = c .before .before .before in
+    let start = turn .before .before .before .before in
     rw (c .distance .ensures)
-    (distances-step (start .args .run .now) (start .args .part .now) (start .pre) (walk .inv)
-    (c .before .before .before .loop-test .taken))
+    (distances-step (start .args .run .now) (start .args .part .now) (start .pre) (turn .before .loop .inv) (turn .loop-test .taken))
 
 returns : tie.Need-returns Inv-loop μ-loop
 returns c =

@@ -13,17 +13,19 @@ write-distances-requires c κs =
 
 put-firsts-requires : tie.Need-put-firsts-requires
 put-firsts-requires c κs =
-    let start = c .before .before .before .before .before .before .before .before in (
+    let written = c .before .before .before in
+    let start = written .before .before .before .before .before in (
       start .pre .0,
       start .pre .1,
-      distances-ready (start .pre .0 .fits) (start .args .first) (start .pre .1) _ (c .before .before .before .write-distances .ensures),
+      distances-ready (start .pre .0 .fits) (start .args .first) (start .pre .1) _ (written .write-distances .ensures),
     )
 
 returns : tie.Need-returns
 returns c =
-    let start = c .before .before .before .before .before .before .before .before .before .before .before in
-    c .before .before .put-firsts .ensures
-    ∙ gaps-written (start .pre .0 .fits) (start .args .first) (start .pre .1)
+    let put = c .before .before in
+    let written = put .before .before .before .before in
+    let start = written .before .before .before .before .before in
+    put .put-firsts .ensures ∙ gaps-written (start .pre .0 .fits) (start .args .first) (start .pre .1)
 
 pub write-gaps-spec : {M : Type 1} → statement M
 write-gaps-spec =

@@ -12,18 +12,20 @@ use Rattle.gaps.proofs.writing.write_positions.Tie as tie
 
 put-firsts-requires : tie.Need-put-firsts-requires
 put-firsts-requires c κs =
-    let start = c .before .before .before .before .before .before .before in
-    let filled = c .before .before .before .fill in (
+    let filled = c .before .before .before in
+    let start = filled .before .before .before .before in (
       start .pre .0,
       start .pre .1,
-      masks-ready (start .pre .0 .fits) (start .args .first) (start .pre .1) (start .args .part .now) _ (start .pre .2) (filled .ensures),
+      masks-ready (start .pre .0 .fits) (start .args .first) (start .pre .1) (start .args .part .now) _ (start .pre .2) (filled .fill .ensures),
     )
 
 add-up-requires : tie.Need-add-up-requires
 add-up-requires c κs =
-    let start = c .before .before .before .before .before .before .before .before .before .before .before .before in
+    let put = c .before .before .before .before in
+    let filled = put .before .before .before .before in
+    let start = filled .before .before .before .before in
     let can = start .pre .0 in
-    let masked = c .before .before .before .before .put-firsts .ensures in
+    let masked = put .put-firsts .ensures in
     let sums = sums-written (can .fits) (start .args .first) (start .pre .1) (can .totals refl) _ masked in (
       masks-long (can .fits) (start .args .first) (start .pre .1) (can .totals refl) _ masked,
       λ j. subst (λ (l : List ℕ). getD l j 0 ≤ carry) (sym sums) (can .sums refl j),
@@ -31,11 +33,12 @@ add-up-requires c κs =
 
 returns : tie.Need-returns
 returns c =
-    let start = c .before .before .before .before .before .before .before .before .before .before .before .before .before .before .before in
+    let added = c .before .before in
+    let put = added .before .before .before .before .before in
+    let filled = put .before .before .before .before in
+    let start = filled .before .before .before .before in
     let can = start .pre .0 in
-    let masked = c .before .before .before .before .before .before .before .put-firsts .ensures in
-    c .before .before .add-up .ensures
-    ∙ sums-written (can .fits) (start .args .first) (start .pre .1) (can .totals refl) _ masked
+    added .add-up .ensures ∙ sums-written (can .fits) (start .args .first) (start .pre .1) (can .totals refl) _ (put .put-firsts .ensures)
 
 pub write-positions-spec : {M : Type 1} → statement M
 write-positions-spec =
