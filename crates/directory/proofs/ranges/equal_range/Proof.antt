@@ -15,12 +15,14 @@ char-at-requires c κs =
 
 char-at-requires-2 : tie.Need-char-at-requires-2
 char-at-requires-2 c κs =
-    let s = c .before .before .before .before .before .before in
+    let some = c .before .before in
+    let s = some .before .before .before .before in
     s .pre .reads (s .args .high - 1) (omega arith) (omega arith)
 
 returns : tie.Need-returns
 returns c =
-    let s = c .before .before .before .before .before .before .before .before in
+    let some = c .before .before .before .before in
+    let s = some .before .before .before .before in
     let a = s .args in (
       bound-first (s .pre .rising) (a .character) (omega arith) (omega arith),
       bound-last (s .pre .rising) (a .character + 1) (omega arith) (omega arith),

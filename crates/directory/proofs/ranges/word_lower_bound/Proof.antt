@@ -14,14 +14,17 @@ Inv-loop chars index word-starts low high depth least a₀ b₀ a b = Bisected (
 abbrev μ-loop : tie.MeasureT-loop
 μ-loop chars index word-starts low high depth least a₀ b₀ a b = b - a
 
+abbrev start : tie.In-loop Inv-loop μ-loop → tie.Start Inv-loop μ-loop
+start c = c .before .before .before .before .before
+
 -- the line in the middle
 abbrev middle : tie.In-loop Inv-loop μ-loop → ℕ
 middle c = c .before .loop .a + (c .before .loop .b - c .before .loop .a) / 2
 
-after-low : (c : tie.In-loop Inv-loop μ-loop) → c .before .before .before .before .before .args .low ≤ middle c
+after-low : (c : tie.In-loop Inv-loop μ-loop) → start c .args .low ≤ middle c
 after-low c = omega arith
 
-before-high : (c : tie.In-loop Inv-loop μ-loop) → middle c < c .before .before .before .before .before .args .high
+before-high : (c : tie.In-loop Inv-loop μ-loop) → middle c < start c .args .high
 before-high c = omega arith
 
 loop-holds : tie.Need-loop-holds Inv-loop μ-loop
@@ -31,21 +34,19 @@ loop-holds c =
     bisected-start (s .pre .rising) (a .least)
 
 add-middle : tie.Need-add-middle Inv-loop μ-loop
-add-middle c = omega (arith, c .before .before .before .before .before .pre .reads (middle c) (after-low c) (before-high c) .0)
+add-middle c = omega (arith, start c .pre .reads (middle c) (after-low c) (before-high c) .0)
 
 char-at-requires : tie.Need-char-at-requires Inv-loop μ-loop
-char-at-requires c κs =
-    let p = c .before .before .before .before .before .pre in
-    p .reads (middle c) (after-low c) (before-high c)
+char-at-requires c κs = start c .pre .reads (middle c) (after-low c) (before-high c)
 
 add-a : tie.Need-add-a Inv-loop μ-loop
 add-a c =
     let i = c .before .before in
-    omega (arith, c .before .before .before .before .before .before .before .pre .reads (middle i) (after-low i) (before-high i) .0)
+    omega (arith, start i .pre .reads (middle i) (after-low i) (before-high i) .0)
 
 loop-again : tie.Need-loop-again Inv-loop μ-loop
 loop-again c =
-    let s = c .before .before .before .before .before .before .before in
+    let s = start (c .before .before) in
     let a = s .args in
     let l = c .before .before .before .loop in
     bisected-up (s .pre .rising) (a .least) (l .inv) (middle (c .before .before)) (omega arith) (omega arith)
@@ -53,7 +54,7 @@ loop-again c =
 
 loop-again-2 : tie.Need-loop-again-2 Inv-loop μ-loop
 loop-again-2 c =
-    let s = c .before .before .before .before .before .before .before in
+    let s = start (c .before .before) in
     let a = s .args in
     let l = c .before .before .before .loop in
     bisected-down (s .pre .rising) (a .least) (l .inv) (middle (c .before .before)) (omega arith) (omega arith)
