@@ -15,6 +15,9 @@ Inv-loop text string zarray reach₀ left₀ right₀ at₀ reach left right at 
 abbrev μ-loop : tie.MeasureT-loop
 μ-loop text string zarray reach₀ left₀ right₀ at₀ reach left right at = length reach₀ - at
 
+abbrev start : tie.At-loop Inv-loop μ-loop → tie.Start Inv-loop μ-loop
+start c = c .before .before .before .before .before
+
 loop-holds : tie.Need-loop-holds Inv-loop μ-loop
 loop-holds c =
     let a = c .before .before .before .before .args in
@@ -23,7 +26,7 @@ loop-holds c =
 
 known-from-requires : tie.Need-known-from-requires Inv-loop μ-loop
 known-from-requires c κs =
-    let s = c .before .before .before .before .before .before in
+    let s = start (c .before) in
     let l = c .before .loop in
     λ b.
     let short = zbox-short 0 (s .args .string .now) (s .args .text .now) (l .at) (l .inv .zbox) b in
@@ -31,7 +34,7 @@ known-from-requires c κs =
 
 extend-requires : tie.Need-extend-requires Inv-loop μ-loop
 extend-requires c κs =
-    let s = c .before .before .before .before .before .before .before in
+    let s = start (c .before .before) in
     let l = c .before .before .loop in
     let fits : l .at + length (s .args .string .now) ≤ length (s .args .text .now) =
     omega arith in
@@ -44,7 +47,7 @@ extend-requires c κs =
 
 loop-again : tie.Need-loop-again Inv-loop μ-loop
 loop-again c =
-    let s = c .before .before .before .before .before .before .before .before .before in
+    let s = start (c .before .before .before .before) in
     let l = c .before .before .before .before .loop in
     let len = c .before .extend .result in
     let end = c .before .extend .ensures in
@@ -56,7 +59,7 @@ loop-again c =
 
 loop-again-2 : tie.Need-loop-again-2 Inv-loop μ-loop
 loop-again-2 c =
-    let s = c .before .before .before .before .before .before .before .before .before in
+    let s = start (c .before .before .before .before) in
     let l = c .before .before .before .before .loop in
     let len = c .before .extend .result in
     let end = c .before .extend .ensures in

@@ -17,6 +17,9 @@ Inv-loop string zarray₀ left₀ right₀ at₀ zarray left right at =
 abbrev μ-loop : tie.MeasureT-loop
 μ-loop string zarray₀ left₀ right₀ at₀ zarray left right at = length string - at
 
+abbrev start : tie.In-loop Inv-loop μ-loop → tie.Start Inv-loop μ-loop
+start c = c .before .before .before .before
+
 loop-holds : tie.Need-loop-holds Inv-loop μ-loop
 loop-holds c =
     let a = c .before .before .args in (
@@ -26,7 +29,7 @@ loop-holds c =
 
 known-from-requires : tie.Need-known-from-requires Inv-loop μ-loop
 known-from-requires c κs =
-    let s = c .before .before .before .before .before in
+    let s = start (c .before) in
     let l = c .before .before .loop in
     λ b.
     let short = zbox-short 1 (s .args .string .now) (s .args .string .now) (l .at) (l .inv .0 .zbox) b in
@@ -34,7 +37,7 @@ known-from-requires c κs =
 
 extend-requires : tie.Need-extend-requires Inv-loop μ-loop
 extend-requires c κs =
-    let s = c .before .before .before .before .before .before in
+    let s = start (c .before .before) in
     let l = c .before .before .before .loop in
     let below = c .before .before .loop-test .taken in
     let lies : Prefix-at (s .args .string .now) (s .args .string .now) (l .at) (c .known-from .result) =
@@ -45,7 +48,7 @@ extend-requires c κs =
 
 loop-again : tie.Need-loop-again Inv-loop μ-loop
 loop-again c =
-    let a = c .before .before .before .before .before .before .before .before .args in
+    let a = start (c .before .before .before .before) .args in
     let l = c .before .before .before .before .before .loop in
     let end = c .before .extend .ensures in
     let below = c .before .before .before .before .loop-test .taken in (
@@ -57,7 +60,7 @@ loop-again c =
 
 loop-again-2 : tie.Need-loop-again-2 Inv-loop μ-loop
 loop-again-2 c =
-    let a = c .before .before .before .before .before .before .before .before .args in
+    let a = start (c .before .before .before .before) .args in
     let l = c .before .before .before .before .before .loop in
     let end = c .before .extend .ensures in
     let below = c .before .before .before .before .loop-test .taken in (
