@@ -18,16 +18,17 @@ Inv-loop key string character i₀ i = Apart-to string key i
 abbrev μ-loop : tie.MeasureT-loop
 μ-loop key string character i₀ i = length key - i
 
+abbrev start : tie.In-loop Inv-loop μ-loop → tie.Start Inv-loop μ-loop
+start c = c .before .before .before .before .before
+
 small : (c : tie.In-loop Inv-loop μ-loop) → c .before .loop .i < 2 ^ 31
 small c = omega arith
 
 -- the answer of `agrees_at`, with the offset as two starts
-agreed :
-    (c : tie.After-agrees-at Inv-loop μ-loop) →
-    let a = c .before .before .before .before .before .before .before .before .args in
+agreed : (c : tie.After-agrees-at Inv-loop μ-loop) → let a = start (c .before .before .before) .args in
     agrees (a .string .now) (c .before .before .before .before .loop .i) (a .key .now) 0 ≡ c .agrees-at .result
 agreed c =
-    let a = c .before .before .before .before .before .before .before .before .args in
+    let a = start (c .before .before .before) .args in
     let i = c .before .before .before .before .loop .i in
     agrees-offset (a .string .now) i (a .key .now) 0
     ∙ ap (agrees-at (a .key .now) (a .string .now)) (offset-held 0 i (omega arith) (small (c .before .before .before)))
@@ -41,19 +42,19 @@ sub-agrees-at c = offset-fits32 0 (c .before .before .before .loop .i) (omega ar
 
 returns : tie.Need-returns Inv-loop μ-loop
 returns c =
-    let a = c .before .before .before .before .before .before .before .before .before .args in
+    let a = start (c .before .before .before .before) .args in
     leading-found (a .string .now) (a .key .now) (c .before .before .before .before .before .loop .i)
     (c .before .before .before .before .loop-test .taken) (agreed (c .before) ∙ c .if2 .taken)
 
 loop-again : tie.Need-loop-again Inv-loop μ-loop
 loop-again c =
-    let a = c .before .before .before .before .before .before .before .before .before .args in
+    let a = start (c .before .before .before .before) .args in
     let l = c .before .before .before .before .before .loop in
     apart-next (a .string .now) (a .key .now) (l .i) (l .inv) (agreed (c .before) ∙ c .if2 .left)
 
 loop-again-2 : tie.Need-loop-again-2 Inv-loop μ-loop
 loop-again-2 c =
-    let a = c .before .before .before .before .before .before .before .args in
+    let a = start (c .before .before) .args in
     let l = c .before .before .before .loop in
     apart-pass (a .string .now) (a .key .now) (l .i) (l .inv) (c .before .before .loop-test .taken) (c .if1 .left)
 

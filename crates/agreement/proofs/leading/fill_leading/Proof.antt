@@ -20,15 +20,15 @@ Inv-loop chars word-starts index string word-lines lines₀ count₀ line₀ lin
 abbrev μ-loop : tie.MeasureT-loop
 μ-loop chars word-starts index string word-lines lines₀ count₀ line₀ lines count line = word-lines - line
 
+abbrev start : tie.After-slice-known Inv-loop μ-loop → tie.Start Inv-loop μ-loop
+start c = c .before .before .before .before .before
+
 -- the answer of `agrees_leading` is that of the line
-told :
-    (c : tie.After-agrees-leading Inv-loop μ-loop) →
-    let a = c .before .before .before .before .before .before .before .before .before .args in
+told : (c : tie.After-agrees-leading Inv-loop μ-loop) → let a = start (c .before .before .before .before) .args in
     c .agrees-leading .result
     ≡ is-leading (lexicon-at (a .chars .now) (a .word-starts .now)) (a .index .now) (a .string .now) (c .before .before .before .loop .line)
 told c =
-    c .agrees-leading .ensures
-    ∙ ap (agrees-leading (c .before .before .before .before .before .before .before .before .before .args .string .now))
+    c .agrees-leading .ensures ∙ ap (agrees-leading (start (c .before .before .before .before) .args .string .now))
     (c .before .word-at .ensures)
 
 -- there is room for the number of a line that agrees
@@ -41,12 +41,12 @@ room c =
 
 word-at-requires : tie.Need-word-at-requires Inv-loop μ-loop
 word-at-requires c κs =
-    let s = c .before .before .before .before .before .before .before in
+    let s = start (c .before .before) in
     (s .pre .0, omega arith, s .pre .1 .words (c .before .loop .line) (c .loop-test .taken))
 
 agrees-leading-requires : tie.Need-agrees-leading-requires Inv-loop μ-loop
 agrees-leading-requires c κs =
-    let s = c .before .before .before .before .before .before .before .before in
+    let s = start (c .before .before .before) in
     (spelt-short (s .pre .0 .can) (c .before .before .loop .line) (omega arith) (c .word-at .result .now) (c .word-at .ensures), s .pre .2)
 
 loop-again : tie.Need-loop-again Inv-loop μ-loop
@@ -66,8 +66,6 @@ returns c =
 
 pub fill-leading-spec : {M : Type 1} → statement M
 fill-leading-spec =
-    tie.close
-    (tie.spec
-    Inv-loop μ-loop (λ c. leading-start (c .before .before .before .before .before .pre .3)) (λ c. search needs) word-at-requires
+    tie.close (tie.spec Inv-loop μ-loop (λ c. leading-start (start c .pre .3)) (λ c. search needs) word-at-requires
     agrees-leading-requires (λ c. omega arith) (λ c. omega (arith, room c)) (λ c. room c) (λ c. omega (arith, room c)) (λ c. search needs)
     loop-again (λ c. search needs) loop-again-2 (λ c. c .before .loop .inv .writing .len) returns)

@@ -9,27 +9,28 @@ use borrow.Author.Needs.{needs}
 use Rattle.agreement.proofs.leading.list_leading.Statement.{statement}
 use Rattle.agreement.proofs.leading.list_leading.Tie as tie
 
+abbrev start : tie.After-slice-known → tie.Start
+start c = c .before .before .before .before .before
+
 -- the lines of words end there
-split :
-    (c : tie.After-count-word-lines) →
-    Split (c .before .before .before .before .before .before .args .index .now) (c .count-word-lines .result)
-split c = split-found (c .before .before .before .before .before .before .pre .0 .can) (c .count-word-lines .ensures)
+split : (c : tie.After-count-word-lines) → Split (start (c .before) .args .index .now) (c .count-word-lines .result)
+split c = split-found (start (c .before) .pre .0 .can) (c .count-word-lines .ensures)
 
 count-word-lines-requires : tie.Need-count-word-lines-requires
 count-word-lines-requires c κs =
-    let can = c .before .before .before .before .before .pre .0 .can in
+    let can = start c .pre .0 .can in
     (can .fits, kinds-rise can)
 
 fill-leading-requires : tie.Need-fill-leading-requires
 fill-leading-requires c κs =
-    let s = c .before .before .before .before .before .before .before in
+    let s = start (c .before .before) in
     let lines = split (c .before) in
     (s .pre .0, lines, s .pre .1, omega (arith, word-lines-few (s .pre .0 .can) lines))
 
 returns : tie.Need-returns
 returns c =
     let ended = c .before .before .before .before in
-    let s = ended .before .before .before .before .before .before in
+    let s = start (ended .before) in
     let a = s .args in
     let filled = c .before .before .fill-leading in
     let lexicon = lexicon-at (a .chars .now) (a .word-starts .now) in

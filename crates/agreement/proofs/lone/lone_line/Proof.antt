@@ -13,15 +13,15 @@ line-lower-bound-requires c κs =
 
 returns : tie.Need-returns
 returns c =
-    let s = c .before .before .before .before .before .before in
-    let bound = rw (c .before .before .before .before .key-count .ensures .0) at (c .before .before .before .line-lower-bound .ensures) in
-    lone-here (s .pre .1) bound (omega arith) (omega arith)
+    let counted = c .before .before .before .before in
+    let bound = rw (counted .key-count .ensures .0) at (c .before .before .before .line-lower-bound .ensures) in
+    lone-here (counted .before .before .pre .1) bound (omega arith) (omega arith)
 
 returns-2 : tie.Need-returns-2
 returns-2 c =
-    let s = c .before .before .before .before .before .before in
-    let bound = rw (c .before .before .before .before .key-count .ensures .0) at (c .before .before .before .line-lower-bound .ensures) in
-    rw (c .before .before .before .before .key-count .ensures .0) (lone-nowhere (s .pre .1) bound (λ some e. omega (arith, e)))
+    let counted = c .before .before .before .before in
+    let bound = rw (counted .key-count .ensures .0) at (c .before .before .before .line-lower-bound .ensures) in
+    rw (counted .key-count .ensures .0) (lone-nowhere (counted .before .before .pre .1) bound (λ some e. omega (arith, e)))
 
 returns-3 : tie.Need-returns-3
 returns-3 c =

@@ -17,9 +17,9 @@ returns-2 c =
 
 returns-3 : tie.Need-returns-3
 returns-3 c =
-    let a = c .before .before .before .before .before .before .args in
-    agrees-compared (a .first .now) (a .second .now) (a .at) (omega arith) (c .before .before .if2 .left) (c .before .min .ensures)
-    (c .same-run .ensures)
+    let some = c .before .before in
+    let a = some .before .before .before .before .args in
+    agrees-compared (a .first .now) (a .second .now) (a .at) (omega arith) (some .if2 .left) (c .before .min .ensures) (c .same-run .ensures)
 
 pub agrees-after-spec : {M : Type 1} → statement M
 agrees-after-spec =

@@ -5,16 +5,21 @@ use Rattle.laws.specs.Window.AgreeingWords.{refining-all}
 use Rattle.agreement.proofs.words.agreeing_words.Statement.{statement}
 use Rattle.agreement.proofs.words.agreeing_words.Tie as tie
 
+abbrev start : tie.After-slice-known → tie.Start
+start c = c .before .before .before .before .before
+
 returns : tie.Need-returns
 returns c =
-    let s = c .before .before .before .before .before .before .before .before .before .before .before in
-    let found = c .before .before .before .before .refine .ensures .0 in
+    let refined = c .before .before .before .before in
+    let s = start (refined .before .before) in
+    let found = refined .refine .ensures .0 in
     (found .listed, refining-all (s .pre .0) (s .pre .1) found (s .pre .2) (omega arith))
 
 compare-few-requires : tie.Need-compare-few-requires
 compare-few-requires c κs =
-    let s = c .before .before .before .before .before .before .before .before .before .before .before .before in
-    let found = c .before .before .before .before .before .refine .ensures in
+    let refined = c .before .before .before .before .before in
+    let s = start (refined .before .before) in
+    let found = refined .refine .ensures in
     (s .pre .0, s .pre .1, omega arith, found .0 .listed, found .0 .len, omega arith, found .1 (omega arith))
 
 pub agreeing-words-spec : {M : Type 1} → statement M

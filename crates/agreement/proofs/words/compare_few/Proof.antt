@@ -22,23 +22,24 @@ Inv-loop chars word-starts index string key-start word-lines refined lines₀ co
 abbrev μ-loop : tie.MeasureT-loop
 μ-loop chars word-starts index string key-start word-lines refined lines₀ count₀ low₀ high lines count low = high - low
 
+abbrev start : tie.After-slice-known Inv-loop μ-loop → tie.Start Inv-loop μ-loop
+start c = c .before .before .before .before .before
+
 loop-holds : tie.Need-loop-holds Inv-loop μ-loop
-loop-holds c = let s = c .before .before .before .before .before in (s .pre .3, refl, omega arith)
+loop-holds c = let s = start c in (s .pre .3, refl, omega arith)
 
 word-at-requires : tie.Need-word-at-requires Inv-loop μ-loop
 word-at-requires c κs =
-    let s = c .before .before .before .before .before .before .before in
+    let s = start (c .before .before) in
     (s .pre .0, omega arith, s .pre .1 .words (c .before .loop .low) (omega arith))
 
 -- what `agrees_at` answers of the line
-agreed :
-    (c : tie.After-agrees-at Inv-loop μ-loop) →
-    let a = c .before .before .before .before .before .before .before .before .before .args in
+agreed : (c : tie.After-agrees-at Inv-loop μ-loop) → let a = start (c .before .before .before .before) .args in
     agrees-line (a .key-start) (lexicon-at (a .chars .now) (a .word-starts .now)) (a .index .now) (a .string .now)
     (c .before .before .before .loop .low)
     ≡ c .agrees-at .result
 agreed c =
-    let a = c .before .before .before .before .before .before .before .before .before .args in
+    let a = start (c .before .before .before .before) .args in
     ap (λ (k : List ℕ). agrees (a .string .now) 0 k (a .key-start)) (sym (c .before .word-at .ensures))
     ∙ agrees-offset (a .string .now) 0 (c .before .word-at .result .now) (a .key-start)
     ∙ ap (agrees-at (c .before .word-at .result .now) (a .string .now)) (offset-natural (a .key-start) (omega arith))
@@ -46,7 +47,7 @@ agreed c =
 
 loop-again : tie.Need-loop-again Inv-loop μ-loop
 loop-again c =
-    let s = c .before .before .before .before .before .before .before .before .before .before in
+    let s = start (c .before .before .before .before .before) in
     let a = s .args in
     let l = c .before .before .before .before .loop in (
       agreeing-push (a .key-start) (lexicon-at (a .chars .now) (a .word-starts .now)) (a .index .now) (a .string .now) (l .inv .0)
@@ -57,7 +58,7 @@ loop-again c =
 
 loop-again-2 : tie.Need-loop-again-2 Inv-loop μ-loop
 loop-again-2 c =
-    let s = c .before .before .before .before .before .before .before .before .before .before in
+    let s = start (c .before .before .before .before .before) in
     let a = s .args in
     let l = c .before .before .before .before .loop in (
       agreeing-pass (a .key-start) (lexicon-at (a .chars .now) (a .word-starts .now)) (a .index .now) (a .string .now) (l .inv .0)
@@ -69,7 +70,7 @@ loop-again-2 c =
 returns : tie.Need-returns Inv-loop μ-loop
 returns c =
     let l = c .before .loop in
-    let at-end : l .low ≡ c .before .before .before .before .before .before .before .args .refined .to = omega (arith, l .inv .0 .order) in
+    let at-end : l .low ≡ start (c .before .before) .args .refined .to = omega (arith, l .inv .0 .order) in
     (rw at-end at (l .inv .0), omega arith)
 
 pub compare-few-spec : {M : Type 1} → statement M
@@ -77,6 +78,6 @@ compare-few-spec =
     tie.close
     (tie.spec
     Inv-loop μ-loop loop-holds (λ c. omega arith) word-at-requires
-    (λ c. start-fits (c .before .before .before .before .before .before .before .before .args .key-start) (omega arith))
+    (λ c. start-fits (start (c .before .before .before) .args .key-start) (omega arith))
     (λ c κs. tt) (λ c. omega arith) (λ c. omega arith) (λ c. omega arith)
     (λ c. omega arith) (λ c. omega arith) loop-again (λ c. omega arith) loop-again-2 (λ c. c .before .loop .inv .1) returns)

@@ -17,9 +17,15 @@ abbrev μ-loop : tie.MeasureT-loop
 μ-loop chars word-starts index string key-start word-lines lines₀ left count₀ low₀ high₀ depth₀ lines count low high depth =
     (high - low) + (32 - depth)
 
+abbrev start : tie.After-slice-known Inv-loop μ-loop → tie.Start Inv-loop μ-loop
+start c = c .before .before .before .before .before
+
+abbrev at-loop : tie.After-shared-slice-known5 Inv-loop μ-loop → tie.At-loop Inv-loop μ-loop
+at-loop c = c .before .before .before .before .before
+
 loop-holds : tie.Need-loop-holds Inv-loop μ-loop
 loop-holds c =
-    let s = c .before .before .before .before .before in
+    let s = start c in
     (refining-start (s .pre .0) (s .pre .1) (s .pre .4), refl, refl)
 
 returns : tie.Need-returns Inv-loop μ-loop
@@ -27,13 +33,13 @@ returns c = (c .before .before .loop .inv .0, λ more. absurd (omega (arith, mor
 
 word-at-requires : tie.Need-word-at-requires Inv-loop μ-loop
 word-at-requires c κs =
-    let s = c .before .before .before .before .before .before .before .before in
+    let s = start (c .before .before .before) in
     let l = c .before .before .loop in
     (s .pre .0, omega arith, s .pre .1 .words (l .low) (omega arith))
 
 loop-again : tie.Need-loop-again Inv-loop μ-loop
 loop-again c =
-    let s = c .before .before .before .before .before .before .before .before .before .before in
+    let s = start (c .before .before .before .before .before) in
     let l = c .before .before .before .before .loop in (
       refining-push (s .pre .0) (s .pre .1) (l .inv .0) (omega arith) (s .pre .2)
           (sym (ap length (c .before .word-at .ensures)) ∙ c .if2 .taken),
@@ -43,15 +49,15 @@ loop-again c =
 
 equal-range-requires : tie.Need-equal-range-requires Inv-loop μ-loop
 equal-range-requires c κs =
-    let s = c .before .before .before .before .before .before .before .before .before .before .before in
-    let l = c .before .before .before .before .before .loop in
+    let s = start (at-loop c .before) in
+    let l = at-loop c .loop in
     refining-column (s .pre .0) (s .pre .1) (l .inv .0) (omega arith)
     (λ e. c .before .if2 .left (ap length (c .before .before .word-at .ensures) ∙ e))
 
 loop-less-2 : tie.Need-loop-less-2 Inv-loop μ-loop
 loop-less-2 c =
-    let s = c .before .before .before .before .before .before .before .before .before .before .before .before in
-    let l = c .before .before .before .before .before .before .loop in
+    let s = start (at-loop (c .before) .before) in
+    let l = at-loop (c .before) .loop in
     omega (
       arith,
       refining-deep (s .pre .0) (s .pre .1) (l .inv .0) (omega arith)
@@ -60,8 +66,8 @@ loop-less-2 c =
 
 loop-again-2 : tie.Need-loop-again-2 Inv-loop μ-loop
 loop-again-2 c =
-    let s = c .before .before .before .before .before .before .before .before .before .before .before .before in
-    let l = c .before .before .before .before .before .before .loop in (
+    let s = start (at-loop (c .before) .before) in
+    let l = at-loop (c .before) .loop in (
       refining-step (s .pre .0) (s .pre .1) (l .inv .0) (omega arith)
           (λ e. c .before .before .if2 .left (ap length (c .before .before .before .word-at .ensures) ∙ e)) refl (omega arith)
           (c .equal-range .ensures .0) (c .equal-range .ensures .1),
