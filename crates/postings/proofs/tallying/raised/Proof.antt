@@ -18,6 +18,9 @@ Inv-loop chars lengths index keys counts₀ i₀ counts i = Tallied (lexicon cha
 abbrev μ-loop : tie.MeasureT-loop
 μ-loop chars lengths index keys counts₀ i₀ counts i = keys - i
 
+abbrev start : tie.In-loop Inv-loop μ-loop → tie.Start Inv-loop μ-loop
+start c = c .before .before .before .before .before
+
 loop-holds : tie.Need-loop-holds Inv-loop μ-loop
 loop-holds c =
     let s = c .before .before .before in
@@ -25,11 +28,10 @@ loop-holds c =
     (good-length (eInt w64) 32 (s .args .counts) _ (s .good .1 .1 .1 .1 .0)) (s .pre .4)
 
 -- the line has a key of the lexicon
-is-key :
-    (c : tie.After-value-at Inv-loop μ-loop) → let a = c .before .before .before .before .before .before .before .before .args in
+is-key : (c : tie.After-value-at Inv-loop μ-loop) → let a = start (c .before .before .before) .args in
     Is-key (lexicon (a .chars .now) (a .lengths .now)) (key (c .before .kind-at .result) (c .value-at .result))
 is-key c =
-    let s = c .before .before .before .before .before .before .before .before in
+    let s = start (c .before .before .before) in
     rw (c .before .kind-at .ensures .0, c .value-at .ensures .0)
     (line-key longest-text (lexicon (s .args .chars .now) (s .args .lengths .now)) (s .args .index .now) (s .pre .1)
     (c .before .before .before .before .loop .i) (omega arith))
@@ -37,7 +39,7 @@ is-key c =
 -- which spells 1 to 32 characters
 sizes : (c : tie.After-key-length Inv-loop μ-loop) → (1 ≤ c .key-length .result) × (c .key-length .result ≤ 32)
 sizes c =
-    let is = key-sizes (c .before .before .before .before .before .before .before .before .before .pre .0) (is-key (c .before)) in
+    let is = key-sizes (start (c .before .before .before .before) .pre .0) (is-key (c .before)) in
     (omega arith, omega arith)
 
 add-counts : tie.Need-add-counts Inv-loop μ-loop
@@ -63,6 +65,6 @@ raised-spec =
     tie.close
     (tie.spec
     Inv-loop μ-loop loop-holds (λ c κs. omega arith) (λ c κs. omega arith) (λ c κs. omega arith)
-    (λ c κs. (c .before .before .before .before .before .before .before .before .pre .0, is-key c)) (λ c. omega (arith, sizes c))
+    (λ c κs. (start (c .before .before .before) .pre .0, is-key c)) (λ c. omega (arith, sizes c))
     (λ c. omega (arith, sizes c)) (λ c. omega (arith, sizes c)) add-counts (λ c. omega (arith, sizes c)) (λ c. omega (arith, sizes c))
     (λ c. omega arith) (λ c. omega arith) loop-again returns)
