@@ -18,9 +18,12 @@ Inv-loop chars word-starts index string word-lines flags₀ line₀ flags line =
 abbrev μ-loop : tie.MeasureT-loop
 μ-loop chars word-starts index string word-lines flags₀ line₀ flags line = word-lines - line
 
+abbrev start : tie.After-slice-known Inv-loop μ-loop → tie.Start Inv-loop μ-loop
+start c = c .before .before .before .before .before
+
 loop-holds : tie.Need-loop-holds Inv-loop μ-loop
 loop-holds c =
-    let a = c .before .before .before .before .before .args in (
+    let a = start c .args in (
       rw (leading-none (lexicon-at (a .chars .now) (a .word-starts .now)) (a .index .now) (a .string .now))
           (ones-at-none (a .flags .now)),
       omega arith,
@@ -28,17 +31,17 @@ loop-holds c =
 
 word-at-requires : tie.Need-word-at-requires Inv-loop μ-loop
 word-at-requires c κs =
-    let h = c .before .before .before .before .before .before .before .pre .0 in
+    let h = start (c .before .before) .pre .0 in
     (h .reads, omega arith, h .split .words (c .before .loop .line) (c .loop-test .taken))
 
 agrees-leading-requires : tie.Need-agrees-leading-requires Inv-loop μ-loop
 agrees-leading-requires c κs =
-    let h = c .before .before .before .before .before .before .before .before .pre .0 in
+    let h = start (c .before .before .before) .pre .0 in
     (spelt-short (h .reads .can) (c .before .before .loop .line) (omega arith) _ (c .word-at .ensures), h .string .some)
 
 loop-again : tie.Need-loop-again Inv-loop μ-loop
 loop-again c =
-    let a = c .before .before .before .before .before .before .before .before .before .before .args in
+    let a = start (c .before .before .before .before .before) .args in
     let l = c .before .before .before .before .loop in
     let leading = ap (agrees-leading (a .string .now)) (sym (c .before .before .word-at .ensures)) ∙ sym
     (c .before .agrees-leading .ensures) ∙ c .if1 .taken in (
@@ -49,7 +52,7 @@ loop-again c =
 
 loop-again-2 : tie.Need-loop-again-2 Inv-loop μ-loop
 loop-again-2 c =
-    let a = c .before .before .before .before .before .before .before .before .before .before .args in
+    let a = start (c .before .before .before .before .before) .args in
     let l = c .before .before .before .before .loop in
     let leading = ap (agrees-leading (a .string .now)) (sym (c .before .before .word-at .ensures)) ∙ sym
     (c .before .agrees-leading .ensures) ∙ c .if1 .left in (
@@ -61,7 +64,7 @@ loop-again-2 c =
 returns : tie.Need-returns Inv-loop μ-loop
 returns c =
     let l = c .before .loop in
-    let e : l .line ≡ c .before .before .before .before .before .before .before .args .word-lines = omega arith in
+    let e : l .line ≡ start (c .before .before) .args .word-lines = omega arith in
     rw e at (l .inv .0)
 
 pub flag-leading-spec : {M : Type 1} → statement M

@@ -10,14 +10,17 @@ use Rattle.laws.specs.Cut.Flagging.{flagged-one, flagged-none}
 use Rattle.bearing.proofs.offsets.flag_lone.Statement.{statement}
 use Rattle.bearing.proofs.offsets.flag_lone.Tie as tie
 
+abbrev start : tie.After-slice-known → tie.Start
+start c = c .before .before .before .before .before
+
 lone-line-requires : tie.Need-lone-line-requires
 lone-line-requires c κs =
-    let h = c .before .before .before .before .before .before .pre .0 in
+    let h = start (c .before) .pre .0 in
     (h .reads .can .fits, lone-rise (h .reads .can) (h .split))
 
 returns : tie.Need-returns
 returns c =
-    let s = c .before .before .before .before .before .before .before .before .before in
+    let s = start (c .before .before .before .before) in
     let a = s .args in
     let h = s .pre .0 in
     let line = c .before .before .lone-line in
@@ -31,7 +34,7 @@ returns c =
 
 returns-2 : tie.Need-returns-2
 returns-2 c =
-    let s = c .before .before .before .before .before .before .before .before .before in
+    let s = start (c .before .before .before .before) in
     let a = s .args in
     let h = s .pre .0 in
     let line = c .before .before .lone-line in

@@ -17,16 +17,20 @@ Inv-loop chars word-starts index string word-lines flags₀ last key-start₀ fl
 abbrev μ-loop : tie.MeasureT-loop
 μ-loop chars word-starts index string word-lines flags₀ last key-start₀ flags key-start = length string - key-start
 
+abbrev start : tie.After-slice-known Inv-loop μ-loop → tie.Start Inv-loop μ-loop
+start c = c .before .before .before .before .before
+
 loop-holds : tie.Need-loop-holds Inv-loop μ-loop
 loop-holds c =
-    let s = c .before .before .before .before .before in
+    let s = start c in
     let a = s .args in
     (omega arith, offsets-start (lexicon-at (a .chars .now) (a .word-starts .now)) (a .index .now) (a .string .now) (s .pre .1) (s .pre .2))
 
 loop-again : tie.Need-loop-again Inv-loop μ-loop
 loop-again c =
-    let a = c .before .before .before .before .before .before .before .before .before .before .before .args in
-    let l = c .before .before .before .before .before .loop in
+    let at-loop = c .before .before .before .before .before in
+    let a = start (at-loop .before) .args in
+    let l = at-loop .loop in
     let now = c .before .before .flag-offset in (
       omega arith,
       offsets-next (lexicon-at (a .chars .now) (a .word-starts .now)) (a .index .now) (a .string .now) (now .last .1 .1 .1 .1 .1 .1 .0)
@@ -35,7 +39,7 @@ loop-again c =
 
 returns : tie.Need-returns Inv-loop μ-loop
 returns c =
-    let a = c .before .before .before .before .before .before .before .args in
+    let a = start (c .before .before) .args in
     let l = c .before .loop in
     let e : l .key-start ≡ length (a .string .now) = omega arith in
     subst (Offsets (lexicon-at (a .chars .now) (a .word-starts .now)) (a .index .now) (a .string .now) (a .flags .now) (l .flags)) e
@@ -46,7 +50,6 @@ flag-offsets-spec =
     tie.close
     (tie.spec
     Inv-loop μ-loop (λ c. omega arith) loop-holds
-    (λ c κs.
-    (c .before .before .before .before .before .before .before .before .pre .0, omega arith, c .before .before .loop .inv .1 .way .flags))
+    (λ c κs. (start (c .before .before .before) .pre .0, omega arith, c .before .before .loop .inv .1 .way .flags))
     (λ c. search needs) (λ c. omega arith)
     loop-again (λ c. c .before .loop .inv .1 .way .len) returns)

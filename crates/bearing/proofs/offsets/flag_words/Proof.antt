@@ -8,6 +8,9 @@ use Rattle.laws.specs.Cut.Flagging.{agreeing-below, flagged-words}
 use Rattle.bearing.proofs.offsets.flag_words.Statement.{statement}
 use Rattle.bearing.proofs.offsets.flag_words.Tie as tie
 
+abbrev start : tie.After-slice-known → tie.Start
+start c = c .before .before .before .before .before
+
 slice-aggregate-flag-list : tie.Need-slice-aggregate-flag-list
 slice-aggregate-flag-list c =
     let found = c .before .before .agreeing-words in
@@ -15,20 +18,22 @@ slice-aggregate-flag-list c =
 
 flag-list-requires : tie.Need-flag-list-requires
 flag-list-requires c κs =
-    let s = c .before .before .before .before .before .before .before .before .before .before in
+    let found = c .before .before .before in
+    let s = start (found .before .before) in
     let a = s .args in
     agreeing-below (lexicon-at (a .chars .now) (a .word-starts .now)) (a .index .now) (a .string .now)
-    (c .before .before .before .agreeing-words .ensures .0) (omega arith)
+    (found .agreeing-words .ensures .0) (omega arith)
 
 returns : tie.Need-returns
 returns c =
-    let half = c .before .before .before .before .before .before .before .before .before in
-    let s = half .before .before .before .before .before .before .before .before in
+    let run = c .before .before in
+    let list = run .before .before .before .before in
+    let words = list .before .before .before .before in
+    let s = start (words .before .before) in
     let a = s .args in
-    let found = c .before .before .before .before .before .before .before .before .before .before .agreeing-words .ensures in
+    let found = words .agreeing-words .ensures in
     flagged-words (lexicon-at (a .chars .now) (a .word-starts .now)) (a .index .now) (a .string .now) (found .0) (s .pre .0 .split .within)
-    (found .1) (s .pre .2)
-    (c .before .before .before .before .before .before .flag-list .ensures) (c .before .before .flag-run .ensures)
+    (found .1) (s .pre .2) (list .flag-list .ensures) (run .flag-run .ensures)
 
 pub flag-words-spec : {M : Type 1} → statement M
 flag-words-spec =
