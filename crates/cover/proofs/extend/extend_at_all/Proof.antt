@@ -19,14 +19,15 @@ Inv-loop positions len string-start key-start first reach₀ max-reach end peak 
 abbrev μ-loop : tie.MeasureT-loop
 μ-loop positions len string-start key-start first reach₀ max-reach end peak from highest₀ i₀ reach highest i = length positions - i
 
+abbrev start : tie.At-loop Inv-loop μ-loop → tie.Start Inv-loop μ-loop
+start c = c .before .before .before .before .before
+
 -- an index within the window is that of the position's own start
-own :
-    (c : tie.Then1 Inv-loop μ-loop) →
-    let a = c .before .before .before .before .before .before .before .before .before .args in
+own : (c : tie.Then1 Inv-loop μ-loop) → let a = start (c .before .before .before .before) .args in
     c .before .wrapping-sub-usize .result + (a .first + a .key-start)
     ≡ getD (a .positions .now) (c .before .before .before .before .loop .i) 0 + a .string-start
 own c =
-    let a = c .before .before .before .before .before .before .before .before .before .args in
+    let a = start (c .before .before .before .before) .args in
     let w = c .before .wrapping-sub-usize in
     omega (
       arith,
@@ -52,7 +53,7 @@ loop-again-2 c =
 loop-again-3 : tie.Need-loop-again-3 Inv-loop μ-loop
 loop-again-3 c =
     let turn = c .before .before .before in
-    let a = turn .before .before .before .before .before .before .args in
+    let a = start (turn .before) .args in
     let w = c .before .wrapping-sub-usize in
     extending-outside (turn .before .loop .inv) (turn .loop-test .taken)
     (λ from. omega (

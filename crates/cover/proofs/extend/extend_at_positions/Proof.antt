@@ -6,8 +6,8 @@ use Rattle.cover.proofs.extend.extend_at_positions.Tie as tie
 
 extend-at-range-requires : tie.Need-extend-at-range-requires
 extend-at-range-requires c κs =
-    let s = c .before .before .before .before .before .before .before .before in
     let low = c .before .before .before in
+    let s = low .before .before .before .before .before in
     let high = c .before in (
       s .pre .0,
       s .pre .1,

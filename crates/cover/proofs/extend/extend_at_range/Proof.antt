@@ -17,24 +17,25 @@ Inv-loop positions from to len string-start key-start first reach₀ max-reach e
 abbrev μ-loop : tie.MeasureT-loop
 μ-loop positions from to len string-start key-start first reach₀ max-reach end peak base highest₀ i₀ reach highest i = to - i
 
+abbrev entry : tie.At-loop Inv-loop μ-loop → tie.Start Inv-loop μ-loop
+entry c = c .before .before .before .before .before
+
 -- the start that the position falls on
 abbrev start : tie.After-number-at Inv-loop μ-loop → ℕ
 start c =
-    let a = c .before .before .before .before .before .before .before .args in
+    let a = entry (c .before .before) .args in
     c .number-at .result + a .string-start - (a .first + a .key-start)
 
-own :
-    (c : tie.After-number-at Inv-loop μ-loop) →
-    let a = c .before .before .before .before .before .before .before .args in
+own : (c : tie.After-number-at Inv-loop μ-loop) → let a = entry (c .before .before) .args in
     start c + (a .first + a .key-start) ≡ getD (a .positions .now) (c .before .before .loop .i) 0 + a .string-start
 own c =
-    let s = c .before .before .before .before .before .before .before in
+    let s = entry (c .before .before) in
     let l = c .before .before .loop in
     omega (arith, range-own (s .pre .2) (l .i) (l .inv .0) (c .before .loop-test .taken))
 
 inside : (c : tie.After-number-at Inv-loop μ-loop) → start c < length (c .before .before .loop .reach)
 inside c =
-    let s = c .before .before .before .before .before .before .before in
+    let s = entry (c .before .before) in
     let l = c .before .before .loop in
     omega (arith, own c, range-inside (s .pre .2) (l .i) (l .inv .0) (c .before .loop-test .taken))
 
@@ -60,7 +61,7 @@ loop-again-2 c =
     )
 
 returns : tie.Need-returns Inv-loop μ-loop
-returns c = range-end (c .before .before .before .before .before .before .pre .2) (c .before .loop .inv .1) (c .loop-test .left)
+returns c = range-end (entry (c .before) .pre .2) (c .before .loop .inv .1) (c .loop-test .left)
 
 pub extend-at-range-spec : {M : Type 1} → statement M
 extend-at-range-spec =

@@ -33,10 +33,11 @@ returns c =
 
 returns-2 : tie.Need-returns-2
 returns-2 c =
-    let s = c .before .before .before .before .before .before in
+    let tested = c .before in
+    let s = tested .before .before .before .before .before in
     let a = s .args in
     extends-none (a .string-start) (a .key-start) (a .string .now) (a .key .now) (a .first) (a .positions .now) (a .reach .now)
-    (agreed (c .before) ∙ c .if1 .left) (a .max-reach) (s .pre .1)
+    (agreed tested ∙ c .if1 .left) (a .max-reach) (s .pre .1)
 
 pub extend-key-spec : {M : Type 1} → statement M
 extend-key-spec =

@@ -15,18 +15,21 @@ Inv-loop key string positions first reach₀ max-reach highest₀ i₀ reach hig
 abbrev μ-loop : tie.MeasureT-loop
 μ-loop key string positions first reach₀ max-reach highest₀ i₀ reach highest i = length key - i
 
+abbrev start : tie.At-loop Inv-loop μ-loop → tie.Start Inv-loop μ-loop
+start c = c .before .before .before .before .before
+
 extend-key-requires : tie.Need-extend-key-requires Inv-loop μ-loop
 extend-key-requires c κs = (
   record { shared = omega arith; end-small = omega arith; first-small = omega arith },
   c .before .before .before .before .before .loop .inv .way .bounded,
-  c .before .before .before .before .before .before .before .before .before .before .pre .4,
+  start (c .before .before .before .before .before) .pre .4,
 )
 
 loop-again : tie.Need-loop-again Inv-loop μ-loop
 loop-again c =
-    let turn = c .before .before .before .before .before .before .before in
-    let done = c .before .before .extend-key in
-    backing-step (turn .before .loop .inv) (turn .loop-test .taken) (done .kept .1 .1 .1 .1 .1 .1 .0) (done .ensures)
+    let done = c .before .before in
+    let turn = done .before .before .before .before .before in
+    backing-step (turn .before .loop .inv) (turn .loop-test .taken) (done .extend-key .kept .1 .1 .1 .1 .1 .1 .0) (done .extend-key .ensures)
 
 loop-again-2 : tie.Need-loop-again-2 Inv-loop μ-loop
 loop-again-2 c =
@@ -37,6 +40,6 @@ extend-back-spec =
     tie.close
     (tie.spec
     Inv-loop μ-loop (λ c. backing-start (c .before .before .before .before .pre .3)) (λ c. search needs) (λ c. search needs)
-    (λ c. omega arith) (λ c. c .before .before .before .before .before .before .before .before .pre .1) extend-key-requires
+    (λ c. omega arith) (λ c. start (c .before .before .before) .pre .1) extend-key-requires
     (λ c. omega arith) loop-again (λ c. omega arith) loop-again-2 (λ c. c .before .loop .inv .way .len)
     (λ c. backing-end (c .before .loop .inv) (c .loop-test .left)))

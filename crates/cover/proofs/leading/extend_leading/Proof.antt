@@ -21,13 +21,14 @@ Inv-loop chars word-starts index list-starts string word-lines lines first reach
 abbrev μ-loop : tie.MeasureT-loop
 μ-loop chars word-starts index list-starts string word-lines lines first reach₀ max-reach highest₀ i₀ reach highest i = length lines - i
 
+abbrev start : tie.After-shared-slice-known5 Inv-loop μ-loop → tie.Start Inv-loop μ-loop
+start c = c .before .before .before .before .before
+
 -- the listed line is that of a word
-below :
-    (c : tie.In-loop Inv-loop μ-loop) →
-    let a = c .before .before .before .before .before .before .before .before .before .args in
+below : (c : tie.In-loop Inv-loop μ-loop) → let a = start (c .before .before .before .before) .args in
     getD (a .lines .now) (c .before .loop .i) 0 < a .word-lines
 below c =
-    let s = c .before .before .before .before .before .before .before .before .before in
+    let s = start (c .before .before .before .before) in
     let a = s .args in
     leading-below (lexicon-at (a .chars .now) (a .word-starts .now)) (a .index .now) (a .string .now) (a .word-lines) (a .lines .now)
     (s .pre .1) (c .before .loop .i) (c .loop-test .taken)
@@ -35,17 +36,17 @@ below c =
 word-at-requires : tie.Need-word-at-requires Inv-loop μ-loop
 word-at-requires c κs =
     let turn = c .before in
-    word-line (turn .before .before .before .before .before .before .before .before .before .pre .0) (below turn)
+    word-line (start (turn .before .before .before .before) .pre .0) (below turn)
 
 positions-of-requires : tie.Need-positions-of-requires Inv-loop μ-loop
 positions-of-requires c κs =
     let turn = c .before .before in
-    word-list (turn .before .before .before .before .before .before .before .before .before .pre .0) (below turn)
+    word-list (start (turn .before .before .before .before) .pre .0) (below turn)
 
 extend-back-requires : tie.Need-extend-back-requires Inv-loop μ-loop
 extend-back-requires c κs =
     let turn = c .before .before .before .before in
-    let h = turn .before .before .before .before .before .before .before .before .before .pre .0 in
+    let h = start (turn .before .before .before .before) .pre .0 in
     let key = c .before .before .word-at .ensures in (
       word-short h (below turn) key,
       h .string .some,
@@ -56,22 +57,22 @@ extend-back-requires c κs =
 
 loop-again : tie.Need-loop-again Inv-loop μ-loop
 loop-again c =
-    let turn = c .before .before .before .before .before .before .before in
-    let h = turn .before .before .before .before .before .before .before .before .before .pre .0 in
-    let done = c .before .before .extend-back in
-    listed-step (turn .before .loop .inv) (turn .loop-test .taken) (done .kept .1 .1 .1 .1 .0)
+    let done = c .before .before in
+    let turn = done .before .before .before .before .before in
+    let h = start (turn .before .before .before .before) .pre .0 in
+    listed-step (turn .before .loop .inv) (turn .loop-test .taken) (done .extend-back .kept .1 .1 .1 .1 .0)
     (word-leading h (below turn) (c .before .before .before .before .before .word-at .ensures)
-    (c .before .before .before .before .positions-of .ensures) (turn .before .loop .reach) (done .ensures))
+    (c .before .before .before .before .positions-of .ensures) (turn .before .loop .reach) (done .extend-back .ensures))
 
 extend-lone-requires : tie.Need-extend-lone-requires Inv-loop μ-loop
 extend-lone-requires c κs =
-    let s = c .before .before .before .before .before .before .before .before .before .before in
+    let s = start (c .before .before .before .before .before) in
     (s .pre .0, omega arith, c .before .before .loop .inv .way .bounded)
 
 returns : tie.Need-returns Inv-loop μ-loop
 returns c =
     let ended = c .before .before .before .before in
-    let s = ended .before .before .before .before .before .before .before .before .before in
+    let s = start (ended .before .before .before .before) in
     let a = s .args in
     let lexicon = lexicon-at (a .chars .now) (a .word-starts .now) in
     let h = s .pre .0 in
@@ -83,9 +84,7 @@ returns c =
 
 pub extend-leading-spec : {M : Type 1} → statement M
 extend-leading-spec =
-    tie.close
-    (tie.spec
-    Inv-loop μ-loop (λ c. listed-start (c .before .before .before .before .before .before .before .pre .2)) (λ c. search needs)
+    tie.close (tie.spec Inv-loop μ-loop (λ c. listed-start (start (c .before .before) .pre .2)) (λ c. search needs)
     (λ c. omega arith) (λ c. omega (arith, c .shared-slice-known7 .given (c .before .before .loop .i))) (λ c. omega arith)
     word-at-requires positions-of-requires extend-back-requires (λ c. omega arith) loop-again extend-lone-requires
     (λ c. c .before .before .extend-lone .kept .1 .1 .1 .1 .1 .1 .1 .1 .0 ∙ c .before .before .before .before .before .loop .inv .way .len)

@@ -9,12 +9,15 @@ use Rattle.laws.specs.Window.Searches.{word-line, word-fits, word-list-rises, w
 use Rattle.cover.proofs.lines.extend_line.Statement.{statement}
 use Rattle.cover.proofs.lines.extend_line.Tie as tie
 
+abbrev start : tie.After-shared-slice-known5 → tie.Start
+start c = c .before .before .before .before .before
+
 word-at-requires : tie.Need-word-at-requires
-word-at-requires c κs = let s = c .before .before .before .before .before .before in word-line (s .pre .0) (s .pre .2)
+word-at-requires c κs = let s = start (c .before) in word-line (s .pre .0) (s .pre .2)
 
 extend-at-positions-requires : tie.Need-extend-at-positions-requires
 extend-at-positions-requires c κs =
-    let s = c .before .before .before .before .before .before .before .before .before in
+    let s = start (c .before .before .before .before) in
     let key = c .before .before .word-at .ensures in (
       word-fits (s .pre .0) (s .pre .2) key (s .pre .1),
       s .pre .4,
@@ -24,7 +27,7 @@ extend-at-positions-requires c κs =
 returns : tie.Need-returns
 returns c =
     let listed = c .before .before .before .before in
-    let s = listed .before .before .before .before .before .before .before .before in
+    let s = start (listed .before .before .before) in
     let a = s .args in
     let key = listed .before .word-at .ensures in
     word-offset (s .pre .0) (s .pre .2) key (listed .positions-of .ensures) (a .reach .now) (a .key-start)

@@ -19,13 +19,16 @@ abbrev μ-loop : tie.MeasureT-loop
 μ-loop chars word-starts index list-starts string key-start word-lines lines first reach₀ max-reach highest₀ i₀ reach highest i =
     length lines - i
 
+abbrev start : tie.After-shared-slice-known5 Inv-loop μ-loop → tie.Start Inv-loop μ-loop
+start c = c .before .before .before .before .before
+
 loop-holds : tie.Need-loop-holds Inv-loop μ-loop
-loop-holds c = listed-start (c .before .before .before .before .before .before .before .pre .3)
+loop-holds c = listed-start (start (c .before .before) .pre .3)
 
 extend-line-requires : tie.Need-extend-line-requires Inv-loop μ-loop
 extend-line-requires c κs =
     let turn = c .before .before in
-    let s = turn .before .before .before .before .before .before .before .before .before in
+    let s = start (turn .before .before .before .before) in
     let l = turn .before .loop in
     let here = s .pre .2 (getD (s .args .lines .now) (l .i) 0) (in-getD (s .args .lines .now) (l .i) 0 (turn .loop-test .taken)) in
     (s .pre .0, s .pre .1, here .0, here .1, l .inv .way .bounded)

@@ -11,40 +11,45 @@ use Rattle.laws.specs.Window.ExtendAtPositions.{offset-fits}
 use Rattle.cover.proofs.lines.extend_lone.Statement.{statement}
 use Rattle.cover.proofs.lines.extend_lone.Tie as tie
 
+abbrev start : tie.After-shared-slice-known5 → tie.Start
+start c = c .before .before .before .before .before
+
 lone-line-requires : tie.Need-lone-line-requires
 lone-line-requires c κs =
-    let h = c .before .before .before .before .before .before .before .pre .0 in
+    let h = start (c .before .before) .pre .0 in
     (h .opened .reads .can .fits, lone-rise (h .opened .reads .can) (h .split))
 
 returns : tie.Need-returns
 returns c =
-    let s = c .before .before .before .before .before .before .before .before .before .before in
+    let line = c .before .before in
+    let s = start (line .before .before .before) in
     let a = s .args in
     let h = s .pre .0 in
     lone-none (h .opened .reads .can) (h .split) (a .string .now) (a .key-start) (getD (a .string .now) (a .key-start) 0) refl
-    (c .before .before .lone-line .ensures) (a .first) (omega arith) (a .reach .now) (a .max-reach) (s .pre .2)
+    (line .lone-line .ensures) (a .first) (omega arith) (a .reach .now) (a .max-reach) (s .pre .2)
 
 extend-at-positions-requires : tie.Need-extend-at-positions-requires
 extend-at-positions-requires c κs =
-    let s = c .before .before .before .before .before .before .before .before .before .before .before .before in
+    let line = c .before .before .before .before in
+    let s = start (line .before .before .before) in
     let a = s .args in
     let h = s .pre .0 in (
       offset-fits 1 (a .key-start) (a .first) (omega arith) (omega arith) (h .first-small),
       s .pre .2,
-      listed-rise (h .opened .reads .can) (c .before .before .before .before .lone-line .result) (omega arith)
-          (c .before .positions-of .result .now)
-          (c .before .positions-of .ensures),
+      listed-rise (h .opened .reads .can) (line .lone-line .result) (omega arith)
+          (c .before .positions-of .result .now) (c .before .positions-of .ensures),
     )
 
 returns-2 : tie.Need-returns-2
 returns-2 c =
-    let s = c .before .before .before .before .before .before .before .before .before .before .before .before .before .before .before in
+    let told = c .before .before .before .before .before in
+    let found = told .before .before in
+    let s = start (found .before .before .before) in
     let a = s .args in
     let can = s .pre .0 .opened .reads .can in
     let split = s .pre .0 .split in
-    let line = c .before .before .before .before .before .before .before .lone-line in
+    let line = found .lone-line in
     let positions = c .before .before .before .before .positions-of in
-    let told = c .before .before .before .before .before in
     let below : line .result < keys-of (a .index .now) = omega (arith, told .if1 .left, told .before .key-count .ensures .0) in
     let character = getD (a .string .now) (a .key-start) 0 in
     lone-found can split (a .string .now) (a .key-start) character refl (line .ensures) (a .first) below (a .reach .now)

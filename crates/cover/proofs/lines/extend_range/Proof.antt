@@ -16,9 +16,12 @@ abbrev μ-loop : tie.MeasureT-loop
 μ-loop chars word-starts index list-starts string key-start word-lines from to first reach₀ max-reach highest₀ line₀ reach highest line =
     to - line
 
+abbrev start : tie.After-shared-slice-known5 Inv-loop μ-loop → tie.Start Inv-loop μ-loop
+start c = c .before .before .before .before .before
+
 loop-holds : tie.Need-loop-holds Inv-loop μ-loop
 loop-holds c =
-    let s = c .before .before .before .before .before .before in
+    let s = start (c .before) in
     let a = s .args in (
       left-start (offset-at (a .key-start) (lexicon-at (a .chars .now) (a .word-starts .now)) (a .index .now) (a .string .now) (a .first))
           (a .from) (a .to) (a .reach .now) (a .max-reach) (s .pre .4),
@@ -27,14 +30,14 @@ loop-holds c =
 
 extend-line-requires : tie.Need-extend-line-requires Inv-loop μ-loop
 extend-line-requires c κs =
-    let s = c .before .before .before .before .before .before .before .before .before in
+    let s = start (c .before .before .before .before) in
     let l = c .before .before .loop in
     (s .pre .0, s .pre .1, omega arith, s .pre .3 (l .line) (l .inv .1) (omega arith), l .inv .0 .bounded)
 
 loop-again : tie.Need-loop-again Inv-loop μ-loop
 loop-again c =
     let turn = c .before .before .before .before in
-    let a = turn .before .before .before .before .before .before .before .before .args in
+    let a = start (turn .before .before .before) .args in
     let l = turn .before .loop in
     let done = c .before .before .extend-line in (
       left-step (offset-at (a .key-start) (lexicon-at (a .chars .now) (a .word-starts .now)) (a .index .now) (a .string .now) (a .first))
@@ -45,7 +48,7 @@ loop-again c =
 
 returns : tie.Need-returns Inv-loop μ-loop
 returns c =
-    let a = c .before .before .before .before .before .before .before .before .args in
+    let a = start (c .before .before .before) .args in
     let l = c .before .loop in
     left-end (offset-at (a .key-start) (lexicon-at (a .chars .now) (a .word-starts .now)) (a .index .now) (a .string .now) (a .first))
     (a .from) (a .to) (a .reach .now) (l .reach) (l .highest) (l .line) (a .to) (l .inv .0) (c .loop-test .left)

@@ -8,6 +8,9 @@ use Rattle.laws.specs.Window.AgreeingRun.{agreeing-reaches}
 use Rattle.cover.proofs.lines.extend_words.Statement.{statement}
 use Rattle.cover.proofs.lines.extend_words.Tie as tie
 
+abbrev start : tie.After-shared-slice-known5 → tie.Start
+start c = c .before .before .before .before .before
+
 slice-aggregate-extend-listed : tie.Need-slice-aggregate-extend-listed
 slice-aggregate-extend-listed c =
     let found = c .before .before .agreeing-words in
@@ -15,29 +18,28 @@ slice-aggregate-extend-listed c =
 
 extend-listed-requires : tie.Need-extend-listed-requires
 extend-listed-requires c κs =
-    let s = c .before .before .before .before .before .before .before .before .before .before .before in
+    let found = c .before .before .before in
+    let s = start (found .before .before .before) in
     let a = s .args in (
       s .pre .0,
       s .pre .1,
       listed-agrees (a .key-start) (lexicon-at (a .chars .now) (a .word-starts .now)) (a .index .now) (a .string .now)
-          (c .before .before .before .agreeing-words .ensures .0),
+          (found .agreeing-words .ensures .0),
       s .pre .2,
     )
 
 returns : tie.Need-returns
 returns c =
-    let half = c .before .before .before .before .before .before .before .before .before in
-    let s = half .before .before .before .before .before .before .before .before .before in
-    let a = s .args in
+    let run = c .before .before in
+    let listed = run .before .before .before .before in
+    let found = listed .before .before .before .before in
+    let a = start (found .before .before .before) .args in
     agreeing-reaches (a .key-start) (lexicon-at (a .chars .now) (a .word-starts .now)) (a .index .now) (a .string .now) (a .first)
-    (c .before .before .before .before .before .before .before .before .before .before .agreeing-words .ensures .0) (a .reach .now)
-    (c .before .before .before .before .before .before .extend-listed .ensures)
-    (c .before .before .extend-range .ensures)
+    (found .agreeing-words .ensures .0) (a .reach .now) (listed .extend-listed .ensures) (run .extend-range .ensures)
 
 pub extend-words-spec : {M : Type 1} → statement M
 extend-words-spec =
     tie.close
     (tie.spec
     (λ c. search needs) (λ c κs. search needs) (λ c. search needs) slice-aggregate-extend-listed extend-listed-requires
-    (λ c κs. search needs)
-    (λ c. search needs) returns)
+    (λ c κs. search needs) (λ c. search needs) returns)

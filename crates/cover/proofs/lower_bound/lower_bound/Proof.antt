@@ -14,6 +14,9 @@ Inv-loop positions least count a₀ b₀ a b = Bisected (λ i. getD positions i 
 abbrev μ-loop : tie.MeasureT-loop
 μ-loop positions least count a₀ b₀ a b = b - a
 
+abbrev start : tie.After-number-at2 Inv-loop μ-loop → tie.Start Inv-loop μ-loop
+start c = c .before .before .before .before .before
+
 returns-2 : tie.Need-returns-2 Inv-loop μ-loop
 returns-2 c =
     let start = c .before .before .before .before in
@@ -21,32 +24,32 @@ returns-2 c =
 
 returns-3 : tie.Need-returns-3 Inv-loop μ-loop
 returns-3 c =
-    let start = c .before .before .before .before .before .before in
-    bound-last (start .pre) (start .args .least) (omega arith) (omega arith)
+    let s = start (c .before) in
+    bound-last (s .pre) (s .args .least) (omega arith) (omega arith)
 
 loop-holds : tie.Need-loop-holds Inv-loop μ-loop
 loop-holds c =
-    let start = c .before .before .before .before .before .before in
-    bisected-start (start .pre) (start .args .least)
+    let s = start (c .before) in
+    bisected-start (s .pre) (s .args .least)
 
 loop-again : tie.Need-loop-again Inv-loop μ-loop
 loop-again c =
     let turn = c .before .before .before in
-    let start = turn .before .before .before .before .before .before .before in
+    let s = start (turn .before .before) in
     let l = turn .loop in
-    bisected-up (start .pre) (start .args .least) (l .inv) (l .a + (l .b - l .a) / 2) (omega arith) (omega arith) (omega arith)
+    bisected-up (s .pre) (s .args .least) (l .inv) (l .a + (l .b - l .a) / 2) (omega arith) (omega arith) (omega arith)
 
 loop-again-2 : tie.Need-loop-again-2 Inv-loop μ-loop
 loop-again-2 c =
     let turn = c .before .before .before in
-    let start = turn .before .before .before .before .before .before .before in
+    let s = start (turn .before .before) in
     let l = turn .loop in
-    bisected-down (start .pre) (start .args .least) (l .inv) (l .a + (l .b - l .a) / 2) (omega arith) (omega arith) (omega arith)
+    bisected-down (s .pre) (s .args .least) (l .inv) (l .a + (l .b - l .a) / 2) (omega arith) (omega arith) (omega arith)
 
 returns-4 : tie.Need-returns-4 Inv-loop μ-loop
 returns-4 c =
-    let start = c .before .before .before .before .before .before .before .before in
-    bisected-end (start .pre) (start .args .least) (c .before .loop .inv) (c .loop-test .left)
+    let s = start (c .before .before .before) in
+    bisected-end (s .pre) (s .args .least) (c .before .loop .inv) (c .loop-test .left)
 
 pub lower-bound-spec : {M : Type 1} → statement M
 lower-bound-spec =

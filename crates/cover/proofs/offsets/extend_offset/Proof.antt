@@ -7,11 +7,13 @@ use Rattle.cover.proofs.offsets.extend_offset.Tie as tie
 
 returns : tie.Need-returns
 returns c =
-    let words = c .before .before .before .before .before .before in
-    let s = words .before .before .before .before .before .before .before .before in
+    let lone = c .before .before in
+    let words = lone .before .before .before .before in
+    let known = words .before .before .before in
+    let s = known .before .before .before .before .before in
     let a = s .args in
     offset-both (lexicon-at (a .chars .now) (a .word-starts .now)) (a .index .now) (a .string .now) (a .first) (a .key-start)
-    (a .word-lines) (s .pre .0 .split .within) (a .reach .now) (words .extend-words .ensures) (c .before .before .extend-lone .ensures)
+    (a .word-lines) (s .pre .0 .split .within) (a .reach .now) (words .extend-words .ensures) (lone .extend-lone .ensures)
 
 pub extend-offset-spec : {M : Type 1} → statement M
 extend-offset-spec = tie.close (tie.spec (λ c κs. search needs) (λ c κs. search needs) (λ c. search needs) returns)

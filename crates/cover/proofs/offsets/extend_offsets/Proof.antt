@@ -17,13 +17,15 @@ abbrev μ-loop : tie.MeasureT-loop
 μ-loop chars word-starts index list-starts string word-lines first reach₀ max-reach highest₀ key-start₀ reach highest key-start =
     length string - key-start
 
+abbrev start : tie.After-shared-slice-known5 Inv-loop μ-loop → tie.Start Inv-loop μ-loop
+start c = c .before .before .before .before .before
+
 loop-holds : tie.Need-loop-holds Inv-loop μ-loop
-loop-holds c =
-    let s = c .before .before .before .before .before .before in offsets-start (s .pre .0 .string .some) (s .pre .1)
+loop-holds c = let s = start (c .before) in offsets-start (s .pre .0 .string .some) (s .pre .1)
 
 extend-offset-requires : tie.Need-extend-offset-requires Inv-loop μ-loop
 extend-offset-requires c κs =
-    let s = c .before .before .before .before .before .before .before .before .before .before in
+    let s = start (c .before .before .before .before .before) in
     (s .pre .0, c .before .before .loop-test .taken, c .before .before .before .loop .inv .way .bounded)
 
 loop-again : tie.Need-loop-again Inv-loop μ-loop

@@ -8,10 +8,12 @@ use Rattle.cover.proofs.window.extend_window.Tie as tie
 
 returns : tie.Need-returns
 returns c =
-    let begun = c .before .before .before .before .before .before in
-    let a = begun .before .before .before .before .before .before .before .before .before .args in
+    let ended = c .before .before in
+    let begun = ended .before .before .before .before in
+    let known = begun .before .before .before .before in
+    let a = known .before .before .before .before .before .args in
     offsets-after (lexicon-at (a .chars .now) (a .word-starts .now)) (lines-in (a .index .now)) (a .string .now) (a .first) (a .reach .now)
-    (begun .extend-leading .ensures) (c .before .before .extend-offsets .ensures)
+    (begun .extend-leading .ensures) (ended .extend-offsets .ensures)
 
 pub extend-window-spec : {M : Type 1} → statement M
 extend-window-spec = tie.close (tie.spec (λ c κs. search needs) (λ c κs. search needs) (λ c. search needs) returns)
