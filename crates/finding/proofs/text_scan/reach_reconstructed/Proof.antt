@@ -13,19 +13,22 @@ use Rattle.laws.specs.TextScan.ReconstructedSearch.{reconstructed-finds, recons
 use Rattle.finding.proofs.text_scan.reach_reconstructed.Statement.{statement}
 use Rattle.finding.proofs.text_scan.reach_reconstructed.Tie as tie
 
+abbrev start : tie.After-slice-known → tie.Start
+start c = c .before .before .before .before .before
+
 returns : tie.Need-returns
 returns c =
-    let a = c .before .before .before .before .before .before .before .before .before .before .before .before .args in
-    let sentinel = c .before .before .before .before .before .sentinel-of in
-    let shown = c .before .before .before .reconstruct-checked in (
+    let checked = c .before .before .before in
+    let a = start (checked .before .before .before .before) .args in
+    let sentinel = checked .before .before .sentinel-of in
+    let shown = checked .reconstruct-checked in (
       λ t. clash t refl,
       (
         λ f. refl,
         (
           reconstructed-once (lexicon-at (a .chars .now) (a .word-starts .now)) (lines-in (a .index .now)) (n-of (a .index .now))
-              (a .string .now)
-              (shown .last .1 .1 .1 .1 .0) (sentinel .result) (shown .result) false (sentinel .ensures) (shown .ensures .0)
-              (shown .ensures .1) (not-true (shown .result) (c .if1 .taken)),
+              (a .string .now) (shown .last .1 .1 .1 .1 .0) (sentinel .result) (shown .result) false (sentinel .ensures)
+              (shown .ensures .0) (shown .ensures .1) (not-true (shown .result) (c .if1 .taken)),
           λ t. clash t refl,
         ),
       ),
@@ -33,13 +36,15 @@ returns c =
 
 returns-2 : tie.Need-returns-2
 returns-2 c =
-    let half = c .before .before .before .before .before .before .before .before .before in
-    let s = half .before .before .before .before .before .before .before .before in
+    let reached = c .before .before in
+    let all = reached .before .before .before in
+    let checked = all .before .before .before in
+    let s = start (checked .before .before .before .before) in
     let a = s .args in
-    let sentinel = c .before .before .before .before .before .before .before .before .before .before .sentinel-of in
-    let shown = c .before .before .before .before .before .before .before .before .reconstruct-checked in
-    let yes-all = not-false (shown .result) (c .before .before .before .before .before .if1 .left) in
-    let told = c .before .before .reach-prefixes in (
+    let sentinel = checked .before .before .sentinel-of in
+    let shown = checked .reconstruct-checked in
+    let yes-all = not-false (shown .result) (all .if1 .left) in
+    let told = reached .reach-prefixes in (
       λ t.
           reconstructed-finds (lexicon-at (a .chars .now) (a .word-starts .now)) (a .index .now) (n-of (a .index .now)) (sentinel .result)
           (shown .last .1 .1 .1 .1 .0) (a .string .now) (told .last .1 .1 .0)
@@ -49,9 +54,8 @@ returns-2 c =
         λ f. clash refl f,
         (
           reconstructed-once (lexicon-at (a .chars .now) (a .word-starts .now)) (lines-in (a .index .now)) (n-of (a .index .now))
-              (a .string .now)
-              (shown .last .1 .1 .1 .1 .0) (sentinel .result) (shown .result) true (sentinel .ensures) (shown .ensures .0)
-              (shown .ensures .1) yes-all,
+              (a .string .now) (shown .last .1 .1 .1 .1 .0) (sentinel .result) (shown .result) true (sentinel .ensures)
+              (shown .ensures .0) (shown .ensures .1) yes-all,
           λ t. told .ensures,
         ),
       ),

@@ -23,12 +23,12 @@ write-found-requires c κs =
 
 returns-2 : tie.Need-returns-2
 returns-2 c =
-    let a = c .before .before .before .before .before .before .before .before .args in
-    let counted = c .before .before .before .before .before .count-found in
+    let fits = c .before .before .before .before in
+    let a = fits .before .before .before .before .args in
+    let counted = fits .before .count-found in
     let written = c .before .before .write-found in
     answer-found (a .len) (a .first) (a .reach .now) (a .output .now) (counted .result) (counted .ensures)
-    (c .before .before .before .before .if1 .left)
-    (written .last .1 .1 .1 .1 .0) (written .ensures) (record { refusal = 0; count = counted .result }) refl refl
+    (fits .if1 .left) (written .last .1 .1 .1 .1 .0) (written .ensures) (record { refusal = 0; count = counted .result }) refl refl
 
 pub answer-window-spec : {M : Type 1} → statement M
 answer-window-spec =

@@ -9,28 +9,29 @@ use borrow.Author.Needs.{needs}
 use Rattle.finding.proofs.window.first_in_window.Statement.{statement}
 use Rattle.finding.proofs.window.first_in_window.Tie as tie
 
+abbrev start : tie.After-shared-slice-known5 → tie.Start
+start c = c .before .before .before .before .before
+
 extend-window-requires : tie.Need-extend-window-requires
 extend-window-requires c κs =
-    let s = c .before .before .before .before .before .before .before .before in
+    let s = start (c .before .before .before) in
     (s .pre .0, s .pre .1, cleared-within (length (s .args .reach .now)) (s .args .reach .now) (s .pre .3))
 
 returns : tie.Need-returns
 returns c =
-    let s = c .before .before .before .before .before .before .before .before .before .before .before .before in
+    let window = c .before .before .before in
+    let s = start (window .before .before .before .before) in
     let a = s .args in
-    let window = c .before .before .before .extend-window in
     laws.first-in-none (lexicon-at (a .chars .now) (a .word-starts .now)) (a .index .now) (a .string .now) (length (a .reach .now))
-    (a .first)
-    (a .reach .now) (s .pre .3) (window .ensures) (c .if1 .taken)
+    (a .first) (a .reach .now) (s .pre .3) (window .extend-window .ensures) (c .if1 .taken)
 
 returns-2 : tie.Need-returns-2
 returns-2 c =
-    let s = c .before .before .before .before .before .before .before .before .before .before .before .before .before .before in
+    let window = c .before .before .before .before .before in
+    let s = start (window .before .before .before .before) in
     let a = s .args in
-    let window = c .before .before .before .before .before .extend-window in
     laws.first-in-window (lexicon-at (a .chars .now) (a .word-starts .now)) (a .index .now) (a .string .now) (length (a .reach .now))
-    (a .first)
-    (a .reach .now) (s .pre .3) (window .ensures) (c .first-found .result) (c .first-found .ensures)
+    (a .first) (a .reach .now) (s .pre .3) (window .extend-window .ensures) (c .first-found .result) (c .first-found .ensures)
 
 pub first-in-window-spec : {M : Type 1} → statement M
 first-in-window-spec =

@@ -9,30 +9,32 @@ use borrow.Author.Needs.{needs}
 use Rattle.finding.proofs.window.search_window.Statement.{statement}
 use Rattle.finding.proofs.window.search_window.Tie as tie
 
+abbrev start : tie.After-shared-slice-known5 → tie.Start
+start c = c .before .before .before .before .before
+
 extend-listing-requires : tie.Need-extend-listing-requires
 extend-listing-requires c κs =
-    let s = c .before .before .before .before .before .before .before .before .before in
+    let s = start (c .before .before .before .before) in
     (s .pre .0, s .pre .1, omega arith, omega arith, cleared-within (length (s .args .reach .now)) (s .args .reach .now) (s .pre .3))
 
 returns : tie.Need-returns
 returns c =
-    let s = c .before .before .before .before .before .before .before .before .before .before .before .before .before .before in
+    let window = c .before .before .before .before in
+    let s = start (window .before .before .before .before .before) in
     let a = s .args in
-    let window = c .before .before .before .before .extend-listing in
     says-none (lexicon-at (a .chars .now) (a .word-starts .now)) (a .index .now) (a .string .now) (length (a .reach .now)) (a .first)
-    (a .output .now)
-    (a .reach .now) (s .pre .3) (window .ensures) (c .if1 .taken) (record { refusal = 0; count = 0 }) refl refl
+    (a .output .now) (a .reach .now) (s .pre .3) (window .extend-listing .ensures) (c .if1 .taken) (record { refusal = 0; count = 0 }) refl refl
 
 returns-2 : tie.Need-returns-2
 returns-2 c =
-    let half = c .before .before .before .before .before .before .before .before .before .before in
-    let s = half .before .before .before .before .before .before .before .before .before in
+    let answered = c .before .before in
+    let some = answered .before .before .before in
+    let window = some .before .before .before .before in
+    let s = start (window .before .before .before .before .before) in
     let a = s .args in
-    let window = c .before .before .before .before .before .before .before .before .before .extend-listing in
-    let answered = c .before .before .answer-window in
     says-answered (lexicon-at (a .chars .now) (a .word-starts .now)) (a .index .now) (a .string .now) (length (a .reach .now)) (a .first)
-    (a .output .now)
-    (a .reach .now) (s .pre .3) (window .ensures) (answered .result) (answered .last .1 .1 .1 .0) (answered .ensures)
+    (a .output .now) (a .reach .now) (s .pre .3) (window .extend-listing .ensures) (answered .answer-window .result)
+    (answered .answer-window .last .1 .1 .1 .0) (answered .answer-window .ensures)
 
 pub search-window-spec : {M : Type 1} → statement M
 search-window-spec =
