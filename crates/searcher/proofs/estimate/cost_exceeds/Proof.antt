@@ -16,10 +16,8 @@ abbrev μ-loop : tie.MeasureT-loop
 
 -- what one sample adds
 sample :
-    (c : tie.After-count-keys Inv-loop μ-loop) →
-    (1 + length (c .before .before .before .before .before .before .before .before .before .args .string .now) / 32)
-    * c .count-keys .result
-    ≤ 9 * 2 ^ 50
+    (c : tie.After-count-keys Inv-loop μ-loop) → let estimated = c .before .before .before .before in
+    (1 + length (estimated .before .before .before .before .before .args .string .now) / 32) * c .count-keys .result ≤ 9 * 2 ^ 50
 sample c = mul-le-mul (c .before .before .before .loop .inv .1) (c .count-keys .ensures)
 
 pub cost-exceeds-spec : {M : Type 1} → statement M

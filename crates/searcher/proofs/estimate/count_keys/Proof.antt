@@ -6,7 +6,8 @@ use Rattle.searcher.proofs.estimate.count_keys.Tie as tie
 
 lone-line-requires : tie.Need-lone-line-requires
 lone-line-requires c κs =
-    let h = c .before .before .before .before .before .before .pre .0 in
+    let estimated = c .before in
+    let h = estimated .before .before .before .before .before .pre .0 in
     (h .reads .can .fits, lone-rise (h .reads .can) (h .split))
 
 pub count-keys-spec : {M : Type 1} → statement M

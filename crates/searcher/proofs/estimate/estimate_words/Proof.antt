@@ -26,20 +26,24 @@ Inv-loop2 chars word-starts index string key-start word-lines whole agreeing sum
 abbrev μ-loop2 : tie.MeasureT-loop2
 μ-loop2 chars word-starts index string key-start word-lines whole agreeing sum₀ i line₀ sum line = agreeing .to - line
 
+abbrev start : tie.After-lines Inv-loop μ-loop Inv-loop2 μ-loop2 → tie.Start Inv-loop μ-loop Inv-loop2 μ-loop2
+start c = c .before .before .before .before .before
+
 loop-holds : tie.Need-loop-holds Inv-loop μ-loop Inv-loop2 μ-loop2
 loop-holds c =
-    let a = c .before .before .before .before .before .before .before .before .args in
+    let a = start (c .before .before .before) .args in
     let few = listed-few (a .key-start) (lexicon-at (a .chars .now) (a .word-starts .now)) (a .index .now) (a .string .now)
     (c .before .before .agreeing-words .ensures .0) in
     (omega arith, omega (arith, few), omega arith)
 
 estimate-line-requires : tie.Need-estimate-line-requires Inv-loop μ-loop Inv-loop2 μ-loop2
 estimate-line-requires c κs =
-    let s = c .before .before .before .before .before .before .before .before .before .before .before in
+    let words = c .before .before .before .before .before in
+    let s = start (words .before) in
     let a = s .args in
     let h = s .pre .0 in
     let l = c .before .before .loop in
-    let found = c .before .before .before .before .before .agreeing-words .ensures .0 in
+    let found = words .agreeing-words .ensures .0 in
     let below : c .number-at .result < a .word-lines = omega (
       arith,
       agreeing-below (lexicon-at (a .chars .now) (a .word-starts .now)) (a .index .now) (a .string .now) found
@@ -49,8 +53,10 @@ estimate-line-requires c κs =
 
 estimate-line-requires-2 : tie.Need-estimate-line-requires-2 Inv-loop μ-loop Inv-loop2 μ-loop2
 estimate-line-requires-2 c κs =
-    let h = c .before .before .before .before .before .before .before .before .before .before .before .before .before .pre .0 in
-    (h .reads, omega arith, h .split .words (c .before .before .loop2 .line) (omega arith))
+    let at-loop = c .before .before in
+    let words = at-loop .before .before .before .before .before in
+    let h = start (words .before) .pre .0 in
+    (h .reads, omega arith, h .split .words (at-loop .loop2 .line) (omega arith))
 
 pub estimate-words-spec : {M : Type 1} → statement M
 estimate-words-spec =

@@ -30,11 +30,12 @@ first-words-requires c κs =
 
 cast-position : tie.Need-cast-position
 cast-position c =
-    let a = c .before .before .before .before .before .before .before .args in
+    let index = c .before .before .before .before in
+    let a = index .before .before .before .args in
     omega (
       arith,
       first-position-small (lexicon (a .chars .now) (a .lengths .now)) (a .index .now) (replaced (a .string .now)),
-      c .before .before .before .before .shared-slice-known3 .given 0,
+      index .shared-slice-known3 .given 0,
     )
 
 returns-2 : tie.Need-returns-2

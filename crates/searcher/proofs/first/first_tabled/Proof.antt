@@ -6,7 +6,8 @@ use Rattle.searcher.proofs.first.first_tabled.Tie as tie
 
 first-plain-requires : tie.Need-first-plain-requires
 first-plain-requires c κs =
-    let s = c .before .before .before .before .before .before .before in
+    let known = c .before .before in
+    let s = known .before .before .before .before .before in
     (s .pre .0, own-string _ _ (c .before .replaced-string .ensures) (s .pre .1))
 
 pub first-tabled-spec : {M : Type 1} → statement M

@@ -5,19 +5,22 @@ use Rattle.laws.specs.Directory.Tables.{front-long, front-lengths, front-reads}
 use Rattle.searcher.proofs.first.first_words.Statement.{statement}
 use Rattle.searcher.proofs.first.first_words.Tie as tie
 
+abbrev start : tie.After-word-starts → tie.Start
+start c = c .before .before .before .before .before
+
 slice-aggregate-first-lines : tie.Need-slice-aggregate-first-lines
 slice-aggregate-first-lines c =
-    let s = c .before .before .before .before .before .before .before .before in
+    let s = start (c .before .before .before) in
     front-long (s .pre .0) (replicate 4097 0) (c .before .before .fill-word-starts .ensures)
 
 first-lines-requires : tie.Need-first-lines-requires
 first-lines-requires c κs =
-    let s = c .before .before .before .before .before .before .before .before in
+    let s = start (c .before .before .before) in
     (front-reads (s .pre .0) (replicate 4097 0) (c .before .before .fill-word-starts .ensures), s .pre .1)
 
 returns : tie.Need-returns
 returns c =
-    let s = c .before .before .before .before .before .before .before .before .before in
+    let s = start (c .before .before .before .before) in
     rw (front-lengths (s .pre .0) (replicate 4097 0) (c .before .before .before .fill-word-starts .ensures)) at (c .first-lines .ensures)
 
 pub first-words-spec : {M : Type 1} → statement M

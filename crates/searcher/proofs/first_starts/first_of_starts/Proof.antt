@@ -5,7 +5,8 @@ use Rattle.searcher.proofs.first_starts.first_of_starts.Tie as tie
 
 first-by-estimate-requires : tie.Need-first-by-estimate-requires
 first-by-estimate-requires c κs =
-    let s = c .before .before .before .before .before .before .before in
+    let known = c .before .before in
+    let s = known .before .before .before .before .before in
     (s .pre .0, s .pre .1, s .pre .2, c .before .prefers-text-scan .ensures (c .if1 .taken))
 
 pub first-of-starts-spec : {M : Type 1} → statement M

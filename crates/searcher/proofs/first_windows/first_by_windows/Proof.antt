@@ -8,13 +8,16 @@ use Rattle.searcher.proofs.first_windows.first_by_windows.Tie as tie
 
 returns-3 : tie.Need-returns-3
 returns-3 c =
-    let starts = c .before .before .before .before .before .before .before .before .before .before .args .starts in
+    let known = c .before .before .before .before .before in
+    let starts = known .before .before .before .before .before .args .starts in
     first-in-first _ _ _ _ 8192 (starts - 8192) 1 (omega arith) _ (c .before .first-in-middle2 .ensures) (c .if3 .taken)
 
 returns-4 : tie.Need-returns-4
 returns-4 c =
-    let starts = c .before .before .before .before .before .before .before .before .before .before .before .args .starts in
-    first-in-second _ _ _ _ 8192 (starts - 8192) 1 (omega arith) _ (c .before .before .first-in-middle2 .ensures) (omega arith)
+    let middle = c .before .before in
+    let known = middle .before .before .before .before in
+    let starts = known .before .before .before .before .before .args .starts in
+    first-in-second _ _ _ _ 8192 (starts - 8192) 1 (omega arith) _ (middle .first-in-middle2 .ensures) (omega arith)
     (c .before .if3 .left) _ (c .first-in-long .ensures)
 
 pub first-by-windows-spec : {M : Type 1} → statement M

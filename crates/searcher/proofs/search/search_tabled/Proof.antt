@@ -6,7 +6,8 @@ use Rattle.searcher.proofs.search.search_tabled.Tie as tie
 
 search-plain-requires : tie.Need-search-plain-requires
 search-plain-requires c κs =
-    let s = c .before .before .before .before .before .before .before .before .before in
+    let known = c .before .before .before .before in
+    let s = known .before .before .before .before .before in
     (s .pre .0, own-string _ _ (c .before .before .replaced-string .ensures) (s .pre .1))
 
 pub search-tabled-spec : {M : Type 1} → statement M

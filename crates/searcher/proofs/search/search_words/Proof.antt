@@ -5,21 +5,25 @@ use Rattle.laws.specs.Directory.Tables.{front-long, front-lengths, front-reads}
 use Rattle.searcher.proofs.search.search_words.Statement.{statement}
 use Rattle.searcher.proofs.search.search_words.Tie as tie
 
+abbrev start : tie.After-slice-known → tie.Start
+start c = c .before .before .before .before .before
+
 slice-aggregate-search-lines : tie.Need-slice-aggregate-search-lines
 slice-aggregate-search-lines c =
-    let s = c .before .before .before .before .before .before .before .before .before in
+    let s = start (c .before .before .before .before) in
     front-long (s .pre .0) (replicate 4097 0) (c .before .before .fill-word-starts .ensures)
 
 search-lines-requires : tie.Need-search-lines-requires
 search-lines-requires c κs =
-    let s = c .before .before .before .before .before .before .before .before .before .before in
+    let s = start (c .before .before .before .before .before) in
     (front-reads (s .pre .0) (replicate 4097 0) (c .before .before .before .fill-word-starts .ensures), s .pre .1)
 
 returns : tie.Need-returns
 returns c =
-    let filled = c .before .before .before .before .before .before in
-    let can = filled .before .before .before .before .before .before .before .pre .0 in
-    rw (front-lengths can (replicate 4097 0) (filled .fill-word-starts .ensures)) at (c .before .before .search-lines .ensures)
+    let lines = c .before .before in
+    let filled = lines .before .before .before .before in
+    let can = start (filled .before .before) .pre .0 in
+    rw (front-lengths can (replicate 4097 0) (filled .fill-word-starts .ensures)) at (lines .search-lines .ensures)
 
 pub search-words-spec : {M : Type 1} → statement M
 search-words-spec =

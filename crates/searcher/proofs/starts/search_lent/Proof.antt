@@ -7,9 +7,12 @@ use Rattle.laws.specs.Window.Searching.{cleared-part}
 use Rattle.searcher.proofs.starts.search_lent.Statement.{statement}
 use Rattle.searcher.proofs.starts.search_lent.Tie as tie
 
+abbrev start : tie.After-shared-slice-known5 → tie.Start
+start c = c .before .before .before .before .before
+
 search-cleared-requires : tie.Need-search-cleared-requires
 search-cleared-requires c κs =
-    let s = c .before .before .before .before .before .before .before .before .before in
+    let s = start (c .before .before .before .before) in
     let a = s .args in (
       s .pre .0,
       s .pre .1,
@@ -19,13 +22,13 @@ search-cleared-requires c κs =
 
 returns : tie.Need-returns
 returns c =
-    let s = c .before .before .before .before .before .before .before .before .before .before .before .before .before .before in
-    rw (length-take-le (s .args .starts) (s .args .reach .now) (s .pre .3)) at (c .before .before .before .before .search-cleared .ensures)
+    let cleared = c .before .before .before .before in
+    let s = start (cleared .before .before .before .before .before) in
+    rw (length-take-le (s .args .starts) (s .args .reach .now) (s .pre .3)) at (cleared .search-cleared .ensures)
 
 pub search-lent-spec : {M : Type 1} → statement M
 search-lent-spec =
     tie.close
     (tie.spec
-    (λ c. search needs)
-    (λ c. let s = c .before .before .before .before .before .before .before .before in sym (length-take-le _ _ (s .pre .3)))
-    search-cleared-requires (λ c. search needs) (λ c. search needs) returns)
+    (λ c. search needs) (λ c. sym (length-take-le _ _ (start (c .before .before .before) .pre .3))) search-cleared-requires
+    (λ c. search needs) (λ c. search needs) returns)

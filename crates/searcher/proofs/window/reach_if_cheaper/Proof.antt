@@ -8,7 +8,8 @@ use Rattle.searcher.proofs.window.reach_if_cheaper.Tie as tie
 
 reach-by-text-requires : tie.Need-reach-by-text-requires
 reach-by-text-requires c κs =
-    let s = c .before .before .before .before .before .before .before .before in
+    let known = c .before .before .before in
+    let s = known .before .before .before .before .before in
     let prefers = c .before .before .prefers-text-scan in
     (s .pre .0, s .pre .1 .short, prefers .ensures (not-false (prefers .result) (c .before .if1 .left)))
 

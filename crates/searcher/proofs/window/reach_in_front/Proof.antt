@@ -7,15 +7,18 @@ use borrow.Author.Needs.{needs}
 use Rattle.searcher.proofs.window.reach_in_front.Statement.{statement}
 use Rattle.searcher.proofs.window.reach_in_front.Tie as tie
 
+abbrev start : tie.After-slice-known → tie.Start
+start c = c .before .before .before .before .before
+
 -- the length of the part
 part :
     (c : tie.After-text-len) →
-    length (take (c .text-len .result) (c .before .before .before .before .before .before .before .args .room .now)) ≡ c .text-len .result
+    length (take (c .text-len .result) (start (c .before .before) .args .room .now)) ≡ c .text-len .result
 part c = length-take-le _ _ (omega arith)
 
 reach-reconstructed-requires : tie.Need-reach-reconstructed-requires
 reach-reconstructed-requires c κs =
-    let s = c .before .before .before .before .before .before .before .before .before in
+    let s = start (c .before .before .before .before) in
     (s .pre .0, s .pre .1, part (c .before .before) ∙ c .before .before .text-len .ensures .0, s .pre .3)
 
 pub reach-in-front-spec : {M : Type 1} → statement M

@@ -8,20 +8,24 @@ use Rattle.searcher.proofs.window.search_cleared.Tie as tie
 
 returns : tie.Need-returns
 returns c =
-    let told = c .before .before .before .before .before .before .before .before .reach-if-cheaper in
-    says-told _ _ _ _ _ _ _ _ (told .ensures .0 (c .before .before .before .before .before .if1 .taken)) (told .kept .1 .1 .1 .1 .0)
-    (c .before .before .answer-window .ensures)
+    let answered = c .before .before in
+    let cheaper = answered .before .before .before in
+    let told = cheaper .before .before .before .reach-if-cheaper in
+    says-told _ _ _ _ _ _ _ _ (told .ensures .0 (cheaper .if1 .taken)) (told .kept .1 .1 .1 .1 .0) (answered .answer-window .ensures)
 
 search-window-requires : tie.Need-search-window-requires
 search-window-requires c κs =
-    let s = c .before .before .before .before .before .before .before .before .before .before .before .before .before .before in
-    let told = c .before .before .before .before .before .reach-if-cheaper in
+    let tried = c .before .before .before .before .before in
+    let known = tried .before .before .before .before in
+    let s = known .before .before .before .before .before in
+    let told = tried .reach-if-cheaper in
     (s .pre .0, s .pre .1, omega arith, still-clear _ _ (told .ensures .1 (c .before .before .if1 .left)) (s .pre .3))
 
 returns-2 : tie.Need-returns-2
 returns-2 c =
-    let told = c .before .before .before .before .before .before .before .before .before .before .reach-if-cheaper in
-    rw (told .kept .1 .1 .1 .1 .0) at (c .before .before .before .before .search-window .ensures)
+    let searched = c .before .before .before .before in
+    let dearer = searched .before .before .before in
+    rw (dearer .before .before .before .reach-if-cheaper .kept .1 .1 .1 .1 .0) at (searched .search-window .ensures)
 
 pub search-cleared-spec : {M : Type 1} → statement M
 search-cleared-spec =
