@@ -1,22 +1,25 @@
 // Lists the lines of words whose keys agree with the string at an offset of 0 or below: the leading lines.
 //
 // The list does not depend on the window, so a search of several windows for one string makes it once. A word is compared with the string
-// only at its indices that have the string's first character.
+// only at its indices that have the string's first character, and most words are passed over at once because they lack it.
 ghost use mathlib.Core.Path.{_≡_};
-ghost use Prim.Native.Nat.{_≤_};
+ghost use Prim.Native.Nat.{_≤_, _<_};
 ghost use lib.ListN.{length, take};
 ghost use Rattle.spec.specs.Calls.{in-front};
-ghost use Rattle.models.specs.Window.{agrees-leading, leading-lines};
+ghost use Rattle.spec.specs.Index.{keys-of, kind-at};
+ghost use Rattle.models.specs.Window.{agrees-leading, is-leading, leading-lines};
 ghost use Rattle.models.specs.WordStarts.{lexicon-at};
 ghost use Rattle.laws.specs.Directory.Tables.{Reads};
 ghost use Rattle.laws.specs.Window.LineRanges.{Split};
+use crate::blocks::seen_to_lack;
 use crate::offset::agrees_at;
 use directory::lines::word_at;
 use directory::ranges::count_word_lines;
+use layout::fields::value_at;
 use width::Number;
 
 // Whether a key agrees with the string at an offset of 0 or below.
-pub fn agrees_leading(key: &[u16], string: &[u16]) -> bool
+fn agrees_leading(key: &[u16], string: &[u16]) -> bool
     requires { ⌜ (length (now key) ≤ 32) × (1 ≤ length (now string)) ⌝ }
     ensures { λ r. ⌜ r ≡ agrees-leading (now (string .entry)) (now (key .entry)) ⌝ }
 {
@@ -32,6 +35,28 @@ pub fn agrees_leading(key: &[u16], string: &[u16]) -> bool
         }
     }
     false
+}
+
+// Whether the word of a line agrees with the string at an offset of 0 or below.
+pub fn line_leads(
+    chars: &[u16],
+    word_starts: &[u16],
+    index: &[Number],
+    string: &[u16],
+    line: usize,
+) -> bool
+    requires { ⌜
+        Reads (now chars) (now «word_starts») (now index) × (line < keys-of (now index)) × (kind-at (now index) line ≡ 0) ×
+        (1 ≤ length (now string)) ⌝ }
+    ensures { λ r. ⌜
+        r ≡ is-leading (lexicon-at (now (chars .entry)) (now («word_starts» .entry))) (now (index .entry)) (now (string .entry)) line ⌝ }
+{
+    let start = word_starts[value_at(index, line)] as usize;
+    let word = word_at(chars, word_starts, index, line);
+    if seen_to_lack(chars, start, word.len(), string[0]) {
+        return false;
+    }
+    agrees_leading(word, string)
 }
 
 // Lists those of the first `word_lines` lines whose keys agree at an offset of 0 or below, from the start of `lines`. Answers how many.
@@ -57,8 +82,7 @@ fn fill_leading(
     while line < word_lines {
         let at = line;
         line += 1;
-        let key = word_at(chars, word_starts, index, at);
-        if agrees_leading(key, string) {
+        if line_leads(chars, word_starts, index, string, at) {
             lines[count] = at as u16;
             count += 1;
         }

@@ -4,8 +4,7 @@ ghost use Rattle.models.specs.Window.{leading-lines};
 ghost use Rattle.models.specs.WordStarts.{lexicon-at};
 ghost use Rattle.laws.specs.Cut.Flagging.{Flags, Ones-at};
 ghost use Rattle.laws.specs.Cut.FlagWalks.{Bears-on};
-use agreement::leading::agrees_leading;
-use directory::lines::word_at;
+use agreement::leading::line_leads;
 use width::Number;
 
 // Flags those of the first `word_lines` lines whose words agree with the string at an offset of 0 or below.
@@ -28,8 +27,7 @@ pub(crate) fn flag_leading(
     while line < word_lines {
         let at = line;
         line += 1;
-        let word = word_at(chars, word_starts, index, at);
-        if agrees_leading(word, string) {
+        if line_leads(chars, word_starts, index, string, at) {
             flags[at] = 1;
         }
     }

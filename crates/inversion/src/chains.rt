@@ -23,17 +23,14 @@ pub struct Counts {
     pub entries: usize,
 }
 
-// The code of a token, where `character` is the text's as lent.
+// The code of a token, where `character` is the text's as lent. Both codes are computed, so that no branch has to be predicted.
 fn code_of(token: usize, character: u16) -> usize
     requires { ⌜ (1 ≤ token) × (token ≤ 4097) ⌝ }
     ensures is { λ r. ⌜ coded token (replaced-char character) ≡ suc r ⌝ }
     ensures small { λ r. ⌜ r < 69632 ⌝ }
 {
-    if token == 4097 {
-        4096 + replace(character) as usize
-    } else {
-        token - 1
-    }
+    let lone = 4096 + replace(character) as usize;
+    if token == 4097 { lone } else { token - 1 }
 }
 
 // Turns the tokens of the replaced text into links, fills the heads, which are clear on entry, and the pages, and counts keys and entries.

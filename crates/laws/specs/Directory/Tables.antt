@@ -7,7 +7,7 @@ use Prim.Native.Nat.{ℕ, zero, suc, _+_, _*_, _-_, _≤_, _<_}
 use native.Mathlib.Omega.{arith}
 use lib.Dec.{leb}
 use lib.ListN.{length, getD, take, drop, set, length-set}
-use lib.Seq.{drop-nil, getD-set-same, getD-set-other, take-at}
+use lib.Seq.{drop-nil, getD-take, getD-drop, getD-set-same, getD-set-other, take-at}
 use borrow.Author.Count.{below-more}
 use Rattle.basics.specs.Bools.{and-left}
 use Rattle.basics.specs.Member.{In}
@@ -30,7 +30,7 @@ use Rattle.laws.specs.Readable.IndexRefusal.{Accepted, index-accepted}
 use Rattle.laws.specs.Readable.Readable.{readable-get}
 use Rattle.laws.specs.Numbers.Slices.{Fits, lengths-fit-get}
 use Rattle.laws.specs.Directory.Opened.{line-of, lines-next, list-room}
-use Rattle.laws.specs.Directory.WordStarts.{Word-starts, word-long, length-starts, lengths-of-starts}
+use Rattle.laws.specs.Directory.WordStarts.{Word-starts, end-room, word-lies, word-long, length-starts, lengths-of-starts}
 
 -- what holds if 1, 2, 3 and 5 are not met
 pub record Can-read (cs ls xs : List ℕ) : Type 0 where
@@ -104,6 +104,18 @@ module _ {cs ws xs : List ℕ} (reads : Reads cs ws xs) (i : ℕ) (below : i < k
 
   pub line-long : getD ws (value-at xs i + 1) 0 ≡ getD ws (value-at xs i) 0 + length word
   line-long = omega (arith, word-long (reads .words) (value-at xs i) line-word, ap length line-spells)
+
+  pub line-end : getD ws (value-at xs i) 0 + length word ≤ length cs
+  line-end = omega (arith, line-long, end-room (reads .words) (value-at xs i) line-word)
+
+  -- its characters lie among the dictionary's
+  pub line-char : (j : ℕ) → j < length word → getD cs (getD ws (value-at xs i) 0 + j) 0 ≡ getD word j 0
+  line-char j b =
+      sym (getD-drop (getD ws (value-at xs i) 0) cs j 0)
+      ∙ sym
+      (getD-take (getD ws (value-at xs i + 1) 0 - getD ws (value-at xs i) 0) (drop (getD ws (value-at xs i) 0) cs) j 0
+      (omega (arith, line-long)))
+      ∙ ap (λ (k : List ℕ). getD k j 0) (word-lies (reads .words) (value-at xs i) line-word ∙ line-spells)
 
 -- FILLING THE TABLE OF LISTS
 

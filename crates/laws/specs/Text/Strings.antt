@@ -33,6 +33,10 @@ same-put a b e = rw e (same-self b)
 abbrev pub Same-run : (s : List ℕ) (a : ℕ) (t : List ℕ) (b n : ℕ) → Type 0
 Same-run s a t b n = (j : ℕ) → j < n → getD s (a + j) 0 ≡ getD t (b + j) 0
 
+-- the n characters of s from index a on are not c
+abbrev pub Lacks : (s : List ℕ) (a n c : ℕ) → Type 0
+Lacks s a n c = (j : ℕ) → j < n → getD s (a + j) 0 ≡ c → ⊥
+
 -- s stands in ts at p: each position p to p + |s| − 1 of ts carries the character of s there
 pub record Stand (s ts : List ℕ) (p : ℕ) : Type 0 where
   pub from : 1 ≤ p

@@ -16,11 +16,14 @@ use Rattle.basics.specs.Steps.{any-from, any-from-get, any-from-put, those-from
 use Rattle.basics.specs.Writing.{Writing, starts, has-room, writes, written, written-length}
 use Rattle.spec.specs.Dictionary.{Lexicon}
 use Rattle.spec.specs.Words.{spells}
-use Rattle.spec.specs.Index.{key-at}
+use Rattle.spec.specs.Index.{keys-of, kind-at, value-at, key-at}
 use Rattle.spec.specs.Search.{agrees}
 use Rattle.models.specs.Reach.{reach-back}
 use Rattle.models.specs.Window.{back-all, run-from, run, positions-at, leading-at, agrees-leading, is-leading, leading-lines, run-list}
+use Rattle.models.specs.WordStarts.{lexicon-at}
 use Rattle.spec.specs.Calls.{in-front}
+use Rattle.laws.specs.Text.Strings.{Lacks}
+use Rattle.laws.specs.Directory.Tables.{Reads, line-char}
 use Rattle.laws.specs.Build.PostingsByKey.{those-short}
 use Rattle.laws.specs.Search.Reach.{reach-key-apart}
 use Rattle.laws.specs.Search.AgreeWalk.{key-starts-apart}
@@ -57,6 +60,10 @@ module _ (s k : List ℕ) where
   unfolding agrees-leading
   leading-found i b t = sym (any-from-put (length k) 0 (λ i. agrees s i k 0) i (omega arith) (omega arith) t)
 
+  -- a key without the string's first character agrees at none of them
+  pub leading-lacks : ((i : ℕ) → i < length k → getD k i 0 ≡ getD s 0 0 → ⊥) → false ≡ agrees-leading s k
+  leading-lacks other = apart-end (length k) (λ i b. key-starts-apart i s k b (other i b)) (omega arith)
+
   -- a key that agrees at none of them extends nothing
   back-apart : (p : ℕ) (bs : List ℕ) (n i r : ℕ) → Apart-to s k (i + n) → reach-back n i s k p bs r ≡ r
   unfolding reach-back
@@ -79,6 +86,15 @@ module _ (s k : List ℕ) where
       (λ j w. back-apart (q + j) bs (length k) 0 (getD rs j 0) (λ i b. leading-none f i (omega arith)))
 
 -- THE LINES OF LEADING KEYS
+
+-- a word that is seen to lack the string's first character
+pub line-lacks :
+    {cs ws xs : List ℕ} (reads : Reads cs ws xs) (i : ℕ) (below : i < keys-of xs) (kind : kind-at xs i ≡ 0) (s : List ℕ) {v : ℕ}
+    {k : List ℕ} → v ≡ value-at xs i → k ≡ spells (lexicon-at cs ws) (key-at xs i) → Lacks cs (getD ws v 0) (length k) (getD s 0 0) →
+    false ≡ is-leading (lexicon-at cs ws) xs s i
+line-lacks {cs} {ws} {xs} reads i below kind s e f lacks =
+    leading-lacks s (spells (lexicon-at cs ws) (key-at xs i))
+    (λ j b c. (rw (e, f) at lacks) j b (line-char reads i below kind j b ∙ c))
 
 -- a walk may skip steps that change nothing
 pub run-those :

@@ -6,8 +6,7 @@ use mathlib.Core.Logic.{_⊎_, ⊎-elim}
 use mathlib.Core.List.{List}
 use Prim.Native.Nat.{ℕ, _+_, _*_, _-_, _≤_, _<_}
 use native.Mathlib.Omega.{arith}
-use lib.ListN.{length, getD, drop}
-use lib.Seq.{getD-take, getD-drop}
+use lib.ListN.{length, getD}
 use Rattle.basics.specs.Bools.{false-put, le-or-lt}
 use Rattle.spec.specs.Dictionary.{Lexicon}
 use Rattle.spec.specs.Words.{spells}
@@ -18,8 +17,8 @@ use Rattle.models.specs.WordStarts.{lengths-of, lexicon-at}
 use Rattle.laws.specs.Search.Agree.{Agree, agrees-get}
 use Rattle.laws.specs.Search.AgreeWalk.{together}
 use Rattle.laws.specs.Match.PrefixRanges.{prefix-not-before, next-rises}
-use Rattle.laws.specs.Directory.WordStarts.{starts-long, end-room, word-lies}
-use Rattle.laws.specs.Directory.Tables.{Can-read, Reads, line-room, line-word, line-spells, line-long, key-short, key-some}
+use Rattle.laws.specs.Directory.WordStarts.{starts-long}
+use Rattle.laws.specs.Directory.Tables.{Can-read, Reads, line-room, line-word, line-end, line-char, key-short, key-some}
 use Rattle.basics.specs.LowerBound.{Rising, Lower-bound, rising-part}
 use Rattle.laws.specs.Window.LineSteps.{Unchanged, offset-apart}
 use Rattle.laws.specs.Window.LineRanges.{Split, word-lines-rise}
@@ -96,16 +95,10 @@ module _
     shared-word = line-word reads i shared-line kind
 
     room : getD ws (value-at xs i) 0 + length (word-of i) ≤ length cs
-    room = omega (arith, line-long reads i shared-line kind, end-room (reads .words) (value-at xs i) shared-word)
+    room = line-end reads i shared-line kind
 
     char-at : (j : ℕ) → j < length (word-of i) → word-char cs xs ws j i ≡ getD (word-of i) j 0
-    char-at j b =
-        sym (getD-drop (getD ws (value-at xs i) 0) cs j 0)
-        ∙ sym
-        (getD-take (getD ws (value-at xs i + 1) 0 - getD ws (value-at xs i) 0) (drop (getD ws (value-at xs i) 0) cs) j 0
-        (omega (arith, line-long reads i shared-line kind)))
-        ∙ ap (λ (k : List ℕ). getD k j 0)
-        (word-lies (reads .words) (value-at xs i) shared-word ∙ line-spells reads i shared-line kind)
+    char-at = line-char reads i shared-line kind
 
   -- words that end at depth d, or all if the string ends there, agree
   pub shared-prefix-agrees :

@@ -1,13 +1,11 @@
 -- `fill_leading` meets its contract. The invariant: of the lines before `line`, those that agree are listed. The measure is how many
 -- lines are left. Assumes nothing.
-use mathlib.Core.Path.{_≡_, sym, ap, _∙_}
+use mathlib.Core.Path.{sym, _∙_}
 use Prim.Native.Nat.{_-_, _<_}
 use native.Mathlib.Omega.{arith}
 use borrow.Author.Needs.{needs}
 use lib.ListN.{length}
-use Rattle.models.specs.Window.{agrees-leading, is-leading}
 use Rattle.models.specs.WordStarts.{lexicon-at}
-use Rattle.laws.specs.Directory.Tables.{spelt-short}
 use Rattle.laws.specs.Window.LeadingLines.{Leading, leading-start, leading-passed, leading-room, leading-listed, leading-count}
 use Rattle.laws.specs.Window.LeadingLines.{leading-written}
 use Rattle.agreement.proofs.leading.fill_leading.Statement.{statement}
@@ -23,41 +21,27 @@ abbrev μ-loop : tie.MeasureT-loop
 abbrev start : tie.After-slice-known Inv-loop μ-loop → tie.Start Inv-loop μ-loop
 start c = c .before .before .before .before .before
 
--- the answer of `agrees_leading` is that of the line
-told : (c : tie.After-agrees-leading Inv-loop μ-loop) → let a = start (c .before .before .before .before) .args in
-    c .agrees-leading .result
-    ≡ is-leading (lexicon-at (a .chars .now) (a .word-starts .now)) (a .index .now) (a .string .now) (c .before .before .before .loop .line)
-told c =
-    c .agrees-leading .ensures ∙ ap (agrees-leading (start (c .before .before .before .before) .args .string .now))
-    (c .before .word-at .ensures)
-
 -- there is room for the number of a line that agrees
 room :
-    (c : tie.Then1 Inv-loop μ-loop) →
-    c .before .before .before .before .loop .count < length (c .before .before .before .before .loop .lines)
+    (c : tie.Then1 Inv-loop μ-loop) → c .before .before .before .loop .count < length (c .before .before .before .loop .lines)
 room c =
-    let turn = c .before .before .before in
-    leading-room (turn .before .loop .inv) (turn .loop-test .taken) (sym (c .if1 .taken) ∙ told (c .before))
+    let turn = c .before .before in
+    leading-room (turn .before .loop .inv) (turn .loop-test .taken) (sym (c .if1 .taken) ∙ c .before .line-leads .ensures)
 
-word-at-requires : tie.Need-word-at-requires Inv-loop μ-loop
-word-at-requires c κs =
+line-leads-requires : tie.Need-line-leads-requires Inv-loop μ-loop
+line-leads-requires c κs =
     let s = start (c .before .before) in
-    (s .pre .0, omega arith, s .pre .1 .words (c .before .loop .line) (c .loop-test .taken))
-
-agrees-leading-requires : tie.Need-agrees-leading-requires Inv-loop μ-loop
-agrees-leading-requires c κs =
-    let s = start (c .before .before .before) in
-    (spelt-short (s .pre .0 .can) (c .before .before .loop .line) (omega arith) (c .word-at .result .now) (c .word-at .ensures), s .pre .2)
+    (s .pre .0, omega arith, s .pre .1 .words (c .before .loop .line) (c .loop-test .taken), s .pre .2)
 
 loop-again : tie.Need-loop-again Inv-loop μ-loop
 loop-again c =
-    let turn = c .before .before .before in
-    leading-listed (turn .before .loop .inv) (turn .loop-test .taken) (sym (c .if1 .taken) ∙ told (c .before))
+    let turn = c .before .before in
+    leading-listed (turn .before .loop .inv) (turn .loop-test .taken) (sym (c .if1 .taken) ∙ c .before .line-leads .ensures)
 
 loop-again-2 : tie.Need-loop-again-2 Inv-loop μ-loop
 loop-again-2 c =
-    let turn = c .before .before .before in
-    leading-passed (turn .before .loop .inv) (turn .loop-test .taken) (sym (c .if1 .left) ∙ told (c .before))
+    let turn = c .before .before in
+    leading-passed (turn .before .loop .inv) (turn .loop-test .taken) (sym (c .if1 .left) ∙ c .before .line-leads .ensures)
 
 returns : tie.Need-returns Inv-loop μ-loop
 returns c =
@@ -66,6 +50,6 @@ returns c =
 
 pub fill-leading-spec : {M : Type 1} → statement M
 fill-leading-spec =
-    tie.close (tie.spec Inv-loop μ-loop (λ c. leading-start (start c .pre .3)) (λ c. search needs) word-at-requires
-    agrees-leading-requires (λ c. omega arith) (λ c. omega (arith, room c)) (λ c. room c) (λ c. omega (arith, room c)) (λ c. search needs)
+    tie.close (tie.spec Inv-loop μ-loop (λ c. leading-start (start c .pre .3)) (λ c. search needs) line-leads-requires
+    (λ c. omega arith) (λ c. omega (arith, room c)) (λ c. room c) (λ c. omega (arith, room c)) (λ c. search needs)
     loop-again (λ c. search needs) loop-again-2 (λ c. c .before .loop .inv .writing .len) returns)

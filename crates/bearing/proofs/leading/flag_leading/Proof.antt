@@ -1,11 +1,10 @@
 -- `flag_leading` meets its contract. The invariant: the leading ones of the lines before `line` are flagged. The measure is how many
 -- lines are left. Assumes nothing.
-use mathlib.Core.Path.{_≡_, refl, sym, ap, _∙_}
+use mathlib.Core.Path.{_≡_, sym, _∙_}
 use Prim.Native.Nat.{_-_, _≤_}
 use native.Mathlib.Omega.{arith}
-use Rattle.models.specs.Window.{agrees-leading, leading-lines}
+use Rattle.models.specs.Window.{leading-lines}
 use Rattle.models.specs.WordStarts.{lexicon-at}
-use Rattle.laws.specs.Directory.Tables.{spelt-short}
 use Rattle.laws.specs.Cut.Flagging.{Ones-at, ones-at-none, ones-at-more}
 use Rattle.laws.specs.Cut.FlagWalks.{leading-none, leading-more, leading-same}
 use Rattle.bearing.proofs.leading.flag_leading.Statement.{statement}
@@ -29,22 +28,16 @@ loop-holds c =
       omega arith,
     )
 
-word-at-requires : tie.Need-word-at-requires Inv-loop μ-loop
-word-at-requires c κs =
+line-leads-requires : tie.Need-line-leads-requires Inv-loop μ-loop
+line-leads-requires c κs =
     let h = start (c .before .before) .pre .0 in
-    (h .reads, omega arith, h .split .words (c .before .loop .line) (c .loop-test .taken))
-
-agrees-leading-requires : tie.Need-agrees-leading-requires Inv-loop μ-loop
-agrees-leading-requires c κs =
-    let h = start (c .before .before .before) .pre .0 in
-    (spelt-short (h .reads .can) (c .before .before .loop .line) (omega arith) _ (c .word-at .ensures), h .string .some)
+    (h .reads, omega arith, h .split .words (c .before .loop .line) (c .loop-test .taken), h .string .some)
 
 loop-again : tie.Need-loop-again Inv-loop μ-loop
 loop-again c =
-    let a = start (c .before .before .before .before .before) .args in
-    let l = c .before .before .before .before .loop in
-    let leading = ap (agrees-leading (a .string .now)) (sym (c .before .before .word-at .ensures)) ∙ sym
-    (c .before .agrees-leading .ensures) ∙ c .if1 .taken in (
+    let a = start (c .before .before .before .before) .args in
+    let l = c .before .before .before .loop in
+    let leading = sym (c .before .line-leads .ensures) ∙ c .if1 .taken in (
       rw (leading-more (lexicon-at (a .chars .now) (a .word-starts .now)) (a .index .now) (a .string .now) (l .line) leading)
           (ones-at-more (l .inv .0) (l .line) (omega arith)),
       omega arith,
@@ -52,10 +45,9 @@ loop-again c =
 
 loop-again-2 : tie.Need-loop-again-2 Inv-loop μ-loop
 loop-again-2 c =
-    let a = start (c .before .before .before .before .before) .args in
-    let l = c .before .before .before .before .loop in
-    let leading = ap (agrees-leading (a .string .now)) (sym (c .before .before .word-at .ensures)) ∙ sym
-    (c .before .agrees-leading .ensures) ∙ c .if1 .left in (
+    let a = start (c .before .before .before .before) .args in
+    let l = c .before .before .before .loop in
+    let leading = sym (c .before .line-leads .ensures) ∙ c .if1 .left in (
       rw (leading-same (lexicon-at (a .chars .now) (a .word-starts .now)) (a .index .now) (a .string .now) (l .line) leading)
           (l .inv .0),
       omega arith,
@@ -71,5 +63,5 @@ pub flag-leading-spec : {M : Type 1} → statement M
 flag-leading-spec =
     tie.close
     (tie.spec
-    Inv-loop μ-loop loop-holds (λ c. omega arith) word-at-requires agrees-leading-requires (λ c. omega arith) (λ c. omega arith) loop-again
+    Inv-loop μ-loop loop-holds (λ c. omega arith) line-leads-requires (λ c. omega arith) (λ c. omega arith) loop-again
     (λ c. omega arith) loop-again-2 (λ c. c .before .loop .inv .0 .len) returns)
