@@ -16,7 +16,7 @@ ghost use Rattle.spec.specs.Calls.{index-refusal};
 ghost use Rattle.models.specs.Readability.{as-is, list-good, line-list-good, line-fits, walk-good, read-as};
 ghost use Rattle.laws.specs.Dictionary.Lexicon.{Is-admitted};
 ghost use Rattle.laws.specs.Readable.LineSteps.{Lines-read};
-ghost use Rattle.laws.specs.Readable.LoneWords.{Passed, Reached};
+ghost use Rattle.laws.specs.Readable.LoneWords.{Passed};
 use layout::fields::HEADER;
 use layout::fields::count_at;
 use layout::fields::key_count;
@@ -134,43 +134,46 @@ fn word_line_good(
     line_list_good(index, at, count, n, lengths[value] as usize, as_gaps)
 }
 
-// A word's number and where its characters start.
+// A word's number, where its characters start, and whether it is the one character that was looked for.
 struct Cursor {
     word: usize,
     at: usize,
+    is_word: bool,
 }
 
-// The first word from `from` on that does not start with a character below `value`.
-fn skip_below(chars: &[u16], lengths: &[u16], from: Cursor, value: usize) -> Cursor
+// The first word from `from` on that does not start with a character below `value`, and whether it is `value` alone: no other word can be.
+fn seek(chars: &[u16], lengths: &[u16], from: Cursor, value: usize) -> Cursor
     requires { ⌜ Passed (now chars) (now lengths) (from .word) (from .at) value ⌝ }
-    ensures { λ r. ⌜ Reached (now (chars .entry)) (now (lengths .entry)) (r .word) (r .at) value ⌝ }
+    ensures { λ r. ⌜
+        Passed (now (chars .entry)) (now (lengths .entry)) (r .word) (r .at) value ×
+        (r .«is_word» ≡ is-word (lexicon (now (chars .entry)) (now (lengths .entry))) (value ∷ [])) ⌝ }
 {
     let mut word = from.word;
     let mut at = from.at;
     while word < lengths.len() {
-        if value <= chars[at] as usize {
-            return Cursor { word, at };
+        let first = chars[at] as usize;
+        if value <= first {
+            if value < first {
+                return Cursor {
+                    word,
+                    at,
+                    is_word: false,
+                };
+            }
+            return Cursor {
+                word,
+                at,
+                is_word: lengths[word] == 1,
+            };
         }
         at += lengths[word] as usize;
         word += 1;
     }
-    Cursor { word, at }
-}
-
-// Whether the one character `value` is a word, which could only be the word reached.
-fn is_reached(chars: &[u16], lengths: &[u16], cursor: Cursor, value: usize) -> bool
-    requires { ⌜ Reached (now chars) (now lengths) (cursor .word) (cursor .at) value ⌝ }
-    ensures { λ r. ⌜ r ≡ is-word (lexicon (now (chars .entry)) (now (lengths .entry))) (value ∷ []) ⌝ }
-{
-    let word = cursor.word;
-    let at = cursor.at;
-    if lengths.len() <= word {
-        return false;
+    Cursor {
+        word,
+        at,
+        is_word: false,
     }
-    if chars[at] as usize != value {
-        return false;
-    }
-    lengths[word] == 1
 }
 
 // Whether the lines from `from` on are good, where only lone characters may follow; the positions of the first start at `start`.
@@ -191,7 +194,11 @@ fn lone_lines(
     let keys = key_count(index);
     let mut at = start;
     let mut least = 0;
-    let mut words = Cursor { word: 0, at: 0 };
+    let mut words = Cursor {
+        word: 0,
+        at: 0,
+        is_word: false,
+    };
     let mut i = from;
     while i < keys {
         let kind = kind_at(index, i);
@@ -203,8 +210,8 @@ fn lone_lines(
         if value < least {
             return false;
         }
-        words = skip_below(chars, lengths, words, value);
-        if is_reached(chars, lengths, words, value) {
+        words = seek(chars, lengths, words, value);
+        if words.is_word {
             return false;
         }
         if !line_list_good(index, at, count, n, 1, as_gaps) {

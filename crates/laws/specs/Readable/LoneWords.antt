@@ -1,10 +1,9 @@
 -- The walk over the words alongside ascending characters: which of the characters are words. Assumes nothing.
 use mathlib.Core.Path.{_≡_, refl, sym, ap, _∙_}
 use mathlib.Core.Bool.{Bool, true, false, _||_}
-use mathlib.Core.Logic.{_⊎_, inl, inr}
+use mathlib.Core.Logic.{inl, inr}
 use mathlib.Core.List.{List, [], _∷_}
 use Prim.Native.Nat.{ℕ, zero, suc, _+_, _-_, _≤_, _<_}
-use native.Mathlib.Nat.{eq-or-lt-of-le}
 use native.Mathlib.Numerals.{add-one}
 use native.Mathlib.Omega.{arith}
 use lib.Dec.{eqb}
@@ -28,11 +27,6 @@ pub record Passed (cs ls : List ℕ) (w at v : ℕ) : Type 0 where
   pub good : lengths-good (drop w ls) ≡ true
   pub order : ascend (words-from (drop w ls) (drop at cs)) ≡ true
   pub left : (u : ℕ) → v ≤ u → listed (u ∷ []) (words-from (drop w ls) (drop at cs)) ≡ is-word (lexicon cs ls) (u ∷ [])
-
--- and word w does not start with a character below v
-pub record Reached (cs ls : List ℕ) (w at v : ℕ) : Type 0 where
-  pub passed : Passed cs ls w at v
-  pub first : w < length ls → v ≤ getD cs at 0
 
 -- a part with at least one character
 first-of :
@@ -60,7 +54,7 @@ pub passed-raise : {cs ls : List ℕ} {w at v : ℕ} (u : ℕ) → v ≤ u → P
 passed-raise u more h =
     record { within = h .within; room = h .room; good = h .good; order = h .order; left = λ x b. h .left x (omega arith) }
 
-module _ (cs ls : List ℕ) (w at v : ℕ) (h : Passed cs ls w at v) where
+module _ {cs ls : List ℕ} {w at v : ℕ} (h : Passed cs ls w at v) where
   module _ (below : w < length ls) where
     cut : drop w ls ≡ getD ls w 0 ∷ drop (w + 1) ls
     cut = rw (add-one, drop-cons ls w 0)
@@ -129,22 +123,22 @@ module _ (cs ls : List ℕ) (w at v : ℕ) (h : Passed cs ls w at v) where
   passed-none past =
       ap (λ (l : List ℕ). listed (v ∷ []) (words-from l (drop at cs))) (sym (drop-of-length-le ls past)) ∙ h .left v (omega arith)
 
-module _ {cs ls : List ℕ} {w at v : ℕ} (h : Reached cs ls w at v) (below : w < length ls) where
+module _ {cs ls : List ℕ} {w at v : ℕ} (h : Passed cs ls w at v) (below : w < length ls) where
   abbrev here : List ℕ
-  here = word cs ls w at v (h .passed) below
+  here = word h below
 
   abbrev others : List (List ℕ)
-  others = rest cs ls w at v (h .passed) below
+  others = rest h below
 
   abbrev beyond : List ℕ
   beyond = take (getD ls w 0 - 1) (drop (at + 1) cs)
 
   left-is : listed (v ∷ []) (here ∷ others) ≡ is-word (lexicon cs ls) (v ∷ [])
   left-is =
-      sym (ap (listed (v ∷ [])) (words-cut cs ls w at v (h .passed) below)) ∙ h .passed .left v (omega arith)
+      sym (ap (listed (v ∷ [])) (words-cut h below)) ∙ h .left v (omega arith)
 
   here-is : here ≡ getD cs at 0 ∷ beyond
-  here-is = word-is cs ls w at v (h .passed) below
+  here-is = word-is h below
 
   -- a word after the character is not that character, nor is any word after it
   later : word-before (v ∷ []) here ≡ true → false ≡ is-word (lexicon cs ls) (v ∷ [])
@@ -154,34 +148,29 @@ module _ {cs ls : List ℕ} {w at v : ℕ} (h : Reached cs ls w at v) (below : w
       after x (inl e) = rw e t
       after x (inr m) =
           word-before-trans (v ∷ []) here x t
-          (ascend-first here x others (sym (ap ascend (words-cut cs ls w at v (h .passed) below)) ∙ h .passed .order) m)
+          (ascend-first here x others (sym (ap ascend (words-cut h below)) ∙ h .order) m)
 
       wrong : listed (v ∷ []) (here ∷ others) ≡ true → ⊥
       wrong l = clash (after (v ∷ []) (listed-get (v ∷ []) (here ∷ others) l)) (word-before-self (v ∷ []))
 
-  pub reached-other : (getD cs at 0 ≡ v → ⊥) → false ≡ is-word (lexicon cs ls) (v ∷ [])
-  reached-other differ =
-      later (rw here-is (word-before-first v (getD cs at 0) [] beyond (more (eq-or-lt-of-le (h .first below)))))
-    where
-      more : (v ≡ getD cs at 0) ⊎ (v < getD cs at 0) → v < getD cs at 0
-      more (inl e) = absurd (differ (sym e))
-      more (inr l) = l
+  pub passed-other : v < getD cs at 0 → false ≡ is-word (lexicon cs ls) (v ∷ [])
+  passed-other less = later (rw here-is (word-before-first v (getD cs at 0) [] beyond less))
 
-  pub reached-same : getD cs at 0 ≡ v → eqb (getD ls w 0) 1 ≡ is-word (lexicon cs ls) (v ∷ [])
+  pub passed-same : v ≡ getD cs at 0 → eqb (getD ls w 0) 1 ≡ is-word (lexicon cs ls) (v ∷ [])
   unfolding listed
-  reached-same e = by-test (eqb (getD ls w 0) 1) refl
+  passed-same e = by-test (eqb (getD ls w 0) 1) refl
     where
       by-test : (b : Bool) → eqb (getD ls w 0) 1 ≡ b → b ≡ is-word (lexicon cs ls) (v ∷ [])
       by-test true t =
           let none : getD ls w 0 - 1 ≡ 0 = omega (arith, eqb-true (getD ls w 0) 1 t) in
-          let is : here ≡ v ∷ [] = here-is ∙ rw (none, e) in
+          let is : here ≡ v ∷ [] = here-is ∙ rw (none, ← e) in
           sym (or-left (listed (v ∷ []) others) (same-put (v ∷ []) here (sym is))) ∙ left-is
       by-test false t =
-          later (rw here-is (word-before-rest v (getD cs at 0) [] beyond (sym e)
+          later (rw here-is (word-before-rest v (getD cs at 0) [] beyond e
           (after-nothing beyond (omega (arith, more, beyond-length)))))
         where
           more : getD ls w 0 ≡ 1 → ⊥
           more = eqb-false (getD ls w 0) 1 t
 
           beyond-length : suc (length beyond) ≡ getD ls w 0
-          beyond-length = sym (ap length here-is) ∙ word-length cs ls w at v (h .passed) below
+          beyond-length = sym (ap length here-is) ∙ word-length h below

@@ -10,16 +10,17 @@ use Rattle.inversion.proofs.chains.code_of.Tie as tie
 returns : tie.Need-returns
 returns c =
     let start = c .before .before in (
-      rw (c .replace .ensures) (coded-lone (start .args .token) (replaced-char (start .args .character)) (c .before .if1 .taken)),
+      rw (c .before .replace .ensures) (coded-lone (start .args .token) (replaced-char (start .args .character)) (c .if1 .taken)),
       omega arith,
     )
 
 returns-2 : tie.Need-returns-2
-returns-2 c = (
-  coded-word (c .before .args .token) (replaced-char (c .before .args .character)) (λ (z : c .before .args .token ≡ 0). omega arith)
-      (c .if1 .left),
-  omega arith,
-)
+returns-2 c =
+    let start = c .before .before in (
+      coded-word (start .args .token) (replaced-char (start .args .character)) (λ (z : start .args .token ≡ 0). omega arith)
+          (c .if1 .left),
+      omega arith,
+    )
 
 pub code-of-spec : {M : Type 1} → statement M
 code-of-spec =

@@ -28,7 +28,7 @@ abbrev at-loop : tie.Else1 Inv-loop μ-loop → tie.At-loop Inv-loop μ-loop
 at-loop c = c .before .before .before .before .before
 
 abbrev counted : tie.Else3 Inv-loop μ-loop → tie.After-count-at Inv-loop μ-loop
-counted c = c .before .before .before .before .before
+counted c = c .before .before .before .before
 
 loop-holds : tie.Need-loop-holds Inv-loop μ-loop
 loop-holds c =
@@ -51,26 +51,26 @@ returns-2 c =
     let l = at-loop (c .before) .loop in
     low-stop (l .least) (l .inv .0) (is-line (c .before .before)) (c .before .if1 .left) (c .if2 .taken)
 
-skip-below-requires : tie.Need-skip-below-requires Inv-loop μ-loop
-skip-below-requires c κs = passed-raise (c .before .before .before .value-at .result) (c .if2 .left) (at-loop (c .before) .loop .inv .1)
+seek-requires : tie.Need-seek-requires Inv-loop μ-loop
+seek-requires c κs = passed-raise (c .before .before .before .value-at .result) (c .if2 .left) (at-loop (c .before) .loop .inv .1)
 
 returns-3 : tie.Need-returns-3 Inv-loop μ-loop
 returns-3 c =
-    let kind = c .before .before .before .before in
+    let kind = c .before .before .before in
     let l = at-loop kind .loop in
-    listed-stop (l .least) (l .inv .0) (is-line (kind .before)) (kind .if1 .left) (sym (c .before .is-reached .ensures) ∙ c .if3 .taken)
+    listed-stop (l .least) (l .inv .0) (is-line (kind .before)) (kind .if1 .left) (sym (c .before .seek .ensures .1) ∙ c .if3 .taken)
 
 line-list-good-requires : tie.Need-line-list-good-requires Inv-loop μ-loop
-line-list-good-requires c κs = (at-loop (c .before .before .before .before) .loop .inv .0 .room, omega arith, omega arith, omega arith)
+line-list-good-requires c κs = (at-loop (c .before .before .before) .loop .inv .0 .room, omega arith, omega arith, omega arith)
 
 returns-4 : tie.Need-returns-4 Inv-loop μ-loop
 returns-4 c =
     let reached = c .before .before in
-    let low = reached .before .before .before in
+    let low = reached .before .before in
     let kind = low .before in
     let l = at-loop kind .loop in
     lone-stop (l .least) (l .inv .0) (is-line (kind .before)) (kind .if1 .left) (low .if2 .left)
-    (sym (reached .before .is-reached .ensures) ∙ reached .if3 .left)
+    (sym (reached .before .seek .ensures .1) ∙ reached .if3 .left)
     (sym (c .before .line-list-good .ensures) ∙ not-true (c .before .line-list-good .result) (c .if4 .taken))
 
 next-lines : (c : tie.Else4 Inv-loop μ-loop) → let read = counted (c .before .before) in
@@ -79,11 +79,11 @@ next-lines : (c : tie.Else4 Inv-loop μ-loop) → let read = counted (c .before 
     (l .loop .at + read .count-at .result) (65536 + (read .before .value-at .result + 1))
 next-lines c =
     let reached = c .before .before in
-    let low = reached .before .before .before in
+    let low = reached .before .before in
     let kind = low .before in
     let l = at-loop kind .loop in
     lone-step (l .least) (l .inv .0) (is-line (kind .before)) (kind .if1 .left) (low .if2 .left)
-    (sym (reached .before .is-reached .ensures) ∙ reached .if3 .left)
+    (sym (reached .before .seek .ensures .1) ∙ reached .if3 .left)
     (sym (c .before .line-list-good .ensures) ∙ not-false (c .before .line-list-good .result) (c .if4 .left))
 
 add-at : tie.Need-add-at Inv-loop μ-loop
@@ -95,7 +95,7 @@ loop-again : tie.Need-loop-again Inv-loop μ-loop
 loop-again c = (
   next-lines c,
   passed-raise (counted (c .before .before) .before .value-at .result + 1) (omega arith)
-      (c .before .before .before .before .skip-below .ensures .passed),
+      (c .before .before .before .seek .ensures .0),
 )
 
 pub lone-lines-spec : {M : Type 1} → statement M
@@ -103,6 +103,6 @@ lone-lines-spec =
     tie.close
     (tie.spec
     Inv-loop μ-loop (λ c κs. omega arith) (λ c κs. omega arith) loop-holds (λ c κs. omega arith) (λ c κs. omega arith) (λ c κs. omega arith)
-    returns returns-2 skip-below-requires (λ c κs. c .skip-below .ensures) returns-3 line-list-good-requires returns-4
+    returns returns-2 seek-requires returns-3 line-list-good-requires returns-4
     add-at (λ c. omega arith) (λ c. omega arith) (λ c. omega arith) loop-again
     (λ c. lines-end (c .before .loop .inv .0) (omega arith)))
