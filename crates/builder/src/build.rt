@@ -1,7 +1,8 @@
 // Building a text's index: admission, match table, scan, inversion, writing.
 //
-// The match table, the heads of the posting chains and the flags of their pages are local. Of the work slice 2n numbers are used for a text
-// of n characters: n for its tokens, n for the replaced text. Counting keys and entries sizes the result before the output is touched.
+// The word starts, the match table, the heads of the posting chains and the flags of their pages are local. Of the work slice 2n numbers
+// are used for a text of n characters: n for its tokens, n for the replaced text. Counting keys and entries sizes the result before the
+// output is touched.
 ghost use mathlib.Core.Path.{_≡_};
 ghost use Prim.Native.Nat.{_≤_};
 ghost use lib.ListN.{length, take};
@@ -9,10 +10,13 @@ ghost use Rattle.spec.specs.Replaced.{replaced};
 ghost use Rattle.spec.specs.Dictionary.{lexicon};
 ghost use Rattle.spec.specs.Numbers.{index-of};
 ghost use Rattle.spec.specs.Calls.{Puts, build-refusal, Build-says};
+ghost use Rattle.models.specs.WordStarts.{lengths-of, lexicon-at};
+ghost use Rattle.laws.specs.Match.MatchTable.{Room};
 ghost use Rattle.laws.specs.Build.PostingChains.{Linkable, Fresh};
-ghost use Rattle.laws.specs.Build.Building.{early-refusal, Tokens-say, Blank};
+ghost use Rattle.laws.specs.Build.Building.{early-refusal, Tokens-say};
 use crate::text::scan_replaced;
 use dictionary::admission::refusal_of;
+use directory::tables::fill_word_starts;
 use inversion::chains::chain_positions;
 use inversion::write::write_index;
 use layout::fields::line_start;
@@ -93,27 +97,26 @@ fn finish(text: &[u16], output: &mut [Number], work: &mut [Number]) -> Answer
 // Fills the match table, scans the replaced text and writes the index of its tokens, where no early refusal is met.
 fn index_with(
     chars: &[u16],
-    lengths: &[u16],
+    word_starts: &[u16],
     text: &[u16],
     output: &mut [Number],
     work: &mut [Number],
     heads: &mut [u16],
     links: &mut [u16],
-    word_starts: &mut [u16],
 ) -> Answer
-    requires { ⌜ early-refusal (now chars) (now lengths) (now text) (length (now work)) ≡ 0 ⌝ }
-    requires { ⌜ Blank (now heads) (now links) (now «word_starts») ⌝ }
+    requires { ⌜ early-refusal (now chars) (lengths-of (now «word_starts»)) (now text) (length (now work)) ≡ 0 ⌝ }
+    requires { ⌜ Room (now chars) (now «word_starts») (now heads) (now links) ⌝ }
     ensures { λ r. ⌜
-        Puts (build-refusal (now (chars .entry)) (now (lengths .entry)) (now (text .entry)) (length (now (output .entry)))
-        (length (now (work .entry)))) (index-of (lexicon (now (chars .entry)) (now (lengths .entry))) (replaced (now (text .entry)))) r
-        (now (output .entry)) (now (output .exit)) ⌝ }
+        Puts (build-refusal (now (chars .entry)) (lengths-of (now («word_starts» .entry))) (now (text .entry))
+        (length (now (output .entry))) (length (now (work .entry)))) (index-of (lexicon-at (now (chars .entry)) (now («word_starts» .entry)))
+        (replaced (now (text .entry)))) r (now (output .entry)) (now (output .exit)) ⌝ }
 {
-    fill_match_table(chars, lengths, heads, links, word_starts);
-    scan_replaced(chars, lengths, heads, links, word_starts, text, work);
+    fill_match_table(chars, word_starts, heads, links);
+    scan_replaced(chars, word_starts, heads, links, text, work);
     finish(text, output, work)
 }
 
-// Builds the index with a local match table, where no early refusal is met.
+// Builds the index with local tables of word starts and matches, where no early refusal is met.
 fn index_text(
     chars: &[u16],
     lengths: &[u16],
@@ -130,15 +133,16 @@ fn index_text(
     let mut heads = [0u16; 10240];
     let mut links = [0u16; 4096];
     let mut word_starts = [0u16; 4097];
+    fill_word_starts(lengths, &mut word_starts);
+    let starts = lengths.len() + 1;
     index_with(
         chars,
-        lengths,
+        &word_starts[..starts],
         text,
         output,
         work,
         &mut heads,
         &mut links,
-        &mut word_starts,
     )
 }
 

@@ -5,7 +5,7 @@ ghost use mathlib.Core.Path.{_≡_};
 ghost use Prim.Native.Nat.{_*_, _≤_};
 ghost use lib.ListN.{length, take, drop};
 ghost use Rattle.spec.specs.Replaced.{replaced};
-ghost use Rattle.spec.specs.Dictionary.{lexicon};
+ghost use Rattle.models.specs.WordStarts.{lexicon-at};
 ghost use Rattle.laws.specs.Match.MatchTable.{Tables};
 ghost use Rattle.laws.specs.Build.Tokens.{Tokens};
 use folding::forms::replace_into;
@@ -26,19 +26,18 @@ fn replace_behind(text: &[u16], work: &mut [Number])
 // Writes the tokens of the replaced text to the first numbers of the work slice.
 pub(crate) fn scan_replaced(
     chars: &[u16],
-    lengths: &[u16],
+    word_starts: &[u16],
     heads: &[u16],
     links: &[u16],
-    word_starts: &[u16],
     text: &[u16],
     work: &mut [Number],
 )
     requires { ⌜
-        Tables (now chars) (now lengths) (now heads) (now links) (now «word_starts») × (2 * length (now text) ≤ length (now work)) ⌝ }
+        Tables (now chars) (now «word_starts») (now heads) (now links) × (2 * length (now text) ≤ length (now work)) ⌝ }
     ensures { λ _. ⌜
-        Tokens (lexicon (now (chars .entry)) (now (lengths .entry))) (replaced (now (text .entry)))
+        Tokens (lexicon-at (now (chars .entry)) (now («word_starts» .entry))) (replaced (now (text .entry)))
         (take (length (now (text .entry))) (now (work .exit))) ⌝ }
 {
     replace_behind(text, work);
-    scan(chars, lengths, heads, links, word_starts, text.len(), work);
+    scan(chars, word_starts, heads, links, text.len(), work);
 }

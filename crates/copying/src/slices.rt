@@ -4,9 +4,10 @@ ghost use mathlib.Core.List.{_++_};
 ghost use Prim.Native.Nat.{_+_, _≤_};
 ghost use lib.ListN.{length, take, replicate};
 ghost use Rattle.basics.specs.Writing.{over};
+use width::Number;
 
 // Writes a list into the output, from the index `from` on.
-pub fn write_list(list: &[u16], from: usize, output: &mut [u16])
+pub fn write_list(list: &[Number], from: usize, output: &mut [Number])
     requires { ⌜ from + length (now list) ≤ length (now output) ⌝ }
     ensures { λ r. ⌜ now (output .exit) ≡ over (take from (now (output .entry)) ++ now (list .entry)) (now (output .entry)) ⌝ }
 {
@@ -18,7 +19,7 @@ pub fn write_list(list: &[u16], from: usize, output: &mut [u16])
 }
 
 // Sets every number of a slice to `number`.
-pub fn fill(slice: &mut [u16], number: u16)
+pub fn fill(slice: &mut [Number], number: Number)
     ensures { λ r. ⌜ now (slice .exit) ≡ replicate (length (now (slice .entry))) number ⌝ }
 {
     let mut i = 0;

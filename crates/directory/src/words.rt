@@ -4,7 +4,7 @@ ghost use mathlib.Core.List.{[]};
 ghost use Prim.Native.Nat.{_<_};
 ghost use lib.ListN.{length, getD};
 ghost use Rattle.models.specs.WordStarts.{lengths-of, lexicon-at};
-ghost use Rattle.laws.specs.Directory.WordStarts.{Word-starts};
+ghost use Rattle.laws.specs.Dictionary.WordStarts.{Word-starts};
 
 // The characters of a word.
 pub fn word_of<'a>(chars: &'a [u16], word_starts: &[u16], word: usize) -> &'a [u16]

@@ -6,3 +6,4 @@ pub mod Keys
 pub mod WordOrder
 pub mod Lexicon
 pub mod Prefixes
+pub mod WordStarts

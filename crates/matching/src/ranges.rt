@@ -6,11 +6,14 @@
 ghost use mathlib.Core.Path.{_≡_};
 ghost use Prim.Native.Nat.{_+_, _≤_, _<_};
 ghost use lib.ListN.{length, getD};
-ghost use Rattle.spec.specs.Dictionary.{lexicon};
 ghost use Rattle.basics.specs.LowerBound.{Lower-bound};
+ghost use Rattle.models.specs.WordStarts.{lengths-of, lexicon-at};
 ghost use Rattle.laws.specs.Match.MatchTable.{Started};
 ghost use Rattle.laws.specs.Match.PrefixRanges.{Last-standing};
 ghost use Rattle.laws.specs.Match.Columns.{Column, column};
+use crate::table::word_len;
+use width::Number;
+use width::number_at;
 
 // The character at `depth` of a word.
 fn char_at(chars: &[u16], word_starts: &[u16], word: usize, depth: usize) -> u16
@@ -58,28 +61,29 @@ fn lower_bound(
 // One more than the number of the last of the first `count` words that stands in the text at index `at`, or 0.
 pub(crate) fn find_last_standing(
     chars: &[u16],
-    lengths: &[u16],
     word_starts: &[u16],
-    text: &[u16],
+    text: &[Number],
     at: usize,
     count: usize,
 ) -> usize
-    requires { ⌜ Started (now chars) (now lengths) (now «word_starts») × (at < length (now text)) × (count ≤ length (now lengths)) ⌝ }
-    ensures { λ r. ⌜ Last-standing (lexicon (now (chars .entry)) (now (lengths .entry)) .words) (now (text .entry)) (at + 1) count r ⌝ }
+    requires { ⌜
+        Started (now chars) (now «word_starts») × (at < length (now text)) × (count ≤ length (lengths-of (now «word_starts»))) ⌝ }
+    ensures { λ r. ⌜
+        Last-standing (lexicon-at (now (chars .entry)) (now («word_starts» .entry)) .words) (now (text .entry)) (at + 1) count r ⌝ }
 {
     let mut best = 0;
     let mut low = 0;
     let mut high = count;
     let mut depth = 0;
     while low < high {
-        if lengths[low] as usize == depth {
+        if word_len(word_starts, low) == depth {
             low += 1;
             best = low;
         } else {
             if text.len() <= at + depth {
                 return best;
             }
-            let c = text[at + depth] as usize;
+            let c = number_at(text, at + depth);
             if char_at(chars, word_starts, low, depth) as usize == c {
                 if char_at(chars, word_starts, high - 1, depth) as usize == c {
                     depth += 1;

@@ -1,16 +1,9 @@
--- The match table: where each word starts, and hash chains of words by their first two characters, or by the only one. Assumes nothing.
+-- The match table: hash chains of words by their first two characters, or by the only one. Assumes nothing.
 use mathlib.Core.Bool.{cond}
 use mathlib.Core.List.{List, [], _∷_}
 use Prim.Native.Nat.{suc, zero, ℕ, _%_, _*_, _+_}
 use lib.Dec.{eqb}
-use lib.ListN.{getD, take}
-use Rattle.spec.specs.Dictionary.{lexicon, total}
-
-abbrev pub word : (cs ls : List ℕ) (i : ℕ) → List ℕ
-word cs ls i = getD (lexicon cs ls .words) i []
-
-unfoldable pub start-of : (ls : List ℕ) (i : ℕ) → ℕ
-start-of ls i = total (take i ls)
+use Rattle.models.specs.WordStarts.{word}
 
 unfoldable pub pair-bucket : (x y : ℕ) → ℕ
 pair-bucket x y = (37 * x + y) % 8192
@@ -23,8 +16,8 @@ bucket [] = 0
 bucket (x ∷ []) = char-bucket x
 bucket (x ∷ y ∷ zs) = pair-bucket x y
 
-abbrev pub bucket-of : (cs ls : List ℕ) (i : ℕ) → ℕ
-bucket-of cs ls i = bucket (word cs ls i)
+abbrev pub bucket-of : (cs ws : List ℕ) (i : ℕ) → ℕ
+bucket-of cs ws i = bucket (word cs ws i)
 
 -- the numbers below n whose bucket is b
 unfoldable pub chained : (bucket : ℕ → ℕ) (b n : ℕ) → List ℕ

@@ -1,6 +1,7 @@
 -- The table of word starts: where each word's characters start among the dictionary's, and where those of the last end. Assumes nothing.
 use mathlib.Core.List.{List, [], _∷_}
 use Prim.Native.Nat.{ℕ, _+_, _-_}
+use lib.ListN.{getD}
 use Rattle.spec.specs.Dictionary.{Lexicon, lexicon}
 
 -- where words of these lengths start, the first at `at`, and where the last ends
@@ -20,3 +21,10 @@ lengths-of (a ∷ ws) = lengths-from a ws
 -- the dictionary of these characters and word starts
 abbrev pub lexicon-at : (chars starts : List ℕ) → Lexicon
 lexicon-at cs ws = lexicon cs (lengths-of ws)
+
+-- word i and its length
+abbrev pub word : (chars starts : List ℕ) (i : ℕ) → List ℕ
+word cs ws i = getD (lexicon-at cs ws .words) i []
+
+abbrev pub word-len : (starts : List ℕ) (i : ℕ) → ℕ
+word-len ws i = getD ws (i + 1) 0 - getD ws i 0

@@ -10,15 +10,17 @@ ghost use lib.ListN.{length, take, drop, replicate};
 ghost use Rattle.spec.specs.Dictionary.{longest-text, lexicon};
 ghost use Rattle.spec.specs.Index.{n-of, lines-in, readable};
 ghost use Rattle.spec.specs.Calls.{zeros};
+ghost use Rattle.models.specs.WordStarts.{lengths-of, lexicon-at};
 ghost use Rattle.models.specs.Entries.{flat};
 ghost use Rattle.models.specs.Reception.{reconstruct, mapped-at, fill-line-map, verify};
+ghost use Rattle.laws.specs.Text.Facts.{Chars};
 ghost use Rattle.laws.specs.Numbers.Slices.{Fits};
-ghost use Rattle.laws.specs.Match.MatchTable.{Started, Tables};
-ghost use Rattle.laws.specs.Build.Building.{Blank};
+ghost use Rattle.laws.specs.Match.MatchTable.{Started, Room, Tables};
 ghost use Rattle.laws.specs.Receive.LineMap.{Line-map};
 ghost use Rattle.laws.specs.Receive.LineMapWalk.{Can-map};
 ghost use Rattle.laws.specs.Receive.Receiving.{delivery-refusal};
 ghost use Rattle.laws.specs.Receive.ReceivedText.{Read-back, Tried};
+use directory::tables::fill_word_starts;
 use folding::forms::holds_full_width;
 use layout::fields::text_len;
 use matching::table::fill_match_table;
@@ -31,22 +33,21 @@ use width::Number;
 // Reconstructs the text from the entries, over the first `n` numbers of the work slice.
 fn reconstruct_front(
     chars: &[u16],
-    lengths: &[u16],
     word_starts: &[u16],
     index: &[Number],
     n: usize,
     work: &mut [Number],
 )
     requires { ⌜
-        Started (now chars) (now lengths) (now «word_starts») ×
-        (readable longest-text (lexicon (now chars) (now lengths)) (now index) ≡ true) × (n ≡ n-of (now index)) ×
+        Started (now chars) (now «word_starts») ×
+        (readable longest-text (lexicon-at (now chars) (now «word_starts»)) (now index) ≡ true) × (n ≡ n-of (now index)) ×
         (n ≤ length (now work)) ⌝ }
     ensures { λ _. ⌜
-        take n (now (work .exit)) ≡ reconstruct (lexicon (now (chars .entry)) (now (lengths .entry)))
-        (flat (lexicon (now (chars .entry)) (now (lengths .entry))) (lines-in (now (index .entry)))) (take n (now (work .entry))) ⌝ }
+        take n (now (work .exit)) ≡ reconstruct (lexicon-at (now (chars .entry)) (now («word_starts» .entry)))
+        (flat (lexicon-at (now (chars .entry)) (now («word_starts» .entry))) (lines-in (now (index .entry))))
+        (take n (now (work .entry))) ⌝ }
 {
-    let starts = lengths.len() + 1;
-    reconstruct_entries(chars, &word_starts[..starts], index, &mut work[..n]);
+    reconstruct_entries(chars, word_starts, index, &mut work[..n]);
 }
 
 // Fills the line map of an index in a slice that is cleared first.
@@ -71,28 +72,26 @@ fn fill_line_map_behind(index: &[Number], n: usize, work: &mut [Number])
 // Verifies the text in the first `n` numbers by the line map in the next `n`.
 fn test_parts(
     chars: &[u16],
-    lengths: &[u16],
+    word_starts: &[u16],
     heads: &[u16],
     links: &[u16],
-    word_starts: &[u16],
     index: &[Number],
     n: usize,
     work: &[Number],
 ) -> bool
     requires { ⌜
-        Tables (now chars) (now lengths) (now heads) (now links) (now «word_starts») × Fits (now index) ×
-        Line-map (now index) (mapped-at (take n (drop n (now work)))) × (2 * n ≤ length (now work)) ⌝ }
+        Tables (now chars) (now «word_starts») (now heads) (now links) × Fits (now index) ×
+        Line-map (now index) (mapped-at (take n (drop n (now work)))) × Chars (take n (now work)) × (2 * n ≤ length (now work)) ⌝ }
     ensures { λ r. ⌜
-        r ≡ verify (lexicon (now (chars .entry)) (now (lengths .entry))) (mapped-at (take n (drop n (now (work .entry)))))
+        r ≡ verify (lexicon-at (now (chars .entry)) (now («word_starts» .entry))) (mapped-at (take n (drop n (now (work .entry)))))
         (now (index .entry)) (take n (now (work .entry))) ⌝ }
 {
     let end = 2 * n;
     verify(
         chars,
-        lengths,
+        word_starts,
         heads,
         links,
-        word_starts,
         index,
         &work[..n],
         &work[n..end],
@@ -103,38 +102,36 @@ fn test_parts(
 // first numbers of the work slice.
 fn is_index_of_text(
     chars: &[u16],
-    lengths: &[u16],
+    word_starts: &[u16],
     heads: &[u16],
     links: &[u16],
-    word_starts: &[u16],
     index: &[Number],
     work: &mut [Number],
 ) -> bool
-    requires { ⌜ delivery-refusal (now chars) (now lengths) (now index) (length (now work)) ≡ 0 ⌝ }
-    requires { ⌜ Tables (now chars) (now lengths) (now heads) (now links) (now «word_starts») ⌝ }
-    ensures { λ r. ⌜ Read-back (lexicon (now (chars .entry)) (now (lengths .entry))) (now (index .entry)) r (now (work .exit)) ⌝ }
+    requires { ⌜ delivery-refusal (now chars) (lengths-of (now «word_starts»)) (now index) (length (now work)) ≡ 0 ⌝ }
+    requires { ⌜ Tables (now chars) (now «word_starts») (now heads) (now links) ⌝ }
+    ensures { λ r. ⌜ Read-back (lexicon-at (now (chars .entry)) (now («word_starts» .entry))) (now (index .entry)) r (now (work .exit)) ⌝ }
 {
     let n = text_len(index);
-    reconstruct_front(chars, lengths, word_starts, index, n, work);
+    reconstruct_front(chars, word_starts, index, n, work);
     fill_line_map_behind(index, n, work);
-    test_parts(chars, lengths, heads, links, word_starts, index, n, work)
+    test_parts(chars, word_starts, heads, links, index, n, work)
 }
 
 // Whether the index is received, with a match table lent: it is that of the text its entries spell, which has no full-width form.
 fn text_by(
     chars: &[u16],
-    lengths: &[u16],
+    word_starts: &[u16],
     heads: &[u16],
     links: &[u16],
-    word_starts: &[u16],
     index: &[Number],
     work: &mut [Number],
 ) -> bool
-    requires { ⌜ delivery-refusal (now chars) (now lengths) (now index) (length (now work)) ≡ 0 ⌝ }
-    requires { ⌜ Tables (now chars) (now lengths) (now heads) (now links) (now «word_starts») ⌝ }
-    ensures { λ r. ⌜ Tried (lexicon (now (chars .entry)) (now (lengths .entry))) (now (index .entry)) r (now (work .exit)) ⌝ }
+    requires { ⌜ delivery-refusal (now chars) (lengths-of (now «word_starts»)) (now index) (length (now work)) ≡ 0 ⌝ }
+    requires { ⌜ Tables (now chars) (now «word_starts») (now heads) (now links) ⌝ }
+    ensures { λ r. ⌜ Tried (lexicon-at (now (chars .entry)) (now («word_starts» .entry))) (now (index .entry)) r (now (work .exit)) ⌝ }
 {
-    if !is_index_of_text(chars, lengths, heads, links, word_starts, index, work) {
+    if !is_index_of_text(chars, word_starts, heads, links, index, work) {
         return false;
     }
     let n = text_len(index);
@@ -144,22 +141,22 @@ fn text_by(
 // Whether the index is received, with slices lent for a match table.
 fn text_with(
     chars: &[u16],
-    lengths: &[u16],
+    word_starts: &[u16],
     index: &[Number],
     work: &mut [Number],
     heads: &mut [u16],
     links: &mut [u16],
-    word_starts: &mut [u16],
 ) -> bool
-    requires { ⌜ delivery-refusal (now chars) (now lengths) (now index) (length (now work)) ≡ 0 ⌝ }
-    requires { ⌜ Blank (now heads) (now links) (now «word_starts») ⌝ }
-    ensures { λ r. ⌜ Tried (lexicon (now (chars .entry)) (now (lengths .entry))) (now (index .entry)) r (now (work .exit)) ⌝ }
+    requires { ⌜ delivery-refusal (now chars) (lengths-of (now «word_starts»)) (now index) (length (now work)) ≡ 0 ⌝ }
+    requires { ⌜ Room (now chars) (now «word_starts») (now heads) (now links) ⌝ }
+    ensures { λ r. ⌜ Tried (lexicon-at (now (chars .entry)) (now («word_starts» .entry))) (now (index .entry)) r (now (work .exit)) ⌝ }
 {
-    fill_match_table(chars, lengths, heads, links, word_starts);
-    text_by(chars, lengths, heads, links, word_starts, index, work)
+    fill_match_table(chars, word_starts, heads, links);
+    text_by(chars, word_starts, heads, links, index, work)
 }
 
-// Whether the index is received, with a local match table. Where it is, its text is left in the first numbers of the work slice.
+// Whether the index is received, with local tables of word starts and matches. Where it is, its text is left in the first numbers of the
+// work slice.
 pub(crate) fn text_of(chars: &[u16], lengths: &[u16], index: &[Number], work: &mut [Number]) -> bool
     requires { ⌜ delivery-refusal (now chars) (now lengths) (now index) (length (now work)) ≡ 0 ⌝ }
     ensures { λ r. ⌜ Tried (lexicon (now (chars .entry)) (now (lengths .entry))) (now (index .entry)) r (now (work .exit)) ⌝ }
@@ -167,13 +164,14 @@ pub(crate) fn text_of(chars: &[u16], lengths: &[u16], index: &[Number], work: &m
     let mut heads = [0u16; 10240];
     let mut links = [0u16; 4096];
     let mut word_starts = [0u16; 4097];
+    fill_word_starts(lengths, &mut word_starts);
+    let starts = lengths.len() + 1;
     text_with(
         chars,
-        lengths,
+        &word_starts[..starts],
         index,
         work,
         &mut heads,
         &mut links,
-        &mut word_starts,
     )
 }

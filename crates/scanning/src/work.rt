@@ -4,16 +4,17 @@ ghost use Rattle.spec.specs.Calls.{zeros};
 ghost use Rattle.laws.specs.Dictionary.Answering.{Refuses};
 use copying::slices::fill;
 use spec::Answer;
+use width::Number;
 
 // Sets the whole slice to zeros.
-pub fn clear(work: &mut [u16])
+pub fn clear(work: &mut [Number])
     ensures { λ _. ⌜ now (work .exit) ≡ zeros (now (work .entry)) ⌝ }
 {
     fill(work, 0);
 }
 
 // Clears the work slice, and answers a refusal.
-pub fn refuse(work: &mut [u16], refusal: u32) -> Answer
+pub fn refuse(work: &mut [Number], refusal: u32) -> Answer
     ensures { λ r. ⌜ Refuses refusal r (now (work .entry)) (now (work .exit)) ⌝ }
 {
     clear(work);

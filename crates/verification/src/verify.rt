@@ -6,9 +6,10 @@
 ghost use mathlib.Core.Path.{_≡_};
 ghost use Prim.Native.Nat.{_≤_};
 ghost use lib.ListN.{length};
-ghost use Rattle.spec.specs.Dictionary.{lexicon};
 ghost use Rattle.spec.specs.Index.{keys-of};
+ghost use Rattle.models.specs.WordStarts.{lexicon-at};
 ghost use Rattle.models.specs.Reception.{mapped-at, verify, token-mapped};
+ghost use Rattle.laws.specs.Text.Facts.{Chars};
 ghost use Rattle.laws.specs.Numbers.Slices.{Fits};
 ghost use Rattle.laws.specs.Match.MatchTable.{Tables};
 ghost use Rattle.laws.specs.Receive.LineMap.{Line-map};
@@ -21,7 +22,7 @@ use width::Number;
 use width::number_at;
 
 // Whether `mapped`, the line map's number at a position, is that of a line with the key of `token`; `character` is the text's there.
-fn line_has_key(index: &[Number], mapped: usize, token: u16, character: u16) -> bool
+fn line_has_key(index: &[Number], mapped: usize, token: usize, character: usize) -> bool
     requires { ⌜ Fits (now index) × (mapped ≤ keys-of (now index)) × (1 ≤ token) ⌝ }
     ensures { λ r. ⌜ r ≡ token-mapped (now (index .entry)) mapped token character ⌝ }
 {
@@ -34,44 +35,48 @@ fn line_has_key(index: &[Number], mapped: usize, token: u16, character: u16) -> 
         if kind != 1 {
             return false;
         }
-        return value == character as usize;
+        return value == character;
     }
     if kind != 0 {
         return false;
     }
-    value == token as usize - 1
+    value == token - 1
 }
 
 // Whether the line map has, for each entry that the scan of the text registers, a line with its key where it starts, and there are as
 // many as positions in the index.
 pub fn verify(
     chars: &[u16],
-    lengths: &[u16],
+    word_starts: &[u16],
     heads: &[u16],
     links: &[u16],
-    word_starts: &[u16],
     index: &[Number],
-    text: &[u16],
+    text: &[Number],
     line_map: &[Number],
 ) -> bool
     requires { ⌜
-        Tables (now chars) (now lengths) (now heads) (now links) (now «word_starts») × Fits (now index) ×
-        Line-map (now index) (mapped-at (now «line_map»)) × (length (now text) ≤ length (now «line_map»)) ⌝ }
+        Tables (now chars) (now «word_starts») (now heads) (now links) × Fits (now index) ×
+        Line-map (now index) (mapped-at (now «line_map»)) × Chars (now text) × (length (now text) ≤ length (now «line_map»)) ⌝ }
     ensures { λ r. ⌜
-        r ≡ verify (lexicon (now (chars .entry)) (now (lengths .entry))) (mapped-at (now («line_map» .entry))) (now (index .entry))
-        (now (text .entry)) ⌝ }
+        r ≡ verify (lexicon-at (now (chars .entry)) (now («word_starts» .entry))) (mapped-at (now («line_map» .entry)))
+        (now (index .entry)) (now (text .entry)) ⌝ }
 {
     let mut count = 0;
     let mut end = 0;
     let mut at = 0;
     while at < text.len() {
         let here = at;
-        let next = step(chars, lengths, heads, links, word_starts, text, here, end);
+        let next = step(chars, word_starts, heads, links, text, here, end);
         let token = next.token;
         end = next.end;
         at += 1;
         if token != 0 {
-            if !line_has_key(index, number_at(line_map, here), token, text[here]) {
+            if !line_has_key(
+                index,
+                number_at(line_map, here),
+                token,
+                number_at(text, here),
+            ) {
                 return false;
             }
             count += 1;

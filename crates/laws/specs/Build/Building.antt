@@ -20,8 +20,7 @@ use Rattle.models.specs.Inversion.{inverted, token-numbers}
 use Rattle.laws.specs.Text.Facts.{Chars, Good-lexicon}
 use Rattle.laws.specs.Text.WidthFolding.{length-replaced, replaced-chars}
 use Rattle.laws.specs.Text.Chars.{all-chars-put}
-use Rattle.laws.specs.Dictionary.Lexicon.{admitted-lexicon, admitted-get}
-use Rattle.laws.specs.Match.MatchTable.{Room}
+use Rattle.laws.specs.Dictionary.Lexicon.{admitted-lexicon}
 use Rattle.laws.specs.Dictionary.Answering.{accepted-yes, accepted-no, answers-accepted, answers-refused}
 use Rattle.laws.specs.Numbers.Slices.{length-numbers}
 use Rattle.laws.specs.Build.Tokens.{Tokens}
@@ -250,33 +249,6 @@ module _ (cs ls ts : List ℕ) (w : ℕ) (o : List ℕ) where
         ← token-numbers-index good (replaced-chars ts text) tokens,
       )
       puts
-
--- a match table's slices before it is filled
-pub record Blank (heads links starts : List ℕ) : Type 0 where
-  pub heads-clear : heads ≡ replicate 10240 0
-  pub links-long : 4096 ≤ length links
-  pub starts-long : 4096 < length starts
-
-pub blank : (n m k : ℕ) → n ≡ 10240 → m ≡ 4096 → k ≡ 4097 → Blank (replicate n 0) (replicate m 0) (replicate k 0)
-blank n m k e f h =
-    record {
-      heads-clear = rw e;
-      links-long = omega (arith, length-replicate {A = ℕ} m 0);
-      starts-long = omega (arith, length-replicate {A = ℕ} k 0);
-    }
-
-pub blank-room :
-    (cs ls ts : List ℕ) (w : ℕ) {heads links starts : List ℕ} → Chars cs → early-refusal cs ls ts w ≡ 0 → Blank heads links starts →
-    Room cs ls heads links starts
-blank-room cs ls ts w chars none b =
-    let adm : admitted cs ls ≡ true = reached-admitted cs ls chars (reached cs ls ts w none .admits) in
-    let few : length ls ≤ 4096 = admitted-get cs ls adm .few in
-    record {
-      dictionary = adm;
-      heads-clear = b .heads-clear;
-      links-long = omega arith;
-      starts-long = omega arith;
-    }
 
 -- the tokens at the start of the work slice can be chained
 pub front-linkable :

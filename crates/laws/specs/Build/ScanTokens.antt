@@ -53,15 +53,21 @@ entry-long : (k : Key) (p l : ℕ) → entry k p l .len ≡ l
 unfolding entry
 entry-long k p l = refl
 
-module _ (lex : Lexicon) (good : Good-lexicon lex) (ts : List ℕ) (chars : Chars ts) (q e : ℕ) (below : q < length ts) where
+-- a character of a text to be scanned
+pub record Scannable (lex : Lexicon) (ts : List ℕ) (q : ℕ) : Type 0 where
+  pub good : Good-lexicon lex
+  pub chars : Chars ts
+  pub below : q < length ts
+
+module _ {lex : Lexicon} {ts : List ℕ} {q : ℕ} (here : Scannable lex ts q) where
   -- any longest entry there is the one that the definition computes
   longest-is : {x : Entry} → Longest-at lex ts (q + 1) x → x ≡ longest-at lex ts (q + 1)
-  longest-is {x} l = longest-at-unique lex good ts chars (omega arith) (omega arith) l
+  longest-is {x} l = longest-at-unique lex (here .good) ts (here .chars) (omega arith) (omega arith) l
 
-  module _ (number len : ℕ) (f : Found lex ts (q + 1) (e + 1) number len) where
-    -- a word was found: its token is a 16-bit number, and it ends within the text
-    pub step-small : (number ≡ 0 → ⊥) → number ≤ 4096
-    step-small some = omega (arith, f .some (number - 1) (omega (arith, some)) .is-word .below)
+  module _ (e : ℕ) {number len : ℕ} (f : Found lex ts (q + 1) (e + 1) number len) where
+    -- a word was found: its token is small, and it ends within the text
+    pub step-small : (number ≡ 0 → ⊥) → number ≤ 4097
+    step-small some = omega (arith, f .some (number - 1) (omega (arith, some)) .is-word .below, here .good .few)
 
     pub step-fits : (number ≡ 0 → ⊥) → q + len ≤ length ts
     step-fits some =
@@ -81,7 +87,7 @@ module _ (lex : Lexicon) (good : Good-lexicon lex) (ts : List ℕ) (chars : Char
         w = f .some (number - 1) (omega (arith, some))
 
         same : entry (key 0 (number - 1)) (q + 1) (length (getD (lex .words) (number - 1) [])) ≡ longest-at lex ts (q + 1)
-        same = longest-is (word-at-longest lex good ts chars (w .is-word))
+        same = longest-is (word-at-longest lex (here .good) ts (here .chars) (w .is-word))
 
         size : longest-at lex ts (q + 1) .len ≡ length (getD (lex .words) (number - 1) [])
         size =
@@ -92,7 +98,7 @@ module _ (lex : Lexicon) (good : Good-lexicon lex) (ts : List ℕ) (chars : Char
         token =
             let back : number ≡ suc (number - 1) = omega (arith, some) in
             ap (λ (m : ℕ). token-entry lex (q + 1) m (getD ts (q + 1 - 1) 0)) back
-            ∙ token-entry-word lex (q + 1) (number - 1) (getD ts (q + 1 - 1) 0) (omega (arith, w .is-word .below, good .few))
+            ∙ token-entry-word lex (q + 1) (number - 1) (getD ts (q + 1 - 1) 0) (omega (arith, w .is-word .below, here .good .few))
             ∙ ap (λ (x : Entry). x ∷ []) same
 
     -- no word was found, and the character is not covered: it is a lone character
@@ -108,7 +114,7 @@ module _ (lex : Lexicon) (good : Good-lexicon lex) (ts : List ℕ) (chars : Char
         same : entry (key 1 (getD ts (q + 1 - 1) 0)) (q + 1) 1 ≡ longest-at lex ts (q + 1)
         same =
             longest-is
-            (none-after-lone lex good ts chars (omega arith) (omega arith) (omega arith) (f .none none))
+            (none-after-lone lex (here .good) ts (here .chars) (omega arith) (omega arith) (omega arith) (f .none none))
 
         size : longest-at lex ts (q + 1) .len ≡ 1
         size = sym (ap (λ (x : Entry). x .len) same) ∙ entry-long (key 1 (getD ts (q + 1 - 1) 0)) (q + 1) 1
@@ -125,8 +131,8 @@ module _ (lex : Lexicon) (good : Good-lexicon lex) (ts : List ℕ) (chars : Char
       where
         early : q + 1 + longest-at lex ts (q + 1) .len ≤ e + 1
         early =
-            none-after-passes lex good ts chars (omega arith) (f .none none)
-            (longest-at-is lex good ts chars (q + 1) (omega arith) (omega arith))
+            none-after-passes lex (here .good) ts (here .chars) (omega arith) (f .none none)
+            (longest-at-is lex (here .good) ts (here .chars) (q + 1) (omega arith) (omega arith))
 
 -- THE SCAN
 
@@ -170,7 +176,7 @@ pub record Scanning (lex : Lexicon) (ts old work : List ℕ) (i e : ℕ) : Type 
   pub known : (q m : ℕ) → q < i → getD work q 0 ≡ suc m → (m < length (lex .words)) ⊎ (m ≡ 4096)
   pub exact : entries-of-tokens lex 1 (take i work) ts ++ scan (longest-at lex ts) (length ts - i) (i + 1) (e + 1) ≡ make-index lex ts
 
-module _ (lex : Lexicon) (ts old : List ℕ) (room : length ts ≤ length old) where
+module _ {lex : Lexicon} {ts old : List ℕ} where
   pub scanning-tokens-start : Scanning lex ts old old 0 0
   unfolding make-index entries-of-tokens
   scanning-tokens-start =
@@ -183,7 +189,7 @@ module _ (lex : Lexicon) (ts old : List ℕ) (room : length ts ≤ length old) w
         exact = rw (sub-zero (length ts));
       }
 
-  module _ (work : List ℕ) (i e : ℕ) (h : Scanning lex ts old work i e) where
+  module _ (room : length ts ≤ length old) {work : List ℕ} {i e : ℕ} (h : Scanning lex ts old work i e) where
     scanning-tokens-room : i < length ts → i < length work
     scanning-tokens-room below = omega arith
 

@@ -1,46 +1,16 @@
--- An index read by tables: where each word's characters start, and where each directory line's positions start. Assumes nothing.
-use mathlib.Core.Path.{_≡_, refl, ap, _∙_}
+-- An index read by a table of where each directory line's positions start. Assumes nothing.
+use mathlib.Core.Path.{_≡_, ap, _∙_}
 use mathlib.Core.List.{List, [], _∷_}
 use Prim.Native.Nat.{ℕ, zero, suc, _+_, _*_, _-_, _≤_, _<_}
 use native.Mathlib.Numerals.{add-one}
 use native.Mathlib.Omega.{arith}
-use lib.ListN.{length, getD, take, drop, drop-of-length-le}
+use lib.ListN.{length, take, drop, drop-of-length-le}
 use lib.Seq.{drop-drop}
-use Rattle.spec.specs.Dictionary.{words-from, total}
 use Rattle.spec.specs.Numbers.{Line, line}
 use Rattle.spec.specs.Index.{header, greatest-number, keys-of, kind-at, value-at}
 use Rattle.spec.specs.Index.{count-at, key-at, counts-from, entries-of, lines-from, lines-in}
 use Rattle.models.specs.Window.{list-start}
 use Rattle.laws.specs.Numbers.Slices.{length-lines-from, Fits}
-
--- WORDS
-
--- the index at which word w's characters start
-abbrev pub word-start : (lengths : List ℕ) → (w : ℕ) → ℕ
-word-start ls w = total (take w ls)
-
-start-suc : (ls : List ℕ) (w : ℕ) → w < length ls → word-start ls (suc w) ≡ word-start ls w + getD ls w 0
-unfolding total
-start-suc [] w h = absurd (omega arith)
-start-suc (l ∷ ls) zero h = omega arith
-start-suc (l ∷ ls) (suc w) h = omega (arith, start-suc ls w (omega arith))
-
-pub word-start-next : (ls : List ℕ) (w : ℕ) → w < length ls → word-start ls (w + 1) ≡ word-start ls w + getD ls w 0
-word-start-next ls w h = rw (add-one w) (start-suc ls w h)
-
-pub word-start-room : (ls : List ℕ) (w : ℕ) → w < length ls → word-start ls w + getD ls w 0 ≤ total ls
-unfolding total
-word-start-room [] w h = absurd (omega arith)
-word-start-room (l ∷ ls) zero h = omega arith
-word-start-room (l ∷ ls) (suc w) h = omega (arith, word-start-room ls w (omega arith))
-
-pub word-there :
-    (ls cs : List ℕ) (w : ℕ) → w < length ls → getD (words-from ls cs) w [] ≡ take (getD ls w 0) (drop (word-start ls w) cs)
-unfolding words-from total
-word-there [] cs w h = absurd (omega arith)
-word-there (l ∷ ls) cs zero h = refl
-word-there (l ∷ ls) cs (suc w) h =
-    word-there ls (drop l cs) w (omega arith) ∙ ap (λ (d : List ℕ). take (getD ls w 0) d) (drop-drop (word-start ls w) l cs)
 
 -- LINES
 

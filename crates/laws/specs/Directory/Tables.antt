@@ -7,7 +7,7 @@ use Prim.Native.Nat.{ℕ, zero, suc, _+_, _*_, _-_, _≤_, _<_}
 use native.Mathlib.Omega.{arith}
 use lib.Dec.{leb}
 use lib.ListN.{length, getD, take, drop, set, length-set}
-use lib.Seq.{drop-nil, getD-take, getD-drop, getD-set-same, getD-set-other, take-at}
+use lib.Seq.{drop-nil, getD-take, getD-drop, getD-set-same, getD-set-other}
 use borrow.Author.Count.{below-more}
 use Rattle.basics.specs.Bools.{and-left}
 use Rattle.basics.specs.Member.{In}
@@ -25,12 +25,12 @@ use Rattle.laws.specs.Text.Facts.{Good-lexicon, Is-key, Good-line, Good-
 use Rattle.laws.specs.Dictionary.Keys.{Is-word-key, Is-lone-key, key-kinds, spells-word, spells-short, spells-some}
 use Rattle.laws.specs.Dictionary.Lexicon.{Is-admitted, length-words, admitted-lexicon, admitted-ascend}
 use Rattle.laws.specs.Dictionary.WordCode.{Small}
+use Rattle.laws.specs.Dictionary.WordStarts.{Word-starts, end-room, word-lies, word-long, filled-long, filled-lengths, filled-words}
 use Rattle.laws.specs.Readable.KeyTests.{no-refusal, dictionary-read}
 use Rattle.laws.specs.Readable.IndexRefusal.{Accepted, index-accepted}
 use Rattle.laws.specs.Readable.Readable.{readable-get}
 use Rattle.laws.specs.Numbers.Slices.{Fits, lengths-fit-get}
 use Rattle.laws.specs.Directory.Opened.{line-of, lines-next, list-room}
-use Rattle.laws.specs.Directory.WordStarts.{Word-starts, end-room, word-lies, word-long, length-starts, lengths-of-starts}
 
 -- what holds if 1, 2, 3 and 5 are not met
 pub record Can-read (cs ls xs : List ℕ) : Type 0 where
@@ -198,20 +198,11 @@ key-some {cs} {ls} {xs} can i below = spells-some (can .lexicon-good) (key-at xs
 
 -- a table filled from the lengths of a dictionary's words: the part of it that is lent on has the starts, and no more
 module _ {cs ls xs : List ℕ} (can : Can-read cs ls xs) (old : List ℕ) {table : List ℕ} (filled : table ≡ over (starts-from 0 ls) old) where
-  front-is : take (length ls + 1) table ≡ starts-from 0 ls
-  front-is =
-      let long : length (starts-from 0 ls) ≡ length ls + 1 = omega (arith, length-starts 0 ls) in
-      rw filled (take-at (starts-from 0 ls) (drop (length (starts-from 0 ls)) old) (length ls + 1) long)
-
   pub front-long : length ls + 1 ≡ length (take (length ls + 1) table)
-  front-long = omega (arith, ap length front-is, length-starts 0 ls)
+  front-long = filled-long ls old filled
 
   pub front-lengths : lengths-of (take (length ls + 1) table) ≡ ls
-  front-lengths = ap lengths-of front-is ∙ lengths-of-starts ls
+  front-lengths = filled-lengths ls old filled
 
   pub front-reads : Reads cs (take (length ls + 1) table) xs
-  front-reads =
-      record {
-        can = rw front-lengths can;
-        words = record { are = front-is ∙ ap (starts-from 0) (sym front-lengths); room = rw front-lengths (omega arith) };
-      }
+  front-reads = record { can = rw front-lengths can; words = filled-words ls old filled (omega arith) }

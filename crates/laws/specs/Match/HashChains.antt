@@ -89,13 +89,13 @@ module _ (f : ℕ → ℕ) (b : ℕ) where
       (true-or-false (eqb j n))
 
   -- the next number joins the chain of its bucket: its link is the old head, and it is the new one
-  module _ (links : List ℕ) (n h : ℕ) (room : n < length links) (c : Chain links h (chained f b n)) where
+  module _ (links : List ℕ) (n h : ℕ) (c : Chain links h (chained f b n)) where
     new : In n (chained f b n) → ⊥
     new m = omega (arith, fall-below n (chained f b n) n (chained-falls n) m)
 
-    pub chained-here : f n ≡ b → Chain (set links n h) (suc n) (chained f b (suc n))
+    pub chained-here : n < length links → f n ≡ b → Chain (set links n h) (suc n) (chained f b (suc n))
     unfolding chained
-    chained-here e = rw (eq-eqb (f n) b e) (chain-chain links n h (chained f b n) room new c)
+    chained-here room e = rw (eq-eqb (f n) b e) (chain-chain links n h (chained f b n) room new c)
 
     pub chained-elsewhere : (v : ℕ) → (f n ≡ b → ⊥) → Chain (set links n v) h (chained f b (suc n))
     unfolding chained
@@ -113,9 +113,19 @@ pub record Walk (links : List ℕ) (f : ℕ → ℕ) (b n : ℕ) (Q : ℕ → Ty
   pub mine : (j : ℕ) → In j ahead → f j ≡ b
   pub rest : (j : ℕ) → j < n → f j ≡ b → In j ahead ⊎ Q j
 
-module _ (links : List ℕ) (f : ℕ → ℕ) (b n : ℕ) (Q : ℕ → Type 0) where
-  pub walk-start : (next : ℕ) → Chain links next (chained f b n) → Walk links f b n Q next
-  walk-start next c =
+-- what holds at a number of the bucket
+pub record Stop (links : List ℕ) (f : ℕ → ℕ) (b n : ℕ) (Q : ℕ → Type 0) (next : ℕ) : Type 0 where
+  pub below : next ≤ n
+  pub linked : next - 1 < length links
+  pub mine : f (next - 1) ≡ b
+  pub falls : getD links (next - 1) 0 < next
+  -- a number not visited yet is before it or is it
+  pub left : (j : ℕ) → j < n → f j ≡ b → (j < next) ⊎ Q j
+  pub onward : Q (next - 1) → Walk links f b n Q (getD links (next - 1) 0)
+
+module _ {links : List ℕ} {f : ℕ → ℕ} {b n : ℕ} {Q : ℕ → Type 0} where
+  pub walk-start : {next : ℕ} → Chain links next (chained f b n) → Walk links f b n Q next
+  walk-start c =
       record {
         ahead = chained f b n;
         chain = c;
@@ -124,19 +134,9 @@ module _ (links : List ℕ) (f : ℕ → ℕ) (b n : ℕ) (Q : ℕ → Type 0) w
         rest = λ j l e. inl (chained-put f b n j l e);
       }
 
-  -- what holds at a number of the bucket
-  pub record Stop (next : ℕ) : Type 0 where
-    pub below : next ≤ n
-    pub linked : next - 1 < length links
-    pub mine : f (next - 1) ≡ b
-    pub falls : getD links (next - 1) 0 < next
-    -- a number not visited yet is before it or is it
-    pub left : (j : ℕ) → j < n → f j ≡ b → (j < next) ⊎ Q j
-    pub onward : Q (next - 1) → Walk links f b n Q (getD links (next - 1) 0)
-
   stop-at :
       (next : ℕ) (xs : List ℕ) → (next ≡ 0 → ⊥) → Chain links next xs → Descending n xs → ((j : ℕ) → In j xs → f j ≡ b) →
-      ((j : ℕ) → j < n → f j ≡ b → In j xs ⊎ Q j) → Stop next
+      ((j : ℕ) → j < n → f j ≡ b → In j xs ⊎ Q j) → Stop links f b n Q next
   stop-at next [] some c fall mine rest = absurd (some c)
   stop-at next (x ∷ xs) some c fall mine rest =
       record {
@@ -171,7 +171,7 @@ module _ (links : List ℕ) (f : ℕ → ℕ) (b n : ℕ) (Q : ℕ → Type 0) w
           passed j (inl (inr m)) = inl m
           passed j (inr p) = inr p
 
-  pub walk-stop : {next : ℕ} → Walk links f b n Q next → (next ≡ 0 → ⊥) → Stop next
+  pub walk-stop : {next : ℕ} → Walk links f b n Q next → (next ≡ 0 → ⊥) → Stop links f b n Q next
   walk-stop {next} w some = stop-at next (w .ahead) some (w .chain) (w .falls) (w .mine) (w .rest)
 
   pub walk-end : Walk links f b n Q 0 → (j : ℕ) → j < n → f j ≡ b → Q j

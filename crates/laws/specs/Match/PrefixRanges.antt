@@ -8,6 +8,7 @@ use Prim.Native.Nat.{ℕ, zero, suc, _+_, _-_, _≤_, _<_}
 use native.Mathlib.Omega.{arith}
 use lib.ListN.{length, getD}
 use Rattle.basics.specs.Bools.{clash, le-or-lt}
+use Rattle.basics.specs.LowerBound.{Rising}
 use Rattle.spec.specs.Dictionary.{word-before, ascend}
 use Rattle.laws.specs.Text.Strings.{Stand}
 use Rattle.laws.specs.Text.Overlaps.{stand-at, stand-put}
@@ -73,7 +74,7 @@ pub record Lower-bound-at (ws : List (List ℕ)) (lo hi d c r : ℕ) : Type 0 wh
   pub below : (i : ℕ) → lo ≤ i → i < r → getD (getD ws i []) d 0 < c
   pub above : (i : ℕ) → r ≤ i → i < hi → c ≤ getD (getD ws i []) d 0
 
-module _ (ws : List (List ℕ)) (ts : List ℕ) (p k : ℕ) where
+module _ {ws : List (List ℕ)} {ts : List ℕ} {p k : ℕ} where
   pub prefix-range-start : k ≤ length ws → 1 ≤ p → p ≤ suc (length ts) → Prefix-range ws ts p k 0 k 0 0
   prefix-range-start known from reach =
       record {
@@ -143,14 +144,17 @@ module _ (ws : List (List ℕ)) (ts : List ℕ) (p k : ℕ) where
                 (le-or-lt i lo)
 
         -- the d-th characters are nondecreasing
-        pub prefix-range-rises : (i j : ℕ) → lo ≤ i → i ≤ j → j < hi → getD (getD ws i []) d 0 ≤ getD (getD ws j []) d 0
-        prefix-range-rises i j a b c =
-            ⊎-elim (λ (q : j ≤ i). let here : i ≡ j = omega arith in omega (arith, ap (λ (x : ℕ). getD (getD ws x []) d 0) here))
-            (λ (q : i < j).
-            next-rises (getD ws i []) (getD ws j []) d (ascend-get ws sorted i j q (omega arith))
-            (prefix-range-longer i a (omega arith)) (prefix-range-longer j (omega arith) c)
-            (λ x l. h .agree i x a (omega arith) l ∙ sym (h .agree j x (omega arith) c l)))
-            (le-or-lt j i)
+        pub prefix-range-rises : Rising (λ (i : ℕ). getD (getD ws i []) d 0) lo hi
+        prefix-range-rises = record { order = h .order; rises = rises }
+          where
+            rises : (i j : ℕ) → lo ≤ i → i ≤ j → j < hi → getD (getD ws i []) d 0 ≤ getD (getD ws j []) d 0
+            rises i j a b c =
+                ⊎-elim (λ (q : j ≤ i). let here : i ≡ j = omega arith in omega (arith, ap (λ (x : ℕ). getD (getD ws x []) d 0) here))
+                (λ (q : i < j).
+                next-rises (getD ws i []) (getD ws j []) d (ascend-get ws sorted i j q (omega arith))
+                (prefix-range-longer i a (omega arith)) (prefix-range-longer j (omega arith) c)
+                (λ x l. h .agree i x a (omega arith) l ∙ sym (h .agree j x (omega arith) c l)))
+                (le-or-lt j i)
 
         -- if the text ends there, none of them stands
         pub prefix-range-stop : suc (length ts) ≤ p + d → Last-standing ws ts p k best

@@ -2,7 +2,7 @@
 -- that of the recovered text, which the reconstruction then is; without full-width forms in it, the index is received. Assumes nothing.
 use mathlib.Core.Path.{_≡_, refl, sym, _∙_}
 use mathlib.Core.Bool.{Bool, true, false, not}
-use mathlib.Core.List.{List, []}
+use mathlib.Core.List.{List}
 use mathlib.Core.Logic.{⊎-elim}
 use Prim.Native.Nat.{ℕ, _-_, _≤_, _<_}
 use native.Mathlib.Omega.{arith}
@@ -10,18 +10,17 @@ use lib.ListN.{length, take, drop, replicate, length-replicate, getD-replicate, 
 use lib.Seq.{length-take-le}
 use Rattle.basics.specs.Bools.{clash, le-or-lt}
 use Rattle.spec.specs.Replaced.{holds-full-width}
-use Rattle.spec.specs.Dictionary.{longest-text, Lexicon, lexicon}
+use Rattle.spec.specs.Dictionary.{longest-text, Lexicon, admitted}
 use Rattle.spec.specs.Index.{n-of, lines-in, readable}
 use Rattle.spec.specs.Reception.{recovered, is-index, received}
 use Rattle.models.specs.Entries.{flat}
 use Rattle.models.specs.Reception.{reconstruct, mapped-at, fill-line-map, verify}
 use Rattle.laws.specs.Text.Facts.{Chars, Good-lexicon}
 use Rattle.laws.specs.Text.Chars.{chars-take}
-use Rattle.laws.specs.Match.MatchTable.{Room}
-use Rattle.laws.specs.Build.Building.{early-none, reached-lexicon, Blank, blank-room}
+use Rattle.laws.specs.Build.Building.{reached-admitted}
 use Rattle.laws.specs.Receive.LineMapFill.{line-map-mapped}
 use Rattle.laws.specs.Receive.LineMap.{Line-map}
-use Rattle.laws.specs.Receive.Reception.{reception-exact, reception-recovers}
+use Rattle.laws.specs.Receive.Reception.{reconstructing-chars, reception-exact, reception-recovers}
 use Rattle.laws.specs.Receive.Receiving.{delivery-refusal, delivered}
 
 -- THE TEXT
@@ -44,57 +43,57 @@ cleared-line-map n p =
     (λ (h : n ≤ p - 1). List·getD-eq-default (replicate n 0) 0 (omega (arith, length-replicate {A = ℕ} n 0)))
     (λ (h : p - 1 < n). getD-replicate n (p - 1) 0 0 h) (le-or-lt n (p - 1))
 
-module _ (cs ls xs : List ℕ) (w : ℕ) (chars : Chars cs) (none : delivery-refusal cs ls xs w ≡ 0) where
-  pub delivered-lexicon : Good-lexicon (lexicon cs ls)
-  delivered-lexicon = reached-lexicon cs ls chars (delivered cs ls xs w none .admits)
+-- a delivered index's dictionary is admitted
+pub delivered-admitted :
+    (cs ls xs : List ℕ) (w : ℕ) → Chars cs → delivery-refusal cs ls xs w ≡ 0 → admitted cs ls ≡ true
+delivered-admitted cs ls xs w chars none = reached-admitted cs ls chars (delivered cs ls xs w none .admits)
 
-  pub delivered-room : {heads links starts : List ℕ} → Blank heads links starts → Room cs ls heads links starts
-  delivered-room {heads} {links} {starts} b =
-      blank-room cs ls [] 0 chars
-      (early-none cs ls [] 0 (delivered cs ls xs w none .admits) (omega arith) (omega arith)) b
+-- the work slice: w before the reconstruction, u after it, v after the line map is filled
+pub record In-work (lex : Lexicon) (xs : List ℕ) (n : ℕ) (w u v : List ℕ) : Type 0 where
+  pub good : Good-lexicon lex
+  pub can : readable longest-text lex xs ≡ true
+  pub n-is : n ≡ n-of xs
+  pub room : n ≤ length w
+  pub chars : Chars w
+  pub reconstructs : take n u ≡ reconstruct lex (flat lex (lines-in xs)) (take n w)
+  pub keeps : take n v ≡ take n u
+  pub mapped : take n (drop n v) ≡ fill-line-map 0 (lines-in xs) (replicate n 0)
 
--- w is the work slice before the reconstruction, u after it, v after the line map is filled
-module _ (cs ls xs w : List ℕ) (chars : Chars cs) (work : Chars w) (none : delivery-refusal cs ls xs (length w) ≡ 0) {n : ℕ}
-    (is : n ≡ n-of xs) (u v : List ℕ)
-    (reconstructs : take n u ≡ reconstruct (lexicon cs ls) (flat (lexicon cs ls) (lines-in xs)) (take n w))
-    (keeps : take n v ≡ take n u) (line-map : take n (drop n v) ≡ fill-line-map 0 (lines-in xs) (replicate n 0)) where
-  reconstructed : take n v ≡ reconstruct (lexicon cs ls) (flat (lexicon cs ls) (lines-in xs)) (take n w)
-  reconstructed = keeps ∙ reconstructs
-
-  good : Good-lexicon (lexicon cs ls)
-  good = delivered-lexicon cs ls xs (length w) chars none
-
-  can : readable longest-text (lexicon cs ls) xs ≡ true
-  can = delivered cs ls xs (length w) none .can-read
+module _ {lex : Lexicon} {xs : List ℕ} {n : ℕ} {w u v : List ℕ} (h : In-work lex xs n w u v) where
+  reconstructed : take n v ≡ reconstruct lex (flat lex (lines-in xs)) (take n w)
+  reconstructed = h .keeps ∙ h .reconstructs
 
   text-long : length (take n w) ≡ n-of xs
-  text-long = length-take-le n w (omega (arith, is, delivered cs ls xs (length w) none .room)) ∙ is
+  text-long = length-take-le n w (h .room) ∙ h .n-is
 
   line-map-long : n-of xs ≤ length (replicate {A = ℕ} n 0)
-  line-map-long = omega (arith, is, length-replicate {A = ℕ} n 0)
+  line-map-long = omega (arith, h .n-is, length-replicate {A = ℕ} n 0)
 
   pub tried-mapped : Line-map xs (mapped-at (take n (drop n v)))
   tried-mapped =
-      rw line-map
-      (line-map-mapped good longest-text xs can (replicate n 0) line-map-long (λ p lo. cleared-line-map n p))
+      rw (h .mapped)
+      (line-map-mapped (h .good) longest-text xs (h .can) (replicate n 0) line-map-long (λ p lo. cleared-line-map n p))
 
-  pub read-back :
-      (r : Bool) → r ≡ verify (lexicon cs ls) (mapped-at (take n (drop n v))) xs (take n v) → Read-back (lexicon cs ls) xs r v
-  read-back r e = record { exact = exact; text = λ t. rw (← is) (reconstructed ∙ recovers (sym exact ∙ t)) }
+  pub tried-chars : Chars (take n v)
+  tried-chars =
+      rw reconstructed
+      (reconstructing-chars (h .good) longest-text xs (h .can) (take n w) (replicate n 0)
+      (chars-take n w (h .chars)) text-long line-map-long (λ p lo. cleared-line-map n p))
+
+  pub read-back : {r : Bool} → r ≡ verify lex (mapped-at (take n (drop n v))) xs (take n v) → Read-back lex xs r v
+  read-back {r} e = record { exact = exact; text = λ t. rw (← h .n-is) (reconstructed ∙ recovers (sym exact ∙ t)) }
     where
-      exact : r ≡ is-index longest-text (lexicon cs ls) xs
+      exact : r ≡ is-index longest-text lex xs
       exact =
           e
-          ∙ rw (line-map, reconstructed)
-          (reception-exact good longest-text xs can (take n w) (replicate n 0)
-          (chars-take n w work) text-long line-map-long (λ p lo. cleared-line-map n p))
+          ∙ rw (h .mapped, reconstructed)
+          (reception-exact (h .good) longest-text xs (h .can) (take n w) (replicate n 0)
+          (chars-take n w (h .chars)) text-long line-map-long (λ p lo. cleared-line-map n p))
 
-      recovers :
-          is-index longest-text (lexicon cs ls) xs ≡ true →
-          reconstruct (lexicon cs ls) (flat (lexicon cs ls) (lines-in xs)) (take n w) ≡ recovered (lexicon cs ls) xs
+      recovers : is-index longest-text lex xs ≡ true → reconstruct lex (flat lex (lines-in xs)) (take n w) ≡ recovered lex xs
       recovers =
-          reception-recovers good longest-text xs can (take n w) (replicate n 0)
-          (chars-take n w work) text-long line-map-long (λ p lo. cleared-line-map n p)
+          reception-recovers (h .good) longest-text xs (h .can) (take n w) (replicate n 0)
+          (chars-take n w (h .chars)) text-long line-map-long (λ p lo. cleared-line-map n p)
 
 -- the index is received if that text has no full-width form
 module _ {lex : Lexicon} {xs v : List ℕ} {shown : Bool} (h : Read-back lex xs shown v) where

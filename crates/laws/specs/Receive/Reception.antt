@@ -61,8 +61,7 @@ module _ {lex : Lexicon} (good : Good-lexicon lex) (g : ℕ) (xs : List ℕ) (ca
   unfolding line-map
   mapped = line-map-mapped good g xs can ns room clear
 
-  reconstructing-chars : Chars reconstructing
-  unfolding reconstructing
+  pub reconstructing-chars : Chars (reconstruct lex (flat lex (lines-in xs)) us)
   reconstructing-chars =
       reconstruct-chars lex (flat lex (lines-in xs)) us chars
       (λ e m.

@@ -3,19 +3,17 @@ use mathlib.Core.Path.{_≡_, refl, sym, ap, _∙_}
 use mathlib.Core.Bool.{Bool, true}
 use mathlib.Core.List.{List, [], _∷_, _++_}
 use Prim.Native.Nat.{ℕ, _+_, _*_, _-_, _≤_, _<_}
-use native.Mathlib.Numerals.{add-one}
 use native.Mathlib.Omega.{arith}
 use lib.ListN.{length, getD, take, drop}
 use lib.Seq.{sets}
 use Rattle.basics.specs.Bools.{Reflects}
 use Rattle.basics.specs.Member.{in-getD}
-use Rattle.spec.specs.Dictionary.{Lexicon, longest-text, lexicon}
+use Rattle.spec.specs.Dictionary.{Lexicon, longest-text}
 use Rattle.spec.specs.Words.{Key, key, spells, Entry, entry}
 use Rattle.spec.specs.Numbers.{Line, line}
 use Rattle.spec.specs.Index.{header, greatest-number, n-of, keys-of, kind-at, key-at, lines-in, readable}
 use Rattle.models.specs.Entries.{entries-at, flat}
-use Rattle.models.specs.MatchTable.{start-of}
-use Rattle.models.specs.WordStarts.{starts-from, lengths-of, lexicon-at}
+use Rattle.models.specs.WordStarts.{lengths-of, lexicon-at}
 use Rattle.models.specs.Reception.{reconstruct, fill-positions, reconstruct-positions}
 use Rattle.laws.specs.Text.Facts.{Good-line, Rise}
 use Rattle.laws.specs.Dictionary.Keys.{spells-lone}
@@ -25,50 +23,36 @@ use Rattle.laws.specs.Match.MatchTable.{Started}
 use Rattle.laws.specs.Readable.Readable.{readable-get}
 use Rattle.laws.specs.Readable.LineWalk.{readable-fits}
 use Rattle.laws.specs.Directory.Opened.{line-of, Is-line}
-use Rattle.laws.specs.Directory.WordStarts.{starts-front, lengths-of-starts}
-use Rattle.laws.specs.Directory.Tables.{Can-read, Reads, line-is-good, key-is, line-word, line-spells}
+use Rattle.laws.specs.Directory.Tables.{Reads, line-is-good, key-is, line-word, line-spells}
 use Rattle.laws.specs.Receive.PositionWalk.{length-reconstruct-positions, reconstruct-character, Lie-within}
 use Rattle.laws.specs.Receive.EntriesMatch.{Stand-each}
 use Rattle.laws.specs.Receive.LinePass.{line-positions, Passing, passing-start, passing-step, passing-end}
 
 -- WHAT IS READ
 
--- a readable index and an admitted dictionary, with its word starts at the front of a table
-module _ {cs ls starts : List ℕ} (started : Started cs ls starts) where
-  abbrev front : List ℕ
-  front = take (length ls + 1) starts
-
-  front-is : front ≡ starts-from 0 ls
-  unfolding start-of
-  front-is =
-      rw (add-one (length ls)) (starts-front 0 ls starts (started .starts-long) (λ i b. omega (arith, started .started i b)))
-
-  pub started-lengths : lengths-of front ≡ ls
-  started-lengths = ap lengths-of front-is ∙ lengths-of-starts ls
-
-  pub started-reads : (xs : List ℕ) → readable longest-text (lexicon cs ls) xs ≡ true → keys-of xs ≤ greatest-number → Reads cs front xs
+-- a readable index and an admitted dictionary, with its word starts
+module _ {cs ws : List ℕ} (started : Started cs ws) where
+  pub started-reads :
+      (xs : List ℕ) → readable longest-text (lexicon-at cs ws) xs ≡ true → keys-of xs ≤ greatest-number → Reads cs ws xs
   started-reads xs can keys =
       record {
-        can = rw started-lengths can-read;
-        words = record { are = rw started-lengths front-is; room = rw started-lengths (omega (arith, facts .sum)) };
+        can =
+            record {
+              few-words = facts .few;
+              few-chars = facts .small;
+              sum = facts .sum;
+              lexicon-good = admitted-lexicon cs (lengths-of ws) (started .dictionary);
+              words-rise = admitted-ascend cs (lengths-of ws) (started .dictionary);
+              fits = readable-fits longest-text (lexicon-at cs ws) xs can;
+              lines = readable-get longest-text (lexicon-at cs ws) xs can .lines;
+              n-small = readable-get longest-text (lexicon-at cs ws) xs can .length-allowed;
+              keys-small = keys;
+            };
+        words = started .words;
       }
     where
-      facts : Is-admitted cs ls
-      facts = admitted-get cs ls (started .dictionary)
-
-      can-read : Can-read cs ls xs
-      can-read =
-          record {
-            few-words = facts .few;
-            few-chars = facts .small;
-            sum = facts .sum;
-            lexicon-good = admitted-lexicon cs ls (started .dictionary);
-            words-rise = admitted-ascend cs ls (started .dictionary);
-            fits = readable-fits longest-text (lexicon cs ls) xs can;
-            lines = readable-get longest-text (lexicon cs ls) xs can .lines;
-            n-small = readable-get longest-text (lexicon cs ls) xs can .length-allowed;
-            keys-small = keys;
-          }
+      facts : Is-admitted cs (lengths-of ws)
+      facts = admitted-get cs (lengths-of ws) (started .dictionary)
 
 -- a good line's key fits at each of its positions
 pub good-lie :

@@ -18,11 +18,10 @@ use Rattle.spec.specs.Index.{header, keys-of, kind-at, value-at, entries-of}
 use Rattle.models.specs.Entries.{longest-at}
 use Rattle.models.specs.Inversion.{token-entry}
 use Rattle.models.specs.Reception.{mapped-at, mapped-right, verify, verify-from, token-key, token-mapped}
-use Rattle.laws.specs.Text.Facts.{Chars, Good-lexicon}
 use Rattle.laws.specs.Numbers.Slices.{Fits}
 use Rattle.laws.specs.Entries.Scan.{Longest-at}
 use Rattle.laws.specs.Entries.Longest.{longest-at-is}
-use Rattle.laws.specs.Build.ScanTokens.{Stepped}
+use Rattle.laws.specs.Build.ScanTokens.{Stepped, Scannable}
 use Rattle.laws.specs.Receive.LineMap.{Line-map, verify-starts, verify-passes, verify-registers, verify-fails, verify-ends}
 
 -- THE KEY OF A TOKEN
@@ -102,7 +101,7 @@ pub record Testing (lex : Lexicon) (xs us ns : List ℕ) (q e count : ℕ) : Typ
   pub few : count ≤ q
   pub exact : verify-from lex (mapped-at ns) xs us (length us - q) (q + 1) (e + 1) count ≡ verify lex (mapped-at ns) xs us
 
-module _ (lex : Lexicon) (xs us ns : List ℕ) where
+module _ {lex : Lexicon} {xs us ns : List ℕ} where
   pub testing-starts : Testing lex xs us ns 0 0 0
   testing-starts =
       record {
@@ -112,10 +111,10 @@ module _ (lex : Lexicon) (xs us ns : List ℕ) where
         exact = rw (sub-zero (length us)) (verify-starts lex (mapped-at ns) xs us);
       }
 
-  module _ (good : Good-lexicon lex) (chars : Chars us) (q e count token next : ℕ) (t : Testing lex xs us ns q e count)
-      (below : q < length us) (s : Stepped lex us (q + 1) (e + 1) token (next + 1)) where
+  module _ {q e count token : ℕ} (here : Scannable lex us q) (t : Testing lex xs us ns q e count) (next : ℕ)
+      (s : Stepped lex us (q + 1) (e + 1) token (next + 1)) where
     is-longest : Longest-at lex us (q + 1) (longest-at lex us (q + 1))
-    is-longest = longest-at-is lex good us chars (q + 1) (omega arith) (omega arith)
+    is-longest = longest-at-is lex (here .good) us (here .chars) (q + 1) (omega arith) (omega arith)
 
     more : verify-from lex (mapped-at ns) xs us (suc (length us - (q + 1))) (q + 1) (e + 1) count ≡ verify lex (mapped-at ns) xs us
     more = let left : length us - q ≡ suc (length us - (q + 1)) = omega arith in rw left at (t .exact)
@@ -152,8 +151,8 @@ module _ (lex : Lexicon) (xs us ns : List ℕ) where
           exact =
               rw (s .passed (passed none) .1, add-one (q + 1))
               (sym
-              (verify-passes lex (mapped-at ns) xs us good chars (length us - (q + 1)) (e + 1) count (omega arith) (omega arith) is-longest
-              (passed none))
+              (verify-passes lex (mapped-at ns) xs us (here .good) (here .chars) (length us - (q + 1)) (e + 1) count (omega arith)
+              (omega arith) is-longest (passed none))
               ∙ more);
         }
 
@@ -167,7 +166,7 @@ module _ (lex : Lexicon) (xs us ns : List ℕ) where
           exact =
               rw (s .registered (registered some) .1, add-one (q + 1), add-one count)
               (sym
-              (verify-registers lex (mapped-at ns) xs us good chars (length us - (q + 1)) (e + 1) count (omega arith)
+              (verify-registers lex (mapped-at ns) xs us (here .good) (here .chars) (length us - (q + 1)) (e + 1) count (omega arith)
               (omega arith) is-longest (registered some) (right-line some ∙ right))
               ∙ more);
         }
@@ -176,8 +175,8 @@ module _ (lex : Lexicon) (xs us ns : List ℕ) where
         (token ≡ 0 → ⊥) → token-mapped xs (getD ns q 0) token (getD us q 0) ≡ false → false ≡ verify lex (mapped-at ns) xs us
     testing-fails some wrong =
         sym
-        (verify-fails lex (mapped-at ns) xs us good chars (length us - (q + 1)) (e + 1) count (omega arith) (omega arith) is-longest
-        (registered some) (right-line some ∙ wrong))
+        (verify-fails lex (mapped-at ns) xs us (here .good) (here .chars) (length us - (q + 1)) (e + 1) count (omega arith) (omega arith)
+        is-longest (registered some) (right-line some ∙ wrong))
         ∙ more
 
   pub testing-ends :

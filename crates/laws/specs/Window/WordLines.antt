@@ -17,7 +17,7 @@ use Rattle.models.specs.WordStarts.{lengths-of, lexicon-at}
 use Rattle.laws.specs.Search.Agree.{Agree, agrees-get}
 use Rattle.laws.specs.Search.AgreeWalk.{together}
 use Rattle.laws.specs.Match.PrefixRanges.{prefix-not-before, next-rises}
-use Rattle.laws.specs.Directory.WordStarts.{starts-long}
+use Rattle.laws.specs.Dictionary.WordStarts.{starts-long}
 use Rattle.laws.specs.Directory.Tables.{Can-read, Reads, line-room, line-word, line-end, line-char, key-short, key-some}
 use Rattle.basics.specs.LowerBound.{Rising, Lower-bound, rising-part}
 use Rattle.laws.specs.Window.LineSteps.{Unchanged, offset-apart}

@@ -6,7 +6,7 @@ use native.Mathlib.Omega.{arith}
 use lib.ListN.{length, getD}
 use borrow.Author.Needs.{needs}
 use Rattle.models.specs.Window.{agrees-leading}
-use Rattle.laws.specs.Directory.WordStarts.{starts-long}
+use Rattle.laws.specs.Dictionary.WordStarts.{starts-long}
 use Rattle.laws.specs.Directory.Tables.{line-word, line-end, spelt-short}
 use Rattle.laws.specs.Window.LeadingLines.{line-lacks}
 use Rattle.agreement.proofs.leading.line_leads.Statement.{statement}

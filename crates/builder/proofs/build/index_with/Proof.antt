@@ -3,58 +3,62 @@
 use native.Mathlib.Omega.{arith}
 use lib.ListN.{length}
 use borrow.Author.Needs.{needs}
-use Rattle.laws.specs.Build.Building.{reached, blank-room, front-linkable, build-tokens}
+use Rattle.models.specs.WordStarts.{lengths-of}
+use Rattle.laws.specs.Build.Building.{Reached, reached, front-linkable, build-tokens}
 use Rattle.builder.proofs.build.index_with.Statement.{statement}
 use Rattle.builder.proofs.build.index_with.Tie as tie
 
-fill-match-table-requires : tie.Need-fill-match-table-requires
-fill-match-table-requires c κs =
-    let first = c .before .before .before .before .before .before .before .before .before .before in
-    let s = first .before in
-    let a = s .args in
-    blank-room (a .chars .now) (a .lengths .now) (a .text .now) (length (a .work .now))
-    (λ i h. omega (arith, first .shared-slice-known .given i)) (s .pre .0) (s .pre .1)
+abbrev slices : tie.After-fill-match-table → tie.After-slice-known2
+slices c = c .before .before .before .before .before
+
+abbrev start : tie.After-slice-known2 → tie.Start
+start c = c .before .before .before .before .before
+
+abbrev filled : tie.After-scan-replaced-arg → tie.After-fill-match-table
+filled c = c .before .before .before .before .before
+
+abbrev filled-before : tie.After-scan-replaced → tie.After-fill-match-table
+filled-before c = filled (c .before .before .before)
+
+met :
+    (s : tie.Start) →
+    Reached (s .args .chars .now) (lengths-of (s .args .word-starts .now)) (s .args .text .now) (length (s .args .work .now))
+met s =
+    reached (s .args .chars .now) (lengths-of (s .args .word-starts .now)) (s .args .text .now) (length (s .args .work .now)) (s .pre .0)
 
 scan-replaced-requires : tie.Need-scan-replaced-requires
 scan-replaced-requires c κs =
-    let filled = c .before .before .before .before .before .before .before .before .before .before in
-    let s = filled .before .before .before .before .before .before .before .before .before .before .before .before in
-    let a = s .args in (
-      filled .fill-match-table .ensures,
-      omega (arith, reached (a .chars .now) (a .lengths .now) (a .text .now) (length (a .work .now)) (s .pre .0) .room),
-    )
+    let table = filled (c .before .before) in
+    (table .fill-match-table .ensures, omega (arith, met (start (slices table)) .room))
 
 finish-requires : tie.Need-finish-requires
 finish-requires c κs =
     let scanned = c .before .before .before .before in
-    let filled = scanned .before .before .before .before .before .before .before .before .before .before .before in
-    let first = filled .before .before .before .before .before .before .before .before .before .before .before in
-    let s = first .before in
-    let cs = s .args .chars .now in
-    let ls = s .args .lengths .now in
-    let ts = s .args .text .now in
-    let w = length (s .args .work .now) in (
-      omega (arith, reached cs ls ts w (s .pre .0) .room),
-      front-linkable cs ls ts w (scanned .scan-replaced .last .1 .1 .1 .1 .1 .1 .0)
-          (λ i h. omega (arith, first .shared-slice-known .given i)) (s .pre .0) (scanned .scan-replaced .ensures),
+    let known = slices (filled-before scanned) in
+    let s = start known in
+    let first = known .before .before .before .before in (
+      omega (arith, met s .room, scanned .scan-replaced .kept),
+      front-linkable (s .args .chars .now) (lengths-of (s .args .word-starts .now)) (s .args .text .now) (length (s .args .work .now))
+          (scanned .scan-replaced .last .1 .1 .1 .1 .1 .0) (λ i h. omega (arith, first .shared-slice-known .given i)) (s .pre .0)
+          (scanned .scan-replaced .ensures),
     )
 
 returns : tie.Need-returns
 returns c =
-    let scanned = c .before .before .before .before .before .before .before .before .before in
-    let filled = scanned .before .before .before .before .before .before .before .before .before .before .before in
-    let third = filled .before .before .before .before .before .before .before .before .before in
+    let finished = c .before .before .before .before in
+    let scanned = finished .before .before .before .before .before in
+    let known = slices (filled-before scanned) in
+    let s = start known in
+    let third = known .before .before in
     let first = third .before .before in
-    let s = first .before in
     let a = s .args in
-    let call = c .before .before .before .before .finish in
-    build-tokens (a .chars .now) (a .lengths .now) (a .text .now) (length (a .work .now)) (a .output .now)
+    build-tokens (a .chars .now) (lengths-of (a .word-starts .now)) (a .text .now) (length (a .work .now)) (a .output .now)
     (λ i h. omega (arith, first .shared-slice-known .given i)) (λ i h. omega (arith, third .shared-slice-known3 .given i)) (s .pre .0)
-    (scanned .scan-replaced .ensures) (call .result) (call .last .1 .0) (call .ensures)
+    (scanned .scan-replaced .ensures) (finished .finish .result) (finished .finish .last .1 .0) (finished .finish .ensures)
 
 pub index-with-spec : {M : Type 1} → statement M
 index-with-spec =
     tie.close
     (tie.spec
-    fill-match-table-requires scan-replaced-requires finish-requires (λ c. search needs) (λ c. search needs) (λ c. search needs)
-    (λ c. search needs) (λ c. search needs) returns)
+    (λ c κs. search needs) scan-replaced-requires finish-requires (λ c. search needs) (λ c. search needs) (λ c. search needs)
+    (λ c. search needs) returns)

@@ -5,7 +5,7 @@ use Prim.Native.Nat.{_-_}
 use native.Mathlib.Omega.{arith}
 use lib.ListN.{length, length-set}
 use borrow.Author.Needs.{needs}
-use Rattle.laws.specs.Directory.WordStarts.{Filling-starts, filling-start, filling-room, filling-step, filling-end, filling-at}
+use Rattle.laws.specs.Dictionary.WordStarts.{Filling-starts, filling-start, filling-room, filling-step, filling-end, filling-at}
 use Rattle.directory.proofs.tables.fill_word_starts.Statement.{statement}
 use Rattle.directory.proofs.tables.fill_word_starts.Tie as tie
 

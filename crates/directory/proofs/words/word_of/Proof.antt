@@ -1,7 +1,7 @@
 -- `word_of` meets its contract: a word's characters lie between its start and the next one. Assumes nothing.
 use Prim.Native.Nat.{_+_}
 use native.Mathlib.Omega.{arith}
-use Rattle.laws.specs.Directory.WordStarts.{starts-long, end-is, end-room, word-lies}
+use Rattle.laws.specs.Dictionary.WordStarts.{starts-long, end-is, end-room, word-lies}
 use Rattle.directory.proofs.words.word_of.Statement.{statement}
 use Rattle.directory.proofs.words.word_of.Tie as tie
 

@@ -4,68 +4,82 @@ use native.Mathlib.Omega.{arith}
 use borrow.Author.Needs.{needs}
 use lib.ListN.{length}
 use Rattle.spec.specs.Dictionary.{longest-text}
+use Rattle.models.specs.WordStarts.{lengths-of, lexicon-at}
+use Rattle.laws.specs.Dictionary.Lexicon.{admitted-lexicon}
+use Rattle.laws.specs.Text.Facts.{Good-lexicon}
 use Rattle.laws.specs.Receive.LineMapWalk.{readable-line-map}
 use Rattle.laws.specs.Receive.Receiving.{Delivered, delivered}
-use Rattle.laws.specs.Receive.ReceivedText.{delivered-lexicon, tried-mapped, read-back}
+use Rattle.laws.specs.Receive.ReceivedText.{In-work, tried-mapped, tried-chars, read-back}
 use Rattle.receiver.proofs.text.is_index_of_text.Statement.{statement}
 use Rattle.receiver.proofs.text.is_index_of_text.Tie as tie
 
-met : (s : tie.Start) → Delivered (s .args .chars .now) (s .args .lengths .now) (s .args .index .now) (length (s .args .work .now))
-met s = delivered (s .args .chars .now) (s .args .lengths .now) (s .args .index .now) (length (s .args .work .now)) (s .pre .0)
+abbrev start : tie.After-slice-known → tie.Start
+start c = let last = c .before in last .before .before .before .before .before
+
+abbrev read : tie.After-reconstruct-front → tie.After-text-len
+read c = c .before .before
+
+abbrev front : tie.After-fill-line-map-behind → tie.After-reconstruct-front
+front c = c .before .before .before .before
+
+met : (s : tie.Start) →
+    Delivered (s .args .chars .now) (lengths-of (s .args .word-starts .now)) (s .args .index .now) (length (s .args .work .now))
+met s =
+    delivered (s .args .chars .now) (lengths-of (s .args .word-starts .now)) (s .args .index .now) (length (s .args .work .now)) (s .pre .0)
+
+good : (s : tie.Start) → Good-lexicon (lexicon-at (s .args .chars .now) (s .args .word-starts .now))
+good s = admitted-lexicon (s .args .chars .now) (lengths-of (s .args .word-starts .now)) (s .pre .1 .words .dictionary)
+
+-- text and line map are in the work slice
+made :
+    (c : tie.After-fill-line-map-behind) →
+    let slices = read (front c) .before in
+    let s = start slices in
+    In-work (lexicon-at (s .args .chars .now) (s .args .word-starts .now)) (s .args .index .now) (read (front c) .text-len .result)
+    (s .args .work .now) (front c .reconstruct-front .last .1 .1 .1 .1 .0) (c .fill-line-map-behind .last .1 .1 .0)
+made c =
+    let slices = read (front c) .before in
+    let s = start slices in
+    record {
+      good = good s;
+      can = met s .can-read;
+      n-is = read (front c) .text-len .ensures .0;
+      room = omega (arith, met s .room, read (front c) .text-len .ensures .0);
+      chars = λ i h. omega (arith, slices .slice-known .given i);
+      reconstructs = front c .reconstruct-front .ensures;
+      keeps = c .fill-line-map-behind .ensures .0;
+      mapped = c .fill-line-map-behind .ensures .1;
+    }
 
 reconstruct-front-requires : tie.Need-reconstruct-front-requires
 reconstruct-front-requires c κs =
-    let s = c .before .before .before .before .before .before .before .before .before in
-    let m = met s in
-    (s .pre .1 .words, m .can-read, c .before .text-len .ensures .0, omega arith)
+    let s = start (c .before .before) in
+    (s .pre .1 .words, met s .can-read, c .before .text-len .ensures .0, omega (arith, met s .room, c .before .text-len .ensures .0))
 
 fill-line-map-behind-requires : tie.Need-fill-line-map-behind-requires
 fill-line-map-behind-requires c κs =
-    let read = c .before .before .before .before .before in
-    let given = read .before .before .before .before .before .before .before in
-    let s = given .before in
-    let a = s .args in
-    let m = met s in
-    let words = delivered-lexicon (a .chars .now) (a .lengths .now) (a .index .now) (length (a .work .now))
-    (λ i h. omega (arith, given .shared-slice-known .given i)) (s .pre .0) in
-    (readable-line-map words longest-text (a .index .now) (m .can-read) (read .text-len .result) (omega arith), omega arith)
+    let done = c .before .before .before in
+    let n = read done .text-len in
+    let s = start (read done .before) in (
+      readable-line-map (good s) longest-text (s .args .index .now) (met s .can-read) (n .result) (omega (arith, n .ensures .0)),
+      omega (arith, met s .room, n .ensures .0, done .reconstruct-front .kept),
+    )
 
 test-parts-requires : tie.Need-test-parts-requires
 test-parts-requires c κs =
     let mapped = c .before .before .before in
-    let front = mapped .before .before .before .before in
-    let read = front .before .before in
-    let slices = read .before in
-    let given = slices .before .before .before .before .before .before in
-    let s = given .before in
-    let a = s .args in (
+    let done = front mapped in
+    let s = start (read done .before) in (
       s .pre .1,
       met s .fits,
-      tried-mapped (a .chars .now) (a .lengths .now) (a .index .now) (a .work .now)
-          (λ i h. omega (arith, given .shared-slice-known .given i)) (λ i h. omega (arith, slices .slice-known .given i)) (s .pre .0)
-          (read .text-len .ensures .0) (front .reconstruct-front .last .1 .1 .1 .1 .1 .0) (mapped .fill-line-map-behind .last .1 .1 .0)
-          (front .reconstruct-front .ensures) (mapped .fill-line-map-behind .ensures .0) (mapped .fill-line-map-behind .ensures .1),
-      omega (arith, met s .room, read .text-len .ensures .0, front .reconstruct-front .kept, mapped .fill-line-map-behind .kept),
+      tried-mapped (made mapped),
+      tried-chars (made mapped),
+      omega (arith, met s .room, read done .text-len .ensures .0, done .reconstruct-front .kept, mapped .fill-line-map-behind .kept),
     )
-
-returns : tie.Need-returns
-returns c =
-    let mapped = c .before .before .before .before in
-    let front = mapped .before .before .before .before in
-    let read = front .before .before in
-    let slices = read .before in
-    let given = slices .before .before .before .before .before .before in
-    let s = given .before in
-    let a = s .args in
-    read-back (a .chars .now) (a .lengths .now) (a .index .now) (a .work .now)
-    (λ i h. omega (arith, given .shared-slice-known .given i)) (λ i h. omega (arith, slices .slice-known .given i)) (s .pre .0)
-    (read .text-len .ensures .0) (front .reconstruct-front .last .1 .1 .1 .1 .1 .0) (mapped .fill-line-map-behind .last .1 .1 .0)
-    (front .reconstruct-front .ensures) (mapped .fill-line-map-behind .ensures .0) (mapped .fill-line-map-behind .ensures .1)
-    (c .test-parts .result) (c .test-parts .ensures)
 
 pub is-index-of-text-spec : {M : Type 1} → statement M
 is-index-of-text-spec =
     tie.close
     (tie.spec
-    (λ c κs. met (c .before .before .before .before .before .before .before) .fits .has-header) reconstruct-front-requires
-    fill-line-map-behind-requires test-parts-requires (λ c. search needs) returns)
+    (λ c κs. met (start c) .fits .has-header) reconstruct-front-requires fill-line-map-behind-requires test-parts-requires
+    (λ c. search needs) (λ c. read-back (made (c .before .before .before .before)) (c .test-parts .ensures)))

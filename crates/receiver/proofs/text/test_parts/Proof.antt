@@ -8,29 +8,36 @@ use borrow.Author.Needs.{needs}
 use Rattle.receiver.proofs.text.test_parts.Statement.{statement}
 use Rattle.receiver.proofs.text.test_parts.Tie as tie
 
+abbrev last-slice : tie.After-verify-arg → tie.After-shared-slice-known5
+last-slice c = c .before .before
+
+abbrev start : tie.After-shared-slice-known5 → tie.Start
+start c = c .before .before .before .before .before
+
 slice-aggregate-verify : tie.Need-slice-aggregate-verify
 slice-aggregate-verify c =
-    let start = c .before .before .before .before .before .before .before .before in
-    sym (length-take-le (start .args .n) (start .args .work .now) (omega arith))
+    let s = start (last-slice c) in
+    sym (length-take-le (s .args .n) (s .args .work .now) (omega arith))
 
 verify-requires : tie.Need-verify-requires
 verify-requires c κs =
-    let start = c .before .before .before .before .before .before .before .before .before in
-    let same : 2 * start .args .n - start .args .n ≡ start .args .n = omega arith in (
-      start .pre .0,
-      start .pre .1,
-      rw same (start .pre .2),
+    let s = start (last-slice (c .before)) in
+    let same : 2 * s .args .n - s .args .n ≡ s .args .n = omega arith in (
+      s .pre .0,
+      s .pre .1,
+      rw same (s .pre .2),
+      s .pre .3,
       omega (
         arith,
-        length-take-le (start .args .n) (start .args .work .now) (omega arith),
-        behind-long (start .args .n) (start .args .work .now) (start .pre .3),
+        length-take-le (s .args .n) (s .args .work .now) (omega (arith, s .pre .4)),
+        behind-long (s .args .n) (s .args .work .now) (s .pre .4),
       ),
     )
 
 returns : tie.Need-returns
 returns c =
-    let start = c .before .before .before .before .before .before .before .before .before .before in
-    let same : 2 * start .args .n - start .args .n ≡ start .args .n = omega arith in
+    let s = start (last-slice (c .before .before)) in
+    let same : 2 * s .args .n - s .args .n ≡ s .args .n = omega arith in
     rw same at (c .verify .ensures)
 
 pub test-parts-spec : {M : Type 1} → statement M

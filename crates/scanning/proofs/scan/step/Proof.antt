@@ -2,66 +2,57 @@
 use mathlib.Core.Path.{_≡_}
 use native.Mathlib.Omega.{arith}
 use borrow.Author.Needs.{needs}
-use Rattle.spec.specs.Dictionary.{lexicon}
+use Rattle.models.specs.WordStarts.{lengths-of, lexicon-at}
 use Rattle.laws.specs.Dictionary.Lexicon.{admitted-lexicon}
-use Rattle.laws.specs.Build.ScanTokens.{step-small, step-fits, step-word, step-none, step-lone}
+use Rattle.laws.specs.Build.ScanTokens.{Scannable, step-small, step-fits, step-word, step-none, step-lone}
 use Rattle.scanning.proofs.scan.step.Statement.{statement}
 use Rattle.scanning.proofs.scan.step.Tie as tie
 
+abbrev start : tie.After-shared-slice-known5 → tie.Start
+start c = c .before .before .before .before .before
+
+abbrev begun : tie.After-find-longest → tie.Start
+begun c = start (c .before)
+
+here : (s : tie.Start) → Scannable (lexicon-at (s .args .chars .now) (s .args .word-starts .now)) (s .args .text .now) (s .args .at)
+here s =
+    record {
+      good = admitted-lexicon (s .args .chars .now) (lengths-of (s .args .word-starts .now)) (s .pre .0 .words .dictionary);
+      chars = s .pre .1;
+      below = s .pre .2;
+    }
+
 returns : tie.Need-returns
 returns c =
-    let start = c .before .before .before .before .before .before .before .before .before in
-    step-none (lexicon (start .args .chars .now) (start .args .lengths .now))
-    (admitted-lexicon (start .args .chars .now) (start .args .lengths .now) (start .pre .0 .words .dictionary))
-    (start .args .text .now) (λ i b. omega (arith, c .before .before .before .shared-slice-known6 .given i)) (start .args .at)
-    (start .args .end) (start .pre .1) (c .before .before .find-longest .result .number) (c .before .before .find-longest .result .len)
-    (c .before .before .find-longest .ensures) (omega arith) (c .if2 .taken) (start .pre .2)
+    let found = c .before .before in
+    let s = begun found in
+    (step-none (here s) (s .args .end) (found .find-longest .ensures) (omega arith) (c .if2 .taken) (s .pre .3), omega arith)
 
 returns-2 : tie.Need-returns-2
 returns-2 c =
-    let start = c .before .before .before .before .before .before .before .before .before in
-    step-lone (lexicon (start .args .chars .now) (start .args .lengths .now))
-    (admitted-lexicon (start .args .chars .now) (start .args .lengths .now) (start .pre .0 .words .dictionary))
-    (start .args .text .now) (λ i b. omega (arith, c .before .before .before .shared-slice-known6 .given i)) (start .args .at)
-    (start .args .end) (start .pre .1) (c .before .before .find-longest .result .number) (c .before .before .find-longest .result .len)
-    (c .before .before .find-longest .ensures) (omega arith) (c .if2 .left)
+    let found = c .before .before in
+    let s = begun found in
+    (step-lone (here s) (s .args .end) (found .find-longest .ensures) (omega arith) (c .if2 .left), omega arith)
 
-cast-t14 : tie.Need-cast-t14
-cast-t14 c =
-    let start = c .before .before .before .before .before .before .before .before in
-    omega (
-      arith,
-      step-small (lexicon (start .args .chars .now) (start .args .lengths .now))
-          (admitted-lexicon (start .args .chars .now) (start .args .lengths .now) (start .pre .0 .words .dictionary))
-          (start .args .text .now) (λ i b. omega (arith, c .before .before .shared-slice-known6 .given i)) (start .args .at)
-          (start .args .end) (start .pre .1) (c .before .find-longest .result .number) (c .before .find-longest .result .len)
-          (c .before .find-longest .ensures) (λ (z : c .before .find-longest .result .number ≡ 0). omega (arith, z)),
-    )
+some : (c : tie.After-struct-known) → c .before .before .find-longest .result .number ≡ 0 → ⊥
+some c z = omega (arith, z)
 
-add-t15 : tie.Need-add-t15
-add-t15 c =
-    let start = c .before .before .before .before .before .before .before .before .before in
-    omega (
-      arith,
-      step-fits (lexicon (start .args .chars .now) (start .args .lengths .now))
-          (admitted-lexicon (start .args .chars .now) (start .args .lengths .now) (start .pre .0 .words .dictionary))
-          (start .args .text .now) (λ i b. omega (arith, c .before .before .before .shared-slice-known6 .given i)) (start .args .at)
-          (start .args .end) (start .pre .1) (c .before .before .find-longest .result .number)
-          (c .before .before .find-longest .result .len)
-          (c .before .before .find-longest .ensures) (λ (z : c .before .before .find-longest .result .number ≡ 0). omega (arith, z)),
-    )
+add-t13 : tie.Need-add-t13
+add-t13 c =
+    let found = c .before .before in
+    let s = begun found in
+    omega (arith, step-fits (here s) (s .args .end) (found .find-longest .ensures) (some c))
 
 returns-3 : tie.Need-returns-3
 returns-3 c =
-    let start = c .before .before .before .before .before .before .before .before .before in
-    step-word (lexicon (start .args .chars .now) (start .args .lengths .now))
-    (admitted-lexicon (start .args .chars .now) (start .args .lengths .now) (start .pre .0 .words .dictionary))
-    (start .args .text .now) (λ i b. omega (arith, c .before .before .before .shared-slice-known6 .given i)) (start .args .at)
-    (start .args .end) (start .pre .1) (c .before .before .find-longest .result .number) (c .before .before .find-longest .result .len)
-    (c .before .before .find-longest .ensures) (λ (z : c .before .before .find-longest .result .number ≡ 0). omega (arith, z))
+    let found = c .before .before in
+    let s = begun found in (
+      step-word (here s) (s .args .end) (found .find-longest .ensures) (some c),
+      step-small (here s) (s .args .end) (found .find-longest .ensures) (some c),
+    )
 
 pub step-spec : {M : Type 1} → statement M
 step-spec =
     tie.close
     (tie.spec
-    (λ c κs. search needs) returns (λ c. search needs) returns-2 cast-t14 add-t15 returns-3)
+    (λ c κs. search needs) returns (λ c. search needs) returns-2 add-t13 returns-3)

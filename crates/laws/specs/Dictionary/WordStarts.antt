@@ -5,11 +5,39 @@ use Prim.Native.Nat.{ℕ, zero, suc, _+_, _-_, _≤_, _<_}
 use native.Mathlib.Numerals.{add-one}
 use native.Mathlib.Omega.{arith}
 use lib.ListN.{length, getD, take, drop, set, length-drop, drop-of-length-le}
-use lib.Seq.{drop-cons, length-take-le}
+use lib.Seq.{drop-cons, drop-drop, getD-take, getD-drop, take-at, length-take-le}
 use Rattle.basics.specs.Writing.{over, Writing, starts, writes, written}
 use Rattle.spec.specs.Dictionary.{lexicon, words-from, total}
-use Rattle.models.specs.WordStarts.{starts-from, lengths-from, lengths-of, lexicon-at}
-use Rattle.laws.specs.Directory.Opened.{word-start, word-start-next, word-start-room, word-there}
+use Rattle.models.specs.WordStarts.{starts-from, lengths-from, lengths-of, word, word-len}
+
+-- WORDS, by their lengths
+
+-- the index at which word w's characters start
+abbrev pub word-start : (lengths : List ℕ) → (w : ℕ) → ℕ
+word-start ls w = total (take w ls)
+
+start-suc : (ls : List ℕ) (w : ℕ) → w < length ls → word-start ls (suc w) ≡ word-start ls w + getD ls w 0
+unfolding total
+start-suc [] w h = absurd (omega arith)
+start-suc (l ∷ ls) zero h = omega arith
+start-suc (l ∷ ls) (suc w) h = omega (arith, start-suc ls w (omega arith))
+
+word-start-next : (ls : List ℕ) (w : ℕ) → w < length ls → word-start ls (w + 1) ≡ word-start ls w + getD ls w 0
+word-start-next ls w h = rw (add-one w) (start-suc ls w h)
+
+word-start-room : (ls : List ℕ) (w : ℕ) → w < length ls → word-start ls w + getD ls w 0 ≤ total ls
+unfolding total
+word-start-room [] w h = absurd (omega arith)
+word-start-room (l ∷ ls) zero h = omega arith
+word-start-room (l ∷ ls) (suc w) h = omega (arith, word-start-room ls w (omega arith))
+
+word-there :
+    (ls cs : List ℕ) (w : ℕ) → w < length ls → getD (words-from ls cs) w [] ≡ take (getD ls w 0) (drop (word-start ls w) cs)
+unfolding words-from total
+word-there [] cs w h = absurd (omega arith)
+word-there (l ∷ ls) cs zero h = refl
+word-there (l ∷ ls) cs (suc w) h =
+    word-there ls (drop l cs) w (omega arith) ∙ ap (λ (d : List ℕ). take (getD ls w 0) d) (drop-drop (word-start ls w) l cs)
 
 lengths-back : (a : ℕ) (ls : List ℕ) → lengths-of (starts-from a ls) ≡ ls
 unfolding lengths-of lengths-from starts-from
@@ -35,27 +63,26 @@ start-at a [] (suc w) h = absurd (omega arith)
 start-at a (l ∷ ls) zero h = omega arith
 start-at a (l ∷ ls) (suc w) h = omega (arith, start-at (a + l) ls w (omega arith))
 
--- a table that has the starts at its front
-pub starts-front :
-    (a : ℕ) (ls ws : List ℕ) → length ls < length ws → ((i : ℕ) → i ≤ length ls → getD ws i 0 ≡ a + word-start ls i) →
-    take (suc (length ls)) ws ≡ starts-from a ls
-unfolding starts-from total
-starts-front a ls [] room at = absurd (omega arith)
-starts-front a [] (w ∷ ws) room at = let e : w ≡ a = omega (arith, at 0 (omega arith)) in rw e
-starts-front a (l ∷ ls) (w ∷ ws) room at =
-    let e : w ≡ a = omega (arith, at 0 (omega arith)) in
-    rw e
-    (ap (λ (us : List ℕ). a ∷ us)
-    (starts-front (a + l) ls ws (omega arith) (λ i b. omega (arith, at (suc i) (omega arith)))))
+-- WORDS, by the table
 
 -- words lie one after the other among these characters from 0 on, and these are their starts
 pub record Word-starts (cs ws : List ℕ) : Type 0 where
   pub are : ws ≡ starts-from 0 (lengths-of ws)
   pub room : total (lengths-of ws) ≤ length cs
 
+-- word w lies between its start and the next one
+pub record Word-lies (cs ws : List ℕ) (w : ℕ) : Type 0 where
+  pub known : w + 1 < length ws
+  pub order : getD ws w 0 ≤ getD ws (w + 1) 0
+  pub room : getD ws (w + 1) 0 ≤ length cs
+
 module _ {cs ws : List ℕ} (table : Word-starts cs ws) where
   pub starts-long : length ws ≡ suc (length (lengths-of ws))
   starts-long = ap length (table .are) ∙ length-starts 0 (lengths-of ws)
+
+  pub first-start : getD ws 0 0 ≡ 0
+  unfolding total
+  first-start = ap (λ (us : List ℕ). getD us 0 0) (table .are) ∙ start-at 0 (lengths-of ws) 0 (omega arith)
 
   module _ (w : ℕ) (below : w < length (lengths-of ws)) where
     start-is : getD ws w 0 ≡ word-start (lengths-of ws) w
@@ -72,21 +99,33 @@ module _ {cs ws : List ℕ} (table : Word-starts cs ws) where
     pub end-room : getD ws (w + 1) 0 ≤ length cs
     end-room = omega (arith, end-is, start-is, word-start-room (lengths-of ws) w below)
 
-    pub word-lies : take (getD ws (w + 1) 0 - getD ws w 0) (drop (getD ws w 0) cs) ≡ getD (lexicon-at cs ws .words) w []
+    pub lies : Word-lies cs ws w
+    lies = record { known = omega (arith, starts-long); order = omega (arith, end-is); room = end-room }
+
+    pub word-lies : take (word-len ws w) (drop (getD ws w 0) cs) ≡ word cs ws w
     unfolding lexicon
     word-lies =
-        let size : getD ws (w + 1) 0 - getD ws w 0 ≡ getD (lengths-of ws) w 0 = omega (arith, end-is) in
+        let size : word-len ws w ≡ getD (lengths-of ws) w 0 = omega (arith, end-is) in
         rw (size, start-is) (sym (word-there (lengths-of ws) cs w below))
 
-    pub word-long : getD ws (w + 1) 0 ≡ getD ws w 0 + length (getD (lexicon-at cs ws .words) w [])
+    pub word-long : getD ws (w + 1) 0 ≡ getD ws w 0 + length (word cs ws w)
     word-long =
         omega (
           arith,
           end-is,
           end-room,
-          sym (ap length word-lies) ∙ length-take-le (getD ws (w + 1) 0 - getD ws w 0) (drop (getD ws w 0) cs)
+          sym (ap length word-lies) ∙ length-take-le (word-len ws w) (drop (getD ws w 0) cs)
               (omega (arith, end-room, end-is, length-drop (getD ws w 0) cs)),
         )
+
+    pub len-is : word-len ws w ≡ length (word cs ws w)
+    len-is = omega (arith, word-long)
+
+    pub word-char : (d : ℕ) → d < length (word cs ws w) → getD cs (getD ws w 0 + d) 0 ≡ getD (word cs ws w) d 0
+    word-char d h =
+        sym (getD-drop (getD ws w 0) cs d 0)
+        ∙ sym (getD-take (word-len ws w) (drop (getD ws w 0) cs) d 0 (omega (arith, len-is)))
+        ∙ ap (λ (us : List ℕ). getD us d 0) word-lies
 
 -- FILLING THE TABLE
 
@@ -135,3 +174,20 @@ module _ (ls old : List ℕ) where
     pub filling-end : length ls ≤ i → set now i at ≡ over (starts-from 0 ls) old
     filling-end past =
         written (starts-from 0 ls) old (set now i at) (i + 1) (writes at [] (rw (last-start past) at (h .writing)))
+
+-- a filled table: the part of it that is lent on has the starts, and no more
+module _ (ls old : List ℕ) {table : List ℕ} (filled : table ≡ over (starts-from 0 ls) old) where
+  filled-front : take (length ls + 1) table ≡ starts-from 0 ls
+  filled-front =
+      let long : length (starts-from 0 ls) ≡ length ls + 1 = omega (arith, length-starts 0 ls) in
+      rw filled (take-at (starts-from 0 ls) (drop (length (starts-from 0 ls)) old) (length ls + 1) long)
+
+  pub filled-long : length ls + 1 ≡ length (take (length ls + 1) table)
+  filled-long = omega (arith, ap length filled-front, length-starts 0 ls)
+
+  pub filled-lengths : lengths-of (take (length ls + 1) table) ≡ ls
+  filled-lengths = ap lengths-of filled-front ∙ lengths-of-starts ls
+
+  pub filled-words : {cs : List ℕ} → total ls ≤ length cs → Word-starts cs (take (length ls + 1) table)
+  filled-words room =
+      record { are = filled-front ∙ ap (starts-from 0) (sym filled-lengths); room = rw filled-lengths room }
