@@ -17,9 +17,7 @@ split : (c : tie.After-count-word-lines) → Split (start (c .before) .args .ind
 split c = split-found (start (c .before) .pre .0 .can) (c .count-word-lines .ensures)
 
 count-word-lines-requires : tie.Need-count-word-lines-requires
-count-word-lines-requires c κs =
-    let can = start c .pre .0 .can in
-    (can .fits, kinds-rise can)
+count-word-lines-requires c κs = let can = start c .pre .0 .can in (can .fits, kinds-rise can)
 
 fill-leading-requires : tie.Need-fill-leading-requires
 fill-leading-requires c κs =

@@ -19,7 +19,8 @@ returns-3 : tie.Need-returns-3
 returns-3 c =
     let some = c .before .before in
     let a = some .before .before .before .before .args in
-    agrees-compared (a .first .now) (a .second .now) (a .at) (omega arith) (some .if2 .left) (c .before .min .ensures) (c .same-run .ensures)
+    agrees-compared (a .first .now) (a .second .now) (a .at) (omega arith) (some .if2 .left)
+    (c .before .min .ensures) (c .same-run .ensures)
 
 pub agrees-after-spec : {M : Type 1} → statement M
 agrees-after-spec =

@@ -24,9 +24,7 @@ abbrev at-loop : tie.After-shared-slice-known5 Inv-loop μ-loop → tie.At-loop 
 at-loop c = c .before .before .before .before .before
 
 loop-holds : tie.Need-loop-holds Inv-loop μ-loop
-loop-holds c =
-    let s = start c in
-    (refining-start (s .pre .0) (s .pre .1) (s .pre .4), refl, refl)
+loop-holds c = let s = start c in (refining-start (s .pre .0) (s .pre .1) (s .pre .4), refl, refl)
 
 returns : tie.Need-returns Inv-loop μ-loop
 returns c = (c .before .before .loop .inv .0, λ more. absurd (omega (arith, more)))

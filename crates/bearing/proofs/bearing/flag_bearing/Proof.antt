@@ -12,9 +12,7 @@ abbrev start : tie.After-slice-known → tie.Start
 start c = c .before .before .before .before .before
 
 count-word-lines-requires : tie.Need-count-word-lines-requires
-count-word-lines-requires c κs =
-    let can = start c .pre .0 .can in
-    (can .fits, kinds-rise can)
+count-word-lines-requires c κs = let can = start c .pre .0 .can in (can .fits, kinds-rise can)
 
 on :
     (c : tie.After-count-word-lines) → let a = start (c .before) .args in

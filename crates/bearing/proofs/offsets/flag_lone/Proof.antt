@@ -15,8 +15,7 @@ start c = c .before .before .before .before .before
 
 lone-line-requires : tie.Need-lone-line-requires
 lone-line-requires c κs =
-    let h = start (c .before) .pre .0 in
-    (h .reads .can .fits, lone-rise (h .reads .can) (h .split))
+    let h = start (c .before) .pre .0 in (h .reads .can .fits, lone-rise (h .reads .can) (h .split))
 
 returns : tie.Need-returns
 returns c =

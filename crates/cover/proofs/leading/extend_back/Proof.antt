@@ -29,7 +29,8 @@ loop-again : tie.Need-loop-again Inv-loop μ-loop
 loop-again c =
     let done = c .before .before in
     let turn = done .before .before .before .before .before in
-    backing-step (turn .before .loop .inv) (turn .loop-test .taken) (done .extend-key .kept .1 .1 .1 .1 .1 .1 .0) (done .extend-key .ensures)
+    backing-step (turn .before .loop .inv) (turn .loop-test .taken)
+    (done .extend-key .kept .1 .1 .1 .1 .1 .1 .0) (done .extend-key .ensures)
 
 loop-again-2 : tie.Need-loop-again-2 Inv-loop μ-loop
 loop-again-2 c =

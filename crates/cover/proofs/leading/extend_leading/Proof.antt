@@ -35,13 +35,11 @@ below c =
 
 word-at-requires : tie.Need-word-at-requires Inv-loop μ-loop
 word-at-requires c κs =
-    let turn = c .before in
-    word-line (start (turn .before .before .before .before) .pre .0) (below turn)
+    let turn = c .before in word-line (start (turn .before .before .before .before) .pre .0) (below turn)
 
 positions-of-requires : tie.Need-positions-of-requires Inv-loop μ-loop
 positions-of-requires c κs =
-    let turn = c .before .before in
-    word-list (start (turn .before .before .before .before) .pre .0) (below turn)
+    let turn = c .before .before in word-list (start (turn .before .before .before .before) .pre .0) (below turn)
 
 extend-back-requires : tie.Need-extend-back-requires Inv-loop μ-loop
 extend-back-requires c κs =

@@ -23,14 +23,10 @@ returns-2 c =
     bound-first (start .pre) (start .args .least) (omega arith) (omega arith)
 
 returns-3 : tie.Need-returns-3 Inv-loop μ-loop
-returns-3 c =
-    let s = start (c .before) in
-    bound-last (s .pre) (s .args .least) (omega arith) (omega arith)
+returns-3 c = let s = start (c .before) in bound-last (s .pre) (s .args .least) (omega arith) (omega arith)
 
 loop-holds : tie.Need-loop-holds Inv-loop μ-loop
-loop-holds c =
-    let s = start (c .before) in
-    bisected-start (s .pre) (s .args .least)
+loop-holds c = let s = start (c .before) in bisected-start (s .pre) (s .args .least)
 
 loop-again : tie.Need-loop-again Inv-loop μ-loop
 loop-again c =

@@ -35,7 +35,8 @@ add-end c = omega (arith, next-room (c .before .before .loop .inv .0) (c .before
 
 prefix-code-requires-2 : tie.Need-prefix-code-requires-2 Inv-loop μ-loop
 prefix-code-requires-2 c κs =
-    let read = c .before .before .loop .inv .0 in (next-some read (c .before .loop-test .taken), next-room read (c .before .loop-test .taken))
+    let read = c .before .before .loop .inv .0 in
+    (next-some read (c .before .loop-test .taken), next-room read (c .before .loop-test .taken))
 
 neighbours-ascend-requires : tie.Need-neighbours-ascend-requires Inv-loop μ-loop
 neighbours-ascend-requires c κs =

@@ -40,9 +40,7 @@ char-at-requires : tie.Need-char-at-requires Inv-loop μ-loop
 char-at-requires c κs = start c .pre .reads (middle c) (after-low c) (before-high c)
 
 add-a : tie.Need-add-a Inv-loop μ-loop
-add-a c =
-    let i = c .before .before in
-    omega (arith, start i .pre .reads (middle i) (after-low i) (before-high i) .0)
+add-a c = let i = c .before .before in omega (arith, start i .pre .reads (middle i) (after-low i) (before-high i) .0)
 
 loop-again : tie.Need-loop-again Inv-loop μ-loop
 loop-again c =

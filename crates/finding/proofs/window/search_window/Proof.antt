@@ -23,7 +23,8 @@ returns c =
     let s = start (window .before .before .before .before .before) in
     let a = s .args in
     says-none (lexicon-at (a .chars .now) (a .word-starts .now)) (a .index .now) (a .string .now) (length (a .reach .now)) (a .first)
-    (a .output .now) (a .reach .now) (s .pre .3) (window .extend-listing .ensures) (c .if1 .taken) (record { refusal = 0; count = 0 }) refl refl
+    (a .output .now) (a .reach .now) (s .pre .3) (window .extend-listing .ensures)
+    (c .if1 .taken) (record { refusal = 0; count = 0 }) refl refl
 
 returns-2 : tie.Need-returns-2
 returns-2 c =

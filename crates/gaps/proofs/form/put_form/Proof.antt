@@ -30,8 +30,8 @@ returns c =
     let cs = s .args .chars .now in
     let ls = s .args .lengths .now in
     let number = c .before .refusal-as .ensures in
-    gaps-refused cs ls (read s) (form s) _ (s .args .output .now) (λ (none : index-refusal cs ls (read s) ≡ 0). c .if1 .taken (number ∙ none))
-    number refl
+    gaps-refused cs ls (read s) (form s) _ (s .args .output .now)
+    (λ (none : index-refusal cs ls (read s) ≡ 0). c .if1 .taken (number ∙ none)) number refl
 
 returns-2 : tie.Need-returns-2
 returns-2 c =

@@ -16,7 +16,8 @@ put-firsts-requires c κs =
     let start = filled .before .before .before .before in (
       start .pre .0,
       start .pre .1,
-      masks-ready (start .pre .0 .fits) (start .args .first) (start .pre .1) (start .args .part .now) _ (start .pre .2) (filled .fill .ensures),
+      masks-ready (start .pre .0 .fits) (start .args .first) (start .pre .1) (start .args .part .now)
+          _ (start .pre .2) (filled .fill .ensures),
     )
 
 add-up-requires : tie.Need-add-up-requires

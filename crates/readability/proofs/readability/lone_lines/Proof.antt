@@ -31,9 +31,7 @@ abbrev counted : tie.Else3 Inv-loop μ-loop → tie.After-count-at Inv-loop μ-l
 counted c = c .before .before .before .before
 
 loop-holds : tie.Need-loop-holds Inv-loop μ-loop
-loop-holds c =
-    let s = start c in
-    (s .pre .2, passed-start (s .args .chars .now) (s .args .lengths .now) (s .pre .0))
+loop-holds c = let s = start c in (s .pre .2, passed-start (s .args .chars .now) (s .args .lengths .now) (s .pre .0))
 
 is-line :
     (c : tie.After-count-at Inv-loop μ-loop) → let l = c .before .before .before .before in
