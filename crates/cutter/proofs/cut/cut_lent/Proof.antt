@@ -17,8 +17,10 @@ write-cut-requires c κs =
 
 returns-2 : tie.Need-returns-2
 returns-2 c =
-    let long = cut-long (c .before .before .before .before .before .before .before .before .size-flagged .ensures) in
-    sized-written _ _ _ _ (omega arith) refl (omega arith) (c .before .before .write-cut .ensures)
+    let written = c .before .before in
+    let fits = written .before .before .before in
+    let long = cut-long (fits .before .before .before .size-flagged .ensures) in
+    sized-written _ _ _ _ (omega arith) refl (omega arith) (written .write-cut .ensures)
 
 pub cut-lent-spec : {M : Type 1} → statement M
 cut-lent-spec =

@@ -9,12 +9,13 @@ use Rattle.laws.specs.Window.Searching.{cut-refused, cut-says}
 use Rattle.cutter.proofs.cut.cut_opened.Statement.{statement}
 use Rattle.cutter.proofs.cut.cut_opened.Tie as tie
 
+abbrev start : tie.After-slice-known → tie.Start
+start c = c .before .before .before .before .before
+
 -- the refusal of the call
-number :
-    (c : tie.After-string-refusal) →
-    let a = c .before .before .before .before .before .before .args in
+number : (c : tie.After-string-refusal) → let a = start (c .before) .args in
     c .string-refusal .result ≡ string-refusal (a .chars .now) (a .lengths .now) (a .index .now) (a .string .now)
-number c = string-number _ _ _ _ (c .before .before .before .before .before .before .pre) (c .string-refusal .ensures)
+number c = string-number _ _ _ _ (start (c .before) .pre) (c .string-refusal .ensures)
 
 cut-string-requires : tie.Need-cut-string-requires
 cut-string-requires c κs =

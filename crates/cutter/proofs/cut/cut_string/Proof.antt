@@ -7,24 +7,29 @@ use Rattle.laws.specs.Search.Sizing.{own-long, own-string}
 use Rattle.cutter.proofs.cut.cut_string.Statement.{statement}
 use Rattle.cutter.proofs.cut.cut_string.Tie as tie
 
+abbrev start : tie.After-slice-known → tie.Start
+start c = c .before .before .before .before .before
+
 slice-aggregate-cut-lines : tie.Need-slice-aggregate-cut-lines
 slice-aggregate-cut-lines c =
-    let s = c .before .before .before .before .before .before .before .before .before .before in
+    let s = start (c .before .before .before .before .before) in
     front-long (s .pre .0) (replicate 4097 0) (c .before .before .fill-word-starts .ensures)
 
 cut-lines-requires : tie.Need-cut-lines-requires
 cut-lines-requires c κs =
-    let s = c .before .before .before .before .before .before .before .before .before .before .before .before in (
-      front-reads (s .pre .0) (replicate 4097 0) (c .before .before .before .before .fill-word-starts .ensures),
-      own-string _ _ (c .before .before .before .before .before .before .replaced-string .ensures) (s .pre .1),
+    let filled = c .before .before .before .before in
+    let s = start (filled .before .before .before) in (
+      front-reads (s .pre .0) (replicate 4097 0) (filled .fill-word-starts .ensures),
+      own-string _ _ (filled .before .before .replaced-string .ensures) (s .pre .1),
     )
 
 returns : tie.Need-returns
 returns c =
-    let filled = c .before .before .before .before .before .before .before in
-    let s = filled .before .before .before .before .before .before .before .before in
+    let cut = c .before .before in
+    let filled = cut .before .before .before .before .before in
+    let s = start (filled .before .before .before) in
     let lengths = front-lengths (s .pre .0) (replicate 4097 0) (filled .fill-word-starts .ensures) in
-    rw (lengths, filled .before .before .replaced-string .ensures) at (c .before .before .cut-lines .ensures)
+    rw (lengths, filled .before .before .replaced-string .ensures) at (cut .cut-lines .ensures)
 
 pub cut-string-spec : {M : Type 1} → statement M
 cut-string-spec =

@@ -24,7 +24,8 @@ pub size-flagged-spec : {M : Type 1} → statement M
 size-flagged-spec =
     tie.close
     (tie.spec
-    Inv-loop μ-loop (λ c κs. omega arith) (λ c. counting-start (c .before .before .before .before .before .before .pre)) (λ c. omega arith)
+    Inv-loop μ-loop (λ c κs. omega arith)
+    (λ c. let known = c .before in counting-start (known .before .before .before .before .before .pre)) (λ c. omega arith)
     (λ c. search needs) (λ c. omega arith) (λ c κs. omega arith) (λ c. omega arith) (λ c. search needs) loop-again (λ c. search needs)
     (λ c. counting-pass (c .before .before .before .loop .inv) (omega arith) (c .if1 .left))
     (λ c. counting-end (c .before .loop .inv) (omega arith) (omega arith)))

@@ -7,35 +7,38 @@ use Rattle.laws.specs.Cut.Cutting.{cut-long, Cut-listed, cut-directory-room, cu
 use Rattle.cutter.proofs.cutting.write_cut.Statement.{statement}
 use Rattle.cutter.proofs.cutting.write_cut.Tie as tie
 
+abbrev start : tie.After-shared-slice-known5 → tie.Start
+start c = c .before .before .before .before .before
+
 listed :
-    (c : tie.After-line-start) →
-    let head = c .before .before .before .before .before .before .before in
-    let a = head .before .before .before .before .before .before .before .before .before .args in
+    (c : tie.After-line-start) → let directory = c .before .before .before in let head = directory .before .before .before .before in
+    let a = start (head .before .before .before .before) .args in
     Cut-listed (lexicon-at (a .chars .now) (a .word-starts .now)) (a .index .now) (a .string .now) (a .output .now)
-    (c .before .before .before .write-directory .last .1 .1 .1 .1 .1 .0) (c .line-start .result)
+    (directory .write-directory .last .1 .1 .1 .1 .1 .0) (c .line-start .result)
 listed c =
-    let head = c .before .before .before .before .before .before .before in
-    let s = head .before .before .before .before .before .before .before .before .before in
+    let directory = c .before .before .before in
+    let head = directory .before .before .before .before in
+    let s = start (head .before .before .before .before) in
     cut-listed (s .pre .1) (s .args .output .now) (s .pre .2) (head .before .text-len .ensures .0) (head .write-header .ensures)
-    (c .before .before .before .write-directory .ensures) (c .line-start .ensures)
+    (directory .write-directory .ensures) (c .line-start .ensures)
 
 write-header-requires : tie.Need-write-header-requires
 write-header-requires c κs =
-    let long = cut-long (c .before .before .before .before .before .before .before .before .pre .1) in
-    (omega arith, omega arith, omega arith)
+    let long = cut-long (start (c .before .before .before) .pre .1) in (omega arith, omega arith, omega arith)
 
 write-directory-requires : tie.Need-write-directory-requires
 write-directory-requires c κs =
     let head = c .before .before .before in
-    let s = head .before .before .before .before .before .before .before .before .before in (
+    let s = start (head .before .before .before .before) in (
       s .pre .0,
       cut-directory-room (s .pre .1) (s .args .output .now) (s .pre .2) (head .before .text-len .ensures .0) (head .write-header .ensures),
     )
 
 write-positions-requires : tie.Need-write-positions-requires
 write-positions-requires c κs =
-    let head = c .before .before .before .before .before .before .before .before in
-    (head .before .before .before .before .before .before .before .before .before .pre .0, lent-room (listed (c .before)))
+    let directory = c .before .before .before .before in
+    let head = directory .before .before .before .before in
+    (start (head .before .before .before .before) .pre .0, lent-room (listed (c .before)))
 
 pub write-cut-spec : {M : Type 1} → statement M
 write-cut-spec =

@@ -17,7 +17,8 @@ abbrev μ-loop : tie.MeasureT-loop
 
 loop-holds : tie.Need-loop-holds Inv-loop μ-loop
 loop-holds c =
-    let s = c .before .before .before .before .before .before .before in
+    let known = c .before .before in
+    let s = known .before .before .before .before .before in
     listing-start (s .pre .0) (s .args .output .now) (s .pre .1)
 
 write-line-requires : tie.Need-write-line-requires Inv-loop μ-loop

@@ -17,7 +17,8 @@ abbrev μ-loop : tie.MeasureT-loop
 
 loop-holds : tie.Need-loop-holds Inv-loop μ-loop
 loop-holds c =
-    let s = c .before .before .before .before .before .before .before .before in
+    let known = c .before .before .before in
+    let s = known .before .before .before .before .before in
     placing-start (s .pre .0) (s .args .part .now) (s .pre .1) (omega arith)
 
 write-list-requires : tie.Need-write-list-requires Inv-loop μ-loop
