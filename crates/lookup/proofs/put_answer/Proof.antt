@@ -6,9 +6,9 @@ use Rattle.lookup.proofs.put_answer.Tie as tie
 
 returns : tie.Need-returns
 returns c =
-    let s = c .before .before .before .before .before .before in
-    let call = c .before .before .answer in
-    answered (s .args .sheet .now) (call .result) (s .args .output .now) (call .last .1 .0) (s .pre) (call .ensures)
+    let call = c .before .before in
+    let s = call .before .before .before .before in
+    answered (s .args .sheet .now) (call .answer .result) (s .args .output .now) (call .answer .last .1 .0) (s .pre) (call .answer .ensures)
 
 pub put-answer-spec : {M : Type 1} → statement M
 put-answer-spec =

@@ -22,11 +22,12 @@ slice-aggregate-hand-over c =
 
 returns : tie.Need-returns
 returns c =
-    let a = c .before .before .before .before .before .before .before .before .before .before .before .before .args in
-    let put = c .before .before .before .before .before .before .before .put-answer in
-    let handed = c .before .before .hand-over in
-    job-says (a .sheet .now) (take (put .result) (put .last .1 .0)) (handed .result) (a .output .now) (handed .last .1 .0)
-    (answer-in-hand (c .before .before .before .before .before .before .before) .is) (handed .ensures)
+    let handed = c .before .before in
+    let answered = handed .before .before .before .before .before in
+    let put = answered .put-answer in
+    let a = answered .before .before .before .before .before .args in
+    job-says (a .sheet .now) (take (put .result) (put .last .1 .0)) (handed .hand-over .result) (a .output .now)
+    (handed .hand-over .last .1 .0) (answer-in-hand answered .is) (handed .hand-over .ensures)
 
 pub answer-through-spec : {M : Type 1} → statement M
 answer-through-spec =

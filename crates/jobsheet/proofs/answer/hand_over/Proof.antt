@@ -14,10 +14,9 @@ returns c =
 
 returns-2 : tie.Need-returns-2
 returns-2 c =
-    let a = c .before .before .before .before .before .before .before .args in
-    let put = c .before .before .put-bytes in
-    handed-over (record { refusal = 0; count = length (a .bytes .now) }) (c .before .before .before .before .if1 .left) refl refl
-    (put .ensures)
+    let fits = c .before .before .before .before in
+    handed-over (record { refusal = 0; count = length (fits .before .before .before .args .bytes .now) }) (fits .if1 .left) refl refl
+    (c .before .before .put-bytes .ensures)
 
 pub hand-over-spec : {M : Type 1} → statement M
 hand-over-spec =

@@ -11,43 +11,46 @@ use Rattle.laws.specs.JobSheet.JobParts.{parts-there, parts-answer}
 use Rattle.jobsheet.proofs.answer.put_job.Statement.{statement}
 use Rattle.jobsheet.proofs.answer.put_job.Tie as tie
 
+abbrev start : tie.After-read-job-arg → tie.Start
+start c = c .before .before .before .before .before
+
+abbrev read : tie.After-slice-known5 → tie.After-read-job
+read c = c .before .before .before .before
+
 put-refused-line-requires : tie.Need-put-refused-line-requires
 put-refused-line-requires c κs =
-    let s = c .before .before .before .before .before .before .before .before .before .before .before .before .before in
-    let read = c .before .before .before .before .before .before .read-job in
-    omega (arith, refused-fits (s .args .sheet .now) (read .result .refusal) (read .ensures .0) (c .before .if1 .taken))
+    let r = read (c .before .before) in
+    omega (
+      arith,
+      refused-fits (start (r .before .before) .args .sheet .now) (r .read-job .result .refusal) (r .read-job .ensures .0)
+          (c .before .if1 .taken),
+    )
 
 returns : tie.Need-returns
 returns c =
-    let half = c .before .before .before .before .before .before .before .before in
-    let a = half .before .before .before .before .before .before .before .before .args in
-    let read = c .before .before .before .before .before .before .before .before .before .read-job in
-    let put = c .before .before .put-refused-line in
-    subst (λ (ys : List ℕ). Wrote ys 0 (a .out .now) (put .result) (put .last .0))
-    (refused-answer (a .sheet .now) (read .result .refusal) (read .ensures .0) (c .before .before .before .before .if1 .taken))
-    (put .ensures)
+    let put = c .before .before in
+    let r = read (put .before .before .before) in
+    let a = start (r .before .before) .args in
+    subst (λ (ys : List ℕ). Wrote ys 0 (a .out .now) (put .put-refused-line .result) (put .put-refused-line .last .0))
+    (refused-answer (a .sheet .now) (r .read-job .result .refusal) (r .read-job .ensures .0) (put .before .before .if1 .taken))
+    (put .put-refused-line .ensures)
 
 put-parts-requires : tie.Need-put-parts-requires
 put-parts-requires c κs =
-    let s = c .before .before .before .before .before .before .before .before .before .before .before .before .before .before .before in
-    let read = c .before .before .before .before .before .before .before .before .read-job in
-    let none : sheet-refusal (s .args .sheet .now) ≡ 0 = sym (read .ensures .0) ∙ c .before .before .before .if1 .left in (
-      parts-there
-          none (read .ensures .1 none),
-      s .pre .2,
-    )
+    let r = read (c .before .before .before .before) in
+    let s = start (r .before .before) in
+    let none : sheet-refusal (s .args .sheet .now) ≡ 0 = sym (r .read-job .ensures .0) ∙ c .before .before .before .if1 .left in
+    (parts-there none (r .read-job .ensures .1 none), s .pre .2)
 
 returns-2 : tie.Need-returns-2
 returns-2 c =
-    let half = c .before .before .before .before .before .before .before .before .before in
-    let a = half .before .before .before .before .before .before .before .before .before .args in
-    let read = c .before .before .before .before .before .before .before .before .before .before .before .read-job in
-    let none : sheet-refusal (a .sheet .now) ≡ 0 = sym (read .ensures .0) ∙ c .before .before .before .before .before .before .if1 .left in
-    let put = c .before .before .put-parts in
-    subst (λ (ys : List ℕ). Wrote ys 0 (a .out .now) (put .result) (put .last .1 .1 .1 .1 .1 .1 .0))
-    (parts-answer
-    none (read .ensures .1 none))
-    (put .ensures)
+    let put = c .before .before in
+    let accepted = put .before .before .before .before in
+    let r = read (accepted .before) in
+    let a = start (r .before .before) .args in
+    let none : sheet-refusal (a .sheet .now) ≡ 0 = sym (r .read-job .ensures .0) ∙ accepted .if1 .left in
+    subst (λ (ys : List ℕ). Wrote ys 0 (a .out .now) (put .put-parts .result) (put .put-parts .last .1 .1 .1 .1 .1 .1 .0))
+    (parts-answer none (r .read-job .ensures .1 none)) (put .put-parts .ensures)
 
 pub put-job-spec : {M : Type 1} → statement M
 put-job-spec =

@@ -11,13 +11,16 @@ use Rattle.laws.specs.JobSheet.AcceptedCalls.{In-hand, found-in-hand}
 use Rattle.jobsheet.proofs.finds.put_find.Statement.{statement}
 use Rattle.jobsheet.proofs.finds.put_find.Tie as tie
 
+abbrev start : tie.After-shared-slice-known5 → tie.Start
+start c = c .before .before .before .before .before
+
 -- the positions found are the first numbers of the slice lent for them
 positions-in-hand :
-    (c : tie.After-search-tabled) → let a = c .before .before .before .before .before .before .before .before .before .args in
+    (c : tie.After-search-tabled) → let a = start (c .before .before .before .before) .args in
     In-hand (find (lexicon-at (a .chars .now) (a .word-starts .now)) (a .index .now) (replaced (a .string .now)))
     (c .search-tabled .result .count) (c .search-tabled .last .1 .1 .1 .1 .1 .0)
 positions-in-hand c =
-    let s = c .before .before .before .before .before .before .before .before .before in
+    let s = start (c .before .before .before .before) in
     let a = s .args in
     found-in-hand (lexicon-at (a .chars .now) (a .word-starts .now)) (a .index .now) (c .search-tabled .result)
     (a .found .now) (c .search-tabled .last .1 .1 .1 .1 .1 .0)
@@ -30,18 +33,18 @@ positions-in-hand c =
 slice-aggregate-put-found-line : tie.Need-slice-aggregate-put-found-line
 slice-aggregate-put-found-line c =
     let searched = c .before .before .before .before .search-tabled in
-    sym
-    (length-take-le (searched .result .count) (searched .last .1 .1 .1 .1 .1 .0)
+    sym (length-take-le (searched .result .count) (searched .last .1 .1 .1 .1 .1 .0)
     (positions-in-hand (c .before .before .before .before) .room))
 
 put-found-line-requires : tie.Need-put-found-line-requires
 put-found-line-requires c κs =
-    rw (positions-in-hand (c .before .before .before .before) .is)
-    (c .before .before .before .before .before .before .before .before .before .before .before .before .before .pre .1)
+    let searched = c .before .before .before .before in
+    rw (positions-in-hand searched .is) (start (searched .before .before .before .before) .pre .1)
 
 returns : tie.Need-returns
 returns c =
-    rw (positions-in-hand (c .before .before .before .before .before .before .before) .is) at (c .before .before .put-found-line .ensures)
+    let put = c .before .before in
+    rw (positions-in-hand (put .before .before .before .before .before) .is) at (put .put-found-line .ensures)
 
 pub put-find-spec : {M : Type 1} → statement M
 put-find-spec =

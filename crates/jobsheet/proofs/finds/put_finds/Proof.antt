@@ -16,19 +16,18 @@ Inv-loop chars word-starts index list-starts strings counts found₀ out₀ at e
 abbrev μ-loop : tie.MeasureT-loop
 μ-loop chars word-starts index list-starts strings counts found₀ out₀ at end₀ from₀ i₀ found out end from i = length counts - i
 
+abbrev start : tie.After-shared-slice-known5 Inv-loop μ-loop → tie.Start Inv-loop μ-loop
+start c = c .before .before .before .before .before
+
 -- the next string is there
 next-fits :
-    (c : tie.In-loop Inv-loop μ-loop) → let a =
-    c .before .before .before .before .before .before .before .before .before .before .args in
+    (c : tie.In-loop Inv-loop μ-loop) → let a = start (c .before .before .before .before .before) .args in
     c .before .loop .from + getD (a .counts .now) (c .before .loop .i) 0 ≤ length (a .strings .now)
-next-fits c =
-    let l = c .before .loop in
-    string-fits
-    (l .inv .1) (c .loop-test .taken)
+next-fits c = string-fits (c .before .loop .inv .1) (c .loop-test .taken)
 
 loop-holds : tie.Need-loop-holds Inv-loop μ-loop
 loop-holds c =
-    let s = c .before .before .before .before .before .before .before .before in
+    let s = start (c .before .before .before) in
     let a = s .args in (
       refl,
       finds-start (lexicon-at (a .chars .now) (a .word-starts .now)) (a .index .now) (a .strings .now) (a .counts .now) (a .at)
@@ -42,30 +41,21 @@ cast-next c = omega (arith, c .shared-slice-known7 .given (c .before .before .lo
 
 put-find-requires : tie.Need-put-find-requires Inv-loop μ-loop
 put-find-requires c κs =
-    let s = c .before .before .before .before .before .before .before .before .before .before .before .before .before .before in
-    let l = c .before .before .before .before .before .loop in
-    let taken = c .before .before .before .before .loop-test .taken in (
-      (
-        s .pre .0 .0,
-        string-is (l .inv .1) taken,
-        omega arith,
-      ),
-      find-fits (l .inv .1) taken,
-    )
+    let turn = c .before .before .before .before in
+    let l = turn .before .loop in
+    let taken = turn .loop-test .taken in
+    let s = start (turn .before .before .before .before .before) in
+    ((s .pre .0 .0, string-is (l .inv .1) taken, omega arith), find-fits (l .inv .1) taken)
 
 loop-again : tie.Need-loop-again Inv-loop μ-loop
 loop-again c =
-    let l = c .before .before .before .before .before .before .before .before .before .before .loop in
-    let put = c .before .before .before .before .put-find in (
-      put .kept .1 .1 .1 .1 .1 .0 ∙ l .inv .0,
-      finds-step (l .inv .1) (c .before .before .before .before .before .before .before .before .before .loop-test .taken) (put .ensures),
-    )
+    let put = c .before .before .before .before in
+    let turn = put .before .before .before .before .before in
+    let l = turn .before .loop in
+    (put .put-find .kept .1 .1 .1 .1 .1 .0 ∙ l .inv .0, finds-step (l .inv .1) (turn .loop-test .taken) (put .put-find .ensures))
 
 returns : tie.Need-returns Inv-loop μ-loop
-returns c =
-    let l = c .before .loop in
-    finds-end
-    (l .inv .1) (c .loop-test .left)
+returns c = finds-end (c .before .loop .inv .1) (c .loop-test .left)
 
 pub put-finds-spec : {M : Type 1} → statement M
 put-finds-spec =

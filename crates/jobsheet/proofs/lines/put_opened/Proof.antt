@@ -7,10 +7,12 @@ use Rattle.jobsheet.proofs.lines.put_opened.Tie as tie
 
 put-filled-requires : tie.Need-put-filled-requires
 put-filled-requires c κs =
-    let chars = c .before .before .before .before .before .before .before .before .before in
+    let known = c .before .before .before .before .before in
+    let index = known .before .before in
+    let chars = index .before .before in
     let s = chars .before in
     let can = can-read _ _ _ (λ i. omega (arith, chars .shared-slice-known .given i))
-    (λ i. omega (arith, c .before .before .before .before .before .before .before .shared-slice-known3 .given i)) (s .pre .0 .accepts) in
+    (λ i. omega (arith, index .shared-slice-known3 .given i)) (s .pre .0 .accepts) in
     ((s .pre .0, can, s .pre .1, omega arith), (s .pre .2, s .pre .3, s .pre .4))
 
 pub put-opened-spec : {M : Type 1} → statement M
