@@ -5,15 +5,14 @@ use Rattle.mopekihua.proofs.mopekihua_build.Statement.{statement}
 use Rattle.mopekihua.proofs.mopekihua_build.Tie as tie
 
 returns : tie.Need-returns
-returns c = (
-  c .before .before .before .before .build .ensures,
-  (
-    lent-chars (c .before .before .before .before .before .before .before .before .before .before .before .before .args .chars .now)
-        (c .before .before .before .before .before .before .before .before .before .before .before .shared-slice-known .given),
-    lent-chars (c .before .before .before .before .before .before .before .before .before .before .before .before .args .text .now)
-        (c .before .before .before .before .before .before .before .before .before .shared-slice-known3 .given),
-  ),
-)
+returns c =
+    let built = c .before .before .before .before in
+    let text = built .before .before .before .before .before in
+    let chars = text .before .before in
+    let a = chars .before .args in (
+      built .build .ensures,
+      (lent-chars (a .chars .now) (chars .shared-slice-known .given), lent-chars (a .text .now) (text .shared-slice-known3 .given)),
+    )
 
 pub mopekihua-build-spec : {M : Type 1} → statement M
 mopekihua-build-spec =

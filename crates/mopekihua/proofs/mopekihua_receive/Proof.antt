@@ -5,11 +5,10 @@ use Rattle.mopekihua.proofs.mopekihua_receive.Statement.{statement}
 use Rattle.mopekihua.proofs.mopekihua_receive.Tie as tie
 
 returns : tie.Need-returns
-returns c = (
-  c .before .before .receive .ensures,
-  lent-chars (c .before .before .before .before .before .before .before .before .args .chars .now)
-      (c .before .before .before .before .before .before .before .shared-slice-known .given),
-)
+returns c =
+    let received = c .before .before in
+    let chars = received .before .before .before .before .before in
+    (received .receive .ensures, lent-chars (chars .before .args .chars .now) (chars .shared-slice-known .given))
 
 pub mopekihua-receive-spec : {M : Type 1} → statement M
 mopekihua-receive-spec =

@@ -5,11 +5,11 @@ use Rattle.mopekihua.proofs.mopekihua_recover.Statement.{statement}
 use Rattle.mopekihua.proofs.mopekihua_recover.Tie as tie
 
 returns : tie.Need-returns
-returns c = (
-  c .before .before .before .before .recover .ensures,
-  lent-chars (c .before .before .before .before .before .before .before .before .before .before .before .before .args .chars .now)
-      (c .before .before .before .before .before .before .before .before .before .before .before .shared-slice-known .given),
-)
+returns c =
+    let recovered = c .before .before .before .before in
+    let asked = recovered .before .before .before in
+    let chars = asked .before .before .before .before in
+    (recovered .recover .ensures, lent-chars (chars .before .args .chars .now) (chars .shared-slice-known .given))
 
 pub mopekihua-recover-spec : {M : Type 1} → statement M
 mopekihua-recover-spec =
