@@ -34,115 +34,45 @@ tenth :
     Writing (decimal n) at old (decimal (n / 10) ++ ((48 + n % 10) ∷ [])) at old
 tenth n at old large room = writing-as (decimal-large n large) (writing-start (decimal n) at old room)
 
-put-decimal-add-last : (t : ℕ) → put-decimal-lts.Need-add-last (
-  put-byte-reads.Asked,
-  put-byte-reads.Learnt,
-  put-decimal-below t,
-  put-decimal.Post,
-) (put-decimal-at t) put-decimal.Post
-put-decimal-add-last t c = search needs
+abbrev claims : ℕ → put-decimal-lts.Claims
+claims t = (put-byte-reads.Asked, put-byte-reads.Learnt, put-decimal-below t, put-decimal.Post)
 
-put-decimal-cast-last : (t : ℕ) → put-decimal-lts.Need-cast-last (
-  put-byte-reads.Asked,
-  put-byte-reads.Learnt,
-  put-decimal-below t,
-  put-decimal.Post,
-) (put-decimal-at t) put-decimal.Post
-put-decimal-cast-last t c = search needs
+-- the last digit is to be written
+at-last :
+    (t : ℕ) (c : put-decimal-lts.After-put-decimal (claims t) (put-decimal-at t) put-decimal.Post) →
+    let a = c .before .before .before .before .args in
+    Writing (decimal (a .n)) (a .at) (a .out .now) ((48 + a .n % 10) ∷ []) (c .put-decimal .result) (c .put-decimal .last .0)
+at-last t c =
+    let s = c .before .before .before .before in
+    let a = s .args in
+    writing-step (decimal (a .n / 10)) ((48 + a .n % 10) ∷ [])
+    (tenth (a .n) (a .at) (a .out .now) (c .before .before .if1 .left) (s .pre .1)) (c .put-decimal .ensures)
 
-put-decimal-put-byte-requires : (t : ℕ) → put-decimal-lts.Need-put-byte-requires (
-  put-byte-reads.Asked,
-  put-byte-reads.Learnt,
-  put-decimal-below t,
-  put-decimal.Post,
-) (put-decimal-at t) put-decimal.Post
-put-decimal-put-byte-requires t c κs =
-    omega (arith, ap length (decimal-small (c .before .before .before .args .n) (c .before .if1 .taken)))
+put-byte-requires : (t : ℕ) → put-decimal-lts.Need-put-byte-requires (claims t) (put-decimal-at t) put-decimal.Post
+put-byte-requires t c κs = omega (arith, ap length (decimal-small (c .before .before .before .args .n) (c .before .if1 .taken)))
 
-put-decimal-same-length : (t : ℕ) → put-decimal-lts.Need-same-length (
-  put-byte-reads.Asked,
-  put-byte-reads.Learnt,
-  put-decimal-below t,
-  put-decimal.Post,
-) (put-decimal-at t) put-decimal.Post
-put-decimal-same-length t c = search needs
+returns : (t : ℕ) → put-decimal-lts.Need-returns (claims t) (put-decimal-at t) put-decimal.Post
+returns t c =
+    let small = c .before .before .before .before in
+    rw (decimal-small (small .before .before .args .n) (small .if1 .taken)) (c .before .before .put-byte .ensures)
 
-put-decimal-returns : (t : ℕ) → put-decimal-lts.Need-returns (
-  put-byte-reads.Asked,
-  put-byte-reads.Learnt,
-  put-decimal-below t,
-  put-decimal.Post,
-) (put-decimal-at t) put-decimal.Post
-put-decimal-returns t c = rw (decimal-small (c .before .before .before .before .before .before .args .n)
-    (c .before .before .before .before .if1 .taken)) (c .before .before .put-byte .ensures)
-
-put-decimal-put-decimal-requires : (t : ℕ) → put-decimal-lts.Need-put-decimal-requires (
-  put-byte-reads.Asked,
-  put-byte-reads.Learnt,
-  put-decimal-below t,
-  put-decimal.Post,
-) (put-decimal-at t) put-decimal.Post
-put-decimal-put-decimal-requires t c κs =
-    let start = c .before .before .before in (
+put-decimal-requires : (t : ℕ) → put-decimal-lts.Need-put-decimal-requires (claims t) (put-decimal-at t) put-decimal.Post
+put-decimal-requires t c κs =
+    let s = c .before .before .before in
+    let a = s .args in (
       omega arith,
-      writing-room (decimal (start .args .n / 10)) ((48 + start .args .n % 10) ∷ [])
-          (tenth (start .args .n) (start .args .at) (start .args .out .now) (c .before .if1 .left) (start .pre .1)),
+      writing-room (decimal (a .n / 10)) ((48 + a .n % 10) ∷ []) (tenth (a .n) (a .at) (a .out .now) (c .before .if1 .left) (s .pre .1)),
     )
 
-put-decimal-put-byte-requires-2 : (t : ℕ) → put-decimal-lts.Need-put-byte-requires-2 (
-  put-byte-reads.Asked,
-  put-byte-reads.Learnt,
-  put-decimal-below t,
-  put-decimal.Post,
-) (put-decimal-at t) put-decimal.Post
-put-decimal-put-byte-requires-2 t c κs =
-    let start = c .before .before .before .before .before .before .before in
-    omega (
-      arith,
-      (writing-step (decimal (start .args .n / 10)) ((48 + start .args .n % 10) ∷ [])
-          (tenth (start .args .n) (start .args .at) (start .args .out .now) (c .before .before .before .before .before .if1 .left)
-          (start .pre .1))
-          (c .before .before .before .put-decimal .ensures))
-          .room,
-    )
+put-byte-requires-2 : (t : ℕ) → put-decimal-lts.Need-put-byte-requires-2 (claims t) (put-decimal-at t) put-decimal.Post
+put-byte-requires-2 t c κs = omega (arith, at-last t (c .before .before .before) .room)
 
-put-decimal-same-length-2 : (t : ℕ) → put-decimal-lts.Need-same-length-2 (
-  put-byte-reads.Asked,
-  put-byte-reads.Learnt,
-  put-decimal-below t,
-  put-decimal.Post,
-) (put-decimal-at t) put-decimal.Post
-put-decimal-same-length-2 t c = search needs
-
-put-decimal-returns-2 : (t : ℕ) → put-decimal-lts.Need-returns-2 (
-  put-byte-reads.Asked,
-  put-byte-reads.Learnt,
-  put-decimal-below t,
-  put-decimal.Post,
-) (put-decimal-at t) put-decimal.Post
-put-decimal-returns-2 t c =
-    let start = c .before .before .before .before .before .before .before .before .before .before in
-    writing-last ((48 + start .args .n % 10) ∷ [])
-    (writing-step (decimal (start .args .n / 10)) ((48 + start .args .n % 10) ∷ [])
-    (tenth (start .args .n) (start .args .at) (start .args .out .now)
-    (c .before .before .before .before .before .before .before .before .if1 .left) (start .pre .1))
-    (c .before .before .before .before .before .before .put-decimal .ensures))
-    (c .before .before .put-byte2 .ensures)
+returns-2 : (t : ℕ) → put-decimal-lts.Need-returns-2 (claims t) (put-decimal-at t) put-decimal.Post
+returns-2 t c =
+    let last = c .before .before in
+    writing-last _ (at-last t (last .before .before .before .before)) (last .put-byte2 .ensures)
 
 pub +put-decimal-spec : {M : Type 1} → statement M
-+put-decimal-spec = close μ-put-decimal λ t. put-decimal-lts.spec (
-  put-byte-reads.Asked,
-  put-byte-reads.Learnt,
-  put-decimal-below t,
-  put-decimal.Post,
-) (put-decimal-at t)
-    put-decimal.Post
-    (put-decimal-add-last t)
-    (put-decimal-cast-last t)
-    (put-decimal-put-byte-requires t)
-    (put-decimal-same-length t)
-    (put-decimal-returns t)
-    (put-decimal-put-decimal-requires t)
-    (put-decimal-put-byte-requires-2 t)
-    (put-decimal-same-length-2 t)
-    (put-decimal-returns-2 t)
++put-decimal-spec = close μ-put-decimal λ t. put-decimal-lts.spec (claims t) (put-decimal-at t) put-decimal.Post (λ c. search needs)
+    (λ c. search needs) (put-byte-requires t) (λ c. search needs) (returns t) (put-decimal-requires t) (put-byte-requires-2 t)
+    (λ c. search needs) (returns-2 t)

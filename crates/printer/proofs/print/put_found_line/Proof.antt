@@ -12,9 +12,6 @@ use Rattle.printer.proofs.print.put_found_line.Tie as tie
 abbrev start : tie.After-put-bytes → tie.Start
 start c = c .before .before .before .before .before
 
-abbrev after-count : tie.After-out3 → tie.After-put-decimal
-after-count c = c .before .before .before .before .before
-
 at-head :
     (s : tie.Start) →
     Writing (found-line (s .args .positions .now)) (s .args .at) (s .args .out .now)
@@ -49,9 +46,7 @@ put-decimal-requires c κs =
     writing-room (decimal (length (s .args .positions .now))) (listed (s .args .positions .now)) (at-count (c .before .before .before))
 
 returns : tie.Need-returns
-returns c =
-    let s = start (after-count (c .before) .before .before .before .before) in
-    writing-last (listed (s .args .positions .now)) (at-list (after-count (c .before))) (c .before .before .put-list .ensures)
+returns c = let put = c .before .before in writing-last _ (at-list (put .before .before .before .before)) (put .put-list .ensures)
 
 pub put-found-line-spec : {M : Type 1} → statement M
 put-found-line-spec =

@@ -19,9 +19,6 @@ after-n c = c .before .before .before .before
 abbrev after-k : tie.After-put-next-decimal2 → tie.After-put-next-decimal
 after-k c = c .before .before .before .before
 
-abbrev after-m : tie.After-put-bytes2 → tie.After-put-next-decimal2
-after-m c = c .before .before .before .before .before
-
 at-head :
     (s : tie.Start) →
     Writing (index-line (s .args .n) (s .args .k) (s .args .m)) (s .args .at) (s .args .out .now)
@@ -85,7 +82,7 @@ put-next-decimal-requires-2 c κs =
     writing-room ((gap ++ decimal (s .args .m))) ending (at-third (c .before .before .before))
 
 returns : tie.Need-returns
-returns c = writing-last ending (at-end (after-m (c .before .before))) (c .before .before .put-bytes2 .ensures)
+returns c = let put = c .before .before in writing-last _ (at-end (put .before .before .before .before .before)) (put .put-bytes2 .ensures)
 
 pub put-index-line-spec : {M : Type 1} → statement M
 put-index-line-spec =

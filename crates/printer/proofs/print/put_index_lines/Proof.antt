@@ -14,9 +14,6 @@ use Rattle.printer.proofs.print.put_index_lines.Tie as tie
 abbrev start : tie.After-line-start → tie.Start
 start c = c .before .before .before .before
 
-abbrev after-first-line : tie.After-out2 → tie.After-put-index-line
-after-first-line c = c .before .before .before .before .before
-
 abbrev first-line : tie.After-text-len → List ℕ
 first-line c =
     index-line (c .text-len .result) (c .before .before .before .key-count .result)
@@ -45,10 +42,7 @@ put-key-lines-requires : tie.Need-put-key-lines-requires
 put-key-lines-requires c κs = let d = c .before .before .before in (start (d .before .before .before) .pre .0, at-keys d .room)
 
 returns : tie.Need-returns
-returns c =
-    let d = after-first-line (c .before) in
-    writing-last (key-lines (lines-in (start (d .before .before .before) .args .numbers .now))) (at-keys d)
-    (c .before .before .put-key-lines .ensures)
+returns c = let put = c .before .before in writing-last _ (at-keys (put .before .before .before .before)) (put .put-key-lines .ensures)
 
 pub put-index-lines-spec : {M : Type 1} → statement M
 put-index-lines-spec =

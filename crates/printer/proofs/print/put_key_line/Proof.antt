@@ -10,9 +10,6 @@ use Rattle.laws.specs.JobSheet.Printing.{key-line-parts}
 use Rattle.printer.proofs.print.put_key_line.Statement.{statement}
 use Rattle.printer.proofs.print.put_key_line.Tie as tie
 
-abbrev after-name : tie.After-out2 → tie.After-put-key-name
-after-name c = c .before .before .before .before .before
-
 at-name :
     (s : tie.Start) →
     Writing (key-line (line (key (s .args .kind) (s .args .value)) (s .args .positions .now))) (s .args .at) (s .args .out .now)
@@ -35,9 +32,7 @@ put-key-name-requires c κs =
     writing-room (key-name (key (s .args .kind) (s .args .value))) (listed (s .args .positions .now)) (at-name s)
 
 returns : tie.Need-returns
-returns c =
-    let s = after-name (c .before) .before .before .before .before in
-    writing-last (listed (s .args .positions .now)) (at-list (after-name (c .before))) (c .before .before .put-list .ensures)
+returns c = let put = c .before .before in writing-last _ (at-list (put .before .before .before .before)) (put .put-list .ensures)
 
 pub put-key-line-spec : {M : Type 1} → statement M
 put-key-line-spec =

@@ -12,12 +12,6 @@ Inv-loop out₀ at numbers keys position₀ end₀ i₀ out position end i = Key
 abbrev μ-loop : tie.MeasureT-loop
 μ-loop out₀ at numbers keys position₀ end₀ i₀ out position end i = keys - i
 
-abbrev at-loop : tie.After-put-key-line Inv-loop μ-loop → tie.At-loop Inv-loop μ-loop
-at-loop c = c .before .before .before .before .before
-
-abbrev start : tie.At-loop Inv-loop μ-loop → tie.Start Inv-loop μ-loop
-start c = c .before .before .before .before .before
-
 loop-holds : tie.Need-loop-holds Inv-loop μ-loop
 loop-holds c =
     let s = c .before .before .before .before in
@@ -25,16 +19,17 @@ loop-holds c =
 
 next-line-requires : tie.Need-next-line-requires Inv-loop μ-loop
 next-line-requires c κs =
-    let s = start (c .before) in
-    (whole-fits (s .pre .0), omega arith, c .before .loop .inv .at-list)
+    let at-loop = c .before in
+    let s = at-loop .before .before .before .before .before in (whole-fits (s .pre .0), omega arith, at-loop .loop .inv .at-list)
 
 put-key-line-requires : tie.Need-put-key-line-requires Inv-loop μ-loop
 put-key-line-requires c κs = line-fits (c .before .before .before .before .loop .inv) (c .before .before .next-line .ensures)
 
 loop-again : tie.Need-loop-again Inv-loop μ-loop
 loop-again c =
-    keys-step (at-loop (c .before .before) .loop .inv)
-    (c .before .before .before .before .before .next-line .ensures) (c .before .before .put-key-line .ensures)
+    let put = c .before .before in
+    keys-step (put .before .before .before .before .before .loop .inv) (put .before .before .before .next-line .ensures)
+    (put .put-key-line .ensures)
 
 pub put-key-lines-spec : {M : Type 1} → statement M
 put-key-lines-spec =

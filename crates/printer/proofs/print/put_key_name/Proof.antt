@@ -13,12 +13,6 @@ use Rattle.printer.proofs.print.put_key_name.Tie as tie
 abbrev start : tie.After-put-bytes2 → tie.Start
 start c = c .before .before .before .before .before
 
-abbrev after-word-head : tie.After-out2 → tie.After-put-bytes
-after-word-head c = c .before .before .before .before .before
-
-abbrev after-lone-head : tie.After-out4 → tie.After-put-bytes2
-after-lone-head c = c .before .before .before .before .before
-
 at-word :
     (s : tie.Start) → s .args .kind ≡ 0 →
     Writing (key-name (key (s .args .kind) (s .args .value))) (s .args .at) (s .args .out .now) (key-word-head ++ decimal (s .args .value))
@@ -56,9 +50,7 @@ put-bytes-requires c κs =
     (at-word (c .before .before .before .before) (c .before .before .if1 .taken))
 
 returns : tie.Need-returns
-returns c =
-    let s = after-word-head (c .before) .before .before .before .before .before in
-    writing-last (decimal (s .args .value)) (at-number (after-word-head (c .before))) (c .before .before .put-decimal .ensures)
+returns c = let put = c .before .before in writing-last _ (at-number (put .before .before .before .before)) (put .put-decimal .ensures)
 
 put-bytes-requires-2 : tie.Need-put-bytes-requires-2
 put-bytes-requires-2 c κs =
@@ -71,9 +63,7 @@ put-hexadecimal-requires c κs =
 
 returns-2 : tie.Need-returns-2
 returns-2 c =
-    let s = start (after-lone-head (c .before)) in
-    writing-last (hexadecimal (s .args .value)) (at-character (after-lone-head (c .before)))
-    (c .before .before .put-hexadecimal .ensures)
+    let put = c .before .before in writing-last _ (at-character (put .before .before .before .before)) (put .put-hexadecimal .ensures)
 
 pub put-key-name-spec : {M : Type 1} → statement M
 put-key-name-spec =

@@ -11,9 +11,6 @@ use Rattle.printer.proofs.print.put_list.Tie as tie
 abbrev start : tie.After-put-bytes → tie.Start
 start c = c .before .before .before .before .before
 
-abbrev after-positions : tie.After-put-bytes2 → tie.After-put-positions
-after-positions c = c .before .before .before .before .before
-
 at-opening :
     (s : tie.Start) →
     Writing (listed (s .args .positions .now)) (s .args .at) (s .args .out .now)
@@ -47,7 +44,8 @@ put-positions-requires c κs =
     writing-room (spaced (s .args .positions .now)) ending-list (at-positions (c .before .before .before))
 
 returns : tie.Need-returns
-returns c = writing-last ending-list (at-ending (after-positions (c .before .before))) (c .before .before .put-bytes2 .ensures)
+returns c =
+    let put = c .before .before in writing-last _ (at-ending (put .before .before .before .before .before)) (put .put-bytes2 .ensures)
 
 pub put-list-spec : {M : Type 1} → statement M
 put-list-spec =

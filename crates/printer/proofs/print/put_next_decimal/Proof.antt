@@ -6,9 +6,6 @@ use Rattle.spec.specs.JobAnswer.{decimal, gap}
 use Rattle.printer.proofs.print.put_next_decimal.Statement.{statement}
 use Rattle.printer.proofs.print.put_next_decimal.Tie as tie
 
-abbrev after-gap : tie.After-out2 → tie.After-put-bytes
-after-gap c = c .before .before .before .before .before
-
 at-space :
     (s : tie.Start) →
     Writing (gap ++ decimal (s .args .n)) (s .args .at) (s .args .out .now) (gap ++ decimal (s .args .n)) (s .args .at) (s .args .out .now)
@@ -27,9 +24,7 @@ put-bytes-requires c κs =
     let s = c .before .before .before in writing-room gap (decimal (s .args .n)) (at-space s)
 
 returns : tie.Need-returns
-returns c =
-    let s = after-gap (c .before) .before .before .before .before in
-    writing-last (decimal (s .args .n)) (at-number (after-gap (c .before))) (c .before .before .put-decimal .ensures)
+returns c = let put = c .before .before in writing-last _ (at-number (put .before .before .before .before)) (put .put-decimal .ensures)
 
 pub put-next-decimal-spec : {M : Type 1} → statement M
 put-next-decimal-spec =

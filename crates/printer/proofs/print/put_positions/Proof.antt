@@ -14,9 +14,6 @@ use Rattle.printer.proofs.print.put_positions.Tie as tie
 abbrev start : tie.After-shared-slice-known2 → tie.Start
 start c = c .before .before .before .before .before
 
-abbrev after-first : tie.After-put-next-positions → tie.After-put-decimal
-after-first c = c .before .before .before .before .before
-
 abbrev others : List ℕ → List ℕ
 others ps = each-spaced (take (length ps - 1) (drop 1 ps))
 
@@ -50,9 +47,8 @@ put-decimal-requires c κs =
 
 returns-2 : tie.Need-returns-2
 returns-2 c =
-    let s = start (after-first (c .before .before) .before) in
-    writing-last (others (s .args .positions .now)) (at-others (after-first (c .before .before)))
-    (c .before .before .put-next-positions .ensures)
+    let put = c .before .before in
+    writing-last _ (at-others (put .before .before .before .before .before)) (put .put-next-positions .ensures)
 
 pub put-positions-spec : {M : Type 1} → statement M
 put-positions-spec =

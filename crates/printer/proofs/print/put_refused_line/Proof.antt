@@ -10,9 +10,6 @@ use Rattle.printer.proofs.print.put_refused_line.Tie as tie
 abbrev start : tie.After-out → tie.Start
 start c = c .before .before .before .before .before
 
-abbrev after-number : tie.After-put-bytes2 → tie.After-put-decimal
-after-number c = c .before .before .before .before .before
-
 at-head :
     (s : tie.Start) →
     Writing (refused-line (s .args .refusal)) (s .args .at) (s .args .out .now) (refused-head ++ (decimal (s .args .refusal) ++ ending))
@@ -42,7 +39,7 @@ put-decimal-requires c κs =
     writing-room (decimal (s .args .refusal)) ending (at-number (c .before .before .before))
 
 returns : tie.Need-returns
-returns c = writing-last ending (at-end (after-number (c .before .before))) (c .before .before .put-bytes2 .ensures)
+returns c = let put = c .before .before in writing-last _ (at-end (put .before .before .before .before .before)) (put .put-bytes2 .ensures)
 
 pub put-refused-line-spec : {M : Type 1} → statement M
 put-refused-line-spec =
