@@ -7,7 +7,7 @@ ghost use mathlib.Core.Path.{_≡_};
 ghost use Prim.Native.Nat.{_≤_};
 ghost use lib.ListN.{length, take};
 ghost use Rattle.spec.specs.Replaced.{replaced};
-ghost use Rattle.spec.specs.Dictionary.{lexicon};
+ghost use Rattle.spec.specs.Dictionary.{longest-text, lexicon};
 ghost use Rattle.spec.specs.Numbers.{index-of};
 ghost use Rattle.spec.specs.Calls.{Puts, build-refusal, Build-says};
 ghost use Rattle.models.specs.WordStarts.{lengths-of, lexicon-at};
@@ -29,7 +29,7 @@ use width::Number;
 
 // The first refusal that needs no result, or 0: the dictionary's, a text too long, a work slice too short.
 fn early_refusal(chars: &[u16], lengths: &[u16], text: &[u16], work: usize) -> u32
-    ensures { λ r. ⌜ r ≡ early-refusal (now (chars .entry)) (now (lengths .entry)) (now (text .entry)) work ⌝ }
+    ensures { λ r. ⌜ r ≡ early-refusal longest-text (now (chars .entry)) (now (lengths .entry)) (now (text .entry)) work ⌝ }
 {
     let refusal = refusal_of(chars, lengths);
     if refusal != 0 {
@@ -104,12 +104,13 @@ fn index_with(
     heads: &mut [u16],
     links: &mut [u16],
 ) -> Answer
-    requires { ⌜ early-refusal (now chars) (lengths-of (now «word_starts»)) (now text) (length (now work)) ≡ 0 ⌝ }
+    requires { ⌜ early-refusal longest-text (now chars) (lengths-of (now «word_starts»)) (now text) (length (now work)) ≡ 0 ⌝ }
     requires { ⌜ Room (now chars) (now «word_starts») (now heads) (now links) ⌝ }
     ensures { λ r. ⌜
-        Puts (build-refusal (now (chars .entry)) (lengths-of (now («word_starts» .entry))) (now (text .entry))
-        (length (now (output .entry))) (length (now (work .entry)))) (index-of (lexicon-at (now (chars .entry)) (now («word_starts» .entry)))
-        (replaced (now (text .entry)))) r (now (output .entry)) (now (output .exit)) ⌝ }
+        Puts (build-refusal longest-text (now (chars .entry)) (lengths-of (now («word_starts» .entry))) (now (text .entry))
+        (length (now (output .entry))) (length (now (work .entry))))
+        (index-of (lexicon-at (now (chars .entry)) (now («word_starts» .entry))) (replaced (now (text .entry)))) r
+        (now (output .entry)) (now (output .exit)) ⌝ }
 {
     fill_match_table(chars, word_starts, heads, links);
     scan_replaced(chars, word_starts, heads, links, text, work);
@@ -124,9 +125,9 @@ fn index_text(
     output: &mut [Number],
     work: &mut [Number],
 ) -> Answer
-    requires { ⌜ early-refusal (now chars) (now lengths) (now text) (length (now work)) ≡ 0 ⌝ }
+    requires { ⌜ early-refusal longest-text (now chars) (now lengths) (now text) (length (now work)) ≡ 0 ⌝ }
     ensures { λ r. ⌜
-        Puts (build-refusal (now (chars .entry)) (now (lengths .entry)) (now (text .entry)) (length (now (output .entry)))
+        Puts (build-refusal longest-text (now (chars .entry)) (now (lengths .entry)) (now (text .entry)) (length (now (output .entry)))
         (length (now (work .entry)))) (index-of (lexicon (now (chars .entry)) (now (lengths .entry))) (replaced (now (text .entry)))) r
         (now (output .entry)) (now (output .exit)) ⌝ }
 {
@@ -156,7 +157,7 @@ pub fn build(
     work: &mut [Number],
 ) -> Answer
     ensures { λ r. ⌜
-        Build-says (now (chars .entry)) (now (lengths .entry)) (now (text .entry)) r (now (output .entry)) (now (output .exit))
+        Build-says longest-text (now (chars .entry)) (now (lengths .entry)) (now (text .entry)) r (now (output .entry)) (now (output .exit))
         (now (work .entry)) (now (work .exit)) ⌝ }
 {
     let refusal = early_refusal(chars, lengths, text, work.len());

@@ -3,7 +3,7 @@
 // Of the lines of words only those listed in `leading_lines` are walked, as no other agrees at such an offset. A word is tried at each of
 // its indices that has the string's first character. A lone character is tried at the offset 0 alone.
 ghost use mathlib.Core.Path.{_≡_};
-ghost use Prim.Native.Nat.{_≤_};
+ghost use Prim.Native.Nat.{_^_, _≤_};
 ghost use lib.ListN.{length};
 ghost use Rattle.spec.specs.Index.{lines-in};
 ghost use Rattle.models.specs.Window.{back-all, leading-all, leading-lines};
@@ -28,7 +28,7 @@ fn extend_back(
     max_reach: usize,
 ) -> usize
     requires { ⌜
-        (length (now key) ≤ 32) × (1 ≤ length (now string)) × (first ≤ 65536) × Within «max_reach» (now reach) ×
+        (length (now key) ≤ 32) × (1 ≤ length (now string)) × (first ≤ 2 ^ 32) × Within «max_reach» (now reach) ×
         Ascending (now positions) ⌝ }
     ensures { λ r. ⌜
         Reaches (back-all (length (now (key .entry))) 0 (now (string .entry)) (now (key .entry)) first (now (positions .entry))

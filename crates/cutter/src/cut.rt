@@ -5,7 +5,7 @@ ghost use mathlib.Core.Path.{_≡_};
 ghost use Prim.Native.Nat.{_≤_};
 ghost use lib.ListN.{length, replicate};
 ghost use Rattle.spec.specs.Replaced.{replaced};
-ghost use Rattle.spec.specs.Dictionary.{lexicon};
+ghost use Rattle.spec.specs.Dictionary.{longest-text, lexicon};
 ghost use Rattle.spec.specs.Index.{keys-of};
 ghost use Rattle.spec.specs.Cut.{cut-down};
 ghost use Rattle.spec.specs.Calls.{index-refusal, Cut-says};
@@ -158,9 +158,9 @@ fn cut_opened<'a>(
     string: &'a [u16],
     output: &mut [Number],
 ) -> Answer
-    requires { ⌜ refusal ≡ index-refusal (now chars) (now lengths) (now index) ⌝ }
+    requires { ⌜ refusal ≡ index-refusal longest-text (now chars) (now lengths) (now index) ⌝ }
     ensures { λ r. ⌜
-        Cut-says (now (chars .entry)) (now (lengths .entry)) (now (index .entry)) (now (string .entry)) r (now (output .entry))
+        Cut-says longest-text (now (chars .entry)) (now (lengths .entry)) (now (index .entry)) (now (string .entry)) r (now (output .entry))
         (now (output .exit)) ⌝ }
 {
     let refusal = string_refusal(refusal, string);
@@ -179,7 +179,7 @@ pub fn cut_index<'a>(
     output: &mut [Number],
 ) -> Answer
     ensures { λ r. ⌜
-        Cut-says (now (chars .entry)) (now (lengths .entry)) (now (index .entry)) (now (string .entry)) r (now (output .entry))
+        Cut-says longest-text (now (chars .entry)) (now (lengths .entry)) (now (index .entry)) (now (string .entry)) r (now (output .entry))
         (now (output .exit)) ⌝ }
 {
     let opened = open_index(chars, lengths, index);

@@ -2,8 +2,9 @@
 //
 // One pass counts them, without a branch on a reach, and one writes them once their number is known to fit.
 ghost use mathlib.Core.Path.{_≡_};
-ghost use Prim.Native.Nat.{_+_, _≤_};
+ghost use Prim.Native.Nat.{_+_, _^_, _≤_};
 ghost use lib.ListN.{length, drop};
+ghost use Rattle.spec.specs.Index.{greatest-number};
 ghost use Rattle.spec.specs.Calls.{in-front};
 ghost use Rattle.spec.specs.First.{first-of};
 ghost use Rattle.models.specs.Window.{found-in, count-in};
@@ -12,7 +13,7 @@ use width::Number;
 
 // The first start whose reach is `len` or more, counted from `first`; 0 where there is none.
 pub fn first_found(reach: &[Number], len: usize, first: usize) -> usize
-    requires { ⌜ first + length (now reach) ≤ 65536 ⌝ }
+    requires { ⌜ first + length (now reach) ≤ 2 ^ 32 ⌝ }
     ensures { λ r. ⌜ r ≡ first-of (found-in len first (now (reach .entry))) ⌝ }
 {
     let mut i = 0;
@@ -59,7 +60,8 @@ pub(crate) fn write_found(
     output: &mut [Number],
 )
     requires { ⌜
-        (count ≡ length (found-in len first (now reach))) × (count ≤ length (now output)) × (first + length (now reach) ≤ 65536) ⌝ }
+        (count ≡ length (found-in len first (now reach))) × (count ≤ length (now output)) ×
+        (first + length (now reach) ≤ greatest-number + 1) ⌝ }
     ensures { λ r. ⌜ now (output .exit) ≡ in-front (found-in len first (now (reach .entry))) (now (output .entry)) ⌝ }
 {
     let mut written = 0;

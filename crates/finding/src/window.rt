@@ -1,9 +1,9 @@
 // Searches a window of starts by the entries: the greedy cover extends each start's reach, and the starts found are written
 // once their number is known to fit.
 ghost use mathlib.Core.Path.{_≡_};
-ghost use Prim.Native.Nat.{_+_, _-_, _≤_};
+ghost use Prim.Native.Nat.{_+_, _-_, _^_, _≤_};
 ghost use lib.ListN.{length, replicate};
-ghost use Rattle.spec.specs.Index.{lines-in};
+ghost use Rattle.spec.specs.Index.{greatest-number, lines-in};
 ghost use Rattle.models.specs.Window.{found-in, leading-all, offsets-all, leading-lines};
 ghost use Rattle.models.specs.WordStarts.{lexicon-at};
 ghost use Rattle.laws.specs.Directory.Tables.{Opened};
@@ -23,7 +23,7 @@ use width::Sum;
 
 // Writes the starts whose reach is `len` or more, counted from `first`, and answers how many they are, or 8.
 pub fn answer_window(reach: &[Number], len: usize, first: usize, output: &mut [Number]) -> Answer
-    requires { ⌜ first + length (now reach) ≤ 65536 ⌝ }
+    requires { ⌜ first + length (now reach) ≤ greatest-number + 1 ⌝ }
     ensures { λ r. ⌜ Sized (found-in len first (now (reach .entry))) r (now (output .entry)) (now (output .exit)) ⌝ }
 {
     let count = count_found(reach, len);
@@ -50,7 +50,7 @@ fn extend_listing(
 ) -> usize
     requires { ⌜
         Opened (now chars) (now «word_starts») (now index) (now «list_starts») × Is-string (now string) ×
-        (4096 ≤ length (now lines)) × (first ≤ 65536) × Within 0 (now reach) ⌝ }
+        (4096 ≤ length (now lines)) × (first ≤ 2 ^ 32) × Within 0 (now reach) ⌝ }
     ensures { λ r. ⌜
         Reaches (offsets-all (length (now (string .entry)) - 1) 1 (lexicon-at (now (chars .entry)) (now («word_starts» .entry)))
         (lines-in (now (index .entry))) (now (string .entry)) first
@@ -86,7 +86,7 @@ pub fn search_window(
 ) -> Answer
     requires { ⌜
         Opened (now chars) (now «word_starts») (now index) (now «list_starts») × Is-string (now string) ×
-        (first + length (now reach) ≤ 65536) × (now reach ≡ replicate (length (now reach)) 0) ⌝ }
+        (first + length (now reach) ≤ greatest-number + 1) × (now reach ≡ replicate (length (now reach)) 0) ⌝ }
     ensures { λ r. ⌜
         Window-says (lexicon-at (now (chars .entry)) (now («word_starts» .entry))) (now (index .entry)) (now (string .entry))
         (length (now (reach .entry))) first r (now (output .entry)) (now (output .exit)) ⌝ }
@@ -127,7 +127,7 @@ pub fn first_in_window(
     requires { ⌜
         Searches (now chars) (now «word_starts») (now index) (now «list_starts») (now string) «word_lines» first ×
         (now lines ≡ leading-lines (lexicon-at (now chars) (now «word_starts»)) (now index) (now string) «word_lines») ×
-        (first + length (now reach) ≤ 65536) × (now reach ≡ replicate (length (now reach)) 0) ⌝ }
+        (first + length (now reach) ≤ 2 ^ 32) × (now reach ≡ replicate (length (now reach)) 0) ⌝ }
     ensures { λ r. ⌜
         First-in (lexicon-at (now (chars .entry)) (now («word_starts» .entry))) (now (index .entry)) (now (string .entry))
         (length (now (reach .entry))) first r ⌝ }

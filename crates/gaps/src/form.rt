@@ -4,6 +4,7 @@
 // Nothing is written before the last test.
 ghost use mathlib.Core.Path.{_≡_};
 ghost use lib.ListN.{length};
+ghost use Rattle.spec.specs.Dictionary.{longest-text};
 ghost use Rattle.spec.specs.Gaps.{with-lists};
 ghost use Rattle.spec.specs.Calls.{To-gaps-says, From-gaps-says};
 ghost use Rattle.models.specs.Gaps.{write-as};
@@ -42,7 +43,7 @@ fn put_form(
     output: &mut [Number],
 ) -> Answer
     ensures { λ r. ⌜
-        Form-says restore (now (chars .entry)) (now (lengths .entry)) (now (index .entry)) r (now (output .entry))
+        Form-says longest-text restore (now (chars .entry)) (now (lengths .entry)) (now (index .entry)) r (now (output .entry))
         (now (output .exit)) ⌝ }
 {
     let refusal = refusal_as(chars, lengths, index, restore);
@@ -63,7 +64,8 @@ fn put_form(
 // Writes the gap form of an index, and answers how many numbers it has, or the refusal: 1, 2, 3, 12, 5, 8.
 pub fn to_gaps(chars: &[u16], lengths: &[u16], index: &[Number], output: &mut [Number]) -> Answer
     ensures { λ r. ⌜
-        To-gaps-says (now (chars .entry)) (now (lengths .entry)) (now (index .entry)) r (now (output .entry)) (now (output .exit)) ⌝ }
+        To-gaps-says longest-text (now (chars .entry)) (now (lengths .entry)) (now (index .entry)) r (now (output .entry))
+        (now (output .exit)) ⌝ }
 {
     put_form(chars, lengths, index, false, output)
 }
@@ -71,7 +73,8 @@ pub fn to_gaps(chars: &[u16], lengths: &[u16], index: &[Number], output: &mut [N
 // Writes the index that a gap form restores to, and answers how many numbers it has, or the refusal: 1, 2, 3, 12, 5, 8.
 pub fn from_gaps(chars: &[u16], lengths: &[u16], gaps: &[Number], output: &mut [Number]) -> Answer
     ensures { λ r. ⌜
-        From-gaps-says (now (chars .entry)) (now (lengths .entry)) (now (gaps .entry)) r (now (output .entry)) (now (output .exit)) ⌝ }
+        From-gaps-says longest-text (now (chars .entry)) (now (lengths .entry)) (now (gaps .entry)) r (now (output .entry))
+        (now (output .exit)) ⌝ }
 {
     put_form(chars, lengths, gaps, true, output)
 }

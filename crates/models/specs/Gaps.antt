@@ -3,6 +3,7 @@ use mathlib.Core.Bool.{Bool, false, true}
 use mathlib.Core.List.{List, [], _∷_}
 use Prim.Native.Nat.{ℕ, _+_, _-_}
 use lib.Bits.{bitAnd}
+use Rattle.spec.specs.Index.{greatest-number}
 use Rattle.spec.specs.Gaps.{gaps, prefix-sums}
 
 -- a list in which each number is made of itself and the one before
@@ -17,7 +18,7 @@ first-apart y x (p ∷ ps) = y p ∷ by-pairs x p ps
 
 -- all ones: the sum is carried on
 abbrev pub carry : ℕ
-carry = 65535
+carry = greatest-number
 
 -- each gap added to the sum before it, masked
 unfoldable pub masked-sums : (sum : ℕ) → (masks gaps : List ℕ) → List ℕ

@@ -7,7 +7,7 @@
 // (`spec/specs/Demands.antt`) ask for it.
 ghost use mathlib.Core.Path.{_≡_};
 ghost use mathlib.Core.Bool.{true};
-ghost use Rattle.spec.specs.Dictionary.{all-chars};
+ghost use Rattle.spec.specs.Dictionary.{longest-text, all-chars};
 ghost use Rattle.spec.specs.Calls.{Admit-says, Build-says, Cut-says, First-says, Receive-says, Recover-says, Search-says, Tally-says};
 ghost use Rattle.spec.specs.Calls.{From-gaps-says, To-gaps-says};
 use spec::Answer;
@@ -34,7 +34,7 @@ pub extern "C" fn mopekihua_build(
     work: &mut [u16],
 ) -> Answer
     ensures { λ r. ⌜
-        Build-says (now (chars .entry)) (now (lengths .entry)) (now (text .entry)) r (now (output .entry)) (now (output .exit))
+        Build-says longest-text (now (chars .entry)) (now (lengths .entry)) (now (text .entry)) r (now (output .entry)) (now (output .exit))
         (now (work .entry)) (now (work .exit)) ⌝ }
     ensures { λ r. ⌜ (all-chars (now (chars .entry)) ≡ true) × (all-chars (now (text .entry)) ≡ true) ⌝ }
 {
@@ -51,7 +51,8 @@ pub extern "C" fn mopekihua_receive<'a>(
     work: &mut [u16],
 ) -> Answer
     ensures { λ r. ⌜
-        Receive-says (now (chars .entry)) (now (lengths .entry)) (now (index .entry)) r (now (work .entry)) (now (work .exit)) ⌝ }
+        Receive-says longest-text (now (chars .entry)) (now (lengths .entry)) (now (index .entry)) r (now (work .entry))
+        (now (work .exit)) ⌝ }
     ensures { λ r. ⌜ all-chars (now (chars .entry)) ≡ true ⌝ }
 {
     receiver::receive::receive(chars, lengths, index, work)
@@ -68,8 +69,8 @@ pub extern "C" fn mopekihua_recover<'a>(
     work: &mut [u16],
 ) -> Answer
     ensures { λ r. ⌜
-        Recover-says (now (chars .entry)) (now (lengths .entry)) (now (index .entry)) r (now (output .entry)) (now (output .exit))
-        (now (work .entry)) (now (work .exit)) ⌝ }
+        Recover-says longest-text (now (chars .entry)) (now (lengths .entry)) (now (index .entry)) r (now (output .entry))
+        (now (output .exit)) (now (work .entry)) (now (work .exit)) ⌝ }
     ensures { λ r. ⌜ all-chars (now (chars .entry)) ≡ true ⌝ }
 {
     receiver::recover::recover(chars, lengths, index, output, work)
@@ -86,8 +87,8 @@ pub extern "C" fn mopekihua_search<'a>(
     output: &mut [u16],
 ) -> Answer
     ensures { λ r. ⌜
-        Search-says (now (chars .entry)) (now (lengths .entry)) (now (index .entry)) (now (string .entry)) r (now (output .entry))
-        (now (output .exit)) ⌝ }
+        Search-says longest-text (now (chars .entry)) (now (lengths .entry)) (now (index .entry)) (now (string .entry)) r
+        (now (output .entry)) (now (output .exit)) ⌝ }
 {
     searcher::search::search_index(chars, lengths, index, string, output)
 }
@@ -101,7 +102,7 @@ pub extern "C" fn mopekihua_first<'a>(
     index: &'a [u16],
     string: &'a [u16],
 ) -> FirstAnswer
-    ensures { λ r. ⌜ First-says (now (chars .entry)) (now (lengths .entry)) (now (index .entry)) (now (string .entry)) r ⌝ }
+    ensures { λ r. ⌜ First-says longest-text (now (chars .entry)) (now (lengths .entry)) (now (index .entry)) (now (string .entry)) r ⌝ }
 {
     searcher::first::first_index(chars, lengths, index, string)
 }
@@ -117,7 +118,7 @@ pub extern "C" fn mopekihua_cut<'a>(
     output: &mut [u16],
 ) -> Answer
     ensures { λ r. ⌜
-        Cut-says (now (chars .entry)) (now (lengths .entry)) (now (index .entry)) (now (string .entry)) r (now (output .entry))
+        Cut-says longest-text (now (chars .entry)) (now (lengths .entry)) (now (index .entry)) (now (string .entry)) r (now (output .entry))
         (now (output .exit)) ⌝ }
 {
     cutter::cut::cut_index(chars, lengths, index, string, output)
@@ -131,7 +132,7 @@ pub extern "C" fn mopekihua_tally<'a>(
     lengths: &'a [u16],
     index: &'a [u16],
 ) -> TallyAnswer
-    ensures { λ r. ⌜ Tally-says (now (chars .entry)) (now (lengths .entry)) (now (index .entry)) r ⌝ }
+    ensures { λ r. ⌜ Tally-says longest-text (now (chars .entry)) (now (lengths .entry)) (now (index .entry)) r ⌝ }
 {
     postings::tallying::tally(chars, lengths, index)
 }
@@ -147,7 +148,8 @@ pub extern "C" fn mopekihua_to_gaps(
     output: &mut [u16],
 ) -> Answer
     ensures { λ r. ⌜
-        To-gaps-says (now (chars .entry)) (now (lengths .entry)) (now (index .entry)) r (now (output .entry)) (now (output .exit)) ⌝ }
+        To-gaps-says longest-text (now (chars .entry)) (now (lengths .entry)) (now (index .entry)) r (now (output .entry))
+        (now (output .exit)) ⌝ }
 {
     gaps::form::to_gaps(chars, lengths, index, output)
 }
@@ -162,7 +164,8 @@ pub extern "C" fn mopekihua_from_gaps(
     output: &mut [u16],
 ) -> Answer
     ensures { λ r. ⌜
-        From-gaps-says (now (chars .entry)) (now (lengths .entry)) (now (gaps .entry)) r (now (output .entry)) (now (output .exit)) ⌝ }
+        From-gaps-says longest-text (now (chars .entry)) (now (lengths .entry)) (now (gaps .entry)) r (now (output .entry))
+        (now (output .exit)) ⌝ }
 {
     gaps::form::from_gaps(chars, lengths, gaps, output)
 }

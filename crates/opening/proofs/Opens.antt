@@ -36,6 +36,7 @@ use denote.Triple.Statement.{Contract, Triple}
 use denote.Triple.Call.{calls-at}
 use denote.Triple.Spec.{tripleOf}
 use denote.Triple.Clauses.{ensured, lasts}
+use Rattle.spec.specs.Dictionary.{longest-text}
 use Rattle.laws.specs.Readable.Opening.{Bounded}
 use Rattle.opening.specs.declared.opened.Opened.{Opened}
 use Rattle.opening.proofs.opened.Opened as T
@@ -57,7 +58,7 @@ abbrev pub of : RefT (List ℕ) → (refusal keys first : ℕ) → Opened
 of z a k f = record { numbers = z; refusal = a; keys = k; first = f }
 
 pub record Held (x y z : RefT (List ℕ)) (a k f : ℕ) : Type 0 where
-  pub bounded : Bounded (now x) (now y) (now z) a k f
+  pub bounded : Bounded longest-text (now x) (now y) (now z) a k f
   pub typed : Holds (hasTy (T′.mir erased) (T′.lowered (of z a k f))) × WT (T′.lowered (of z a k f))
   pub refusal-fits : a < 2 ^ 32
   pub keys-fit : k < 2 ^ 64
@@ -94,7 +95,7 @@ module _ {M : Type 1} (𝓤 : URA M) (H : Heap 𝓤) (A : Atoms 𝓤) where
       asks-open = qed W ((‵ (flft κ s) ⊛ ‵ ftrue) ∷ ‵ (Lent κ x y z) ∷ []) ∵ join ! $ frame ! $ done !
 
       abbrev Told : Opened → Type 0
-      Told r = (r .numbers ≡ z) × Bounded (now x) (now y) (now z) (r .refusal) (r .keys) (r .first)
+      Told r = (r .numbers ≡ z) × Bounded longest-text (now x) (now y) (now z) (r .refusal) (r .keys) (r .first)
 
       told : (r : Opened) → ent 𝓤 (ensured 𝓤 H A opener.ended (opener.clauses 𝓤 H A mem run) (κ, tt) (x, (y, (z, tt))) tt r)
           (fact 𝓤 (Told r))
@@ -102,7 +103,7 @@ module _ {M : Type 1} (𝓤 : URA M) (H : Heap 𝓤) (A : Atoms 𝓤) where
 
 -- a record of the slice at the machine value u: u is its lowered form, which has the type of a local
 held : {M : Type 1} (𝓤 : URA M) (H : Heap 𝓤) (A : Atoms 𝓤) (W : Given 𝓤 H A) (κ : Lft) (x y z : RefT (List ℕ)) (a k f : ℕ) (u : Val) →
-    Is (T.the-row (namedLft 1 0 tt (κ, tt))) (of z a k f) (u ∷ []) → Bounded (now x) (now y) (now z) a k f →
+    Is (T.the-row (namedLft 1 0 tt (κ, tt))) (of z a k f) (u ∷ []) → Bounded longest-text (now x) (now y) (now z) a k f →
     (T′.lowered (of z a k f) ≡ u) × Held x y z a k f
 held 𝓤 H A W κ x y z a k f u is b =
     let α : NamedLft = record { mir = erased; lft = κ } in

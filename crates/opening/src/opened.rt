@@ -3,6 +3,7 @@
 // It is made once, by the function that tests the index. Each operation on an index takes it apart once, and calls a
 // function on plain slices and numbers.
 ghost use mathlib.Core.Path.{_≡_};
+ghost use Rattle.spec.specs.Dictionary.{longest-text};
 ghost use Rattle.laws.specs.Readable.Opening.{Bounded};
 use layout::fields::key_count;
 use layout::fields::line_start;
@@ -26,7 +27,8 @@ pub struct Bounds {
 
 // The refusal of an index; accepted, how many lines its directory has, and where the positions start.
 fn bounds_of<'a>(chars: &'a [u16], lengths: &'a [u16], index: &'a [Number]) -> Bounds
-    ensures { λ r. ⌜ Bounded (now (chars .entry)) (now (lengths .entry)) (now (index .entry)) (r .refusal) (r .keys) (r .first) ⌝ }
+    ensures { λ r. ⌜
+        Bounded longest-text (now (chars .entry)) (now (lengths .entry)) (now (index .entry)) (r .refusal) (r .keys) (r .first) ⌝ }
 {
     let refusal = readability::readability::refusal_of(chars, lengths, index);
     if refusal != 0 {
@@ -61,7 +63,7 @@ fn with_bounds<'a>(index: &'a [Number], bounds: Bounds) -> Opened<'a>
 pub fn open_index<'a>(chars: &'a [u16], lengths: &'a [u16], index: &'a [Number]) -> Opened<'a>
     ensures { λ r. ⌜
         (r .numbers ≡ index .entry) ×
-        Bounded (now (chars .entry)) (now (lengths .entry)) (now (index .entry)) (r .refusal) (r .keys) (r .first) ⌝ }
+        Bounded longest-text (now (chars .entry)) (now (lengths .entry)) (now (index .entry)) (r .refusal) (r .keys) (r .first) ⌝ }
 {
     with_bounds(index, bounds_of(chars, lengths, index))
 }

@@ -65,8 +65,8 @@ fn tally_opened<'a>(
     keys: usize,
     first: usize,
 ) -> TallyAnswer
-    requires { ⌜ Bounded (now chars) (now lengths) (now index) refusal keys first ⌝ }
-    ensures { λ r. ⌜ Tally-says (now (chars .entry)) (now (lengths .entry)) (now (index .entry)) r ⌝ }
+    requires { ⌜ Bounded longest-text (now chars) (now lengths) (now index) refusal keys first ⌝ }
+    ensures { λ r. ⌜ Tally-says longest-text (now (chars .entry)) (now (lengths .entry)) (now (index .entry)) r ⌝ }
 {
     if refusal != 0 {
         return TallyAnswer {
@@ -85,7 +85,7 @@ fn tally_opened<'a>(
 
 // The tally of an index: M and the 32 counts, or the refusal and 32 zeros.
 pub fn tally<'a>(chars: &'a [u16], lengths: &'a [u16], index: &'a [Number]) -> TallyAnswer
-    ensures { λ r. ⌜ Tally-says (now (chars .entry)) (now (lengths .entry)) (now (index .entry)) r ⌝ }
+    ensures { λ r. ⌜ Tally-says longest-text (now (chars .entry)) (now (lengths .entry)) (now (index .entry)) r ⌝ }
 {
     let opened = open_index(chars, lengths, index);
     tally_opened(

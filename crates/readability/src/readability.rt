@@ -272,7 +272,7 @@ fn readable(chars: &[u16], lengths: &[u16], index: &[Number], as_gaps: bool) -> 
 // which 5 asks whether what it restores to is readable.
 pub fn refusal_as(chars: &[u16], lengths: &[u16], index: &[Number], as_gaps: bool) -> u32
     ensures { λ r. ⌜
-        r ≡ index-refusal (now (chars .entry)) (now (lengths .entry)) (with-lists (read-as as_gaps) (now (index .entry))) ⌝ }
+        r ≡ index-refusal longest-text (now (chars .entry)) (now (lengths .entry)) (with-lists (read-as as_gaps) (now (index .entry))) ⌝ }
 {
     let refusal = dictionary::admission::refusal_of(chars, lengths);
     if refusal != 0 {
@@ -286,7 +286,7 @@ pub fn refusal_as(chars: &[u16], lengths: &[u16], index: &[Number], as_gaps: boo
 
 // The number of the first line of 1, 2, 3, 12 and 5 that dictionary and index meet, or 0.
 pub fn refusal_of(chars: &[u16], lengths: &[u16], index: &[Number]) -> u32
-    ensures { λ r. ⌜ r ≡ index-refusal (now (chars .entry)) (now (lengths .entry)) (now (index .entry)) ⌝ }
+    ensures { λ r. ⌜ r ≡ index-refusal longest-text (now (chars .entry)) (now (lengths .entry)) (now (index .entry)) ⌝ }
 {
     refusal_as(chars, lengths, index, false)
 }

@@ -5,6 +5,7 @@
 ghost use mathlib.Core.Path.{_≡_};
 ghost use Prim.Native.Nat.{_≤_};
 ghost use lib.ListN.{length};
+ghost use Rattle.spec.specs.Dictionary.{longest-text};
 ghost use Rattle.spec.specs.Index.{header};
 ghost use Rattle.spec.specs.Calls.{index-refusal, Receive-says};
 ghost use Rattle.laws.specs.Dictionary.Answering.{Refuses};
@@ -46,9 +47,10 @@ fn receive_opened<'a>(
     refusal: u32,
     work: &mut [Number],
 ) -> Answer
-    requires { ⌜ refusal ≡ index-refusal (now chars) (now lengths) (now index) ⌝ }
+    requires { ⌜ refusal ≡ index-refusal longest-text (now chars) (now lengths) (now index) ⌝ }
     ensures { λ r. ⌜
-        Receive-says (now (chars .entry)) (now (lengths .entry)) (now (index .entry)) r (now (work .entry)) (now (work .exit)) ⌝ }
+        Receive-says longest-text (now (chars .entry)) (now (lengths .entry)) (now (index .entry)) r (now (work .entry))
+        (now (work .exit)) ⌝ }
 {
     let early = delivery_refusal(index, refusal, work.len());
     if early != 0 {
@@ -72,7 +74,8 @@ pub fn receive<'a>(
     work: &mut [Number],
 ) -> Answer
     ensures { λ r. ⌜
-        Receive-says (now (chars .entry)) (now (lengths .entry)) (now (index .entry)) r (now (work .entry)) (now (work .exit)) ⌝ }
+        Receive-says longest-text (now (chars .entry)) (now (lengths .entry)) (now (index .entry)) r (now (work .entry))
+        (now (work .exit)) ⌝ }
 {
     let opened = open_index(chars, lengths, index);
     receive_opened(chars, lengths, opened.numbers, opened.refusal, work)

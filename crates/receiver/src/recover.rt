@@ -5,6 +5,7 @@
 ghost use mathlib.Core.Path.{_≡_};
 ghost use Prim.Native.Nat.{_≤_};
 ghost use lib.ListN.{length};
+ghost use Rattle.spec.specs.Dictionary.{longest-text};
 ghost use Rattle.spec.specs.Calls.{index-refusal, Recover-says};
 ghost use Rattle.laws.specs.Receive.Receiving.{Gives};
 use crate::receive::delivery_refusal;
@@ -43,10 +44,10 @@ fn recover_opened<'a>(
     output: &mut [u16],
     work: &mut [Number],
 ) -> Answer
-    requires { ⌜ refusal ≡ index-refusal (now chars) (now lengths) (now index) ⌝ }
+    requires { ⌜ refusal ≡ index-refusal longest-text (now chars) (now lengths) (now index) ⌝ }
     ensures { λ r. ⌜
-        Recover-says (now (chars .entry)) (now (lengths .entry)) (now (index .entry)) r (now (output .entry)) (now (output .exit))
-        (now (work .entry)) (now (work .exit)) ⌝ }
+        Recover-says longest-text (now (chars .entry)) (now (lengths .entry)) (now (index .entry)) r (now (output .entry))
+        (now (output .exit)) (now (work .entry)) (now (work .exit)) ⌝ }
 {
     let early = delivery_refusal(index, refusal, work.len());
     if early != 0 {
@@ -67,8 +68,8 @@ pub fn recover<'a>(
     work: &mut [Number],
 ) -> Answer
     ensures { λ r. ⌜
-        Recover-says (now (chars .entry)) (now (lengths .entry)) (now (index .entry)) r (now (output .entry)) (now (output .exit))
-        (now (work .entry)) (now (work .exit)) ⌝ }
+        Recover-says longest-text (now (chars .entry)) (now (lengths .entry)) (now (index .entry)) r (now (output .entry))
+        (now (output .exit)) (now (work .entry)) (now (work .exit)) ⌝ }
 {
     let opened = open_index(chars, lengths, index);
     recover_opened(chars, lengths, opened.numbers, opened.refusal, output, work)

@@ -108,9 +108,11 @@ fn is_index_of_text(
     index: &[Number],
     work: &mut [Number],
 ) -> bool
-    requires { ⌜ delivery-refusal (now chars) (lengths-of (now «word_starts»)) (now index) (length (now work)) ≡ 0 ⌝ }
+    requires { ⌜ delivery-refusal longest-text (now chars) (lengths-of (now «word_starts»)) (now index) (length (now work)) ≡ 0 ⌝ }
     requires { ⌜ Tables (now chars) (now «word_starts») (now heads) (now links) ⌝ }
-    ensures { λ r. ⌜ Read-back (lexicon-at (now (chars .entry)) (now («word_starts» .entry))) (now (index .entry)) r (now (work .exit)) ⌝ }
+    ensures { λ r. ⌜
+        Read-back longest-text (lexicon-at (now (chars .entry)) (now («word_starts» .entry))) (now (index .entry)) r
+        (now (work .exit)) ⌝ }
 {
     let n = text_len(index);
     reconstruct_front(chars, word_starts, index, n, work);
@@ -127,9 +129,11 @@ fn text_by(
     index: &[Number],
     work: &mut [Number],
 ) -> bool
-    requires { ⌜ delivery-refusal (now chars) (lengths-of (now «word_starts»)) (now index) (length (now work)) ≡ 0 ⌝ }
+    requires { ⌜ delivery-refusal longest-text (now chars) (lengths-of (now «word_starts»)) (now index) (length (now work)) ≡ 0 ⌝ }
     requires { ⌜ Tables (now chars) (now «word_starts») (now heads) (now links) ⌝ }
-    ensures { λ r. ⌜ Tried (lexicon-at (now (chars .entry)) (now («word_starts» .entry))) (now (index .entry)) r (now (work .exit)) ⌝ }
+    ensures { λ r. ⌜
+        Tried longest-text (lexicon-at (now (chars .entry)) (now («word_starts» .entry))) (now (index .entry)) r
+        (now (work .exit)) ⌝ }
 {
     if !is_index_of_text(chars, word_starts, heads, links, index, work) {
         return false;
@@ -147,9 +151,11 @@ fn text_with(
     heads: &mut [u16],
     links: &mut [u16],
 ) -> bool
-    requires { ⌜ delivery-refusal (now chars) (lengths-of (now «word_starts»)) (now index) (length (now work)) ≡ 0 ⌝ }
+    requires { ⌜ delivery-refusal longest-text (now chars) (lengths-of (now «word_starts»)) (now index) (length (now work)) ≡ 0 ⌝ }
     requires { ⌜ Room (now chars) (now «word_starts») (now heads) (now links) ⌝ }
-    ensures { λ r. ⌜ Tried (lexicon-at (now (chars .entry)) (now («word_starts» .entry))) (now (index .entry)) r (now (work .exit)) ⌝ }
+    ensures { λ r. ⌜
+        Tried longest-text (lexicon-at (now (chars .entry)) (now («word_starts» .entry))) (now (index .entry)) r
+        (now (work .exit)) ⌝ }
 {
     fill_match_table(chars, word_starts, heads, links);
     text_by(chars, word_starts, heads, links, index, work)
@@ -158,8 +164,8 @@ fn text_with(
 // Whether the index is received, with local tables of word starts and matches. Where it is, its text is left in the first numbers of the
 // work slice.
 pub(crate) fn text_of(chars: &[u16], lengths: &[u16], index: &[Number], work: &mut [Number]) -> bool
-    requires { ⌜ delivery-refusal (now chars) (now lengths) (now index) (length (now work)) ≡ 0 ⌝ }
-    ensures { λ r. ⌜ Tried (lexicon (now (chars .entry)) (now (lengths .entry))) (now (index .entry)) r (now (work .exit)) ⌝ }
+    requires { ⌜ delivery-refusal longest-text (now chars) (now lengths) (now index) (length (now work)) ≡ 0 ⌝ }
+    ensures { λ r. ⌜ Tried longest-text (lexicon (now (chars .entry)) (now (lengths .entry))) (now (index .entry)) r (now (work .exit)) ⌝ }
 {
     let mut heads = [0u16; 10240];
     let mut links = [0u16; 4096];

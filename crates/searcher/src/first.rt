@@ -5,7 +5,7 @@ ghost use mathlib.Core.Path.{_≡_};
 ghost use Prim.Native.Nat.{_≤_};
 ghost use lib.ListN.{length};
 ghost use Rattle.spec.specs.Replaced.{replaced};
-ghost use Rattle.spec.specs.Dictionary.{lexicon};
+ghost use Rattle.spec.specs.Dictionary.{longest-text, lexicon};
 ghost use Rattle.spec.specs.Index.{keys-of};
 ghost use Rattle.spec.specs.First.{first-position};
 ghost use Rattle.spec.specs.Calls.{index-refusal, First-says};
@@ -147,8 +147,8 @@ fn first_opened<'a>(
     refusal: u32,
     string: &'a [u16],
 ) -> FirstAnswer
-    requires { ⌜ refusal ≡ index-refusal (now chars) (now lengths) (now index) ⌝ }
-    ensures { λ r. ⌜ First-says (now (chars .entry)) (now (lengths .entry)) (now (index .entry)) (now (string .entry)) r ⌝ }
+    requires { ⌜ refusal ≡ index-refusal longest-text (now chars) (now lengths) (now index) ⌝ }
+    ensures { λ r. ⌜ First-says longest-text (now (chars .entry)) (now (lengths .entry)) (now (index .entry)) (now (string .entry)) r ⌝ }
 {
     let refusal = string_refusal(refusal, string);
     if refusal != 0 {
@@ -168,7 +168,7 @@ pub fn first_index<'a>(
     index: &'a [Number],
     string: &'a [u16],
 ) -> FirstAnswer
-    ensures { λ r. ⌜ First-says (now (chars .entry)) (now (lengths .entry)) (now (index .entry)) (now (string .entry)) r ⌝ }
+    ensures { λ r. ⌜ First-says longest-text (now (chars .entry)) (now (lengths .entry)) (now (index .entry)) (now (string .entry)) r ⌝ }
 {
     let opened = open_index(chars, lengths, index);
     first_opened(chars, lengths, opened.numbers, opened.refusal, string)

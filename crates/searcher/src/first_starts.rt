@@ -29,7 +29,7 @@ fn first_by_text(
 ) -> usize
     requires { ⌜
         Opened (now chars) (now «word_starts») (now index) (now «list_starts») × Is-string (now string) ×
-        (length (now reach) + length (now string) ≤ suc (n-of (now index))) ⌝ }
+        (length (now reach) + length (now string) ≤ suc (n-of (now index))) × (n-of (now index) ≤ longest-text) ⌝ }
     ensures { λ r. ⌜
         First-in (lexicon-at (now (chars .entry)) (now («word_starts» .entry))) (now (index .entry)) (now (string .entry))
         (length (now (reach .entry))) 1 r ⌝ }
@@ -52,7 +52,7 @@ fn first_by_text_in(
 ) -> usize
     requires { ⌜
         Opened (now chars) (now «word_starts») (now index) (now «list_starts») × Is-string (now string) ×
-        (starts ≤ length (now room)) × (starts + length (now string) ≤ suc (n-of (now index))) ⌝ }
+        (starts ≤ length (now room)) × (starts + length (now string) ≤ suc (n-of (now index))) × (n-of (now index) ≤ longest-text) ⌝ }
     ensures { λ r. ⌜
         First-in (lexicon-at (now (chars .entry)) (now («word_starts» .entry))) (now (index .entry)) (now (string .entry)) starts 1 r ⌝ }
 {
@@ -77,7 +77,7 @@ fn first_by_estimate(
 ) -> usize
     requires { ⌜
         Opened (now chars) (now «word_starts») (now index) (now «list_starts») × Is-string (now string) × (starts ≤ longest-text) ×
-        (starts + length (now string) ≤ suc (n-of (now index))) ⌝ }
+        (starts + length (now string) ≤ suc (n-of (now index))) × (n-of (now index) ≤ longest-text) ⌝ }
     ensures { λ r. ⌜
         First-in (lexicon-at (now (chars .entry)) (now («word_starts» .entry))) (now (index .entry)) (now (string .entry)) starts 1 r ⌝ }
 {

@@ -3,7 +3,7 @@
 // The first 8,192 starts are searched, and the others only where none of these is found, so that entries behind the window are not visited.
 // A local array is cleared when it is made, so at most 1,024 starts take a smaller window.
 ghost use mathlib.Core.Path.{_≡_};
-ghost use Prim.Native.Nat.{_+_, _≤_};
+ghost use Prim.Native.Nat.{_+_, _^_, _≤_};
 ghost use lib.ListN.{length, replicate};
 ghost use Rattle.spec.specs.Dictionary.{longest-text};
 ghost use Rattle.models.specs.Window.{leading-lines};
@@ -34,7 +34,7 @@ fn first_in_lent(
     requires { ⌜
         Searches (now chars) (now «word_starts») (now index) (now «list_starts») (now string) «word_lines» first ×
         (now lines ≡ leading-lines (lexicon-at (now chars) (now «word_starts»)) (now index) (now string) «word_lines») ×
-        (first + starts ≤ 65536) × (starts ≤ length (now reach)) × (now reach ≡ replicate (length (now reach)) 0) ⌝ }
+        (first + starts ≤ 2 ^ 32) × (starts ≤ length (now reach)) × (now reach ≡ replicate (length (now reach)) 0) ⌝ }
     ensures { λ r. ⌜
         First-in (lexicon-at (now (chars .entry)) (now («word_starts» .entry))) (now (index .entry)) (now (string .entry)) starts first
         r ⌝ }
@@ -67,7 +67,7 @@ fn first_in_short(
     requires { ⌜
         Searches (now chars) (now «word_starts») (now index) (now «list_starts») (now string) «word_lines» first ×
         (now lines ≡ leading-lines (lexicon-at (now chars) (now «word_starts»)) (now index) (now string) «word_lines») ×
-        (first + starts ≤ 65536) × (starts ≤ 1024) ⌝ }
+        (first + starts ≤ 2 ^ 32) × (starts ≤ 1024) ⌝ }
     ensures { λ r. ⌜
         First-in (lexicon-at (now (chars .entry)) (now («word_starts» .entry))) (now (index .entry)) (now (string .entry)) starts first
         r ⌝ }
@@ -102,7 +102,7 @@ fn first_in_middle(
     requires { ⌜
         Searches (now chars) (now «word_starts») (now index) (now «list_starts») (now string) «word_lines» first ×
         (now lines ≡ leading-lines (lexicon-at (now chars) (now «word_starts»)) (now index) (now string) «word_lines») ×
-        (first + starts ≤ 65536) × (starts ≤ 8192) ⌝ }
+        (first + starts ≤ 2 ^ 32) × (starts ≤ 8192) ⌝ }
     ensures { λ r. ⌜
         First-in (lexicon-at (now (chars .entry)) (now («word_starts» .entry))) (now (index .entry)) (now (string .entry)) starts first
         r ⌝ }
@@ -137,7 +137,7 @@ fn first_in_long(
     requires { ⌜
         Searches (now chars) (now «word_starts») (now index) (now «list_starts») (now string) «word_lines» first ×
         (now lines ≡ leading-lines (lexicon-at (now chars) (now «word_starts»)) (now index) (now string) «word_lines») ×
-        (first + starts ≤ 65536) × (starts ≤ longest-text) ⌝ }
+        (first + starts ≤ 2 ^ 32) × (starts ≤ longest-text) ⌝ }
     ensures { λ r. ⌜
         First-in (lexicon-at (now (chars .entry)) (now («word_starts» .entry))) (now (index .entry)) (now (string .entry)) starts first
         r ⌝ }

@@ -6,7 +6,7 @@ ghost use mathlib.Core.Path.{_≡_};
 ghost use Prim.Native.Nat.{suc, _-_, _≤_};
 ghost use lib.ListN.{length};
 ghost use Rattle.spec.specs.Replaced.{replaced};
-ghost use Rattle.spec.specs.Dictionary.{lexicon};
+ghost use Rattle.spec.specs.Dictionary.{longest-text, lexicon};
 ghost use Rattle.spec.specs.Index.{header, n-of, keys-of};
 ghost use Rattle.spec.specs.Search.{find};
 ghost use Rattle.spec.specs.Calls.{index-refusal, Search-says};
@@ -29,7 +29,7 @@ use width::Sum;
 // How many starts there are at which a string of this length fits into the text of an index.
 pub(crate) fn starts_of(index: &[Number], len: usize) -> usize
     requires { ⌜ header ≤ length (now index) ⌝ }
-    ensures { λ r. ⌜ r ≡ suc (n-of (now (index .entry))) - len ⌝ }
+    ensures { λ r. ⌜ (r ≡ suc (n-of (now (index .entry))) - len) × (n-of (now (index .entry)) ≤ longest-text) ⌝ }
 {
     let n = text_len(index);
     if n < len {
@@ -204,10 +204,10 @@ fn search_opened<'a>(
     string: &'a [u16],
     output: &mut [Number],
 ) -> Answer
-    requires { ⌜ refusal ≡ index-refusal (now chars) (now lengths) (now index) ⌝ }
+    requires { ⌜ refusal ≡ index-refusal longest-text (now chars) (now lengths) (now index) ⌝ }
     ensures { λ r. ⌜
-        Search-says (now (chars .entry)) (now (lengths .entry)) (now (index .entry)) (now (string .entry)) r (now (output .entry))
-        (now (output .exit)) ⌝ }
+        Search-says longest-text (now (chars .entry)) (now (lengths .entry)) (now (index .entry)) (now (string .entry)) r
+        (now (output .entry)) (now (output .exit)) ⌝ }
 {
     let refusal = string_refusal(refusal, string);
     if refusal != 0 {
@@ -225,8 +225,8 @@ pub fn search_index<'a>(
     output: &mut [Number],
 ) -> Answer
     ensures { λ r. ⌜
-        Search-says (now (chars .entry)) (now (lengths .entry)) (now (index .entry)) (now (string .entry)) r (now (output .entry))
-        (now (output .exit)) ⌝ }
+        Search-says longest-text (now (chars .entry)) (now (lengths .entry)) (now (index .entry)) (now (string .entry)) r
+        (now (output .entry)) (now (output .exit)) ⌝ }
 {
     let opened = open_index(chars, lengths, index);
     search_opened(

@@ -4,6 +4,7 @@ ghost use mathlib.Core.Path.{_≡_};
 ghost use Prim.Native.Nat.{_≤_};
 ghost use lib.ListN.{length, replicate};
 ghost use Rattle.spec.specs.Dictionary.{longest-text};
+ghost use Rattle.spec.specs.Index.{greatest-number};
 ghost use Rattle.models.specs.WordStarts.{lexicon-at};
 ghost use Rattle.laws.specs.Directory.Tables.{Opened};
 ghost use Rattle.laws.specs.Search.Sizing.{Is-string};
@@ -26,7 +27,7 @@ fn search_lent(
     output: &mut [Number],
 ) -> Answer
     requires { ⌜
-        Opened (now chars) (now «word_starts») (now index) (now «list_starts») × Is-string (now string) × (starts ≤ longest-text) ×
+        Opened (now chars) (now «word_starts») (now index) (now «list_starts») × Is-string (now string) × (starts ≤ greatest-number) ×
         (starts ≤ length (now reach)) × (now reach ≡ replicate (length (now reach)) 0) ⌝ }
     ensures { λ r. ⌜
         Window-says (lexicon-at (now (chars .entry)) (now («word_starts» .entry))) (now (index .entry)) (now (string .entry)) starts 1 r

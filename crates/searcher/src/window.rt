@@ -2,10 +2,10 @@
 // stands in it, else by the entries.
 ghost use mathlib.Core.Path.{_≡_};
 ghost use mathlib.Core.Bool.{true, false};
-ghost use Prim.Native.Nat.{suc, _+_, _≤_};
+ghost use Prim.Native.Nat.{suc, _+_, _^_, _≤_};
 ghost use lib.ListN.{length, replicate};
 ghost use Rattle.spec.specs.Dictionary.{longest-text};
-ghost use Rattle.spec.specs.Index.{n-of};
+ghost use Rattle.spec.specs.Index.{greatest-number, n-of};
 ghost use Rattle.models.specs.WordStarts.{lexicon-at};
 ghost use Rattle.laws.specs.Directory.Tables.{Reads, Opened};
 ghost use Rattle.laws.specs.Search.Sizing.{Is-string};
@@ -53,7 +53,7 @@ pub(crate) fn reach_by_text(
 ) -> bool
     requires { ⌜
         Reads (now chars) (now «word_starts») (now index) × (length (now string) ≤ 256) ×
-        (length (now reach) + length (now string) ≤ suc (n-of (now index))) ⌝ }
+        (length (now reach) + length (now string) ≤ suc (n-of (now index))) × (n-of (now index) ≤ longest-text) ⌝ }
     ensures told { λ r. ⌜
         (r ≡ true → Finds (lexicon-at (now (chars .entry)) (now («word_starts» .entry))) (now (index .entry)) (now (string .entry))
         (now (reach .exit))) ⌝ }
@@ -72,7 +72,7 @@ fn reach_if_cheaper(
     reach: &mut [Number],
 ) -> bool
     requires { ⌜
-        Reads (now chars) (now «word_starts») (now index) × Is-string (now string) × (length (now reach) ≤ longest-text) ⌝ }
+        Reads (now chars) (now «word_starts») (now index) × Is-string (now string) × (length (now reach) ≤ 2 ^ 32) ⌝ }
     ensures told { λ r. ⌜
         (r ≡ true → Finds (lexicon-at (now (chars .entry)) (now («word_starts» .entry))) (now (index .entry)) (now (string .entry))
         (now (reach .exit))) ⌝ }
@@ -96,7 +96,7 @@ pub(crate) fn search_cleared(
 ) -> Answer
     requires { ⌜
         Opened (now chars) (now «word_starts») (now index) (now «list_starts») × Is-string (now string) ×
-        (length (now reach) ≤ longest-text) × (now reach ≡ replicate (length (now reach)) 0) ⌝ }
+        (length (now reach) ≤ greatest-number) × (now reach ≡ replicate (length (now reach)) 0) ⌝ }
     ensures { λ r. ⌜
         Window-says (lexicon-at (now (chars .entry)) (now («word_starts» .entry))) (now (index .entry)) (now (string .entry))
         (length (now (reach .entry))) 1 r (now (output .entry)) (now (output .exit)) ⌝ }

@@ -93,10 +93,10 @@ pub record Starred : Type 0 where
   pub longest-only : index-of B (replicate 4 a) ≡ 4 ∷ 1 ∷ 0 ∷ 2 ∷ 2 ∷ 1 ∷ 2 ∷ []
   pub each-once : find B (index-of B (replicate 4 a)) (a ∷ a ∷ []) ≡ 1 ∷ 2 ∷ 3 ∷ []
   pub word-missed :
-      (readable longest-text A two-lone ≡ true) × (reception-refusal A-chars A-lengths two-lone 16 ≡ 9)
+      (readable longest-text A two-lone ≡ true) × (reception-refusal longest-text A-chars A-lengths two-lone 16 ≡ 9)
   pub position-uncovered :
-      (readable longest-text A one-lone ≡ true) × (reception-refusal A-chars A-lengths one-lone 16 ≡ 9)
-  pub lone-word : index-refusal B-chars B-lengths (1 ∷ 1 ∷ 1 ∷ a ∷ 1 ∷ 1 ∷ []) ≡ 5
+      (readable longest-text A one-lone ≡ true) × (reception-refusal longest-text A-chars A-lengths one-lone 16 ≡ 9)
+  pub lone-word : index-refusal longest-text B-chars B-lengths (1 ∷ 1 ∷ 1 ∷ a ∷ 1 ∷ 1 ∷ []) ≡ 5
   pub one-bears :
       (bears (a ∷ b ∷ []) (d ∷ d ∷ []) ≡ false)
       × (bears (a ∷ b ∷ c ∷ []) (d ∷ d ∷ []) ≡ false)
@@ -120,10 +120,10 @@ pub record Tried : Type 0 where
   pub received-abcdab : received longest-text A (index-of A abcdab) ≡ true
   pub not-received : received longest-text A two-lone ≡ false
   pub text-recovered : recovered A (index-of A abcdab) ≡ abcdab
-  pub accepted-at-48 : reception-refusal A-chars A-lengths (index-of A abcdab) 48 ≡ 0
-  pub work-short-at-47 : reception-refusal A-chars A-lengths (index-of A abcdab) 47 ≡ 7
-  pub recovery-output-short : recovery-refusal A-chars A-lengths (index-of A abcdab) 5 48 ≡ 8
-  pub recovery-no-text : recovery-refusal A-chars A-lengths two-lone 0 16 ≡ 9
+  pub accepted-at-48 : reception-refusal longest-text A-chars A-lengths (index-of A abcdab) 48 ≡ 0
+  pub work-short-at-47 : reception-refusal longest-text A-chars A-lengths (index-of A abcdab) 47 ≡ 7
+  pub recovery-output-short : recovery-refusal longest-text A-chars A-lengths (index-of A abcdab) 5 48 ≡ 8
+  pub recovery-no-text : recovery-refusal longest-text A-chars A-lengths two-lone 0 16 ≡ 9
   pub cut-for-dd : cut-down A (index-of A abcdab) (d ∷ d ∷ []) ≡ 6 ∷ 1 ∷ 0 ∷ 2 ∷ 1 ∷ 2 ∷ []
   pub unreceived-search : find A two-lone (a ∷ b ∷ []) ≡ 1 ∷ []
   pub unreceived-cut : cut-down A two-lone (b ∷ []) ≡ 2 ∷ 1 ∷ 1 ∷ b ∷ 1 ∷ 2 ∷ []

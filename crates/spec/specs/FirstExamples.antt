@@ -69,10 +69,10 @@ pub record First-tried : Type 0 where
       × (first-position A (index-to 2 bcd-and-lone) (c ∷ d ∷ []) ≡ 1)
       × (first-position A (index-to 1 bcd-and-lone) (c ∷ d ∷ []) ≡ 2)
   -- REFUSALS: 5 before 6, and a string of 1 to 256 characters
-  pub accepts-256 : string-refusal A-chars A-lengths two-lone (replicate 256 a) ≡ 0
-  pub refuses-257 : string-refusal A-chars A-lengths two-lone (replicate 257 a) ≡ 6
-  pub refuses-empty : string-refusal A-chars A-lengths two-lone [] ≡ 6
-  pub five-first : string-refusal A-chars A-lengths [] [] ≡ 5
+  pub accepts-256 : string-refusal longest-text A-chars A-lengths two-lone (replicate 256 a) ≡ 0
+  pub refuses-257 : string-refusal longest-text A-chars A-lengths two-lone (replicate 257 a) ≡ 6
+  pub refuses-empty : string-refusal longest-text A-chars A-lengths two-lone [] ≡ 6
+  pub five-first : string-refusal longest-text A-chars A-lengths [] [] ≡ 5
 
 pub first-tried : First-tried
 unfolding is-char words-from lexicon total too-large length-good lengths-good lengths-wrong word-before ascend disordered is-full-width

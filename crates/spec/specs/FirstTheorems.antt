@@ -7,7 +7,7 @@ use mathlib.Core.List.{List, []}
 use Prim.Native.Nat.{ℕ, _+_, _-_, _≤_}
 use lib.ListN.{length, take}
 use Rattle.basics.specs.Member.{In}
-use Rattle.spec.specs.Dictionary.{longest-text, Lexicon, lexicon}
+use Rattle.spec.specs.Dictionary.{Lexicon, lexicon}
 use Rattle.spec.specs.Words.{Key}
 use Rattle.spec.specs.Index.{n-of, readable}
 use Rattle.spec.specs.Search.{find}
@@ -70,26 +70,26 @@ First-kept g =
 
 -- OVER THE CALLS, of any index and string. `X-says` is the contract of operation X.
 
-pub record First-calls : Type 0 where
+pub record First-calls (g : ℕ) : Type 0 where
   -- "It must equal the head of the full list."
   pub heads-search :
-      (cs ls xs s : List ℕ) (f : FirstAnswer) (r : Answer) (o z : List ℕ) → First-says cs ls xs s f → Search-says cs ls xs s r o z →
+      (cs ls xs s : List ℕ) (f : FirstAnswer) (r : Answer) (o z : List ℕ) → First-says g cs ls xs s f → Search-says g cs ls xs s r o z →
       r .refusal ≡ 0 → (f .refusal ≡ 0) × (f .position ≡ first-of (take (r .count) z))
   -- "No output slice is lent, so 8 cannot occur": first answers the number that a search answers, or 0 where that is 8.
   pub refuses-as-search :
-      (cs ls xs s : List ℕ) (f : FirstAnswer) (r : Answer) (o z : List ℕ) → First-says cs ls xs s f → Search-says cs ls xs s r o z →
+      (cs ls xs s : List ℕ) (f : FirstAnswer) (r : Answer) (o z : List ℕ) → First-says g cs ls xs s f → Search-says g cs ls xs s r o z →
       (f .refusal ≡ r .refusal) ⊎ ((f .refusal ≡ 0) × (r .refusal ≡ 8))
-  pub never-eight : (cs ls xs s : List ℕ) (f : FirstAnswer) → First-says cs ls xs s f → f .refusal ≡ 8 → ⊥
+  pub never-eight : (cs ls xs s : List ℕ) (f : FirstAnswer) → First-says g cs ls xs s f → f .refusal ≡ 8 → ⊥
   -- Any readable slice with the same n and the same entries that start at or before p + m − 1 gives the same answer.
   pub from-same :
-      (cs ls xs ys s : List ℕ) (f h : FirstAnswer) → First-says cs ls xs s f → 1 ≤ f .position →
-      readable longest-text (lexicon cs ls) ys ≡ true → Same-to (f .position + length s - 1) xs ys → First-says cs ls ys s h →
+      (cs ls xs ys s : List ℕ) (f h : FirstAnswer) → First-says g cs ls xs s f → 1 ≤ f .position →
+      readable g (lexicon cs ls) ys ≡ true → Same-to (f .position + length s - 1) xs ys → First-says g cs ls ys s h →
       (h .refusal ≡ 0) × (h .position ≡ f .position)
   -- "the same answer must come from the index without its entries that start after p + m − 1"
   pub from-kept :
-      (cs ls xs s : List ℕ) (f h : FirstAnswer) → First-says cs ls xs s f → 1 ≤ f .position →
-      First-says cs ls (index-to (f .position + length s - 1) xs) s h → (h .refusal ≡ 0) × (h .position ≡ f .position)
+      (cs ls xs s : List ℕ) (f h : FirstAnswer) → First-says g cs ls xs s f → 1 ≤ f .position →
+      First-says g cs ls (index-to (f .position + length s - 1) xs) s h → (h .refusal ≡ 0) × (h .position ≡ f .position)
   -- What an accepted call of cut wrote gives the same answer.
   pub from-cut :
-      (cs ls xs s : List ℕ) (f h : FirstAnswer) (r : Answer) (o z : List ℕ) → First-says cs ls xs s f → Cut-says cs ls xs s r o z →
-      r .refusal ≡ 0 → First-says cs ls (take (r .count) z) s h → (h .refusal ≡ 0) × (h .position ≡ f .position)
+      (cs ls xs s : List ℕ) (f h : FirstAnswer) (r : Answer) (o z : List ℕ) → First-says g cs ls xs s f → Cut-says g cs ls xs s r o z →
+      r .refusal ≡ 0 → First-says g cs ls (take (r .count) z) s h → (h .refusal ≡ 0) × (h .position ≡ f .position)

@@ -75,9 +75,9 @@ pub record Gaps-tried : Type 0 where
   pub cut-short : restored (5 ∷ 1 ∷ 1 ∷ a ∷ 3 ∷ 2 ∷ 1 ∷ []) ≡ 5 ∷ 1 ∷ 1 ∷ a ∷ 3 ∷ 2 ∷ 3 ∷ []
   pub cut-short-read : readable longest-text A (restored (5 ∷ 1 ∷ 1 ∷ a ∷ 3 ∷ 2 ∷ 1 ∷ [])) ≡ false
   -- REFUSALS: 5 before 8, and the output as long as the index
-  pub five-first : gaps-refusal A-chars A-lengths [] 13 0 ≡ 5
-  pub refuses-short : gaps-refusal A-chars A-lengths xaxxa-index 13 12 ≡ 8
-  pub accepts-long : gaps-refusal A-chars A-lengths xaxxa-index 13 13 ≡ 0
+  pub five-first : gaps-refusal longest-text A-chars A-lengths [] 13 0 ≡ 5
+  pub refuses-short : gaps-refusal longest-text A-chars A-lengths xaxxa-index 13 12 ≡ 8
+  pub accepts-long : gaps-refusal longest-text A-chars A-lengths xaxxa-index 13 13 ≡ 0
   pub as-long : length xaxxa-gaps ≡ 13
 
 pub gaps-tried : Gaps-tried

@@ -5,7 +5,7 @@ use mathlib.Core.Bool.{true, false}
 use mathlib.Core.List.{List, [], _∷_}
 use Prim.Native.Nat.{ℕ, suc, _-_, _≤_, _<_}
 use lib.ListN.{length, getD, take}
-use Rattle.spec.specs.Dictionary.{longest-text, Lexicon, lexicon, dictionary-refusal, admitted}
+use Rattle.spec.specs.Dictionary.{Lexicon, lexicon, dictionary-refusal, admitted}
 use Rattle.spec.specs.Numbers.{Line, line, numbers}
 use Rattle.spec.specs.Index.{n-of, lines-in, readable}
 use Rattle.spec.specs.Gaps.{gaps, gap-form, restored}
@@ -59,19 +59,19 @@ Sums-fit =
 
 -- OVER THE CALLS. `X-says` is the contract of operation X.
 
-pub record Gap-calls : Type 0 where
+pub record Gap-calls (g : ℕ) : Type 0 where
   -- From what an accepted call of to_gaps wrote, every call of from_gaps with enough output restores the index.
   pub restores :
-      (cs ls xs : List ℕ) (r s : Answer) (o z p q : List ℕ) → To-gaps-says cs ls xs r o z → r .refusal ≡ 0 →
-      length xs ≤ length p → From-gaps-says cs ls (take (r .count) z) s p q →
+      (cs ls xs : List ℕ) (r s : Answer) (o z p q : List ℕ) → To-gaps-says g cs ls xs r o z → r .refusal ≡ 0 →
+      length xs ≤ length p → From-gaps-says g cs ls (take (r .count) z) s p q →
       (s .refusal ≡ 0) × (s .count ≡ length xs) × (take (s .count) q ≡ xs)
   -- From what an accepted call of from_gaps wrote, every call of to_gaps with enough output gives the gap form back.
   pub comes-back :
-      (cs ls ds : List ℕ) (r s : Answer) (o z p q : List ℕ) → From-gaps-says cs ls ds r o z → r .refusal ≡ 0 →
-      length ds ≤ length p → To-gaps-says cs ls (take (r .count) z) s p q →
+      (cs ls ds : List ℕ) (r s : Answer) (o z p q : List ℕ) → From-gaps-says g cs ls ds r o z → r .refusal ≡ 0 →
+      length ds ≤ length p → To-gaps-says g cs ls (take (r .count) z) s p q →
       (s .refusal ≡ 0) × (s .count ≡ length ds) × (take (s .count) q ≡ ds)
   -- "A gap form that restores to no readable index meets 5"; with an admitted dictionary, nothing else does.
   pub five :
-      (cs ls ds : List ℕ) (r : Answer) (o z : List ℕ) → dictionary-refusal cs ls ≡ 0 → From-gaps-says cs ls ds r o z →
-      (readable longest-text (lexicon cs ls) (restored ds) ≡ false → r .refusal ≡ 5)
-      × (r .refusal ≡ 5 → readable longest-text (lexicon cs ls) (restored ds) ≡ false)
+      (cs ls ds : List ℕ) (r : Answer) (o z : List ℕ) → dictionary-refusal cs ls ≡ 0 → From-gaps-says g cs ls ds r o z →
+      (readable g (lexicon cs ls) (restored ds) ≡ false → r .refusal ≡ 5)
+      × (r .refusal ≡ 5 → readable g (lexicon cs ls) (restored ds) ≡ false)

@@ -8,7 +8,7 @@ use Prim.Native.Nat.{ℕ, _*_, _≤_, _<_}
 use lib.ListN.{length, take, drop, replicate}
 use Rattle.basics.specs.Member.{In}
 use Rattle.spec.specs.Replaced.{first-form, last-form, replaced}
-use Rattle.spec.specs.Dictionary.{longest-text, Lexicon, lexicon, total, words-from, ascend}
+use Rattle.spec.specs.Dictionary.{Lexicon, lexicon, total, words-from, ascend}
 use Rattle.spec.specs.Numbers.{index-of}
 use Rattle.spec.specs.Index.{n-of, readable}
 use Rattle.spec.specs.FurtherTheorems.{Text-of}
@@ -32,7 +32,7 @@ pub record Untouched (r : Answer) (out out-now : List ℕ) : Type 0 where
 abbrev pub Cleared : (work work-now : List ℕ) → Type 0
 Cleared w v = v ≡ replicate (length w) 0
 
--- THE REFUSAL TABLE, each line as a fact about what is lent
+-- THE REFUSAL TABLE, each line as a fact about what is lent; g is the greatest length of a text
 
 -- 1: "more than 4,096 words or 65,535 dictionary characters"
 abbrev pub Too-large : (chars lengths : List ℕ) → Type 0
@@ -51,12 +51,12 @@ abbrev pub Unreplaced : (chars lengths : List ℕ) → Type 0
 Unreplaced cs ls = (w : List ℕ) × In w (words-from ls cs) × ((c : ℕ) × In c w × ((first-form ≤ c) × (c ≤ last-form)))
 
 -- 4: "text longer than 65,535"
-abbrev pub Text-too-long : (text : List ℕ) → Type 0
-Text-too-long ts = 65535 < length ts
+abbrev pub Text-too-long : (g : ℕ) → (text : List ℕ) → Type 0
+Text-too-long g ts = g < length ts
 
 -- 5: "index not readable"
-abbrev pub Unreadable : Lexicon → (index : List ℕ) → Type 0
-Unreadable lex xs = readable longest-text lex xs ≡ false
+abbrev pub Unreadable : (g : ℕ) → Lexicon → (index : List ℕ) → Type 0
+Unreadable g lex xs = readable g lex xs ≡ false
 
 -- 6: "search string empty or longer than 256"
 abbrev pub String-wrong : (string : List ℕ) → Type 0
@@ -71,16 +71,16 @@ abbrev pub Output-short : (result out : List ℕ) → Type 0
 Output-short xs o = length o < length xs
 
 -- some text of the stated length has these numbers as its index
-abbrev pub Has-text : Lexicon → (index : List ℕ) → Type 0
-Has-text lex xs = (ts : List ℕ) × Text-of longest-text lex xs ts
+abbrev pub Has-text : (g : ℕ) → Lexicon → (index : List ℕ) → Type 0
+Has-text g lex xs = (ts : List ℕ) × Text-of g lex xs ts
 
 -- 8 of recovery: "for recovery, shorter than n; where no result exists, 8 is not given"
-abbrev pub Recovery-short : Lexicon → (index out : List ℕ) → Type 0
-Recovery-short lex xs o = (length o < n-of xs) × Has-text lex xs
+abbrev pub Recovery-short : (g : ℕ) → Lexicon → (index out : List ℕ) → Type 0
+Recovery-short g lex xs o = (length o < n-of xs) × Has-text g lex xs
 
 -- 9: "index readable, but no text has it"
-abbrev pub No-text : Lexicon → (index : List ℕ) → Type 0
-No-text lex xs = (readable longest-text lex xs ≡ true) × (Has-text lex xs → ⊥)
+abbrev pub No-text : (g : ℕ) → Lexicon → (index : List ℕ) → Type 0
+No-text g lex xs = (readable g lex xs ≡ true) × (Has-text g lex xs → ⊥)
 
 -- a line of the table, "Returned" and "Exactly when"
 pub record Row : Type 1 where
@@ -96,29 +96,30 @@ abbrev pub dictionary-rows : (chars lengths : List ℕ) → List Row
 dictionary-rows cs ls =
     row 1 (Too-large cs ls) ∷ row 2 (Lengths-wrong cs ls) ∷ row 3 (Disordered cs ls) ∷ row 12 (Unreplaced cs ls) ∷ []
 
-abbrev pub build-rows : (chars lengths text out work : List ℕ) → List Row
-build-rows cs ls ts o w =
+abbrev pub build-rows : (g : ℕ) → (chars lengths text out work : List ℕ) → List Row
+build-rows g cs ls ts o w =
     dictionary-rows cs ls
-    ++ (row 4 (Text-too-long ts) ∷ row 7 (Work-short (length ts) w) ∷ row 8 (Output-short (index-of (lexicon cs ls) (replaced ts)) o) ∷ [])
+    ++ (row 4 (Text-too-long g ts) ∷ row 7 (Work-short (length ts) w)
+    ∷ row 8 (Output-short (index-of (lexicon cs ls) (replaced ts)) o) ∷ [])
 
-abbrev pub index-rows : (chars lengths index : List ℕ) → List Row
-index-rows cs ls xs = dictionary-rows cs ls ++ (row 5 (Unreadable (lexicon cs ls) xs) ∷ [])
+abbrev pub index-rows : (g : ℕ) → (chars lengths index : List ℕ) → List Row
+index-rows g cs ls xs = dictionary-rows cs ls ++ (row 5 (Unreadable g (lexicon cs ls) xs) ∷ [])
 
-abbrev pub reception-rows : (chars lengths index work : List ℕ) → List Row
-reception-rows cs ls xs w =
-    index-rows cs ls xs ++ (row 7 (Work-short (n-of xs) w) ∷ row 9 (No-text (lexicon cs ls) xs) ∷ [])
+abbrev pub reception-rows : (g : ℕ) → (chars lengths index work : List ℕ) → List Row
+reception-rows g cs ls xs w =
+    index-rows g cs ls xs ++ (row 7 (Work-short (n-of xs) w) ∷ row 9 (No-text g (lexicon cs ls) xs) ∷ [])
 
-abbrev pub recovery-rows : (chars lengths index out work : List ℕ) → List Row
-recovery-rows cs ls xs o w = reception-rows cs ls xs w ++ (row 8 (Recovery-short (lexicon cs ls) xs o) ∷ [])
+abbrev pub recovery-rows : (g : ℕ) → (chars lengths index out work : List ℕ) → List Row
+recovery-rows g cs ls xs o w = reception-rows g cs ls xs w ++ (row 8 (Recovery-short g (lexicon cs ls) xs o) ∷ [])
 
-abbrev pub string-rows : (chars lengths index string : List ℕ) → List Row
-string-rows cs ls xs s = index-rows cs ls xs ++ (row 6 (String-wrong s) ∷ [])
+abbrev pub string-rows : (g : ℕ) → (chars lengths index string : List ℕ) → List Row
+string-rows g cs ls xs s = index-rows g cs ls xs ++ (row 6 (String-wrong s) ∷ [])
 
-abbrev pub find-rows : (chars lengths index string result out : List ℕ) → List Row
-find-rows cs ls xs s found o = string-rows cs ls xs s ++ (row 8 (Output-short found o) ∷ [])
+abbrev pub find-rows : (g : ℕ) → (chars lengths index string result out : List ℕ) → List Row
+find-rows g cs ls xs s found o = string-rows g cs ls xs s ++ (row 8 (Output-short found o) ∷ [])
 
-abbrev pub gaps-rows : (chars lengths index result out : List ℕ) → List Row
-gaps-rows cs ls xs ys o = index-rows cs ls xs ++ (row 8 (Output-short ys o) ∷ [])
+abbrev pub gaps-rows : (g : ℕ) → (chars lengths index result out : List ℕ) → List Row
+gaps-rows g cs ls xs ys o = index-rows g cs ls xs ++ (row 8 (Output-short ys o) ∷ [])
 
 -- WHAT IS DECIDED
 

@@ -70,17 +70,17 @@ pub record Replaced-tried : Type 0 where
   pub forms-beside : dictionary-refusal (0xFF00 ∷ 0xFF5F ∷ []) (1 ∷ 1 ∷ []) ≡ 0
   pub two-before-twelve : dictionary-refusal (0xFF21 ∷ []) (2 ∷ []) ≡ 2
   pub three-before-twelve : dictionary-refusal (0xFF21 ∷ 0xFF21 ∷ []) (1 ∷ 1 ∷ []) ≡ 3
-  pub twelve-before-seven : build-refusal (0xFF21 ∷ []) (1 ∷ []) (a ∷ []) 0 0 ≡ 12
-  pub seven-without : build-refusal (0x41 ∷ []) (1 ∷ []) (a ∷ []) 0 0 ≡ 7
-  pub twelve-before-five : index-refusal (0xFF21 ∷ []) (1 ∷ []) [] ≡ 12
-  pub twelve-before-six : string-refusal (0xFF21 ∷ []) (1 ∷ []) (0 ∷ 0 ∷ []) [] ≡ 12
+  pub twelve-before-seven : build-refusal longest-text (0xFF21 ∷ []) (1 ∷ []) (a ∷ []) 0 0 ≡ 12
+  pub seven-without : build-refusal longest-text (0x41 ∷ []) (1 ∷ []) (a ∷ []) 0 0 ≡ 7
+  pub twelve-before-five : index-refusal longest-text (0xFF21 ∷ []) (1 ∷ []) [] ≡ 12
+  pub twelve-before-six : string-refusal longest-text (0xFF21 ∷ []) (1 ∷ []) (0 ∷ 0 ∷ []) [] ≡ 12
   -- A LONE KEY FF21: readable, tallied, no text has it, found by no string, cut out
   pub form-readable : readable longest-text A lone-form ≡ true
   pub form-beside-word : readable longest-text (lexicon (0x41 ∷ []) (1 ∷ [])) (1 ∷ 1 ∷ 1 ∷ 0xFF21 ∷ 1 ∷ 1 ∷ []) ≡ true
   pub form-tallied : tally A lone-form ≡ 2 ∷ replicate 31 0
   pub form-shown : is-index longest-text A lone-form ≡ true
-  pub form-refused : reception-refusal A-chars A-lengths lone-form 16 ≡ 9
-  pub form-not-recovered : recovery-refusal A-chars A-lengths lone-form 0 16 ≡ 9
+  pub form-refused : reception-refusal longest-text A-chars A-lengths lone-form 16 ≡ 9
+  pub form-not-recovered : recovery-refusal longest-text A-chars A-lengths lone-form 0 16 ≡ 9
   pub form-not-found : find A lone-form (replaced (0xFF21 ∷ [])) ≡ 1 ∷ []
   pub form-not-covering : find A lone-form (replaced (0xFF21 ∷ 0xFF21 ∷ [])) ≡ []
   pub form-cut-out : cut-down A lone-form (replaced (0xFF21 ∷ [])) ≡ 2 ∷ 1 ∷ 1 ∷ 0x41 ∷ 1 ∷ 1 ∷ []

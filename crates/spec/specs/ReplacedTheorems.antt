@@ -7,7 +7,7 @@ use Prim.Native.Nat.{ℕ, _+_, _*_, _≤_, _<_}
 use lib.ListN.{length, getD}
 use Rattle.basics.specs.Member.{In}
 use Rattle.spec.specs.Replaced.{first-form, last-form, form-distance, is-full-width, replaced-char, replaced, holds-full-width}
-use Rattle.spec.specs.Dictionary.{longest-text, Lexicon, all-chars, is-text, lexicon, too-large, lengths-wrong, disordered}
+use Rattle.spec.specs.Dictionary.{Lexicon, all-chars, is-text, lexicon, too-large, lengths-wrong, disordered}
 use Rattle.spec.specs.Dictionary.{dictionary-refusal, admitted}
 use Rattle.spec.specs.Words.{key, is-word}
 use Rattle.spec.specs.Numbers.{Line, index-of}
@@ -76,18 +76,18 @@ Same-lettering =
     × (replaced ts ≡ replaced us → index-of (lexicon cs ls) (replaced ts) ≡ index-of (lexicon cs ls) (replaced us))
 
 -- "both spellings now count as the same lettering": a call answers the same for a text or a string in the other spelling
-pub record Either-width : Type 0 where
+pub record Either-width (g : ℕ) : Type 0 where
   pub builds :
-      (cs ls ts us : List ℕ) (r : Answer) (o z w v : List ℕ) → replaced ts ≡ replaced us → Build-says cs ls ts r o z w v →
-      Build-says cs ls us r o z w v
+      (cs ls ts us : List ℕ) (r : Answer) (o z w v : List ℕ) → replaced ts ≡ replaced us → Build-says g cs ls ts r o z w v →
+      Build-says g cs ls us r o z w v
   pub searches :
-      (cs ls xs s t : List ℕ) (r : Answer) (o z : List ℕ) → replaced s ≡ replaced t → Search-says cs ls xs s r o z →
-      Search-says cs ls xs t r o z
+      (cs ls xs s t : List ℕ) (r : Answer) (o z : List ℕ) → replaced s ≡ replaced t → Search-says g cs ls xs s r o z →
+      Search-says g cs ls xs t r o z
   pub cuts :
-      (cs ls xs s t : List ℕ) (r : Answer) (o z : List ℕ) → replaced s ≡ replaced t → Cut-says cs ls xs s r o z →
-      Cut-says cs ls xs t r o z
+      (cs ls xs s t : List ℕ) (r : Answer) (o z : List ℕ) → replaced s ≡ replaced t → Cut-says g cs ls xs s r o z →
+      Cut-says g cs ls xs t r o z
   pub firsts :
-      (cs ls xs s t : List ℕ) (r : FirstAnswer) → replaced s ≡ replaced t → First-says cs ls xs s r → First-says cs ls xs t r
+      (cs ls xs s t : List ℕ) (r : FirstAnswer) → replaced s ≡ replaced t → First-says g cs ls xs s r → First-says g cs ls xs t r
 
 -- A FULL-WIDTH FORM AS A LONE KEY: "the numbers of an index are never replaced, so a lone FF21 agrees with no string and is never a word"
 
@@ -111,14 +111,14 @@ pub record Form-as-key (g : ℕ) : Type 0 where
       received g (lexicon cs ls) xs ≡ false
 
 -- The calls on such an index, readable and under an admitted dictionary: the tally counts it; reception and recovery answer 9.
-pub record Form-calls : Type 0 where
+pub record Form-calls (g : ℕ) : Type 0 where
   pub tallied :
-      (cs ls xs : List ℕ) (r : TallyAnswer) → admitted cs ls ≡ true → readable longest-text (lexicon cs ls) xs ≡ true →
-      Tally-says cs ls xs r → (r .refusal ≡ 0) × (r .count ≡ entries-of xs)
+      (cs ls xs : List ℕ) (r : TallyAnswer) → admitted cs ls ≡ true → readable g (lexicon cs ls) xs ≡ true →
+      Tally-says g cs ls xs r → (r .refusal ≡ 0) × (r .count ≡ entries-of xs)
   pub not-received :
-      (cs ls xs : List ℕ) (c : ℕ) (r : Answer) (w v : List ℕ) → admitted cs ls ≡ true → readable longest-text (lexicon cs ls) xs ≡ true →
-      Lone-form xs c → 8 * n-of xs ≤ length w → Receive-says cs ls xs r w v → r .refusal ≡ 9
+      (cs ls xs : List ℕ) (c : ℕ) (r : Answer) (w v : List ℕ) → admitted cs ls ≡ true → readable g (lexicon cs ls) xs ≡ true →
+      Lone-form xs c → 8 * n-of xs ≤ length w → Receive-says g cs ls xs r w v → r .refusal ≡ 9
   pub not-recovered :
       (cs ls xs : List ℕ) (c : ℕ) (r : Answer) (o z w v : List ℕ) → admitted cs ls ≡ true →
-      readable longest-text (lexicon cs ls) xs ≡ true → Lone-form xs c → 8 * n-of xs ≤ length w → Recover-says cs ls xs r o z w v →
+      readable g (lexicon cs ls) xs ≡ true → Lone-form xs c → 8 * n-of xs ≤ length w → Recover-says g cs ls xs r o z w v →
       r .refusal ≡ 9

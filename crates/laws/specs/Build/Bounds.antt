@@ -7,7 +7,7 @@ use Prim.Native.Nat.{ℕ, _+_, _*_, _≤_, _<_}
 use native.Mathlib.Omega.{arith}
 use lib.ListN.{length, getD, length-append}
 use Rattle.basics.specs.Member.{In, in-append-get, in-getD}
-use Rattle.spec.specs.Dictionary.{longest-text, Lexicon}
+use Rattle.spec.specs.Dictionary.{Lexicon}
 use Rattle.spec.specs.Words.{entries}
 use Rattle.spec.specs.Numbers.{Line, sorted, lines-of, directory, all-positions, numbers, index-of}
 use Rattle.models.specs.Entries.{longest-at}
@@ -112,7 +112,7 @@ index-below {lex} ts good chars bound wide short =
       entries-of-numbers (length ts) (lines-of (sorted (entries lex ts))),
     ))
 
--- for a text of at most 65,535 characters: 16-bit numbers
-pub index-chars : {lex : Lexicon} (ts : List ℕ) → Good-lexicon lex → Chars ts → length ts ≤ longest-text → Chars (index-of lex ts)
+-- for a text of fewer than 65,536 characters: 16-bit numbers
+pub index-chars : {lex : Lexicon} (ts : List ℕ) → Good-lexicon lex → Chars ts → length ts < 65536 → Chars (index-of lex ts)
 index-chars {lex} ts good chars short i h =
     index-below ts good chars 65536 (omega arith) (omega arith) (getD (index-of lex ts) i 0) (in-getD (index-of lex ts) i 0 h)

@@ -12,7 +12,7 @@ use Rattle.basics.specs.Bools.{and-put, true-or-false, le-or-lt}
 use Rattle.basics.specs.Writing.{over}
 use Rattle.spec.specs.declared.Answer.{Answer}
 use Rattle.spec.specs.Replaced.{replaced}
-use Rattle.spec.specs.Dictionary.{longest-text, Lexicon, lexicon, dictionary-refusal, admitted}
+use Rattle.spec.specs.Dictionary.{Lexicon, lexicon, dictionary-refusal, admitted}
 use Rattle.spec.specs.Numbers.{numbers, index-of}
 use Rattle.spec.specs.Calls.{text-too-long, work-short, output-short, or-else, build-refusal, in-front, Puts}
 use Rattle.spec.specs.Index.{header, greatest-number}
@@ -55,37 +55,37 @@ unfolding output-refusal output-short
 output-refused r o h = rw (lt-ltb o r h)
 
 -- the refusals that need no result: 1 to 3, 12, 4, 7
-unfoldable pub early-refusal : (chars lengths text : List ℕ) → (work : ℕ) → ℕ
-early-refusal cs ls ts w = or-else (dictionary-refusal cs ls) (cond (text-too-long ts) 4 (cond (work-short (length ts) w) 7 0))
+unfoldable pub early-refusal : (g : ℕ) → (chars lengths text : List ℕ) → (work : ℕ) → ℕ
+early-refusal g cs ls ts w = or-else (dictionary-refusal cs ls) (cond (text-too-long g ts) 4 (cond (work-short (length ts) w) 7 0))
 
 -- what holds if none of them is met
-pub record Reached (cs ls ts : List ℕ) (w : ℕ) : Type 0 where
+pub record Reached (g : ℕ) (cs ls ts : List ℕ) (w : ℕ) : Type 0 where
   pub admits : dictionary-refusal cs ls ≡ 0
-  pub short : length ts ≤ longest-text
+  pub short : length ts ≤ g
   pub room : 8 * length ts ≤ w
 
-module _ (cs ls ts : List ℕ) (w : ℕ) where
-  pub early-dictionary : (dictionary-refusal cs ls ≡ 0 → ⊥) → early-refusal cs ls ts w ≡ dictionary-refusal cs ls
+module _ (g : ℕ) (cs ls ts : List ℕ) (w : ℕ) where
+  pub early-dictionary : (dictionary-refusal cs ls ≡ 0 → ⊥) → early-refusal g cs ls ts w ≡ dictionary-refusal cs ls
   unfolding early-refusal or-else
   early-dictionary some = rw (ne-eqb (dictionary-refusal cs ls) 0 some)
 
   module _ (admits : dictionary-refusal cs ls ≡ 0) where
-    pub early-text : longest-text < length ts → early-refusal cs ls ts w ≡ 4
+    pub early-text : g < length ts → early-refusal g cs ls ts w ≡ 4
     unfolding early-refusal or-else text-too-long
-    early-text len = rw (eq-eqb (dictionary-refusal cs ls) 0 admits, lt-ltb longest-text (length ts) len)
+    early-text len = rw (eq-eqb (dictionary-refusal cs ls) 0 admits, lt-ltb g (length ts) len)
 
-    module _ (short : length ts ≤ longest-text) where
-      pub early-work : w < 8 * length ts → early-refusal cs ls ts w ≡ 7
+    module _ (short : length ts ≤ g) where
+      pub early-work : w < 8 * length ts → early-refusal g cs ls ts w ≡ 7
       unfolding early-refusal or-else text-too-long work-short
       early-work small =
-          rw (eq-eqb (dictionary-refusal cs ls) 0 admits, le-ltb longest-text (length ts) short, lt-ltb w (8 * length ts) small)
+          rw (eq-eqb (dictionary-refusal cs ls) 0 admits, le-ltb g (length ts) short, lt-ltb w (8 * length ts) small)
 
-      pub early-none : 8 * length ts ≤ w → early-refusal cs ls ts w ≡ 0
+      pub early-none : 8 * length ts ≤ w → early-refusal g cs ls ts w ≡ 0
       unfolding early-refusal or-else text-too-long work-short
       early-none room =
-          rw (eq-eqb (dictionary-refusal cs ls) 0 admits, le-ltb longest-text (length ts) short, le-ltb w (8 * length ts) room)
+          rw (eq-eqb (dictionary-refusal cs ls) 0 admits, le-ltb g (length ts) short, le-ltb w (8 * length ts) room)
 
-  pub reached : early-refusal cs ls ts w ≡ 0 → Reached cs ls ts w
+  pub reached : early-refusal g cs ls ts w ≡ 0 → Reached g cs ls ts w
   reached none = record { admits = admits; short = short; room = room }
     where
       admits : dictionary-refusal cs ls ≡ 0
@@ -94,10 +94,10 @@ module _ (cs ls ts : List ℕ) (w : ℕ) where
           (λ (e : eqb (dictionary-refusal cs ls) 0 ≡ false). sym (early-dictionary (eqb-false (dictionary-refusal cs ls) 0 e)) ∙ none)
           (true-or-false (eqb (dictionary-refusal cs ls) 0))
 
-      short : length ts ≤ longest-text
+      short : length ts ≤ g
       short =
-          ⊎-elim (λ (h : length ts ≤ longest-text). h) (λ (h : longest-text < length ts). absurd (omega (arith, early-text admits h)))
-          (le-or-lt (length ts) longest-text)
+          ⊎-elim (λ (h : length ts ≤ g). h) (λ (h : g < length ts). absurd (omega (arith, early-text admits h)))
+          (le-or-lt (length ts) g)
 
       room : 8 * length ts ≤ w
       room =
@@ -105,13 +105,13 @@ module _ (cs ls ts : List ℕ) (w : ℕ) where
           (le-or-lt (8 * length ts) w)
 
   -- an early refusal is the call's refusal
-  pub build-early : (o : ℕ) → (early-refusal cs ls ts w ≡ 0 → ⊥) → build-refusal cs ls ts o w ≡ early-refusal cs ls ts w
+  pub build-early : (o : ℕ) → (early-refusal g cs ls ts w ≡ 0 → ⊥) → build-refusal g cs ls ts o w ≡ early-refusal g cs ls ts w
   unfolding build-refusal early-refusal or-else text-too-long work-short
   build-early o some =
-      go (eqb (dictionary-refusal cs ls) 0) refl (ltb longest-text (length ts)) refl (ltb w (8 * length ts)) refl
+      go (eqb (dictionary-refusal cs ls) 0) refl (ltb g (length ts)) refl (ltb w (8 * length ts)) refl
     where
       go :
-          (a : Bool) → eqb (dictionary-refusal cs ls) 0 ≡ a → (b : Bool) → ltb longest-text (length ts) ≡ b → (c : Bool) →
+          (a : Bool) → eqb (dictionary-refusal cs ls) 0 ≡ a → (b : Bool) → ltb g (length ts) ≡ b → (c : Bool) →
           ltb w (8 * length ts) ≡ c →
           cond a (cond b 4 (cond c 7 (cond (output-short (length (index-of (lexicon cs ls) (replaced ts))) o) 8 0)))
           (dictionary-refusal cs ls)
@@ -123,12 +123,12 @@ module _ (cs ls ts : List ℕ) (w : ℕ) where
 
   -- without one the refusal is 8 or none
   pub build-late :
-      (o : ℕ) → early-refusal cs ls ts w ≡ 0 →
-      build-refusal cs ls ts o w ≡ output-refusal (length (index-of (lexicon cs ls) (replaced ts))) o
+      (o : ℕ) → early-refusal g cs ls ts w ≡ 0 →
+      build-refusal g cs ls ts o w ≡ output-refusal (length (index-of (lexicon cs ls) (replaced ts))) o
   unfolding build-refusal or-else text-too-long work-short output-refusal
   build-late o none =
-      let r : Reached cs ls ts w = reached none in
-      rw (eq-eqb (dictionary-refusal cs ls) 0 (r .admits), le-ltb longest-text (length ts) (r .short), le-ltb w (8 * length ts) (r .room))
+      let r : Reached g cs ls ts w = reached none in
+      rw (eq-eqb (dictionary-refusal cs ls) 0 (r .admits), le-ltb g (length ts) (r .short), le-ltb w (8 * length ts) (r .room))
 
 -- THE RESULT FROM THE TOKENS
 
@@ -216,7 +216,7 @@ pub reached-lexicon : (cs ls : List ℕ) → Chars cs → dictionary-refusal cs 
 reached-lexicon cs ls chars none = admitted-lexicon cs ls (reached-admitted cs ls chars none)
 
 pub tokens-linkable :
-    {lex : Lexicon} → Good-lexicon lex → {ts ms : List ℕ} → Tokens lex ts ms → length ts ≤ longest-text → Linkable ts ms
+    {lex : Lexicon} → Good-lexicon lex → {ts ms : List ℕ} → Tokens lex ts ms → length ts ≤ greatest-number → Linkable ts ms
 tokens-linkable {lex} good {ms} tokens short = record { len = tokens .len; short = short; small = small }
   where
     at-most : (q m : ℕ) → q < length ms → getD ms q 0 ≡ m → m ≤ 4097
@@ -227,33 +227,33 @@ tokens-linkable {lex} good {ms} tokens short = record { len = tokens .len; short
     small : (q : ℕ) → q < length ms → getD ms q 0 ≤ 4097
     small q h = at-most q (getD ms q 0) h refl
 
-module _ (cs ls ts : List ℕ) (w : ℕ) (o : List ℕ) where
+module _ (g : ℕ) (cs ls ts : List ℕ) (w : ℕ) (o : List ℕ) where
   pub build-refused :
-      (early-refusal cs ls ts w ≡ 0 → ⊥) → (r : Answer) → r .refusal ≡ early-refusal cs ls ts w → r .count ≡ 0 →
-      Puts (build-refusal cs ls ts (length o) w) (index-of (lexicon cs ls) (replaced ts)) r o o
+      (early-refusal g cs ls ts w ≡ 0 → ⊥) → (r : Answer) → r .refusal ≡ early-refusal g cs ls ts w → r .count ≡ 0 →
+      Puts (build-refusal g cs ls ts (length o) w) (index-of (lexicon cs ls) (replaced ts)) r o o
   build-refused some r number count =
-      let same : build-refusal cs ls ts (length o) w ≡ early-refusal cs ls ts w = build-early cs ls ts w (length o) some in
-      puts-refused (build-refusal cs ls ts (length o) w) (index-of (lexicon cs ls) (replaced ts)) r o o (number ∙ sym same)
-      (λ (z : build-refusal cs ls ts (length o) w ≡ 0). some (sym same ∙ z)) count refl
+      let same : build-refusal g cs ls ts (length o) w ≡ early-refusal g cs ls ts w = build-early g cs ls ts w (length o) some in
+      puts-refused (build-refusal g cs ls ts (length o) w) (index-of (lexicon cs ls) (replaced ts)) r o o (number ∙ sym same)
+      (λ (z : build-refusal g cs ls ts (length o) w ≡ 0). some (sym same ∙ z)) count refl
 
   -- what answers for the tokens answers for the call
   pub build-tokens :
-      Chars cs → Chars ts → early-refusal cs ls ts w ≡ 0 → {ms : List ℕ} → Tokens (lexicon cs ls) (replaced ts) ms →
+      Chars cs → Chars ts → early-refusal g cs ls ts w ≡ 0 → {ms : List ℕ} → Tokens (lexicon cs ls) (replaced ts) ms →
       (r : Answer) (z : List ℕ) →
       Tokens-say ms (replaced ts) r o z →
-      Puts (build-refusal cs ls ts (length o) w) (index-of (lexicon cs ls) (replaced ts)) r o z
+      Puts (build-refusal g cs ls ts (length o) w) (index-of (lexicon cs ls) (replaced ts)) r o z
   build-tokens chars text none {ms} tokens r z puts =
-      let good : Good-lexicon (lexicon cs ls) = reached-lexicon cs ls chars (reached cs ls ts w none .admits) in
+      let good : Good-lexicon (lexicon cs ls) = reached-lexicon cs ls chars (reached g cs ls ts w none .admits) in
       rw (
-        build-late cs ls ts w (length o) none,
+        build-late g cs ls ts w (length o) none,
         ← token-numbers-index good (replaced-chars ts text) tokens,
       )
       puts
 
 -- the tokens at the start of the work slice can be chained
 pub front-linkable :
-    (cs ls ts : List ℕ) (w : ℕ) (work : List ℕ) → Chars cs → early-refusal cs ls ts w ≡ 0 →
+    (g : ℕ) → g ≤ greatest-number → (cs ls ts : List ℕ) (w : ℕ) (work : List ℕ) → Chars cs → early-refusal g cs ls ts w ≡ 0 →
     Tokens (lexicon cs ls) (replaced ts) (take (length ts) work) → Linkable (replaced ts) (take (length ts) work)
-front-linkable cs ls ts w work chars none tokens =
-    tokens-linkable (reached-lexicon cs ls chars (reached cs ls ts w none .admits))
-    tokens (omega (arith, reached cs ls ts w none .short, length-replaced ts))
+front-linkable g fits cs ls ts w work chars none tokens =
+    tokens-linkable (reached-lexicon cs ls chars (reached g cs ls ts w none .admits))
+    tokens (omega (arith, reached g cs ls ts w none .short, length-replaced ts))

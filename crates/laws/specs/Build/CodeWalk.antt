@@ -10,7 +10,7 @@ use Rattle.basics.specs.Bools.{le-or-lt}
 use Rattle.basics.specs.Chain.{chain, chain-none, chained-some}
 use Rattle.basics.specs.Writing.{over, Writing, starts, appends, written}
 use Rattle.spec.specs.Numbers.{Line, line, directory, all-positions}
-use Rattle.spec.specs.Dictionary.{longest-text}
+use Rattle.spec.specs.Index.{greatest-number}
 use Rattle.models.specs.Inversion.{code-key, lines-from, line-numbers, line-positions}
 use Rattle.laws.specs.Build.PostingLists.{lines-some, lines-skip}
 use Rattle.laws.specs.Build.Pages.{Paged}
@@ -171,7 +171,7 @@ pub record Listable (heads pages links : List ℕ) : Type 0 where
   pub codes : length heads ≡ 69632
   pub paged : Paged heads pages
   pub threads : Threads heads links
-  pub short : length links ≤ longest-text
+  pub short : length links ≤ greatest-number
 
 pub line-numbers-three : (l : Line) → length (line-numbers l) ≡ 3
 unfolding line-numbers

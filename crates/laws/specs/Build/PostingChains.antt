@@ -11,7 +11,7 @@ use Rattle.basics.specs.Member.{In}
 use Rattle.basics.specs.Order.{less-equal-more}
 use Rattle.basics.specs.Chain.{Chained, chained-elsewhere, chained-more, chain, chain-is, Threaded, threaded, chained-empty, chained-some}
 use Rattle.spec.specs.Numbers.{Line}
-use Rattle.spec.specs.Dictionary.{longest-text}
+use Rattle.spec.specs.Index.{greatest-number}
 use Rattle.models.specs.Inversion.{coded, lines-from, holds, postings, inverted-after}
 use Rattle.laws.specs.Build.PostingLists.{lines-alike}
 use Rattle.laws.specs.Build.PostingsByKey.{those-short, postings-end, postings-here, postings-not-here, postings-range, Counted}
@@ -131,10 +131,10 @@ module _ {ms ts heads links : List ℕ} (l : Linked ms ts heads links 0) where
 
 -- THE WHOLE STATE
 
--- tokens of a text of at most 65,535 characters, as the chaining pass takes them
+-- tokens of a text whose positions are numbers of an index, as the chaining pass takes them
 pub record Linkable (ts ms : List ℕ) : Type 0 where
   pub len : length ms ≡ length ts
-  pub short : length ts ≤ longest-text
+  pub short : length ts ≤ greatest-number
   pub small : (q : ℕ) → q < length ms → getD ms q 0 ≤ 4097
 
 -- heads and pages for every code, none in use

@@ -12,7 +12,7 @@ use borrow.Author.Tests.{eq-eqb, eqb-true}
 use Rattle.basics.specs.Bools.{clash, and-put, and-left, and-right}
 use Rattle.spec.specs.declared.Answer.{Answer}
 use Rattle.spec.specs.Replaced.{replaced}
-use Rattle.spec.specs.Dictionary.{longest-text, lexicon, all-chars, dictionary-refusal, admitted}
+use Rattle.spec.specs.Dictionary.{lexicon, all-chars, dictionary-refusal, admitted}
 use Rattle.spec.specs.Index.{n-of, readable}
 use Rattle.spec.specs.Reception.{recovered, received}
 use Rattle.spec.specs.Search.{find}
@@ -84,41 +84,41 @@ module _ (cs ls : List ℕ) where
 
 -- NUMBERS OF A TEXT
 
-module _ (cs ls : List ℕ) (adm : admitted cs ls ≡ true) where
+module _ (g : ℕ) (cs ls : List ℕ) (adm : admitted cs ls ≡ true) where
   chars : all-chars cs ≡ true
   unfolding admitted
   chars = and-left (all-chars cs) (eqb (dictionary-refusal cs ls) 0) adm
 
-  none-index : (xs : List ℕ) → readable longest-text (lexicon cs ls) xs ≡ true → None-met (index-rows cs ls xs)
+  none-index : (xs : List ℕ) → readable g (lexicon cs ls) xs ≡ true → None-met (index-rows g cs ls xs)
   none-index xs can =
-      none-both (dictionary-rows cs ls) (row 5 (Unreadable (lexicon cs ls) xs) ∷ []) (admitted-none cs ls adm)
-      (none-row 5 (Unreadable (lexicon cs ls) xs) [] (λ f. clash can f) none-nil)
+      none-both (dictionary-rows cs ls) (row 5 (Unreadable g (lexicon cs ls) xs) ∷ []) (admitted-none cs ls adm)
+      (none-row 5 (Unreadable g (lexicon cs ls) xs) [] (λ f. clash can f) none-nil)
 
   -- readable numbers and a query meet no line of first
-  none-string : (xs : List ℕ) {s : List ℕ} → readable longest-text (lexicon cs ls) xs ≡ true → Query s → None-met (string-rows cs ls xs s)
+  none-string : (xs : List ℕ) {s : List ℕ} → readable g (lexicon cs ls) xs ≡ true → Query s → None-met (string-rows g cs ls xs s)
   none-string xs {s} can q =
-      none-both (index-rows cs ls xs) (row 6 (String-wrong s) ∷ []) (none-index xs can)
+      none-both (index-rows g cs ls xs) (row 6 (String-wrong s) ∷ []) (none-index xs can)
       (none-row 6 (String-wrong s) []
       (⊎-elim (λ (e : length s ≡ 0). omega arith) (λ (l : 256 < length s). omega arith)) none-nil)
 
   -- with enough output they meet no line of search or cut
   none-find :
-      (xs : List ℕ) {s : List ℕ} (result o : List ℕ) → readable longest-text (lexicon cs ls) xs ≡ true → Query s →
+      (xs : List ℕ) {s : List ℕ} (result o : List ℕ) → readable g (lexicon cs ls) xs ≡ true → Query s →
       length result ≤ length o →
-      None-met (find-rows cs ls xs s result o)
+      None-met (find-rows g cs ls xs s result o)
   none-find xs {s} result o can q room =
-      none-both (string-rows cs ls xs s) (row 8 (Output-short result o) ∷ []) (none-string xs can q)
+      none-both (string-rows g cs ls xs s) (row 8 (Output-short result o) ∷ []) (none-string xs can q)
       (none-row 8 (Output-short result o) [] (λ l. omega (arith, room)) none-nil)
 
   -- any readable numbers whose search gives the string's positions in a text
   found-for :
-      (xs : List ℕ) {ts s : List ℕ} → readable longest-text (lexicon cs ls) xs ≡ true → Query s →
-      Exactly-positions (replaced s) ts (find (lexicon cs ls) xs (replaced s)) → Found-for cs ls xs ts s
+      (xs : List ℕ) {ts s : List ℕ} → readable g (lexicon cs ls) xs ≡ true → Query s →
+      Exactly-positions (replaced s) ts (find (lexicon cs ls) xs (replaced s)) → Found-for g cs ls xs ts s
   found-for xs {ts} {s} can q exactly r o z room says =
       let found = find (lexicon cs ls) xs (replaced s) in
       let h =
-      accepts-none (find-rows cs ls xs s found o) (r .refusal) (Written found r o z) (Untouched r o z)
-      (first-demand .searches cs ls xs s r o z says)
+      accepts-none (find-rows g cs ls xs s found o) (r .refusal) (Written found r o z) (Untouched r o z)
+      (first-demand g .searches cs ls xs s r o z says)
       (none-find xs found o can q (omega (arith, room, ap length (exactly .are-positions)))) in (
         h .number,
         subst (λ (ps : List ℕ). Written ps r o z) (exactly .are-positions) (h .result),
@@ -127,85 +127,85 @@ module _ (cs ls : List ℕ) (adm : admitted cs ls ≡ true) where
 
   -- any readable numbers whose first position is the first at which the string stands
   first-for :
-      (xs : List ℕ) {ts s : List ℕ} → readable longest-text (lexicon cs ls) xs ≡ true → Query s →
-      First-stands (replaced s) ts (first-position (lexicon cs ls) xs (replaced s)) → First-for cs ls xs ts s
+      (xs : List ℕ) {ts s : List ℕ} → readable g (lexicon cs ls) xs ≡ true → Query s →
+      First-stands (replaced s) ts (first-position (lexicon cs ls) xs (replaced s)) → First-for g cs ls xs ts s
   first-for xs {ts} {s} can q stands r says =
       let h =
-      accepts-none (string-rows cs ls xs s) (r .refusal) (r .position ≡ first-position (lexicon cs ls) xs (replaced s)) (r .position ≡ 0)
-      (first-demand .firsts cs ls xs s r says) (none-string xs can q) in
+      accepts-none (string-rows g cs ls xs s) (r .refusal) (r .position ≡ first-position (lexicon cs ls) xs (replaced s)) (r .position ≡ 0)
+      (first-demand g .firsts cs ls xs s r says) (none-string xs can q) in
       (h .number, subst (First-stands (replaced s) ts) (sym (h .result)) stands)
 
-  module _ (xs ts : List ℕ) (text : Text-of longest-text (lexicon cs ls) xs ts) where
-    is-received : received longest-text (lexicon cs ls) xs ≡ true
+  module _ (xs ts : List ℕ) (text : Text-of g (lexicon cs ls) xs ts) where
+    is-received : received g (lexicon cs ls) xs ≡ true
     unfolding Demand-three
-    is-received = demand-three longest-text cs ls xs adm .1 ts text
+    is-received = demand-three g cs ls xs adm .1 ts text
 
-    can : readable longest-text (lexicon cs ls) xs ≡ true
-    can = received-reads longest-text (lexicon cs ls) xs is-received
+    can : readable g (lexicon cs ls) xs ≡ true
+    can = received-reads g (lexicon cs ls) xs is-received
 
     is-recovered : recovered (lexicon cs ls) xs ≡ ts
     unfolding Demand-three
-    is-recovered = sym (demand-three longest-text cs ls xs adm .0 is-received .only-text ts text)
+    is-recovered = sym (demand-three g cs ls xs adm .0 is-received .only-text ts text)
 
-    serves : Serves longest-text (lexicon cs ls) xs ts
+    serves : Serves g (lexicon cs ls) xs ts
     unfolding Demand-three
-    serves = subst (Serves longest-text (lexicon cs ls) xs) is-recovered (demand-three longest-text cs ls xs adm .0 is-received)
+    serves = subst (Serves g (lexicon cs ls) xs) is-recovered (demand-three g cs ls xs adm .0 is-received)
 
     -- 9 is not met
-    none-nine : None-met (row 9 (No-text (lexicon cs ls) xs) ∷ [])
-    none-nine = none-row 9 (No-text (lexicon cs ls) xs) [] (λ h. h .1 (ts, text)) none-nil
+    none-nine : None-met (row 9 (No-text g (lexicon cs ls) xs) ∷ [])
+    none-nine = none-row 9 (No-text g (lexicon cs ls) xs) [] (λ h. h .1 (ts, text)) none-nil
 
-    none-reception : (w : List ℕ) → 8 * length ts ≤ length w → None-met (reception-rows cs ls xs w)
+    none-reception : (w : List ℕ) → 8 * length ts ≤ length w → None-met (reception-rows g cs ls xs w)
     none-reception w room =
-        none-both (index-rows cs ls xs) (row 7 (Work-short (n-of xs) w) ∷ row 9 (No-text (lexicon cs ls) xs) ∷ []) (none-index xs can)
-        (none-row 7 (Work-short (n-of xs) w) (row 9 (No-text (lexicon cs ls) xs) ∷ []) (λ l. omega (arith, room))
+        none-both (index-rows g cs ls xs) (row 7 (Work-short (n-of xs) w) ∷ row 9 (No-text g (lexicon cs ls) xs) ∷ []) (none-index xs can)
+        (none-row 7 (Work-short (n-of xs) w) (row 9 (No-text g (lexicon cs ls) xs) ∷ []) (λ l. omega (arith, room))
         none-nine)
 
-    pub received-for : Received-for cs ls xs ts
+    pub received-for : Received-for g cs ls xs ts
     received-for r w v room says =
         let h =
-        accepts-none (reception-rows cs ls xs w) (r .refusal) (r .count ≡ n-of xs) (r .count ≡ 0)
-        (first-demand .receives cs ls xs r w v chars says .0) (none-reception w room) in
+        accepts-none (reception-rows g cs ls xs w) (r .refusal) (r .count ≡ n-of xs) (r .count ≡ 0)
+        (first-demand g .receives cs ls xs r w v chars says .0) (none-reception w room) in
         (h .number, h .result ∙ sym (text .length-is))
 
-    pub recovered-for : Recovered-for cs ls xs ts
+    pub recovered-for : Recovered-for g cs ls xs ts
     recovered-for r o z w v room fits says =
         let h =
-        accepts-none (recovery-rows cs ls xs o w) (r .refusal) (Written (recovered (lexicon cs ls) xs) r o z) (Untouched r o z)
-        (first-demand .recovers cs ls xs r o z w v chars says .0)
-        (none-both (reception-rows cs ls xs w) (row 8 (Recovery-short (lexicon cs ls) xs o) ∷ []) (none-reception w room)
-        (none-row 8 (Recovery-short (lexicon cs ls) xs o) [] (λ l. omega (arith, fits)) none-nil)) in
+        accepts-none (recovery-rows g cs ls xs o w) (r .refusal) (Written (recovered (lexicon cs ls) xs) r o z) (Untouched r o z)
+        (first-demand g .recovers cs ls xs r o z w v chars says .0)
+        (none-both (reception-rows g cs ls xs w) (row 8 (Recovery-short g (lexicon cs ls) xs o) ∷ []) (none-reception w room)
+        (none-row 8 (Recovery-short g (lexicon cs ls) xs o) [] (λ l. omega (arith, fits)) none-nil)) in
         (h .number, subst (λ (us : List ℕ). Written us r o z) is-recovered (h .result))
 
     -- numbers equal to the cut-down index give its answers
     cut-found :
-        {s : List ℕ} (ys : List ℕ) → Query s → ys ≡ cut-down (lexicon cs ls) xs (replaced s) → Found-for cs ls ys ts s ×
-        First-for cs ls ys ts s
+        {s : List ℕ} (ys : List ℕ) → Query s → ys ≡ cut-down (lexicon cs ls) xs (replaced s) → Found-for g cs ls ys ts s ×
+        First-for g cs ls ys ts s
     cut-found {s} ys q e =
         let cut = cut-down (lexicon cs ls) xs (replaced s) in
-        subst (λ (zs : List ℕ). Found-for cs ls zs ts s × First-for cs ls zs ts s) (sym e) (
+        subst (λ (zs : List ℕ). Found-for g cs ls zs ts s × First-for g cs ls zs ts s) (sym e) (
           found-for cut (serves .cut-readable s q) q (serves .cut-exact s q),
           first-for cut (serves .cut-readable s q) q (serves .cut-first-exact s q),
         )
 
-    cut-for : (s : List ℕ) → Query s → Cut-for cs ls xs ts s
+    cut-for : (s : List ℕ) → Query s → Cut-for g cs ls xs ts s
     cut-for s q r o z room says =
         let cut = cut-down (lexicon cs ls) xs (replaced s) in
         let h =
-        accepts-none (find-rows cs ls xs s cut o) (r .refusal) (Written cut r o z) (Untouched r o z)
-        (first-demand .cuts cs ls xs s r o z says) (none-find xs cut o can q room) in
+        accepts-none (find-rows g cs ls xs s cut o) (r .refusal) (Written cut r o z) (Untouched r o z)
+        (first-demand g .cuts cs ls xs s r o z says) (none-find xs cut o can q room) in
         let found = cut-found (take (r .count) z) q (h .result .front) in (h .number, h .result, found .0, found .1)
 
     -- what an accepted call of cut wrote is the cut-down index
     cut-written :
-        (s : List ℕ) (r : Answer) (o z : List ℕ) → Cut-says cs ls xs s r o z → r .refusal ≡ 0 →
+        (s : List ℕ) (r : Answer) (o z : List ℕ) → Cut-says g cs ls xs s r o z → r .refusal ≡ 0 →
         take (r .count) z ≡ cut-down (lexicon cs ls) xs (replaced s)
     cut-written s r o z says zero =
         let cut = cut-down (lexicon cs ls) xs (replaced s) in
-        accepts-zero (find-rows cs ls xs s cut o) (r .refusal) (Written cut r o z) (Untouched r o z)
-        (first-demand .cuts cs ls xs s r o z says) zero .result .front
+        accepts-zero (find-rows g cs ls xs s cut o) (r .refusal) (Written cut r o z) (Untouched r o z)
+        (first-demand g .cuts cs ls xs s r o z says) zero .result .front
 
-    pub delivered : Delivered cs ls xs ts
+    pub delivered : Delivered g cs ls xs ts
     delivered =
         record {
           text = text;

@@ -13,7 +13,7 @@ use Rattle.spec.specs.declared.Answer.{Answer}
 use Rattle.spec.specs.declared.FirstAnswer.{FirstAnswer}
 use Rattle.spec.specs.declared.TallyAnswer.{TallyAnswer}
 use Rattle.spec.specs.Replaced.{replaced}
-use Rattle.spec.specs.Dictionary.{longest-text, lexicon, all-chars, dictionary-refusal}
+use Rattle.spec.specs.Dictionary.{lexicon, all-chars, dictionary-refusal}
 use Rattle.spec.specs.Numbers.{index-of}
 use Rattle.spec.specs.Index.{n-of, entries-of, readable}
 use Rattle.spec.specs.Reception.{recovered}
@@ -96,89 +96,89 @@ admit-decides cs ls r says =
     (length ls) r says
 
 build-decides :
-    (cs ls ts : List ℕ) (r : Answer) (o z w v : List ℕ) → Build-says cs ls ts r o z w v →
-    Decides (build-rows cs ls ts o w) (r .refusal) (Written (index-of (lexicon cs ls) (replaced ts)) r o z) (Untouched r o z)
+    (g : ℕ) (cs ls ts : List ℕ) (r : Answer) (o z w v : List ℕ) → Build-says g cs ls ts r o z w v →
+    Decides (build-rows g cs ls ts o w) (r .refusal) (Written (index-of (lexicon cs ls) (replaced ts)) r o z) (Untouched r o z)
     × Cleared w v
 unfolding Build-says zeros
-build-decides cs ls ts r o z w v says = (
-  puts-decides (build-rows cs ls ts o w) (build-refusal cs ls ts (length o) (length w)) (build-first cs ls ts o w)
+build-decides g cs ls ts r o z w v says = (
+  puts-decides (build-rows g cs ls ts o w) (build-refusal g cs ls ts (length o) (length w)) (build-first cs ls g ts o w)
       (omega arith, (omega arith, (omega arith, (omega arith, (omega arith, (omega arith, (omega arith, tt)))))))
       (index-of (lexicon cs ls) (replaced ts)) r o z
       (says .0) (λ none h. none 8 (inr (inr (inr (inr (inr (inr (inl (refl, h))))))))),
   says .1,
 )
 
-module _ (cs ls xs : List ℕ) where
+module _ (g : ℕ) (cs ls xs : List ℕ) where
   receive-decides :
-      (r : Answer) (w v : List ℕ) → all-chars cs ≡ true → Receive-says cs ls xs r w v →
-      Decides (reception-rows cs ls xs w) (r .refusal) (r .count ≡ n-of xs) (r .count ≡ 0) × Cleared w v
+      (r : Answer) (w v : List ℕ) → all-chars cs ≡ true → Receive-says g cs ls xs r w v →
+      Decides (reception-rows g cs ls xs w) (r .refusal) (r .count ≡ n-of xs) (r .count ≡ 0) × Cleared w v
   unfolding Receive-says zeros
   receive-decides r w v chars says = (
-    answers-decides (reception-rows cs ls xs w) (reception-refusal cs ls xs (length w)) (reception-first cs ls xs chars w)
+    answers-decides (reception-rows g cs ls xs w) (reception-refusal g cs ls xs (length w)) (reception-first g cs ls xs chars w)
         (omega arith, (omega arith, (omega arith, (omega arith, (omega arith, (omega arith, (omega arith, tt))))))) (n-of xs) r (says .0),
     says .1,
   )
 
   -- if the output is shorter than n a line is met: 8 if a text has the index, 5 or 9 if none has
   recover-room :
-      (o w : List ℕ) → ((k : ℕ) → Meets (recovery-rows cs ls xs o w) k → ⊥) → length o < length (recovered (lexicon cs ls) xs) → ⊥
+      (o w : List ℕ) → ((k : ℕ) → Meets (recovery-rows g cs ls xs o w) k → ⊥) → length o < length (recovered (lexicon cs ls) xs) → ⊥
   recover-room o w none h =
       let short : length o < n-of xs = omega (arith, h, length-recovered (lexicon cs ls) xs) in
       ⊎-elim
-      (λ (can : readable longest-text (lexicon cs ls) xs ≡ true).
+      (λ (can : readable g (lexicon cs ls) xs ≡ true).
       none 9
       (inr (inr (inr (inr (inr (inr
       (inl (refl, (can, λ text. none 8 (inr (inr (inr (inr (inr (inr (inr (inl (refl, (short, text))))))))))))))))))))
-      (λ (f : readable longest-text (lexicon cs ls) xs ≡ false). none 5 (inr (inr (inr (inr (inl (refl, f)))))))
-      (true-or-false (readable longest-text (lexicon cs ls) xs))
+      (λ (f : readable g (lexicon cs ls) xs ≡ false). none 5 (inr (inr (inr (inr (inl (refl, f)))))))
+      (true-or-false (readable g (lexicon cs ls) xs))
 
   recover-decides :
-      (r : Answer) (o z w v : List ℕ) → all-chars cs ≡ true → Recover-says cs ls xs r o z w v →
-      Decides (recovery-rows cs ls xs o w) (r .refusal) (Written (recovered (lexicon cs ls) xs) r o z) (Untouched r o z)
+      (r : Answer) (o z w v : List ℕ) → all-chars cs ≡ true → Recover-says g cs ls xs r o z w v →
+      Decides (recovery-rows g cs ls xs o w) (r .refusal) (Written (recovered (lexicon cs ls) xs) r o z) (Untouched r o z)
       × Cleared w v
   unfolding Recover-says zeros
   recover-decides r o z w v chars says = (
-    puts-decides (recovery-rows cs ls xs o w) (recovery-refusal cs ls xs (length o) (length w)) (recovery-first cs ls xs chars o w)
+    puts-decides (recovery-rows g cs ls xs o w) (recovery-refusal g cs ls xs (length o) (length w)) (recovery-first g cs ls xs chars o w)
         (omega arith, (omega arith, (omega arith, (omega arith, (omega arith, (omega arith, (omega arith, (omega arith, tt))))))))
         (recovered (lexicon cs ls) xs) r o z (says .0) (recover-room o w),
     says .1,
   )
 
   find-decides :
-      (s ys : List ℕ) (r : Answer) (o z : List ℕ) → Puts (find-refusal cs ls xs s (length ys) (length o)) ys r o z →
-      Decides (find-rows cs ls xs s ys o) (r .refusal) (Written ys r o z) (Untouched r o z)
+      (s ys : List ℕ) (r : Answer) (o z : List ℕ) → Puts (find-refusal g cs ls xs s (length ys) (length o)) ys r o z →
+      Decides (find-rows g cs ls xs s ys o) (r .refusal) (Written ys r o z) (Untouched r o z)
   find-decides s ys r o z puts =
-      puts-decides (find-rows cs ls xs s ys o) (find-refusal cs ls xs s (length ys) (length o)) (find-first cs ls xs s ys o)
+      puts-decides (find-rows g cs ls xs s ys o) (find-refusal g cs ls xs s (length ys) (length o)) (find-first g cs ls xs s ys o)
       (omega arith, (omega arith, (omega arith, (omega arith, (omega arith, (omega arith, (omega arith, tt))))))) ys r o z puts
       (λ none h. none 8 (inr (inr (inr (inr (inr (inr (inl (refl, h)))))))))
 
   gaps-decides :
-      (ys : List ℕ) (r : Answer) (o z : List ℕ) → Puts (gaps-refusal cs ls xs (length ys) (length o)) ys r o z →
-      Decides (gaps-rows cs ls xs ys o) (r .refusal) (Written ys r o z) (Untouched r o z)
+      (ys : List ℕ) (r : Answer) (o z : List ℕ) → Puts (gaps-refusal g cs ls xs (length ys) (length o)) ys r o z →
+      Decides (gaps-rows g cs ls xs ys o) (r .refusal) (Written ys r o z) (Untouched r o z)
   gaps-decides ys r o z puts =
-      puts-decides (gaps-rows cs ls xs ys o) (gaps-refusal cs ls xs (length ys) (length o)) (gaps-first cs ls xs ys o)
+      puts-decides (gaps-rows g cs ls xs ys o) (gaps-refusal g cs ls xs (length ys) (length o)) (gaps-first g cs ls xs ys o)
       (omega arith, (omega arith, (omega arith, (omega arith, (omega arith, (omega arith, tt)))))) ys r o z puts
       (λ none h. none 8 (inr (inr (inr (inr (inr (inl (refl, h))))))))
 
   first-position-decides :
-      (s : List ℕ) (r : FirstAnswer) → First-says cs ls xs s r →
-      Decides (string-rows cs ls xs s) (r .refusal) (r .position ≡ first-position (lexicon cs ls) xs (replaced s)) (r .position ≡ 0)
+      (s : List ℕ) (r : FirstAnswer) → First-says g cs ls xs s r →
+      Decides (string-rows g cs ls xs s) (r .refusal) (r .position ≡ first-position (lexicon cs ls) xs (replaced s)) (r .position ≡ 0)
   unfolding First-says
   first-position-decides s r says =
-      let n : ℕ = string-refusal cs ls xs s in
-      decides (string-rows cs ls xs s) n (r .refusal) (string-first cs ls xs s) (string-numbered cs ls xs s) (says .0)
+      let n : ℕ = string-refusal g cs ls xs s in
+      decides (string-rows g cs ls xs s) n (r .refusal) (string-first g cs ls xs s) (string-numbered g cs ls xs s) (says .0)
       (r .position ≡ first-position (lexicon cs ls) xs (replaced s)) (r .position ≡ 0)
       (λ none e. says .1 ∙ accepted-yes n (first-position (lexicon cs ls) xs (replaced s)) 0 e)
       (λ some. says .1 ∙ accepted-no n (first-position (lexicon cs ls) xs (replaced s)) 0 some)
 
   tally-decides :
-      (r : TallyAnswer) → Tally-says cs ls xs r →
-      Decides (index-rows cs ls xs) (r .refusal) ((r .count ≡ entries-of xs) × (r .«by_length» ≡ tally (lexicon cs ls) xs))
+      (r : TallyAnswer) → Tally-says g cs ls xs r →
+      Decides (index-rows g cs ls xs) (r .refusal) ((r .count ≡ entries-of xs) × (r .«by_length» ≡ tally (lexicon cs ls) xs))
       ((r .count ≡ 0) × (r .«by_length» ≡ replicate 32 0))
   unfolding Tally-says
   tally-decides r says =
-      let n : ℕ = index-refusal cs ls xs in
-      decides (index-rows cs ls xs) n (r .refusal) (index-first cs ls xs) (index-numbered cs ls xs) (says .0)
+      let n : ℕ = index-refusal g cs ls xs in
+      decides (index-rows g cs ls xs) n (r .refusal) (index-first g cs ls xs) (index-numbered g cs ls xs) (says .0)
       ((r .count ≡ entries-of xs) × (r .«by_length» ≡ tally (lexicon cs ls) xs)) ((r .count ≡ 0) × (r .«by_length» ≡ replicate 32 0))
       (λ none e. (
         says .1 ∙ accepted-yes n (entries-of xs) 0 e,
@@ -201,19 +201,19 @@ job-decides s r o z says =
           (output-first (job-answer s) o) (omega arith, tt) (job-answer s) r o z says (λ none h. none 8 (inl (refl, h)));
     }
 
-pub first-demand : First-demand
+pub first-demand : (g : ℕ) → First-demand g
 unfolding Search-says Cut-says To-gaps-says From-gaps-says
-first-demand =
+first-demand g =
     record {
       admits = admit-decides;
-      builds = build-decides;
-      receives = receive-decides;
-      recovers = recover-decides;
-      searches = λ cs ls xs s r o z says. find-decides cs ls xs s (find (lexicon cs ls) xs (replaced s)) r o z says;
-      cuts = λ cs ls xs s r o z says. find-decides cs ls xs s (cut-down (lexicon cs ls) xs (replaced s)) r o z says;
-      firsts = first-position-decides;
-      tallies = tally-decides;
-      rearranges = λ cs ls xs r o z says. gaps-decides cs ls xs (gap-form xs) r o z says;
-      restores = λ cs ls ds r o z says. gaps-decides cs ls (restored ds) (restored ds) r o z says;
+      builds = build-decides g;
+      receives = receive-decides g;
+      recovers = recover-decides g;
+      searches = λ cs ls xs s r o z says. find-decides g cs ls xs s (find (lexicon cs ls) xs (replaced s)) r o z says;
+      cuts = λ cs ls xs s r o z says. find-decides g cs ls xs s (cut-down (lexicon cs ls) xs (replaced s)) r o z says;
+      firsts = first-position-decides g;
+      tallies = tally-decides g;
+      rearranges = λ cs ls xs r o z says. gaps-decides g cs ls xs (gap-form xs) r o z says;
+      restores = λ cs ls ds r o z says. gaps-decides g cs ls (restored ds) (restored ds) r o z says;
       prints = job-decides;
     }

@@ -8,7 +8,7 @@ use Prim.Native.Nat.{ℕ}
 use native.Mathlib.Omega.{arith}
 use Rattle.basics.specs.Bools.{clash}
 use Rattle.spec.specs.declared.Answer.{Answer}
-use Rattle.spec.specs.Dictionary.{longest-text, lexicon, all-chars, admitted}
+use Rattle.spec.specs.Dictionary.{lexicon, all-chars, admitted}
 use Rattle.spec.specs.Index.{n-of, readable}
 use Rattle.spec.specs.Reception.{recovered, received}
 use Rattle.spec.specs.FurtherTheorems.{Demand-three}
@@ -18,39 +18,39 @@ use Rattle.laws.specs.Demands.Theorems.{demand-three}
 use Rattle.laws.specs.Demands.DemandOne.{first-demand}
 use Rattle.laws.specs.Demands.Delivery.{true-put, accepts-zero, none-left, none-admitted, received-for, delivered}
 
-module _ (cs ls xs : List ℕ) (w : List ℕ) (chars : all-chars cs ≡ true) (r : Answer)
-    (h : Accepts (reception-rows cs ls xs w) (r .refusal) (r .count ≡ n-of xs)) where
+module _ (g : ℕ) (cs ls xs : List ℕ) (w : List ℕ) (chars : all-chars cs ≡ true) (r : Answer)
+    (h : Accepts (reception-rows g cs ls xs w) (r .refusal) (r .count ≡ n-of xs)) where
   is-admitted : admitted cs ls ≡ true
   is-admitted =
       none-admitted cs ls chars
       (none-left (dictionary-rows cs ls)
-      (row 5 (Unreadable (lexicon cs ls) xs) ∷ row 7 (Work-short (n-of xs) w) ∷ row 9 (No-text (lexicon cs ls) xs) ∷ []) (h .none-met))
+      (row 5 (Unreadable g (lexicon cs ls) xs) ∷ row 7 (Work-short (n-of xs) w) ∷ row 9 (No-text g (lexicon cs ls) xs) ∷ []) (h .none-met))
 
-  can-read : readable longest-text (lexicon cs ls) xs ≡ true
-  can-read = true-put (readable longest-text (lexicon cs ls) xs) (λ f. h .none-met 5 (inr (inr (inr (inr (inl (refl, f)))))))
+  can-read : readable g (lexicon cs ls) xs ≡ true
+  can-read = true-put (readable g (lexicon cs ls) xs) (λ f. h .none-met 5 (inr (inr (inr (inr (inl (refl, f)))))))
 
-  is-received : received longest-text (lexicon cs ls) xs ≡ true
+  is-received : received g (lexicon cs ls) xs ≡ true
   unfolding Demand-three
   is-received =
-      true-put (received longest-text (lexicon cs ls) xs)
+      true-put (received g (lexicon cs ls) xs)
       (λ f.
       h .none-met 9
       (inr (inr (inr (inr (inr (inr
-      (inl (refl, (can-read, λ t. clash (demand-three longest-text cs ls xs is-admitted .1 (t .0) (t .1)) f))))))))))
+      (inl (refl, (can-read, λ t. clash (demand-three g cs ls xs is-admitted .1 (t .0) (t .1)) f))))))))))
 
-  accepted-text : (ts : List ℕ) × Delivered cs ls xs ts
+  accepted-text : (ts : List ℕ) × Delivered g cs ls xs ts
   unfolding Demand-three
   accepted-text =
       let ts = recovered (lexicon cs ls) xs in
-      (ts, delivered cs ls is-admitted xs ts (demand-three longest-text cs ls xs is-admitted .0 is-received .text))
+      (ts, delivered g cs ls is-admitted xs ts (demand-three g cs ls xs is-admitted .0 is-received .text))
 
-pub third-demand : Third-demand
+pub third-demand : (g : ℕ) → Third-demand g
 unfolding Third-demand
-third-demand cs ls xs r w v chars room says = (
-  λ adm text. received-for cs ls adm xs (text .0) (text .1) r w v (omega (arith, room)) says .0,
+third-demand g cs ls xs r w v chars room says = (
+  λ adm text. received-for g cs ls adm xs (text .0) (text .1) r w v (omega (arith, room)) says .0,
   λ zero.
       let h =
-      accepts-zero (reception-rows cs ls xs w) (r .refusal) (r .count ≡ n-of xs) (r .count ≡ 0)
-      (first-demand .receives cs ls xs r w v chars says .0) zero in
-      (is-admitted cs ls xs w chars r h, can-read cs ls xs w chars r h, accepted-text cs ls xs w chars r h),
+      accepts-zero (reception-rows g cs ls xs w) (r .refusal) (r .count ≡ n-of xs) (r .count ≡ 0)
+      (first-demand g .receives cs ls xs r w v chars says .0) zero in
+      (is-admitted g cs ls xs w chars r h, can-read g cs ls xs w chars r h, accepted-text g cs ls xs w chars r h),
 )

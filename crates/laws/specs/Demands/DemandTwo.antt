@@ -8,7 +8,7 @@ use Prim.Native.Nat.{ℕ}
 use lib.ListN.{length}
 use Rattle.basics.specs.Bools.{at-most}
 use Rattle.spec.specs.Replaced.{replaced}
-use Rattle.spec.specs.Dictionary.{longest-text, lexicon, is-text, admitted}
+use Rattle.spec.specs.Dictionary.{lexicon, is-text, admitted}
 use Rattle.spec.specs.Numbers.{index-of}
 use Rattle.spec.specs.FurtherTheorems.{Text-of}
 use Rattle.spec.specs.RefusalTable.{Written, Untouched, Text-too-long, Work-short, Output-short, row, Accepts, dictionary-rows, build-rows}
@@ -19,39 +19,39 @@ use Rattle.laws.specs.Demands.DemandOne.{first-demand}
 use Rattle.laws.specs.Demands.Delivery.{accepts-zero, none-left, none-admitted, received-for, recovered-for}
 use Rattle.laws.specs.Demands.PublishedIndex.{index-published, published-only}
 
-module _ (cs ls ts : List ℕ) (adm : admitted cs ls ≡ true) (text : is-text longest-text ts ≡ true) where
-  index-text : Text-of longest-text (lexicon cs ls) (index-of (lexicon cs ls) ts) ts
+module _ (g : ℕ) (cs ls ts : List ℕ) (adm : admitted cs ls ≡ true) (text : is-text g ts ≡ true) where
+  index-text : Text-of g (lexicon cs ls) (index-of (lexicon cs ls) ts) ts
   index-text = record { is-a-text = text; length-is = sym (n-of-index (lexicon cs ls) ts); index-is = refl }
 
-  index-built : Built cs ls ts (index-of (lexicon cs ls) ts)
+  index-built : Built g cs ls ts (index-of (lexicon cs ls) ts)
   index-built =
       record {
-        published = index-published cs ls ts adm text;
-        only-one = published-only cs ls ts adm text;
-        is-received = received-for cs ls adm (index-of (lexicon cs ls) ts) ts index-text;
-        is-recovered = recovered-for cs ls adm (index-of (lexicon cs ls) ts) ts index-text;
+        published = index-published g cs ls ts adm text;
+        only-one = published-only g cs ls ts adm text;
+        is-received = received-for g cs ls adm (index-of (lexicon cs ls) ts) ts index-text;
+        is-recovered = recovered-for g cs ls adm (index-of (lexicon cs ls) ts) ts index-text;
       }
 
-pub second-demand : Second-demand
+pub second-demand : (g : ℕ) → Second-demand g
 unfolding Second-demand
-second-demand cs ls ts r o z w v chars text says zero =
-    subst (Built cs ls (replaced ts)) (sym (h .result .front)) (index-built cs ls (replaced ts) is-admitted is-a-text)
+second-demand g cs ls ts r o z w v chars text says zero =
+    subst (Built g cs ls (replaced ts)) (sym (h .result .front)) (index-built g cs ls (replaced ts) is-admitted is-a-text)
   where
     xs : List ℕ
     xs = index-of (lexicon cs ls) (replaced ts)
 
-    h : Accepts (build-rows cs ls ts o w) (r .refusal) (Written xs r o z)
+    h : Accepts (build-rows g cs ls ts o w) (r .refusal) (Written xs r o z)
     h =
-        accepts-zero (build-rows cs ls ts o w) (r .refusal) (Written xs r o z) (Untouched r o z)
-        (first-demand .builds cs ls ts r o z w v says .0) zero
+        accepts-zero (build-rows g cs ls ts o w) (r .refusal) (Written xs r o z) (Untouched r o z)
+        (first-demand g .builds cs ls ts r o z w v says .0) zero
 
     is-admitted : admitted cs ls ≡ true
     is-admitted =
         none-admitted cs ls chars
         (none-left (dictionary-rows cs ls)
-        (row 4 (Text-too-long ts) ∷ row 7 (Work-short (length ts) w) ∷ row 8 (Output-short xs o) ∷ []) (h .none-met))
+        (row 4 (Text-too-long g ts) ∷ row 7 (Work-short (length ts) w) ∷ row 8 (Output-short xs o) ∷ []) (h .none-met))
 
-    is-a-text : is-text longest-text (replaced ts) ≡ true
+    is-a-text : is-text g (replaced ts) ≡ true
     is-a-text =
-        replaced-is-text longest-text ts (all-chars-get ts text)
-        (at-most longest-text (length ts) (λ l. h .none-met 4 (inr (inr (inr (inr (inl (refl, l))))))))
+        replaced-is-text g ts (all-chars-get ts text)
+        (at-most g (length ts) (λ l. h .none-met 4 (inr (inr (inr (inr (inl (refl, l))))))))

@@ -12,7 +12,7 @@ use Rattle.basics.specs.Bools.{clash}
 use Rattle.spec.specs.declared.Answer.{Answer}
 use Rattle.spec.specs.declared.FirstAnswer.{FirstAnswer}
 use Rattle.spec.specs.Replaced.{replaced}
-use Rattle.spec.specs.Dictionary.{longest-text, lexicon}
+use Rattle.spec.specs.Dictionary.{lexicon}
 use Rattle.spec.specs.Index.{readable}
 use Rattle.spec.specs.Search.{find}
 use Rattle.spec.specs.First.{first-of, first-position, index-to}
@@ -32,33 +32,33 @@ use Rattle.laws.specs.Demands.DemandOne.{first-demand}
 use Rattle.laws.specs.Demands.Delivery.{true-put, None-met, accepts-zero, accepts-none, none-nil, none-row, none-left, none-both}
 
 -- the outcome of a call of first if no line is met
-module _ (cs ls xs s : List ℕ) (f : FirstAnswer) (says : First-says cs ls xs s f) where
+module _ (g : ℕ) (cs ls xs s : List ℕ) (f : FirstAnswer) (says : First-says g cs ls xs s f) where
   accepts-first :
-      None-met (string-rows cs ls xs s) →
-      Accepts (string-rows cs ls xs s) (f .refusal) (f .position ≡ first-position (lexicon cs ls) xs (replaced s))
+      None-met (string-rows g cs ls xs s) →
+      Accepts (string-rows g cs ls xs s) (f .refusal) (f .position ≡ first-position (lexicon cs ls) xs (replaced s))
   accepts-first =
-      accepts-none (string-rows cs ls xs s) (f .refusal) (f .position ≡ first-position (lexicon cs ls) xs (replaced s)) (f .position ≡ 0)
-      (first-demand .firsts cs ls xs s f says)
+      accepts-none (string-rows g cs ls xs s) (f .refusal) (f .position ≡ first-position (lexicon cs ls) xs (replaced s)) (f .position ≡ 0)
+      (first-demand g .firsts cs ls xs s f says)
 
   -- only an accepted call answers a position
   position-accepted :
-      1 ≤ f .position → Accepts (string-rows cs ls xs s) (f .refusal) (f .position ≡ first-position (lexicon cs ls) xs (replaced s))
+      1 ≤ f .position → Accepts (string-rows g cs ls xs s) (f .refusal) (f .position ≡ first-position (lexicon cs ls) xs (replaced s))
   position-accepted some =
       ⊎-elim
-      (λ (h : Accepts (string-rows cs ls xs s) (f .refusal) (f .position ≡ first-position (lexicon cs ls) xs (replaced s))). h)
-      (λ (h : Refuses (string-rows cs ls xs s) (f .refusal) (f .position ≡ 0)). absurd (omega arith))
-      (first-demand .firsts cs ls xs s f says)
+      (λ (h : Accepts (string-rows g cs ls xs s) (f .refusal) (f .position ≡ first-position (lexicon cs ls) xs (replaced s))). h)
+      (λ (h : Refuses (string-rows g cs ls xs s) (f .refusal) (f .position ≡ 0)). absurd (omega arith))
+      (first-demand g .firsts cs ls xs s f says)
 
   not-eight : f .refusal ≡ 8 → ⊥
   not-eight e =
       ⊎-elim
-      (λ (h : Accepts (string-rows cs ls xs s) (f .refusal) (f .position ≡ first-position (lexicon cs ls) xs (replaced s))).
+      (λ (h : Accepts (string-rows g cs ls xs s) (f .refusal) (f .position ≡ first-position (lexicon cs ls) xs (replaced s))).
       omega arith)
-      (λ (h : Refuses (string-rows cs ls xs s) (f .refusal) (f .position ≡ 0)).
-      among (first-meets (string-rows cs ls xs s) (f .refusal) (h .first)))
-      (first-demand .firsts cs ls xs s f says)
+      (λ (h : Refuses (string-rows g cs ls xs s) (f .refusal) (f .position ≡ 0)).
+      among (first-meets (string-rows g cs ls xs s) (f .refusal) (h .first)))
+      (first-demand g .firsts cs ls xs s f says)
     where
-      among : Meets (string-rows cs ls xs s) (f .refusal) → ⊥
+      among : Meets (string-rows g cs ls xs s) (f .refusal) → ⊥
       among (inl m) = omega arith
       among (inr (inl m)) = omega arith
       among (inr (inr (inl m))) = omega arith
@@ -69,8 +69,8 @@ module _ (cs ls xs s : List ℕ) (f : FirstAnswer) (says : First-says cs ls xs s
 
 -- AGAINST A SEARCH
 
-module _ (cs ls xs s : List ℕ) (f : FirstAnswer) (r : Answer) (o z : List ℕ) (first : First-says cs ls xs s f)
-    (search : Search-says cs ls xs s r o z) where
+module _ (g : ℕ) (cs ls xs s : List ℕ) (f : FirstAnswer) (r : Answer) (o z : List ℕ) (first : First-says g cs ls xs s f)
+    (search : Search-says g cs ls xs s r o z) where
   found : List ℕ
   found = find (lexicon cs ls) xs (replaced s)
 
@@ -78,10 +78,10 @@ module _ (cs ls xs s : List ℕ) (f : FirstAnswer) (r : Answer) (o z : List ℕ)
   unfolding found first-position
   beside-search zero =
       let h =
-      accepts-zero (find-rows cs ls xs s found o) (r .refusal) (Written found r o z) (Untouched r o z)
-      (first-demand .searches cs ls xs s r o z search) zero in
+      accepts-zero (find-rows g cs ls xs s found o) (r .refusal) (Written found r o z) (Untouched r o z)
+      (first-demand g .searches cs ls xs s r o z search) zero in
       let a =
-      accepts-first cs ls xs s f first (none-left (string-rows cs ls xs s) (row 8 (Output-short found o) ∷ []) (h .none-met)) in
+      accepts-first g cs ls xs s f first (none-left (string-rows g cs ls xs s) (row 8 (Output-short found o) ∷ []) (h .none-met)) in
       (a .number, a .result ∙ ap first-of (sym (h .result .front)))
 
   refused-beside : (f .refusal ≡ r .refusal) ⊎ ((f .refusal ≡ 0) × (r .refusal ≡ 8))
@@ -89,7 +89,7 @@ module _ (cs ls xs s : List ℕ) (f : FirstAnswer) (r : Answer) (o z : List ℕ)
   refused-beside = by-test (eqb n 0) refl
     where
       n : ℕ
-      n = string-refusal cs ls xs s
+      n = string-refusal g cs ls xs s
 
       eight : ℕ
       eight = cond (output-short (length found) (length o)) 8 0
@@ -108,66 +108,66 @@ module _ (cs ls xs s : List ℕ) (f : FirstAnswer) (r : Answer) (o z : List ℕ)
 
 -- a dictionary and a string that are accepted with one slice are accepted with any readable one
 other-none :
-    (cs ls xs ys s : List ℕ) → None-met (string-rows cs ls xs s) → readable longest-text (lexicon cs ls) ys ≡ true →
-    None-met (string-rows cs ls ys s)
-other-none cs ls xs ys s none can =
-    none-both (index-rows cs ls ys) (row 6 (String-wrong s) ∷ [])
-    (none-both (dictionary-rows cs ls) (row 5 (Unreadable (lexicon cs ls) ys) ∷ [])
-    (none-left (dictionary-rows cs ls) (row 5 (Unreadable (lexicon cs ls) xs) ∷ row 6 (String-wrong s) ∷ []) none)
-    (none-row 5 (Unreadable (lexicon cs ls) ys) [] (λ f. clash can f) none-nil))
+    (g : ℕ) (cs ls xs ys s : List ℕ) → None-met (string-rows g cs ls xs s) → readable g (lexicon cs ls) ys ≡ true →
+    None-met (string-rows g cs ls ys s)
+other-none g cs ls xs ys s none can =
+    none-both (index-rows g cs ls ys) (row 6 (String-wrong s) ∷ [])
+    (none-both (dictionary-rows cs ls) (row 5 (Unreadable g (lexicon cs ls) ys) ∷ [])
+    (none-left (dictionary-rows cs ls) (row 5 (Unreadable g (lexicon cs ls) xs) ∷ row 6 (String-wrong s) ∷ []) none)
+    (none-row 5 (Unreadable g (lexicon cs ls) ys) [] (λ f. clash can f) none-nil))
     (none-row 6 (String-wrong s) [] (λ w. none 6 (inr (inr (inr (inr (inr (inl (refl, w)))))))) none-nil)
 
-can-read : (cs ls xs s : List ℕ) → None-met (string-rows cs ls xs s) → readable longest-text (lexicon cs ls) xs ≡ true
-can-read cs ls xs s none = true-put (readable longest-text (lexicon cs ls) xs) (λ f. none 5 (inr (inr (inr (inr (inl (refl, f)))))))
+can-read : (g : ℕ) (cs ls xs s : List ℕ) → None-met (string-rows g cs ls xs s) → readable g (lexicon cs ls) xs ≡ true
+can-read g cs ls xs s none = true-put (readable g (lexicon cs ls) xs) (λ f. none 5 (inr (inr (inr (inr (inl (refl, f)))))))
 
 -- that call answers its own first position
 other-first :
-    (cs ls xs ys s : List ℕ) → None-met (string-rows cs ls xs s) → readable longest-text (lexicon cs ls) ys ≡ true →
-    (h : FirstAnswer) → First-says cs ls ys s h → (h .refusal ≡ 0) × (h .position ≡ first-position (lexicon cs ls) ys (replaced s))
-other-first cs ls xs ys s none can h says =
-    let a = accepts-first cs ls ys s h says (other-none cs ls xs ys s none can) in (a .number, a .result)
+    (g : ℕ) (cs ls xs ys s : List ℕ) → None-met (string-rows g cs ls xs s) → readable g (lexicon cs ls) ys ≡ true →
+    (h : FirstAnswer) → First-says g cs ls ys s h → (h .refusal ≡ 0) × (h .position ≡ first-position (lexicon cs ls) ys (replaced s))
+other-first g cs ls xs ys s none can h says =
+    let a = accepts-first g cs ls ys s h says (other-none g cs ls xs ys s none can) in (a .number, a .result)
 
-module _ (cs ls xs s : List ℕ) (f h : FirstAnswer) (says : First-says cs ls xs s f) where
+module _ (g : ℕ) (cs ls xs s : List ℕ) (f h : FirstAnswer) (says : First-says g cs ls xs s f) where
   same-answer :
-      {ys : List ℕ} → 1 ≤ f .position → readable longest-text (lexicon cs ls) ys ≡ true → Same-to (f .position + length s - 1) xs ys →
-      First-says cs ls ys s h → (h .refusal ≡ 0) × (h .position ≡ f .position)
+      {ys : List ℕ} → 1 ≤ f .position → readable g (lexicon cs ls) ys ≡ true → Same-to (f .position + length s - 1) xs ys →
+      First-says g cs ls ys s h → (h .refusal ≡ 0) × (h .position ≡ f .position)
   same-answer {ys} some can same other =
-      let a = position-accepted cs ls xs s f says some in
-      let b = other-first cs ls xs ys s (a .none-met) can h other in (
+      let a = position-accepted g cs ls xs s f says some in
+      let b = other-first g cs ls xs ys s (a .none-met) can h other in (
         b .0,
         b .1 ∙ first-there (lexicon cs ls) xs ys (replaced s) (f .position) some
             (subst (λ (m : ℕ). Same-to (f .position + m - 1) xs ys) (sym (length-replaced s)) same) (a .result),
       )
 
   kept-answer :
-      1 ≤ f .position → First-says cs ls (index-to (f .position + length s - 1) xs) s h → (h .refusal ≡ 0) × (h .position ≡ f .position)
+      1 ≤ f .position → First-says g cs ls (index-to (f .position + length s - 1) xs) s h → (h .refusal ≡ 0) × (h .position ≡ f .position)
   kept-answer some other =
       let q = f .position + length s - 1 in
-      let can = can-read cs ls xs s (position-accepted cs ls xs s f says some .none-met) in
-      same-answer some (index-to-readable q xs longest-text (lexicon cs ls) can) (index-to-same q xs) other
+      let can = can-read g cs ls xs s (position-accepted g cs ls xs s f says some .none-met) in
+      same-answer some (index-to-readable q xs g (lexicon cs ls) can) (index-to-same q xs) other
 
   cut-answer :
-      (r : Answer) (o z : List ℕ) → Cut-says cs ls xs s r o z → r .refusal ≡ 0 → First-says cs ls (take (r .count) z) s h →
+      (r : Answer) (o z : List ℕ) → Cut-says g cs ls xs s r o z → r .refusal ≡ 0 → First-says g cs ls (take (r .count) z) s h →
       (h .refusal ≡ 0) × (h .position ≡ f .position)
   unfolding Cut-any first-position
   cut-answer r o z says-cut zero other =
       let cut = cut-down (lexicon cs ls) xs (replaced s) in
       let c =
-      accepts-zero (find-rows cs ls xs s cut o) (r .refusal) (Written cut r o z) (Untouched r o z)
-      (first-demand .cuts cs ls xs s r o z says-cut) zero in
-      let none = none-left (string-rows cs ls xs s) (row 8 (Output-short cut o) ∷ []) (c .none-met) in
-      let any = cut-any longest-text (lexicon cs ls) xs (replaced s) (can-read cs ls xs s none) in
+      accepts-zero (find-rows g cs ls xs s cut o) (r .refusal) (Written cut r o z) (Untouched r o z)
+      (first-demand g .cuts cs ls xs s r o z says-cut) zero in
+      let none = none-left (string-rows g cs ls xs s) (row 8 (Output-short cut o) ∷ []) (c .none-met) in
+      let any = cut-any g (lexicon cs ls) xs (replaced s) (can-read g cs ls xs s none) in
       let b =
-      other-first cs ls xs cut s none (any .0) h (subst (λ (ys : List ℕ). First-says cs ls ys s h) (c .result .front) other) in
-      (b .0, b .1 ∙ ap first-of (any .1) ∙ sym (accepts-first cs ls xs s f says none .result))
+      other-first g cs ls xs cut s none (any .0) h (subst (λ (ys : List ℕ). First-says g cs ls ys s h) (c .result .front) other) in
+      (b .0, b .1 ∙ ap first-of (any .1) ∙ sym (accepts-first g cs ls xs s f says none .result))
 
-pub first-calls : First-calls
-first-calls =
+pub first-calls : (g : ℕ) → First-calls g
+first-calls g =
     record {
-      heads-search = beside-search;
-      refuses-as-search = refused-beside;
-      never-eight = not-eight;
-      from-same = λ cs ls xs ys s f h says some can same other. same-answer cs ls xs s f h says some can same other;
-      from-kept = kept-answer;
-      from-cut = λ cs ls xs s f h r o z says cut zero other. cut-answer cs ls xs s f h says r o z cut zero other;
+      heads-search = beside-search g;
+      refuses-as-search = refused-beside g;
+      never-eight = not-eight g;
+      from-same = λ cs ls xs ys s f h says some can same other. same-answer g cs ls xs s f h says some can same other;
+      from-kept = kept-answer g;
+      from-cut = λ cs ls xs s f h r o z says cut zero other. cut-answer g cs ls xs s f h says r o z cut zero other;
     }

@@ -9,8 +9,8 @@ use lib.ListN.{length, take, drop}
 use borrow.Author.Tests.{ne-eqb}
 use Rattle.basics.specs.Bools.{clash, true-or-false}
 use Rattle.spec.specs.declared.Answer.{Answer}
-use Rattle.spec.specs.Dictionary.{longest-text, lexicon, dictionary-refusal}
-use Rattle.spec.specs.Index.{readable}
+use Rattle.spec.specs.Dictionary.{lexicon, dictionary-refusal}
+use Rattle.spec.specs.Index.{greatest-number, readable}
 use Rattle.spec.specs.Gaps.{gaps, prefix-sums, with-lists, gap-form, restored}
 use Rattle.spec.specs.GapsTheorems.{Gap-calls}
 use Rattle.spec.specs.Calls.{output-short, or-else, index-refusal, gaps-refusal, Answers, in-front, Puts, To-gaps-says, From-gaps-says}
@@ -33,38 +33,39 @@ use Rattle.laws.specs.Demands.Delivery.{true-put, None-met, accepts-zero
 
 -- FROM THE TESTS TO THE CONTRACT
 
-module _ (cs ls xs ys : List ℕ) (r : Answer) (o : List ℕ) where
+module _ (g : ℕ) (cs ls xs ys : List ℕ) (r : Answer) (o : List ℕ) where
   pub gaps-refused :
-      (index-refusal cs ls xs ≡ 0 → ⊥) → r .refusal ≡ index-refusal cs ls xs → r .count ≡ 0 →
-      Puts (gaps-refusal cs ls xs (length ys) (length o)) ys r o o
+      (index-refusal g cs ls xs ≡ 0 → ⊥) → r .refusal ≡ index-refusal g cs ls xs → r .count ≡ 0 →
+      Puts (gaps-refusal g cs ls xs (length ys) (length o)) ys r o o
   unfolding gaps-refusal or-else
   gaps-refused some number none =
-      rw (ne-eqb (index-refusal cs ls xs) 0 some) (refused (index-refusal cs ls xs) ys r o some number none)
+      rw (ne-eqb (index-refusal g cs ls xs) 0 some) (refused (index-refusal g cs ls xs) ys r o some number none)
 
   pub gaps-sized :
-      index-refusal cs ls xs ≡ 0 → (z : List ℕ) → Sized ys r o z → Puts (gaps-refusal cs ls xs (length ys) (length o)) ys r o z
+      index-refusal g cs ls xs ≡ 0 → (z : List ℕ) → Sized ys r o z → Puts (gaps-refusal g cs ls xs (length ys) (length o)) ys r o z
   unfolding gaps-refusal or-else Sized
   gaps-sized accepts z h = rw accepts h
 
 -- what the writer relies on once no line is met
 pub writable :
-    (cs ls xs : List ℕ) (b : Bool) → Small cs → index-refusal cs ls (with-lists (read-as b) xs) ≡ 0 → Writable b xs
-writable cs ls xs true small none =
-    let a = index-accepted cs ls (with-lists (read-as true) xs) none in
+    (g : ℕ) → g ≤ greatest-number → (cs ls xs : List ℕ) (b : Bool) → Small cs → index-refusal g cs ls (with-lists (read-as b) xs) ≡ 0 →
+    Writable b xs
+writable g fits cs ls xs true small none =
+    let a = index-accepted g cs ls (with-lists (read-as true) xs) none in
     let good = no-refusal cs ls small (a .no-refusal) in
-    let can : readable longest-text (lexicon cs ls) (restored xs) ≡ true = rw (← read-gaps xs) (a .is-readable) in
+    let can : readable g (lexicon cs ls) (restored xs) ≡ true = rw (← read-gaps xs) (a .is-readable) in
     record {
-      fits = restored-fits longest-text cs ls xs good can;
-      some = restored-some longest-text cs ls xs good can;
-      totals = λ e. totals-small longest-text cs ls xs good can;
-      sums = λ e. sums-small longest-text cs ls xs good can;
+      fits = restored-fits g cs ls xs good can;
+      some = restored-some g cs ls xs good can;
+      totals = λ e l m. omega (arith, totals-small g cs ls xs good can l m);
+      sums = λ e j. omega (arith, sums-small g cs ls xs good can j);
     }
-writable cs ls xs false small none =
-    let a = index-accepted cs ls (with-lists (read-as false) xs) none in
-    let can : readable longest-text (lexicon cs ls) xs ≡ true = rw (read-positions xs) at (a .is-readable) in
+writable g fits cs ls xs false small none =
+    let a = index-accepted g cs ls (with-lists (read-as false) xs) none in
+    let can : readable g (lexicon cs ls) xs ≡ true = rw (read-positions xs) at (a .is-readable) in
     record {
-      fits = readable-fits longest-text (lexicon cs ls) xs can;
-      some = λ i below. count-some longest-text (lexicon cs ls) xs i can below;
+      fits = readable-fits g (lexicon cs ls) xs can;
+      some = λ i below. count-some g (lexicon cs ls) xs i can below;
       totals = λ (e : _≡_ {A = Bool} false true). clash e refl;
       sums = λ (e : _≡_ {A = Bool} false true). clash e refl;
     }
@@ -82,17 +83,17 @@ unfolding in-front
 form-front b xs o part is = rw (is, form-length b xs)
 
 -- the contract of both directions, as the contract of each
-abbrev pub Form-says : (restore : Bool) → (chars lengths numbers : List ℕ) → Answer → (out out-now : List ℕ) → Type 0
-Form-says b cs ls xs r o z =
+abbrev pub Form-says : (g : ℕ) → (restore : Bool) → (chars lengths numbers : List ℕ) → Answer → (out out-now : List ℕ) → Type 0
+Form-says g b cs ls xs r o z =
     let form = with-lists (write-as b) xs in
-    Puts (gaps-refusal cs ls (with-lists (read-as b) xs) (length form) (length o)) form r o z
+    Puts (gaps-refusal g cs ls (with-lists (read-as b) xs) (length form) (length o)) form r o z
 
-module _ (cs ls xs : List ℕ) (r : Answer) (o z : List ℕ) where
-  pub to-gaps-said : Form-says false cs ls xs r o z → To-gaps-says cs ls xs r o z
+module _ (g : ℕ) (cs ls xs : List ℕ) (r : Answer) (o z : List ℕ) where
+  pub to-gaps-said : Form-says g false cs ls xs r o z → To-gaps-says g cs ls xs r o z
   unfolding To-gaps-says gap-form
   to-gaps-said says = rw (read-positions xs) at says
 
-  pub from-gaps-said : Form-says true cs ls xs r o z → From-gaps-says cs ls xs r o z
+  pub from-gaps-said : Form-says g true cs ls xs r o z → From-gaps-says g cs ls xs r o z
   unfolding From-gaps-says restored
   from-gaps-said says = rw (read-gaps xs) at says
 
@@ -100,91 +101,93 @@ module _ (cs ls xs : List ℕ) (r : Answer) (o z : List ℕ) where
 
 -- a dictionary that is accepted with one index is accepted with any readable one, if the output is long enough
 other-none :
-    (cs ls xs ys us vs o p : List ℕ) → None-met (gaps-rows cs ls xs us o) → readable longest-text (lexicon cs ls) ys ≡ true →
-    length vs ≤ length p → None-met (gaps-rows cs ls ys vs p)
-other-none cs ls xs ys us vs o p none can room =
-    none-both (index-rows cs ls ys) (row 8 (Output-short vs p) ∷ [])
-    (none-both (dictionary-rows cs ls) (row 5 (Unreadable (lexicon cs ls) ys) ∷ [])
-    (none-left (dictionary-rows cs ls) (row 5 (Unreadable (lexicon cs ls) xs) ∷ row 8 (Output-short us o) ∷ []) none)
-    (none-row 5 (Unreadable (lexicon cs ls) ys) [] (λ f. clash can f) none-nil))
+    (g : ℕ) (cs ls xs ys us vs o p : List ℕ) → None-met (gaps-rows g cs ls xs us o) → readable g (lexicon cs ls) ys ≡ true →
+    length vs ≤ length p → None-met (gaps-rows g cs ls ys vs p)
+other-none g cs ls xs ys us vs o p none can room =
+    none-both (index-rows g cs ls ys) (row 8 (Output-short vs p) ∷ [])
+    (none-both (dictionary-rows cs ls) (row 5 (Unreadable g (lexicon cs ls) ys) ∷ [])
+    (none-left (dictionary-rows cs ls) (row 5 (Unreadable g (lexicon cs ls) xs) ∷ row 8 (Output-short us o) ∷ []) none)
+    (none-row 5 (Unreadable g (lexicon cs ls) ys) [] (λ f. clash can f) none-nil))
     (none-row 8 (Output-short vs p) [] (λ short. omega arith) none-nil)
 
-can-read : (cs ls xs us o : List ℕ) → None-met (gaps-rows cs ls xs us o) → readable longest-text (lexicon cs ls) xs ≡ true
-can-read cs ls xs us o none =
-    true-put (readable longest-text (lexicon cs ls) xs) (λ f. none 5 (inr (inr (inr (inr (inl (refl, f)))))))
+can-read : (g : ℕ) (cs ls xs us o : List ℕ) → None-met (gaps-rows g cs ls xs us o) → readable g (lexicon cs ls) xs ≡ true
+can-read g cs ls xs us o none =
+    true-put (readable g (lexicon cs ls) xs) (λ f. none 5 (inr (inr (inr (inr (inl (refl, f)))))))
 
 restores :
-    (cs ls xs : List ℕ) (r s : Answer) (o z p q : List ℕ) → To-gaps-says cs ls xs r o z → r .refusal ≡ 0 → length xs ≤ length p →
-    From-gaps-says cs ls (take (r .count) z) s p q → (s .refusal ≡ 0) × (s .count ≡ length xs) × (take (s .count) q ≡ xs)
-restores cs ls xs r s o z p q to zero room from =
+    (g : ℕ) (cs ls xs : List ℕ) (r s : Answer) (o z p q : List ℕ) → To-gaps-says g cs ls xs r o z → r .refusal ≡ 0 → length xs ≤ length p →
+    From-gaps-says g cs ls (take (r .count) z) s p q → (s .refusal ≡ 0) × (s .count ≡ length xs) × (take (s .count) q ≡ xs)
+restores g cs ls xs r s o z p q to zero room from =
     let form = gap-form xs in
     let index = restored (take (r .count) z) in
     let h =
-    accepts-zero (gaps-rows cs ls xs form o) (r .refusal) (Written form r o z) (Untouched r o z)
-    (first-demand .rearranges cs ls xs r o z to) zero in
-    let can = can-read cs ls xs form o (h .none-met) in
-    let back : index ≡ xs = ap restored (h .result .front) ∙ gaps-restored longest-text (lexicon cs ls) xs can in
+    accepts-zero (gaps-rows g cs ls xs form o) (r .refusal) (Written form r o z) (Untouched r o z)
+    (first-demand g .rearranges cs ls xs r o z to) zero in
+    let can = can-read g cs ls xs form o (h .none-met) in
+    let back : index ≡ xs = ap restored (h .result .front) ∙ gaps-restored g (lexicon cs ls) xs can in
     let a =
-    accepts-none (gaps-rows cs ls index index p) (s .refusal) (Written index s p q) (Untouched s p q)
-    (first-demand .restores cs ls (take (r .count) z) s p q from)
-    (other-none cs ls xs index form index o p (h .none-met) (rw back can) (omega (arith, ap length back))) in
+    accepts-none (gaps-rows g cs ls index index p) (s .refusal) (Written index s p q) (Untouched s p q)
+    (first-demand g .restores cs ls (take (r .count) z) s p q from)
+    (other-none g cs ls xs index form index o p (h .none-met) (rw back can) (omega (arith, ap length back))) in
     (a .number, a .result .count ∙ ap length back, a .result .front ∙ back)
 
 comes-back :
-    (cs ls ds : List ℕ) (r s : Answer) (o z p q : List ℕ) → From-gaps-says cs ls ds r o z → r .refusal ≡ 0 → length ds ≤ length p →
-    To-gaps-says cs ls (take (r .count) z) s p q → (s .refusal ≡ 0) × (s .count ≡ length ds) × (take (s .count) q ≡ ds)
-comes-back cs ls ds r s o z p q from zero room to =
+    (g : ℕ) (cs ls ds : List ℕ) (r s : Answer) (o z p q : List ℕ) → From-gaps-says g cs ls ds r o z → r .refusal ≡ 0 →
+    length ds ≤ length p → To-gaps-says g cs ls (take (r .count) z) s p q →
+    (s .refusal ≡ 0) × (s .count ≡ length ds) × (take (s .count) q ≡ ds)
+comes-back g cs ls ds r s o z p q from zero room to =
     let index = restored ds in
     let ys = take (r .count) z in
     let form = gap-form ys in
     let h =
-    accepts-zero (gaps-rows cs ls index index o) (r .refusal) (Written index r o z) (Untouched r o z)
-    (first-demand .restores cs ls ds r o z from) zero in
-    let can = can-read cs ls index index o (h .none-met) in
+    accepts-zero (gaps-rows g cs ls index index o) (r .refusal) (Written index r o z) (Untouched r o z)
+    (first-demand g .restores cs ls ds r o z from) zero in
+    let can = can-read g cs ls index index o (h .none-met) in
     let back : form ≡ ds = ap gap-form (h .result .front) ∙ restored-gaps ds in
     let a =
-    accepts-none (gaps-rows cs ls ys form p) (s .refusal) (Written form s p q) (Untouched s p q)
-    (first-demand .rearranges cs ls ys s p q to)
-    (other-none cs ls index ys index form o p (h .none-met) (rw (h .result .front) can) (omega (arith, ap length back))) in
+    accepts-none (gaps-rows g cs ls ys form p) (s .refusal) (Written form s p q) (Untouched s p q)
+    (first-demand g .rearranges cs ls ys s p q to)
+    (other-none g cs ls index ys index form o p (h .none-met) (rw (h .result .front) can) (omega (arith, ap length back))) in
     (a .number, a .result .count ∙ ap length back, a .result .front ∙ back)
 
 -- WHAT MEETS 5
 
-module _ (cs ls ds : List ℕ) (r : Answer) (o z : List ℕ) (none : dictionary-refusal cs ls ≡ 0) (says : From-gaps-says cs ls ds r o z) where
+module _ (g : ℕ) (cs ls ds : List ℕ) (r : Answer) (o z : List ℕ) (none : dictionary-refusal cs ls ≡ 0)
+    (says : From-gaps-says g cs ls ds r o z) where
   abbrev index : List ℕ
   index = restored ds
 
   abbrev eight : ℕ
   eight = cond (output-short (length index) (length o)) 8 0
 
-  number : r .refusal ≡ or-else (index-refusal cs ls index) eight
+  number : r .refusal ≡ or-else (index-refusal g cs ls index) eight
   unfolding From-gaps-says Puts Answers gaps-refusal
   number = says .0 .0
 
-  five-met : readable longest-text (lexicon cs ls) index ≡ false → r .refusal ≡ 5
+  five-met : readable g (lexicon cs ls) index ≡ false → r .refusal ≡ 5
   five-met f =
-      let five : index-refusal cs ls index ≡ 5 = sym (refuses-unreadable cs ls index none f) in
-      number ∙ or-else-some (index-refusal cs ls index) eight (λ (e : index-refusal cs ls index ≡ 0). omega (arith, five)) ∙ five
+      let five : index-refusal g cs ls index ≡ 5 = sym (refuses-unreadable g cs ls index none f) in
+      number ∙ or-else-some (index-refusal g cs ls index) eight (λ (e : index-refusal g cs ls index ≡ 0). omega (arith, five)) ∙ five
 
-  five-only : r .refusal ≡ 5 → readable longest-text (lexicon cs ls) index ≡ false
+  five-only : r .refusal ≡ 5 → readable g (lexicon cs ls) index ≡ false
   five-only five =
       ⊎-elim
-      (λ (can : readable longest-text (lexicon cs ls) index ≡ true).
-      let zero : index-refusal cs ls index ≡ 0 = sym (accepts-index cs ls index none can) in
+      (λ (can : readable g (lexicon cs ls) index ≡ true).
+      let zero : index-refusal g cs ls index ≡ 0 = sym (accepts-index g cs ls index none can) in
       absurd
       (by-test (output-short (length index) (length o))
-      (sym (or-else-none (index-refusal cs ls index) eight zero) ∙ sym number ∙ five)))
-      (λ (f : readable longest-text (lexicon cs ls) index ≡ false). f)
-      (true-or-false (readable longest-text (lexicon cs ls) index))
+      (sym (or-else-none (index-refusal g cs ls index) eight zero) ∙ sym number ∙ five)))
+      (λ (f : readable g (lexicon cs ls) index ≡ false). f)
+      (true-or-false (readable g (lexicon cs ls) index))
     where
       by-test : (b : Bool) → _≡_ {A = ℕ} (cond b 8 0) 5 → ⊥
       by-test true e = omega arith
       by-test false e = omega arith
 
-pub gap-calls : Gap-calls
-gap-calls =
+pub gap-calls : (g : ℕ) → Gap-calls g
+gap-calls g =
     record {
-      restores = restores;
-      comes-back = comes-back;
-      five = λ cs ls ds r o z none says. (five-met cs ls ds r o z none says, five-only cs ls ds r o z none says);
+      restores = restores g;
+      comes-back = comes-back g;
+      five = λ cs ls ds r o z none says. (five-met g cs ls ds r o z none says, five-only g cs ls ds r o z none says);
     }

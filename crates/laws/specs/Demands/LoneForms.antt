@@ -12,7 +12,7 @@ use Rattle.basics.specs.Bools.{clash, false-put, and-right}
 use Rattle.basics.specs.Member.{In, in-getD}
 use Rattle.spec.specs.declared.TallyAnswer.{TallyAnswer}
 use Rattle.spec.specs.Replaced.{is-full-width, replaced}
-use Rattle.spec.specs.Dictionary.{longest-text, Lexicon, all-chars, lexicon, dictionary-refusal, admitted}
+use Rattle.spec.specs.Dictionary.{Lexicon, all-chars, lexicon, dictionary-refusal, admitted}
 use Rattle.spec.specs.Words.{key, is-word, spells}
 use Rattle.spec.specs.Numbers.{Line}
 use Rattle.spec.specs.Index.{n-of, entries-of, lines-in, key-good, readable}
@@ -134,35 +134,35 @@ form-as-key g =
 
 -- OVER THE CALLS
 
-module _ (cs ls xs : List ℕ) (adm : admitted cs ls ≡ true) (can : readable longest-text (lexicon cs ls) xs ≡ true) where
-  no-refusal : index-refusal cs ls xs ≡ 0
+module _ (g : ℕ) (cs ls xs : List ℕ) (adm : admitted cs ls ≡ true) (can : readable g (lexicon cs ls) xs ≡ true) where
+  no-refusal : index-refusal g cs ls xs ≡ 0
   unfolding admitted
   no-refusal =
       sym
-      (accepts-index cs ls xs
+      (accepts-index g cs ls xs
       (eqb-true (dictionary-refusal cs ls) 0 (and-right (all-chars cs) (eqb (dictionary-refusal cs ls) 0) adm)) can)
 
-  tallied : (r : TallyAnswer) → Tally-says cs ls xs r → (r .refusal ≡ 0) × (r .count ≡ entries-of xs)
+  tallied : (r : TallyAnswer) → Tally-says g cs ls xs r → (r .refusal ≡ 0) × (r .count ≡ entries-of xs)
   unfolding Tally-says
   tallied r says =
-      (says .0 ∙ no-refusal, says .1 ∙ accepted-yes (index-refusal cs ls xs) (entries-of xs) 0 no-refusal)
+      (says .0 ∙ no-refusal, says .1 ∙ accepted-yes (index-refusal g cs ls xs) (entries-of xs) 0 no-refusal)
 
   module _ (c : ℕ) (lone : Lone-form xs c) (w : ℕ) (room : 8 * n-of xs ≤ w) where
-    nine : reception-refusal cs ls xs w ≡ 9
+    nine : reception-refusal g cs ls xs w ≡ 9
     nine =
-        reception-unreceived cs ls xs w (sym (short-none (index-refusal cs ls xs) xs w no-refusal room))
-        (unreceived (admitted-lexicon cs ls adm) longest-text xs can c lone)
+        reception-unreceived g cs ls xs w (sym (short-none (index-refusal g cs ls xs) xs w no-refusal room))
+        (unreceived (admitted-lexicon cs ls adm) g xs can c lone)
 
-    nine-recovery : (o : ℕ) → recovery-refusal cs ls xs o w ≡ 9
-    nine-recovery o = recovery-early cs ls xs w o (λ (z : reception-refusal cs ls xs w ≡ 0). omega (arith, nine)) ∙ nine
+    nine-recovery : (o : ℕ) → recovery-refusal g cs ls xs o w ≡ 9
+    nine-recovery o = recovery-early g cs ls xs w o (λ (z : reception-refusal g cs ls xs w ≡ 0). omega (arith, nine)) ∙ nine
 
-pub form-calls : Form-calls
+pub form-calls : (g : ℕ) → Form-calls g
 unfolding Receive-says Recover-says Puts Answers
-form-calls =
+form-calls g =
     record {
-      tallied = λ cs ls xs r adm can. tallied cs ls xs adm can r;
-      not-received = λ cs ls xs c r w v adm can lone room says. says .0 .0 ∙ nine cs ls xs adm can c lone (length w) room;
+      tallied = λ cs ls xs r adm can. tallied g cs ls xs adm can r;
+      not-received = λ cs ls xs c r w v adm can lone room says. says .0 .0 ∙ nine g cs ls xs adm can c lone (length w) room;
       not-recovered =
           λ cs ls xs c r o z w v adm can lone room says.
-          says .0 .0 .0 ∙ nine-recovery cs ls xs adm can c lone (length w) room (length o);
+          says .0 .0 .0 ∙ nine-recovery g cs ls xs adm can c lone (length w) room (length o);
     }

@@ -5,7 +5,7 @@ use mathlib.Core.Bool.{true}
 use mathlib.Core.List.{List}
 use Prim.Native.Nat.{ℕ}
 use Rattle.basics.specs.Member.{In}
-use Rattle.spec.specs.Dictionary.{longest-text, Lexicon, is-text, lexicon, admitted}
+use Rattle.spec.specs.Dictionary.{Lexicon, is-text, lexicon, admitted}
 use Rattle.spec.specs.Words.{Key, spells, Entry, entries}
 use Rattle.spec.specs.Numbers.{index-of}
 use Rattle.spec.specs.FurtherTheorems.{Among, Under, Tells, Only-readable}
@@ -20,7 +20,7 @@ use Rattle.laws.specs.Published.Extension.{same-index}
 use Rattle.laws.specs.Readable.Readable.{readable-get}
 use Rattle.laws.specs.Demands.Theorems.{only-readable}
 
-module _ (cs ls ts : List ℕ) (adm : admitted cs ls ≡ true) (text : is-text longest-text ts ≡ true) where
+module _ (g : ℕ) (cs ls ts : List ℕ) (adm : admitted cs ls ≡ true) (text : is-text g ts ≡ true) where
   abbrev lex : Lexicon
   lex = lexicon cs ls
 
@@ -30,17 +30,17 @@ module _ (cs ls ts : List ℕ) (adm : admitted cs ls ≡ true) (text : is-text l
   -- the pairs of definition 7 are the entries
   from : (i : Item) → maximal-items lex ts i → (e : Entry) × In e (entries lex ts) × (item-of lex e ≡ i)
   unfolding Same-index
-  from = same-index longest-text cs ls ts adm text .0
+  from = same-index g cs ls ts adm text .0
 
   to : (e : Entry) → In e (entries lex ts) → maximal-items lex ts (item-of lex e)
   unfolding Same-index
-  to = same-index longest-text cs ls ts adm text .1
+  to = same-index g cs ls ts adm text .1
 
-  tells : Tells longest-text lex ts (index-of lex ts)
+  tells : Tells g lex ts (index-of lex ts)
   unfolding Only-readable
-  tells = only-readable longest-text cs ls ts adm text .0
+  tells = only-readable g cs ls ts adm text .0
 
-  pub index-published : Published-index lex ts (index-of lex ts)
+  pub index-published : Published-index g lex ts (index-of lex ts)
   unfolding Among item-of
   index-published = record { can-read = tells .can-read; n-is = tells .n-is; only = only; all = all }
     where
@@ -55,15 +55,15 @@ module _ (cs ls ts : List ℕ) (adm : admitted cs ls ≡ true) (text : is-text l
           (e .key-of, e .at, tells .all (e .key-of) (e .at) (e, m, refl, refl), s)
 
   -- a readable slice that is the published index has the keys of the text's entries: keys that spell the same are the same
-  module _ (ys : List ℕ) (h : Published-index lex ts ys) where
+  module _ (ys : List ℕ) (h : Published-index g lex ts ys) where
     key-under : (k : Key) (p : ℕ) → Under k p ys → Is-key lex k
     unfolding Under
-    key-under k p (l, m, e, i) = subst (Is-key lex) e (readable-get longest-text lex ys (h .can-read) .lines .each l m .is-key)
+    key-under k p (l, m, e, i) = subst (Is-key lex) e (readable-get g lex ys (h .can-read) .lines .each l m .is-key)
 
     key-among : (e : Entry) → In e (entries lex ts) → Is-key lex (e .key-of)
-    key-among e m = entries-get lex good ts (is-text-get longest-text ts text .0) e m .is-entry .is-key
+    key-among e m = entries-get lex good ts (is-text-get g ts text .0) e m .is-entry .is-key
 
-    published-tells : Tells longest-text lex ts ys
+    published-tells : Tells g lex ts ys
     unfolding Among item-of item
     published-tells = record { can-read = h .can-read; n-is = h .n-is; only = only; all = all }
       where
@@ -86,4 +86,4 @@ module _ (cs ls ts : List ℕ) (adm : admitted cs ls ≡ true) (text : is-text l
 
     pub published-only : ys ≡ index-of lex ts
     unfolding Only-readable
-    published-only = only-readable longest-text cs ls ts adm text .1 ys published-tells
+    published-only = only-readable g cs ls ts adm text .1 ys published-tells

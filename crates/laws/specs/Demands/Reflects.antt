@@ -11,7 +11,7 @@ use borrow.Author.Tests.{ltb-true, ltb-false, leb-true, leb-false, eqb-true, eqb
 use Rattle.basics.specs.Bools.{Reflects, clash, false-put, not-get}
 use Rattle.basics.specs.Member.{In}
 use Rattle.spec.specs.Replaced.{first-form, last-form, is-full-width, holds-full-width}
-use Rattle.spec.specs.Dictionary.{longest-text, Lexicon, total, words-from, too-large, length-good, lengths-good, lengths-wrong, ascend}
+use Rattle.spec.specs.Dictionary.{Lexicon, total, words-from, too-large, length-good, lengths-good, lengths-wrong, ascend}
 use Rattle.spec.specs.Dictionary.{disordered, some-full-width, unreplaced}
 use Rattle.spec.specs.Index.{readable}
 use Rattle.spec.specs.Calls.{text-too-long, unreadable, string-wrong, work-short, output-short}
@@ -151,13 +151,13 @@ module _ (cs ls : List ℕ) where
   unfolding unreplaced
   reflects-unreplaced = reflects-words (words-from ls cs)
 
-pub reflects-text : (ts : List ℕ) → Reflects (text-too-long ts) (Text-too-long ts)
+pub reflects-text : (g : ℕ) (ts : List ℕ) → Reflects (text-too-long g ts) (Text-too-long g ts)
 unfolding text-too-long
-reflects-text ts = reflects-lt longest-text (length ts)
+reflects-text g ts = reflects-lt g (length ts)
 
-pub reflects-unreadable : (lex : Lexicon) (xs : List ℕ) → Reflects (unreadable lex xs) (Unreadable lex xs)
+pub reflects-unreadable : (g : ℕ) (lex : Lexicon) (xs : List ℕ) → Reflects (unreadable g lex xs) (Unreadable g lex xs)
 unfolding unreadable
-reflects-unreadable lex xs = reflects-false (readable longest-text lex xs)
+reflects-unreadable g lex xs = reflects-false (readable g lex xs)
 
 pub reflects-string : (s : List ℕ) → Reflects (string-wrong s) (String-wrong s)
 unfolding string-wrong

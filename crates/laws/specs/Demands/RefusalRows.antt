@@ -10,7 +10,7 @@ use borrow.Author.Tests.{eq-eqb, ne-eqb, not-false}
 use Rattle.basics.specs.Bools.{Reflects, clash, not-get, and-put}
 use Rattle.basics.specs.Member.{In}
 use Rattle.spec.specs.Replaced.{replaced}
-use Rattle.spec.specs.Dictionary.{longest-text, lexicon, all-chars, too-large, lengths-wrong, disordered, unreplaced, dictionary-refusal}
+use Rattle.spec.specs.Dictionary.{lexicon, all-chars, too-large, lengths-wrong, disordered, unreplaced, dictionary-refusal}
 use Rattle.spec.specs.Dictionary.{admitted}
 use Rattle.spec.specs.Numbers.{index-of}
 use Rattle.spec.specs.Index.{n-of}
@@ -132,53 +132,53 @@ module _ (cs ls : List ℕ) where
       first-cond 1 (Too-large cs ls) (too-large cs ls) _ _ (reflects-too-large cs ls)
       (λ f.
       first-cond 2 (Lengths-wrong cs ls) (lengths-wrong cs ls) _ _ (reflects-lengths-wrong cs ls)
-      (λ g.
+      (λ h.
       first-cond 3 (Disordered cs ls) (disordered cs ls) _ _ (reflects-disordered cs ls)
-      (λ h. first-cond 12 (Unreplaced cs ls) (unreplaced cs ls) _ _ (reflects-unreplaced cs ls) (λ i. first-none))))
+      (λ i. first-cond 12 (Unreplaced cs ls) (unreplaced cs ls) _ _ (reflects-unreplaced cs ls) (λ j. first-none))))
 
   pub dictionary-numbered : Numbered (dictionary-rows cs ls)
   dictionary-numbered = (omega arith, (omega arith, (omega arith, (omega arith, tt))))
 
-  pub build-first : (ts o w : List ℕ) → First (build-rows cs ls ts o w) (build-refusal cs ls ts (length o) (length w))
+  pub build-first : (g : ℕ) (ts o w : List ℕ) → First (build-rows g cs ls ts o w) (build-refusal g cs ls ts (length o) (length w))
   unfolding build-refusal
-  build-first ts o w =
+  build-first g ts o w =
       first-then (dictionary-rows cs ls) _ dictionary-numbered _ _ dictionary-first
       (λ a.
-      first-cond 4 (Text-too-long ts) (text-too-long ts) _ _ (reflects-text ts)
+      first-cond 4 (Text-too-long g ts) (text-too-long g ts) _ _ (reflects-text g ts)
       (λ f.
       first-cond 7 (Work-short (length ts) w) (work-short (length ts) (length w)) _ _ (reflects-work (length ts) w)
-      (λ g.
+      (λ h.
       output-first (index-of (lexicon cs ls) (replaced ts)) o)))
 
-module _ (cs ls xs : List ℕ) where
-  pub index-first : First (index-rows cs ls xs) (index-refusal cs ls xs)
+module _ (g : ℕ) (cs ls xs : List ℕ) where
+  pub index-first : First (index-rows g cs ls xs) (index-refusal g cs ls xs)
   unfolding index-refusal
   index-first =
       first-then (dictionary-rows cs ls) _ (dictionary-numbered cs ls) _ _ (dictionary-first cs ls)
       (λ a.
-      first-cond 5 (Unreadable (lexicon cs ls) xs) (unreadable (lexicon cs ls) xs) _ _ (reflects-unreadable (lexicon cs ls) xs)
+      first-cond 5 (Unreadable g (lexicon cs ls) xs) (unreadable g (lexicon cs ls) xs) _ _ (reflects-unreadable g (lexicon cs ls) xs)
       (λ f. first-none))
 
-  pub index-numbered : Numbered (index-rows cs ls xs)
+  pub index-numbered : Numbered (index-rows g cs ls xs)
   index-numbered = (omega arith, (omega arith, (omega arith, (omega arith, (omega arith, tt)))))
 
-  pub string-first : (s : List ℕ) → First (string-rows cs ls xs s) (string-refusal cs ls xs s)
+  pub string-first : (s : List ℕ) → First (string-rows g cs ls xs s) (string-refusal g cs ls xs s)
   unfolding string-refusal
   string-first s =
-      first-then (index-rows cs ls xs) _ index-numbered _ _ index-first
+      first-then (index-rows g cs ls xs) _ index-numbered _ _ index-first
       (λ a. first-cond 6 (String-wrong s) (string-wrong s) _ _ (reflects-string s) (λ f. first-none))
 
-  pub string-numbered : (s : List ℕ) → Numbered (string-rows cs ls xs s)
+  pub string-numbered : (s : List ℕ) → Numbered (string-rows g cs ls xs s)
   string-numbered s = (omega arith, (omega arith, (omega arith, (omega arith, (omega arith, (omega arith, tt))))))
 
-  pub find-first : (s ys o : List ℕ) → First (find-rows cs ls xs s ys o) (find-refusal cs ls xs s (length ys) (length o))
+  pub find-first : (s ys o : List ℕ) → First (find-rows g cs ls xs s ys o) (find-refusal g cs ls xs s (length ys) (length o))
   unfolding find-refusal
   find-first s ys o =
-      first-then (string-rows cs ls xs s) _ (string-numbered s) _ _ (string-first s) (λ a. output-first ys o)
+      first-then (string-rows g cs ls xs s) _ (string-numbered s) _ _ (string-first s) (λ a. output-first ys o)
 
-  pub gaps-first : (ys o : List ℕ) → First (gaps-rows cs ls xs ys o) (gaps-refusal cs ls xs (length ys) (length o))
+  pub gaps-first : (ys o : List ℕ) → First (gaps-rows g cs ls xs ys o) (gaps-refusal g cs ls xs (length ys) (length o))
   unfolding gaps-refusal
-  gaps-first ys o = first-then (index-rows cs ls xs) _ index-numbered _ _ index-first (λ a. output-first ys o)
+  gaps-first ys o = first-then (index-rows g cs ls xs) _ index-numbered _ _ index-first (λ a. output-first ys o)
 
 module _ (ws fs : List (List ℕ)) where
   pub parts-first : First (parts-rows ws fs) (contents-refusal ws fs)
@@ -202,41 +202,41 @@ regroup zero false true d = refl
 regroup zero false false d = refl
 regroup (suc i) b c d = rw (ne-eqb (suc i) 0 (λ (e : suc i ≡ 0). omega arith), ne-eqb (suc i) 0 (λ (e : suc i ≡ 0). omega arith))
 
-module _ (cs ls xs : List ℕ) (chars : all-chars cs ≡ true) where
-  admits : index-refusal cs ls xs ≡ 0 → admitted cs ls ≡ true
+module _ (g : ℕ) (cs ls xs : List ℕ) (chars : all-chars cs ≡ true) where
+  admits : index-refusal g cs ls xs ≡ 0 → admitted cs ls ≡ true
   unfolding admitted
-  admits none = and-put chars (eq-eqb (dictionary-refusal cs ls) 0 (index-accepted cs ls xs none .no-refusal))
+  admits none = and-put chars (eq-eqb (dictionary-refusal cs ls) 0 (index-accepted g cs ls xs none .no-refusal))
 
-  index-text : index-refusal cs ls xs ≡ 0 → (received longest-text (lexicon cs ls) xs ≡ true) → Has-text (lexicon cs ls) xs
+  index-text : index-refusal g cs ls xs ≡ 0 → (received g (lexicon cs ls) xs ≡ true) → Has-text g (lexicon cs ls) xs
   unfolding Demand-three
   index-text none t =
-      let serves = demand-three longest-text cs ls xs (admits none) .0 t in
+      let serves = demand-three g cs ls xs (admits none) .0 t in
       (recovered (lexicon cs ls) xs, serves .text)
 
-  text-index : index-refusal cs ls xs ≡ 0 → Has-text (lexicon cs ls) xs → received longest-text (lexicon cs ls) xs ≡ true
+  text-index : index-refusal g cs ls xs ≡ 0 → Has-text g (lexicon cs ls) xs → received g (lexicon cs ls) xs ≡ true
   unfolding Demand-three
-  text-index none h = demand-three longest-text cs ls xs (admits none) .1 (h .0) (h .1)
+  text-index none h = demand-three g cs ls xs (admits none) .1 (h .0) (h .1)
 
-  reflects-no-text : index-refusal cs ls xs ≡ 0 → Reflects (no-text (lexicon cs ls) xs) (No-text (lexicon cs ls) xs)
+  reflects-no-text : index-refusal g cs ls xs ≡ 0 → Reflects (no-text g (lexicon cs ls) xs) (No-text g (lexicon cs ls) xs)
   unfolding no-text
   reflects-no-text none =
       record {
-        holds = λ t. (index-accepted cs ls xs none .is-readable, λ h. clash (text-index none h) (not-get _ t));
+        holds = λ t. (index-accepted g cs ls xs none .is-readable, λ h. clash (text-index none h) (not-get _ t));
         fails = λ f h. h .1 (index-text none (not-false _ f));
       }
 
-  pub reception-first : (w : List ℕ) → First (reception-rows cs ls xs w) (reception-refusal cs ls xs (length w))
+  pub reception-first : (w : List ℕ) → First (reception-rows g cs ls xs w) (reception-refusal g cs ls xs (length w))
   unfolding reception-refusal
   reception-first w =
-      first-then (index-rows cs ls xs) _ (index-numbered cs ls xs) _ _ (index-first cs ls xs)
+      first-then (index-rows g cs ls xs) _ (index-numbered g cs ls xs) _ _ (index-first g cs ls xs)
       (λ a.
       first-cond 7 (Work-short (n-of xs) w) (work-short (n-of xs) (length w)) _ _ (reflects-work (n-of xs) w)
       (λ f.
-      first-cond 9 (No-text (lexicon cs ls) xs) (no-text (lexicon cs ls) xs) _ _ (reflects-no-text a) (λ g. first-none)))
+      first-cond 9 (No-text g (lexicon cs ls) xs) (no-text g (lexicon cs ls) xs) _ _ (reflects-no-text a) (λ h. first-none)))
 
   reflects-recovery-short :
-      index-refusal cs ls xs ≡ 0 → no-text (lexicon cs ls) xs ≡ false → (o : List ℕ) →
-      Reflects (output-short (n-of xs) (length o)) (Recovery-short (lexicon cs ls) xs o)
+      index-refusal g cs ls xs ≡ 0 → no-text g (lexicon cs ls) xs ≡ false → (o : List ℕ) →
+      Reflects (output-short (n-of xs) (length o)) (Recovery-short g (lexicon cs ls) xs o)
   unfolding no-text output-short
   reflects-recovery-short none received o =
       record {
@@ -244,17 +244,17 @@ module _ (cs ls xs : List ℕ) (chars : all-chars cs ≡ true) where
         fails = λ f h. reflects-lt (length o) (n-of xs) .fails f (h .0);
       }
 
-  pub recovery-first : (o w : List ℕ) → First (recovery-rows cs ls xs o w) (recovery-refusal cs ls xs (length o) (length w))
+  pub recovery-first : (o w : List ℕ) → First (recovery-rows g cs ls xs o w) (recovery-refusal g cs ls xs (length o) (length w))
   unfolding recovery-refusal reception-refusal
   recovery-first o w =
-      subst (First (recovery-rows cs ls xs o w))
-      (sym (regroup (index-refusal cs ls xs) (work-short (n-of xs) (length w)) (no-text (lexicon cs ls) xs)
+      subst (First (recovery-rows g cs ls xs o w))
+      (sym (regroup (index-refusal g cs ls xs) (work-short (n-of xs) (length w)) (no-text g (lexicon cs ls) xs)
       (output-short (n-of xs) (length o))))
-      (first-then (index-rows cs ls xs) _ (index-numbered cs ls xs) _ _ (index-first cs ls xs)
+      (first-then (index-rows g cs ls xs) _ (index-numbered g cs ls xs) _ _ (index-first g cs ls xs)
       (λ a.
       first-cond 7 (Work-short (n-of xs) w) (work-short (n-of xs) (length w)) _ _ (reflects-work (n-of xs) w)
       (λ f.
-      first-cond 9 (No-text (lexicon cs ls) xs) (no-text (lexicon cs ls) xs) _ _ (reflects-no-text a)
-      (λ g.
-      first-cond 8 (Recovery-short (lexicon cs ls) xs o) (output-short (n-of xs) (length o)) _ _ (reflects-recovery-short a g o)
-      (λ h. first-none)))))
+      first-cond 9 (No-text g (lexicon cs ls) xs) (no-text g (lexicon cs ls) xs) _ _ (reflects-no-text a)
+      (λ h.
+      first-cond 8 (Recovery-short g (lexicon cs ls) xs o) (output-short (n-of xs) (length o)) _ _ (reflects-recovery-short a h o)
+      (λ i. first-none)))))

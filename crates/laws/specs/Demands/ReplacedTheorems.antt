@@ -143,9 +143,9 @@ same-lettering cs ls ts us adm chars also = (
 same-length : (s t : List ℕ) → replaced s ≡ replaced t → length s ≡ length t
 same-length s t e = sym (length-replaced s) ∙ ap length e ∙ length-replaced t
 
-pub either-width : Either-width
+pub either-width : (g : ℕ) → Either-width g
 unfolding Build-says build-refusal text-too-long Search-says Cut-says First-says find-refusal string-refusal string-wrong
-either-width =
+either-width g =
     record {
       builds = λ cs ls ts us r o z w v e says. rw (e, same-length ts us e) at says;
       searches = λ cs ls xs s t r o z e says. rw (e, same-length s t e) at says;

@@ -3,7 +3,7 @@ use mathlib.Core.Path.{_≡_, refl, sym, ap, _∙_}
 use mathlib.Core.Bool.{true, _&&_}
 use mathlib.Core.Logic.{inl, inr, ⊎-elim}
 use mathlib.Core.List.{List, [], _∷_}
-use Prim.Native.Nat.{ℕ, zero, suc, _+_, _*_, _-_, _≤_, _<_}
+use Prim.Native.Nat.{ℕ, zero, suc, _+_, _*_, _-_, _^_, _≤_, _<_}
 use native.Mathlib.Omega.{arith}
 use lib.Dec.{leb}
 use lib.ListN.{length, getD, take, drop, set, length-set}
@@ -12,7 +12,7 @@ use borrow.Author.Count.{below-more}
 use Rattle.basics.specs.Bools.{and-left}
 use Rattle.basics.specs.Member.{In}
 use Rattle.basics.specs.Writing.{over}
-use Rattle.spec.specs.Dictionary.{longest-text, lexicon, total, ascend}
+use Rattle.spec.specs.Dictionary.{lexicon, total, ascend}
 use Rattle.spec.specs.Words.{key, spells}
 use Rattle.spec.specs.Numbers.{Line, line}
 use Rattle.spec.specs.Index.{greatest-number, header, n-of, keys-of, kind-at, value-at}
@@ -41,7 +41,7 @@ pub record Can-read (cs ls xs : List ℕ) : Type 0 where
   pub words-rise : ascend (lexicon cs ls .words) ≡ true
   pub fits : Fits xs
   pub lines : Good-lines (lexicon cs ls) (n-of xs) (lines-in xs)
-  pub n-small : n-of xs ≤ longest-text
+  pub n-small : n-of xs ≤ 2 ^ 32
   pub keys-small : keys-of xs ≤ greatest-number
 
 -- a readable index, and the table of its dictionary's word starts
@@ -165,30 +165,31 @@ pub record Opened (cs ws xs ts : List ℕ) : Type 0 where
   pub list-starts : List-starts xs (keys-of xs) ts
 
 -- what holds for an accepted index
-pub can-read : (cs ls xs : List ℕ) → Small cs → Small xs → index-refusal cs ls xs ≡ 0 → Can-read cs ls xs
+pub can-read :
+    (g : ℕ) (cs ls xs : List ℕ) → Small cs → ((i : ℕ) → getD xs i 0 ≤ greatest-number) → index-refusal g cs ls xs ≡ 0 → Can-read cs ls xs
 unfolding readable
-can-read cs ls xs small-chars small none =
+can-read g cs ls xs small-chars small none =
     record {
       few-words = admitted .few;
       few-chars = admitted .small;
       sum = admitted .sum;
       lexicon-good = admitted-lexicon cs ls (no-refusal cs ls small-chars (ok .no-refusal));
       words-rise = admitted-ascend cs ls (no-refusal cs ls small-chars (ok .no-refusal));
-      fits = lengths-fit-get xs (and-left (lengths-fit xs) (leb (n-of xs) longest-text) front);
-      lines = readable-get longest-text (lexicon cs ls) xs (ok .is-readable) .lines;
+      fits = lengths-fit-get xs (and-left (lengths-fit xs) (leb (n-of xs) g) front);
+      lines = readable-get g (lexicon cs ls) xs (ok .is-readable) .lines;
       n-small = omega (arith, small 0);
       keys-small = omega (arith, small 1);
     }
   where
-    ok : Accepted cs ls xs
-    ok = index-accepted cs ls xs none
+    ok : Accepted g cs ls xs
+    ok = index-accepted g cs ls xs none
 
     admitted : Is-admitted cs ls
     admitted = dictionary-read cs ls small-chars (ok .no-refusal)
 
-    front : (lengths-fit xs && leb (n-of xs) longest-text) ≡ true
+    front : (lengths-fit xs && leb (n-of xs) g) ≡ true
     front =
-        and-left (lengths-fit xs && leb (n-of xs) longest-text)
+        and-left (lengths-fit xs && leb (n-of xs) g)
         (kinds-good (keys-of xs) 0 xs && (keys-ascend (lines-in xs) && lines-good (lexicon cs ls) (n-of xs) (lines-in xs)))
         (ok .is-readable)
 

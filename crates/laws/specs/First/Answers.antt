@@ -9,14 +9,15 @@ use Rattle.spec.specs.First.{first-position}
 use Rattle.spec.specs.Calls.{string-refusal, First-says}
 use Rattle.laws.specs.Dictionary.Answering.{accepted-yes, accepted-no}
 
-module _ (cs ls xs s : List ℕ) (r : FirstAnswer) (number : r .refusal ≡ string-refusal cs ls xs s) where
+module _ (g : ℕ) (cs ls xs s : List ℕ) (r : FirstAnswer) (number : r .refusal ≡ string-refusal g cs ls xs s) where
   abbrev first : ℕ
   first = first-position (lexicon cs ls) xs (replaced s)
 
-  pub first-refused : (string-refusal cs ls xs s ≡ 0 → ⊥) → r .position ≡ 0 → First-says cs ls xs s r
+  pub first-refused : (string-refusal g cs ls xs s ≡ 0 → ⊥) → r .position ≡ 0 → First-says g cs ls xs s r
   unfolding First-says
-  first-refused some none = (number, none ∙ sym (accepted-no (string-refusal cs ls xs s) first 0 some))
+  first-refused some none = (number, none ∙ sym (accepted-no (string-refusal g cs ls xs s) first 0 some))
 
-  pub first-says : string-refusal cs ls xs s ≡ 0 → r .position ≡ first-position (lexicon cs ls) xs (replaced s) → First-says cs ls xs s r
+  pub first-says :
+      string-refusal g cs ls xs s ≡ 0 → r .position ≡ first-position (lexicon cs ls) xs (replaced s) → First-says g cs ls xs s r
   unfolding First-says
-  first-says none position = (number, position ∙ sym (accepted-yes (string-refusal cs ls xs s) first 0 none))
+  first-says none position = (number, position ∙ sym (accepted-yes (string-refusal g cs ls xs s) first 0 none))

@@ -61,13 +61,13 @@ found-in-hand lex xs {s} r o z is room =
 
 -- an index that search and printing take
 pub record Usable (cs ls xs : List ℕ) : Type 0 where
-  pub accepts : index-refusal cs ls xs ≡ 0
+  pub accepts : index-refusal longest-text cs ls xs ≡ 0
   pub short : n-of xs ≤ 2000
   pub few : length xs ≤ 8002
 
 pub usable-whole : {cs ls xs : List ℕ} → Usable cs ls xs → Whole xs
 usable-whole {cs} {ls} {xs} u =
-    let fits : Fits xs = readable-fits longest-text (lexicon cs ls) xs (index-accepted cs ls xs (u .accepts) .is-readable) in
+    let fits : Fits xs = readable-fits longest-text (lexicon cs ls) xs (index-accepted longest-text cs ls xs (u .accepts) .is-readable) in
     record { headed = fits .has-header; exact = fits .is-long }
 
 module _ (cs ls ts : List ℕ) (chars : Chars cs) (text : Chars ts) (none : dictionary-refusal cs ls ≡ 0) (short : length ts ≤ 2000) where
@@ -82,18 +82,18 @@ module _ (cs ls ts : List ℕ) (chars : Chars cs) (text : Chars ts) (none : dict
       record {
         accepts =
             sym
-            (accepts-index cs ls (index-of (lexicon cs ls) (replaced ts)) none
+            (accepts-index longest-text cs ls (index-of (lexicon cs ls) (replaced ts)) none
             (index-readable (lexicon cs ls) good (replaced ts) chars-replaced longest-text (omega (arith, length-replaced ts))));
         short = omega (arith, n-of-index (lexicon cs ls) (replaced ts), length-replaced ts);
         few = omega (arith, index-short (lexicon cs ls) (replaced ts) good chars-replaced, length-replaced ts);
       }
 
   pub build-accepted :
-      (r : Answer) (o z w v : List ℕ) → 8002 ≤ length o → 16000 ≤ length w → Build-says cs ls ts r o z w v →
+      (r : Answer) (o z w v : List ℕ) → 8002 ≤ length o → 16000 ≤ length w → Build-says longest-text cs ls ts r o z w v →
       In-hand (index-of (lexicon cs ls) (replaced ts)) (r .count) z
   unfolding Build-says
   build-accepted r o z w v room work says =
-      puts-get (build-refusal cs ls ts (length o) (length w)) (index-of (lexicon cs ls) (replaced ts)) r o z
-      (build-late cs ls ts (length w) (length o) (early-none cs ls ts (length w) none (omega arith) (omega arith))
+      puts-get (build-refusal longest-text cs ls ts (length o) (length w)) (index-of (lexicon cs ls) (replaced ts)) r o z
+      (build-late longest-text cs ls ts (length w) (length o) (early-none longest-text cs ls ts (length w) none (omega arith) (omega arith))
       ∙ output-fits (length (index-of (lexicon cs ls) (replaced ts))) (length o) (omega (arith, index-usable .few)))
       (says .0)

@@ -7,13 +7,13 @@ use Rattle.spec.specs.Calls.{index-refusal, accepted}
 use Rattle.laws.specs.Dictionary.Answering.{accepted-yes, accepted-no}
 
 -- the number of lines of the directory and the index at which the positions start; on a refusal both are 0
-pub record Bounded (cs ls xs : List ℕ) (refusal keys first : ℕ) : Type 0 where
-  pub number : refusal ≡ index-refusal cs ls xs
+pub record Bounded (g : ℕ) (cs ls xs : List ℕ) (refusal keys first : ℕ) : Type 0 where
+  pub number : refusal ≡ index-refusal g cs ls xs
   pub lines : keys ≡ accepted refusal (keys-of xs) 0
   pub positions : first ≡ accepted refusal (header + 3 * keys-of xs) 0
 
-module _ (cs ls xs : List ℕ) (refusal : ℕ) (number : refusal ≡ index-refusal cs ls xs) where
-  pub bounds-refused : (refusal ≡ 0 → ⊥) → Bounded cs ls xs refusal 0 0
+module _ (g : ℕ) (cs ls xs : List ℕ) (refusal : ℕ) (number : refusal ≡ index-refusal g cs ls xs) where
+  pub bounds-refused : (refusal ≡ 0 → ⊥) → Bounded g cs ls xs refusal 0 0
   bounds-refused some =
       record {
         number = number;
@@ -22,7 +22,7 @@ module _ (cs ls xs : List ℕ) (refusal : ℕ) (number : refusal ≡ index-refus
       }
 
   pub bounds-accepted :
-      refusal ≡ 0 → {keys first : ℕ} → keys ≡ keys-of xs → first ≡ header + 3 * keys-of xs → Bounded cs ls xs refusal keys first
+      refusal ≡ 0 → {keys first : ℕ} → keys ≡ keys-of xs → first ≡ header + 3 * keys-of xs → Bounded g cs ls xs refusal keys first
   bounds-accepted none is-keys is-first =
       record {
         number = number;
@@ -31,8 +31,8 @@ module _ (cs ls xs : List ℕ) (refusal : ℕ) (number : refusal ≡ index-refus
       }
 
 -- what holds if the index is accepted: no line is met, and the bounds are those of the directory
-module _ {cs ls xs : List ℕ} {refusal keys first : ℕ} (b : Bounded cs ls xs refusal keys first) (none : refusal ≡ 0) where
-  pub opened-accepted : index-refusal cs ls xs ≡ 0
+module _ {g : ℕ} {cs ls xs : List ℕ} {refusal keys first : ℕ} (b : Bounded g cs ls xs refusal keys first) (none : refusal ≡ 0) where
+  pub opened-accepted : index-refusal g cs ls xs ≡ 0
   opened-accepted = sym (b .number) ∙ none
 
   pub opened-keys : keys ≡ keys-of xs

@@ -10,7 +10,7 @@ use lib.ListN.{length, take, drop, replicate, length-replicate, getD-replicate, 
 use lib.Seq.{length-take-le}
 use Rattle.basics.specs.Bools.{clash, le-or-lt}
 use Rattle.spec.specs.Replaced.{holds-full-width}
-use Rattle.spec.specs.Dictionary.{longest-text, Lexicon, admitted}
+use Rattle.spec.specs.Dictionary.{Lexicon, admitted}
 use Rattle.spec.specs.Index.{n-of, lines-in, readable}
 use Rattle.spec.specs.Reception.{recovered, is-index, received}
 use Rattle.models.specs.Entries.{flat}
@@ -26,13 +26,13 @@ use Rattle.laws.specs.Receive.Receiving.{delivery-refusal, delivered}
 -- THE TEXT
 
 -- whether the numbers are the index of the text recovered from them; if so, that text is at the start of the work slice
-pub record Read-back (lex : Lexicon) (xs : List ℕ) (r : Bool) (work-now : List ℕ) : Type 0 where
-  pub exact : r ≡ is-index longest-text lex xs
+pub record Read-back (g : ℕ) (lex : Lexicon) (xs : List ℕ) (r : Bool) (work-now : List ℕ) : Type 0 where
+  pub exact : r ≡ is-index g lex xs
   pub text : r ≡ true → take (n-of xs) work-now ≡ recovered lex xs
 
 -- whether an index is received; if so, its text is at the start of the work slice
-pub record Tried (lex : Lexicon) (xs : List ℕ) (r : Bool) (work-now : List ℕ) : Type 0 where
-  pub exact : r ≡ received longest-text lex xs
+pub record Tried (g : ℕ) (lex : Lexicon) (xs : List ℕ) (r : Bool) (work-now : List ℕ) : Type 0 where
+  pub exact : r ≡ received g lex xs
   pub text : r ≡ true → take (n-of xs) work-now ≡ recovered lex xs
 
 -- a cleared slice maps no position
@@ -45,13 +45,13 @@ cleared-line-map n p =
 
 -- a delivered index's dictionary is admitted
 pub delivered-admitted :
-    (cs ls xs : List ℕ) (w : ℕ) → Chars cs → delivery-refusal cs ls xs w ≡ 0 → admitted cs ls ≡ true
-delivered-admitted cs ls xs w chars none = reached-admitted cs ls chars (delivered cs ls xs w none .admits)
+    (g : ℕ) (cs ls xs : List ℕ) (w : ℕ) → Chars cs → delivery-refusal g cs ls xs w ≡ 0 → admitted cs ls ≡ true
+delivered-admitted g cs ls xs w chars none = reached-admitted cs ls chars (delivered g cs ls xs w none .admits)
 
 -- the work slice: w before the reconstruction, u after it, v after the line map is filled
-pub record In-work (lex : Lexicon) (xs : List ℕ) (n : ℕ) (w u v : List ℕ) : Type 0 where
+pub record In-work (g : ℕ) (lex : Lexicon) (xs : List ℕ) (n : ℕ) (w u v : List ℕ) : Type 0 where
   pub good : Good-lexicon lex
-  pub can : readable longest-text lex xs ≡ true
+  pub can : readable g lex xs ≡ true
   pub n-is : n ≡ n-of xs
   pub room : n ≤ length w
   pub chars : Chars w
@@ -59,7 +59,7 @@ pub record In-work (lex : Lexicon) (xs : List ℕ) (n : ℕ) (w u v : List ℕ) 
   pub keeps : take n v ≡ take n u
   pub mapped : take n (drop n v) ≡ fill-line-map 0 (lines-in xs) (replicate n 0)
 
-module _ {lex : Lexicon} {xs : List ℕ} {n : ℕ} {w u v : List ℕ} (h : In-work lex xs n w u v) where
+module _ {g : ℕ} {lex : Lexicon} {xs : List ℕ} {n : ℕ} {w u v : List ℕ} (h : In-work g lex xs n w u v) where
   reconstructed : take n v ≡ reconstruct lex (flat lex (lines-in xs)) (take n w)
   reconstructed = h .keeps ∙ h .reconstructs
 
@@ -72,35 +72,35 @@ module _ {lex : Lexicon} {xs : List ℕ} {n : ℕ} {w u v : List ℕ} (h : In-wo
   pub tried-mapped : Line-map xs (mapped-at (take n (drop n v)))
   tried-mapped =
       rw (h .mapped)
-      (line-map-mapped (h .good) longest-text xs (h .can) (replicate n 0) line-map-long (λ p lo. cleared-line-map n p))
+      (line-map-mapped (h .good) g xs (h .can) (replicate n 0) line-map-long (λ p lo. cleared-line-map n p))
 
   pub tried-chars : Chars (take n v)
   tried-chars =
       rw reconstructed
-      (reconstructing-chars (h .good) longest-text xs (h .can) (take n w) (replicate n 0)
+      (reconstructing-chars (h .good) g xs (h .can) (take n w) (replicate n 0)
       (chars-take n w (h .chars)) text-long line-map-long (λ p lo. cleared-line-map n p))
 
-  pub read-back : {r : Bool} → r ≡ verify lex (mapped-at (take n (drop n v))) xs (take n v) → Read-back lex xs r v
+  pub read-back : {r : Bool} → r ≡ verify lex (mapped-at (take n (drop n v))) xs (take n v) → Read-back g lex xs r v
   read-back {r} e = record { exact = exact; text = λ t. rw (← h .n-is) (reconstructed ∙ recovers (sym exact ∙ t)) }
     where
-      exact : r ≡ is-index longest-text lex xs
+      exact : r ≡ is-index g lex xs
       exact =
           e
           ∙ rw (h .mapped, reconstructed)
-          (reception-exact (h .good) longest-text xs (h .can) (take n w) (replicate n 0)
+          (reception-exact (h .good) g xs (h .can) (take n w) (replicate n 0)
           (chars-take n w (h .chars)) text-long line-map-long (λ p lo. cleared-line-map n p))
 
-      recovers : is-index longest-text lex xs ≡ true → reconstruct lex (flat lex (lines-in xs)) (take n w) ≡ recovered lex xs
+      recovers : is-index g lex xs ≡ true → reconstruct lex (flat lex (lines-in xs)) (take n w) ≡ recovered lex xs
       recovers =
-          reception-recovers (h .good) longest-text xs (h .can) (take n w) (replicate n 0)
+          reception-recovers (h .good) g xs (h .can) (take n w) (replicate n 0)
           (chars-take n w (h .chars)) text-long line-map-long (λ p lo. cleared-line-map n p)
 
 -- the index is received if that text has no full-width form
-module _ {lex : Lexicon} {xs v : List ℕ} {shown : Bool} (h : Read-back lex xs shown v) where
-  pub not-tried : shown ≡ false → Tried lex xs false v
+module _ {g : ℕ} {lex : Lexicon} {xs v : List ℕ} {shown : Bool} (h : Read-back g lex xs shown v) where
+  pub not-tried : shown ≡ false → Tried g lex xs false v
   unfolding received
   not-tried f = record { exact = rw (← h .exact, f) refl; text = λ t. clash t refl }
 
-  pub tried : shown ≡ true → (held : Bool) → held ≡ holds-full-width (take (n-of xs) v) → Tried lex xs (not held) v
+  pub tried : shown ≡ true → (held : Bool) → held ≡ holds-full-width (take (n-of xs) v) → Tried g lex xs (not held) v
   unfolding received
   tried t held e = record { exact = rw (← h .exact, t, ← h .text t, ← e) refl; text = λ u. h .text t }

@@ -13,7 +13,7 @@ use Rattle.basics.specs.Bools.{true-or-false, le-or-lt}
 use Rattle.basics.specs.Writing.{over}
 use Rattle.basics.specs.Placed.{placed, Wrote}
 use Rattle.spec.specs.declared.Answer.{Answer}
-use Rattle.spec.specs.Dictionary.{longest-text, lexicon, dictionary-refusal}
+use Rattle.spec.specs.Dictionary.{lexicon, dictionary-refusal}
 use Rattle.spec.specs.Index.{header, n-of, readable}
 use Rattle.spec.specs.Reception.{recovered, received}
 use Rattle.spec.specs.Calls.{work-short, no-text, or-else, index-refusal, reception-refusal, recovery-refusal, in-front, zeros, Puts}
@@ -31,8 +31,8 @@ unfoldable pub or-work-short : (refusal : ℕ) (index : List ℕ) (work : ℕ) �
 or-work-short refusal xs w = or-else refusal (cond (work-short (n-of xs) w) 7 0)
 
 -- the refusals that need no reconstruction: 1 to 3, 12, 5, 7
-abbrev pub delivery-refusal : (chars lengths index : List ℕ) → (work : ℕ) → ℕ
-delivery-refusal cs ls xs w = or-work-short (index-refusal cs ls xs) xs w
+abbrev pub delivery-refusal : (g : ℕ) → (chars lengths index : List ℕ) → (work : ℕ) → ℕ
+delivery-refusal g cs ls xs w = or-work-short (index-refusal g cs ls xs) xs w
 
 module _ (refusal : ℕ) (xs : List ℕ) (w : ℕ) where
   pub short-refused : (refusal ≡ 0 → ⊥) → refusal ≡ or-work-short refusal xs w
@@ -49,76 +49,76 @@ module _ (refusal : ℕ) (xs : List ℕ) (w : ℕ) where
     short-none room = rw (eq-eqb refusal 0 none, le-ltb w (8 * n-of xs) room)
 
 -- what holds if none of them is met
-pub record Delivered (cs ls xs : List ℕ) (w : ℕ) : Type 0 where
+pub record Delivered (g : ℕ) (cs ls xs : List ℕ) (w : ℕ) : Type 0 where
   pub admits : dictionary-refusal cs ls ≡ 0
-  pub can-read : readable longest-text (lexicon cs ls) xs ≡ true
+  pub can-read : readable g (lexicon cs ls) xs ≡ true
   pub fits : Fits xs
   pub room : 8 * n-of xs ≤ w
 
-pub delivery-header : (cs ls xs : List ℕ) → index-refusal cs ls xs ≡ 0 → header ≤ length xs
-delivery-header cs ls xs none = readable-fits longest-text (lexicon cs ls) xs (index-accepted cs ls xs none .is-readable) .has-header
+pub delivery-header : (g : ℕ) (cs ls xs : List ℕ) → index-refusal g cs ls xs ≡ 0 → header ≤ length xs
+delivery-header g cs ls xs none = readable-fits g (lexicon cs ls) xs (index-accepted g cs ls xs none .is-readable) .has-header
 
-module _ (cs ls xs : List ℕ) (w : ℕ) where
+module _ (g : ℕ) (cs ls xs : List ℕ) (w : ℕ) where
   -- by the refusal of an opened index
   pub opened-delivery :
-      (refusal early : ℕ) → refusal ≡ index-refusal cs ls xs → early ≡ or-work-short refusal xs w → early ≡ delivery-refusal cs ls xs w
+      (refusal early : ℕ) → refusal ≡ index-refusal g cs ls xs → early ≡ or-work-short refusal xs w → early ≡ delivery-refusal g cs ls xs w
   opened-delivery refusal early number e = rw number at e
 
   -- an early refusal is the call's refusal
   pub reception-early :
-      (number : ℕ) → number ≡ delivery-refusal cs ls xs w → (number ≡ 0 → ⊥) → reception-refusal cs ls xs w ≡ number
+      (number : ℕ) → number ≡ delivery-refusal g cs ls xs w → (number ≡ 0 → ⊥) → reception-refusal g cs ls xs w ≡ number
   unfolding reception-refusal or-work-short or-else work-short
-  reception-early number e some = go (eqb (index-refusal cs ls xs) 0) refl (ltb w (8 * n-of xs)) refl ∙ sym e
+  reception-early number e some = go (eqb (index-refusal g cs ls xs) 0) refl (ltb w (8 * n-of xs)) refl ∙ sym e
     where
       go :
-          (a : Bool) → eqb (index-refusal cs ls xs) 0 ≡ a → (b : Bool) → ltb w (8 * n-of xs) ≡ b →
-          cond a (cond b 7 (cond (no-text (lexicon cs ls) xs) 9 0)) (index-refusal cs ls xs)
-          ≡ cond a (cond b 7 0) (index-refusal cs ls xs)
+          (a : Bool) → eqb (index-refusal g cs ls xs) 0 ≡ a → (b : Bool) → ltb w (8 * n-of xs) ≡ b →
+          cond a (cond b 7 (cond (no-text g (lexicon cs ls) xs) 9 0)) (index-refusal g cs ls xs)
+          ≡ cond a (cond b 7 0) (index-refusal g cs ls xs)
       go false p b q = refl
       go true p true q = refl
       go true p false q = absurd (some (e ∙ rw (p, q) refl))
 
-  module _ (none : delivery-refusal cs ls xs w ≡ 0) where
-    no-index-refusal : index-refusal cs ls xs ≡ 0
+  module _ (none : delivery-refusal g cs ls xs w ≡ 0) where
+    no-index-refusal : index-refusal g cs ls xs ≡ 0
     no-index-refusal =
-        ⊎-elim (λ (e : eqb (index-refusal cs ls xs) 0 ≡ true). eqb-true (index-refusal cs ls xs) 0 e)
-        (λ (e : eqb (index-refusal cs ls xs) 0 ≡ false). short-refused (index-refusal cs ls xs) xs w
-        (eqb-false (index-refusal cs ls xs) 0 e) ∙ none)
-        (true-or-false (eqb (index-refusal cs ls xs) 0))
+        ⊎-elim (λ (e : eqb (index-refusal g cs ls xs) 0 ≡ true). eqb-true (index-refusal g cs ls xs) 0 e)
+        (λ (e : eqb (index-refusal g cs ls xs) 0 ≡ false). short-refused (index-refusal g cs ls xs) xs w
+        (eqb-false (index-refusal g cs ls xs) 0 e) ∙ none)
+        (true-or-false (eqb (index-refusal g cs ls xs) 0))
 
-    pub delivered : Delivered cs ls xs w
+    pub delivered : Delivered g cs ls xs w
     delivered =
-        let a = index-accepted cs ls xs no-index-refusal in
+        let a = index-accepted g cs ls xs no-index-refusal in
         record {
           admits = a .no-refusal;
           can-read = a .is-readable;
-          fits = readable-fits longest-text (lexicon cs ls) xs (a .is-readable);
+          fits = readable-fits g (lexicon cs ls) xs (a .is-readable);
           room =
               ⊎-elim (λ (h : 8 * n-of xs ≤ w). h)
-              (λ (h : w < 8 * n-of xs). absurd (omega (arith, short-work (index-refusal cs ls xs) xs w no-index-refusal h)))
+              (λ (h : w < 8 * n-of xs). absurd (omega (arith, short-work (index-refusal g cs ls xs) xs w no-index-refusal h)))
               (le-or-lt (8 * n-of xs) w);
         }
 
     -- without one the refusal is 9 or none
-    pub reception-unreceived : received longest-text (lexicon cs ls) xs ≡ false → reception-refusal cs ls xs w ≡ 9
+    pub reception-unreceived : received g (lexicon cs ls) xs ≡ false → reception-refusal g cs ls xs w ≡ 9
     unfolding reception-refusal or-else work-short no-text
     reception-unreceived f =
-        rw (eq-eqb (index-refusal cs ls xs) 0 no-index-refusal, le-ltb w (8 * n-of xs) (delivered .room), f)
+        rw (eq-eqb (index-refusal g cs ls xs) 0 no-index-refusal, le-ltb w (8 * n-of xs) (delivered .room), f)
 
-    pub reception-received : received longest-text (lexicon cs ls) xs ≡ true → reception-refusal cs ls xs w ≡ 0
+    pub reception-received : received g (lexicon cs ls) xs ≡ true → reception-refusal g cs ls xs w ≡ 0
     unfolding reception-refusal or-else work-short no-text
     reception-received t =
-        rw (eq-eqb (index-refusal cs ls xs) 0 no-index-refusal, le-ltb w (8 * n-of xs) (delivered .room), t)
+        rw (eq-eqb (index-refusal g cs ls xs) 0 no-index-refusal, le-ltb w (8 * n-of xs) (delivered .room), t)
 
   -- a refusal of reception is recovery's; else recovery's is 8 or none
   module _ (o : ℕ) where
-    pub recovery-early : (reception-refusal cs ls xs w ≡ 0 → ⊥) → recovery-refusal cs ls xs o w ≡ reception-refusal cs ls xs w
+    pub recovery-early : (reception-refusal g cs ls xs w ≡ 0 → ⊥) → recovery-refusal g cs ls xs o w ≡ reception-refusal g cs ls xs w
     unfolding recovery-refusal or-else
-    recovery-early some = rw (ne-eqb (reception-refusal cs ls xs w) 0 some)
+    recovery-early some = rw (ne-eqb (reception-refusal g cs ls xs w) 0 some)
 
-    pub recovery-late : reception-refusal cs ls xs w ≡ 0 → recovery-refusal cs ls xs o w ≡ output-refusal (n-of xs) o
+    pub recovery-late : reception-refusal g cs ls xs w ≡ 0 → recovery-refusal g cs ls xs o w ≡ output-refusal (n-of xs) o
     unfolding recovery-refusal or-else output-refusal
-    recovery-late none = rw (eq-eqb (reception-refusal cs ls xs w) 0 none)
+    recovery-late none = rw (eq-eqb (reception-refusal g cs ls xs w) 0 none)
 
 -- THE ANSWERS
 
@@ -161,69 +161,70 @@ unfolding zeros
 zeros-alike w u e = rw e
 
 -- w is the work slice as it was lent, u before it is cleared, and v after that
-module _ (cs ls xs : List ℕ) (r : Answer) (w u v : List ℕ) (same : length u ≡ length w) where
+module _ (g : ℕ) (cs ls xs : List ℕ) (r : Answer) (w u v : List ℕ) (same : length u ≡ length w) where
   pub receive-refused :
-      {number : ℕ} → number ≡ delivery-refusal cs ls xs (length w) → (number ≡ 0 → ⊥) → Refuses number r u v → Receive-says cs ls xs r w v
+      {number : ℕ} → number ≡ delivery-refusal g cs ls xs (length w) → (number ≡ 0 → ⊥) → Refuses number r u v →
+      Receive-says g cs ls xs r w v
   unfolding Receive-says
   receive-refused {number} e some h =
-      let early : reception-refusal cs ls xs (length w) ≡ number = reception-early cs ls xs (length w) number e some in (
-        answers-refused (reception-refusal cs ls xs (length w)) (n-of xs) r (h .is ∙ sym early)
-            (λ (z : reception-refusal cs ls xs (length w) ≡ 0). some (sym early ∙ z)) (h .nothing),
+      let early : reception-refusal g cs ls xs (length w) ≡ number = reception-early g cs ls xs (length w) number e some in (
+        answers-refused (reception-refusal g cs ls xs (length w)) (n-of xs) r (h .is ∙ sym early)
+            (λ (z : reception-refusal g cs ls xs (length w) ≡ 0). some (sym early ∙ z)) (h .nothing),
         h .cleared ∙ zeros-alike w u same,
       )
 
-  module _ (none : delivery-refusal cs ls xs (length w) ≡ 0) where
-    pub receive-unreceived : received longest-text (lexicon cs ls) xs ≡ false → Refuses 9 r u v → Receive-says cs ls xs r w v
+  module _ (none : delivery-refusal g cs ls xs (length w) ≡ 0) where
+    pub receive-unreceived : received g (lexicon cs ls) xs ≡ false → Refuses 9 r u v → Receive-says g cs ls xs r w v
     unfolding Receive-says
     receive-unreceived f h =
-        let nine : reception-refusal cs ls xs (length w) ≡ 9 = reception-unreceived cs ls xs (length w) none f in (
-          answers-refused (reception-refusal cs ls xs (length w)) (n-of xs) r (h .is ∙ sym nine)
-              (λ (z : reception-refusal cs ls xs (length w) ≡ 0). omega arith) (h .nothing),
+        let nine : reception-refusal g cs ls xs (length w) ≡ 9 = reception-unreceived g cs ls xs (length w) none f in (
+          answers-refused (reception-refusal g cs ls xs (length w)) (n-of xs) r (h .is ∙ sym nine)
+              (λ (z : reception-refusal g cs ls xs (length w) ≡ 0). omega arith) (h .nothing),
           h .cleared ∙ zeros-alike w u same,
         )
 
     pub receive-received :
-        received longest-text (lexicon cs ls) xs ≡ true → r .refusal ≡ 0 → r .count ≡ n-of xs → v ≡ zeros u → Receive-says cs ls xs r w v
+        received g (lexicon cs ls) xs ≡ true → r .refusal ≡ 0 → r .count ≡ n-of xs → v ≡ zeros u → Receive-says g cs ls xs r w v
     unfolding Receive-says
     receive-received t zero count cleared =
-        let accepted : reception-refusal cs ls xs (length w) ≡ 0 = reception-received cs ls xs (length w) none t in (
-          answers-accepted (reception-refusal cs ls xs (length w)) (n-of xs) r (zero ∙ sym accepted) accepted count,
+        let accepted : reception-refusal g cs ls xs (length w) ≡ 0 = reception-received g cs ls xs (length w) none t in (
+          answers-accepted (reception-refusal g cs ls xs (length w)) (n-of xs) r (zero ∙ sym accepted) accepted count,
           cleared ∙ zeros-alike w u same,
         )
 
-module _ (cs ls xs : List ℕ) (r : Answer) (o w u v : List ℕ) (same : length u ≡ length w) where
+module _ (g : ℕ) (cs ls xs : List ℕ) (r : Answer) (o w u v : List ℕ) (same : length u ≡ length w) where
   refusing :
-      {number : ℕ} → recovery-refusal cs ls xs (length o) (length w) ≡ number → (number ≡ 0 → ⊥) → Refuses number r u v →
-      Recover-says cs ls xs r o o w v
+      {number : ℕ} → recovery-refusal g cs ls xs (length o) (length w) ≡ number → (number ≡ 0 → ⊥) → Refuses number r u v →
+      Recover-says g cs ls xs r o o w v
   unfolding Recover-says
   refusing e some h = (
-    puts-refused (recovery-refusal cs ls xs (length o) (length w)) (recovered (lexicon cs ls) xs) r o o (h .is ∙ sym e)
-        (λ (z : recovery-refusal cs ls xs (length o) (length w) ≡ 0). some (sym e ∙ z)) (h .nothing) refl,
+    puts-refused (recovery-refusal g cs ls xs (length o) (length w)) (recovered (lexicon cs ls) xs) r o o (h .is ∙ sym e)
+        (λ (z : recovery-refusal g cs ls xs (length o) (length w) ≡ 0). some (sym e ∙ z)) (h .nothing) refl,
     h .cleared ∙ zeros-alike w u same,
   )
 
   pub recover-refused :
-      {number : ℕ} → number ≡ delivery-refusal cs ls xs (length w) → (number ≡ 0 → ⊥) → Refuses number r u v →
-      Recover-says cs ls xs r o o w v
+      {number : ℕ} → number ≡ delivery-refusal g cs ls xs (length w) → (number ≡ 0 → ⊥) → Refuses number r u v →
+      Recover-says g cs ls xs r o o w v
   recover-refused {number} e some h =
-      let early : reception-refusal cs ls xs (length w) ≡ number = reception-early cs ls xs (length w) number e some in
+      let early : reception-refusal g cs ls xs (length w) ≡ number = reception-early g cs ls xs (length w) number e some in
       refusing
-      (recovery-early cs ls xs (length w) (length o) (λ (z : reception-refusal cs ls xs (length w) ≡ 0). some (sym early ∙ z)) ∙
+      (recovery-early g cs ls xs (length w) (length o) (λ (z : reception-refusal g cs ls xs (length w) ≡ 0). some (sym early ∙ z)) ∙
       early) some h
 
-  module _ (none : delivery-refusal cs ls xs (length w) ≡ 0) where
-    pub recover-unreceived : received longest-text (lexicon cs ls) xs ≡ false → Refuses 9 r u v → Recover-says cs ls xs r o o w v
+  module _ (none : delivery-refusal g cs ls xs (length w) ≡ 0) where
+    pub recover-unreceived : received g (lexicon cs ls) xs ≡ false → Refuses 9 r u v → Recover-says g cs ls xs r o o w v
     recover-unreceived f h =
-        let nine : reception-refusal cs ls xs (length w) ≡ 9 = reception-unreceived cs ls xs (length w) none f in
+        let nine : reception-refusal g cs ls xs (length w) ≡ 9 = reception-unreceived g cs ls xs (length w) none f in
         refusing
-        (recovery-early cs ls xs (length w) (length o) (λ (z : reception-refusal cs ls xs (length w) ≡ 0). omega arith) ∙ nine)
+        (recovery-early g cs ls xs (length w) (length o) (λ (z : reception-refusal g cs ls xs (length w) ≡ 0). omega arith) ∙ nine)
         (λ (z : 9 ≡ 0). omega arith) h
 
     pub recover-received :
-        received longest-text (lexicon cs ls) xs ≡ true → take (n-of xs) u ≡ recovered (lexicon cs ls) xs → {z : List ℕ} →
-        Gives (n-of xs) r o z u v → Recover-says cs ls xs r o z w v
+        received g (lexicon cs ls) xs ≡ true → take (n-of xs) u ≡ recovered (lexicon cs ls) xs → {z : List ℕ} →
+        Gives (n-of xs) r o z u v → Recover-says g cs ls xs r o z w v
     unfolding Recover-says
     recover-received t text h =
-        let late : recovery-refusal cs ls xs (length o) (length w) ≡ output-refusal (n-of xs) (length o) =
-        recovery-late cs ls xs (length w) (length o) (reception-received cs ls xs (length w) none t) in
+        let late : recovery-refusal g cs ls xs (length o) (length w) ≡ output-refusal (n-of xs) (length o) =
+        recovery-late g cs ls xs (length w) (length o) (reception-received g cs ls xs (length w) none t) in
         (rw (late, ← text) (h .puts), h .cleared ∙ zeros-alike w u same)

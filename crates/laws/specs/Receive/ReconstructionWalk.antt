@@ -2,13 +2,13 @@
 use mathlib.Core.Path.{_≡_, refl, sym, ap, _∙_}
 use mathlib.Core.Bool.{Bool, true}
 use mathlib.Core.List.{List, [], _∷_, _++_}
-use Prim.Native.Nat.{ℕ, _+_, _*_, _-_, _≤_, _<_}
+use Prim.Native.Nat.{ℕ, _+_, _*_, _-_, _^_, _≤_, _<_}
 use native.Mathlib.Omega.{arith}
 use lib.ListN.{length, getD, take, drop}
 use lib.Seq.{sets}
 use Rattle.basics.specs.Bools.{Reflects}
 use Rattle.basics.specs.Member.{in-getD}
-use Rattle.spec.specs.Dictionary.{Lexicon, longest-text}
+use Rattle.spec.specs.Dictionary.{Lexicon}
 use Rattle.spec.specs.Words.{Key, key, spells, Entry, entry}
 use Rattle.spec.specs.Numbers.{Line, line}
 use Rattle.spec.specs.Index.{header, greatest-number, n-of, keys-of, kind-at, key-at, lines-in, readable}
@@ -33,8 +33,8 @@ use Rattle.laws.specs.Receive.LinePass.{line-positions, Passing, passing
 -- a readable index and an admitted dictionary, with its word starts
 module _ {cs ws : List ℕ} (started : Started cs ws) where
   pub started-reads :
-      (xs : List ℕ) → readable longest-text (lexicon-at cs ws) xs ≡ true → keys-of xs ≤ greatest-number → Reads cs ws xs
-  started-reads xs can keys =
+      (g : ℕ) → g ≤ 2 ^ 32 → (xs : List ℕ) → readable g (lexicon-at cs ws) xs ≡ true → keys-of xs ≤ greatest-number → Reads cs ws xs
+  started-reads g small xs can keys =
       record {
         can =
             record {
@@ -43,9 +43,9 @@ module _ {cs ws : List ℕ} (started : Started cs ws) where
               sum = facts .sum;
               lexicon-good = admitted-lexicon cs (lengths-of ws) (started .dictionary);
               words-rise = admitted-ascend cs (lengths-of ws) (started .dictionary);
-              fits = readable-fits longest-text (lexicon-at cs ws) xs can;
-              lines = readable-get longest-text (lexicon-at cs ws) xs can .lines;
-              n-small = readable-get longest-text (lexicon-at cs ws) xs can .length-allowed;
+              fits = readable-fits g (lexicon-at cs ws) xs can;
+              lines = readable-get g (lexicon-at cs ws) xs can .lines;
+              n-small = omega (arith, readable-get g (lexicon-at cs ws) xs can .length-allowed);
               keys-small = keys;
             };
         words = started .words;

@@ -74,20 +74,20 @@ module _ (n : ℕ) (s : List ℕ) where
     unfolding string-wrong
     string-accepted some short = string-test (or-none (ne-eqb (length s) 0 some) (le-ltb 256 (length s) short))
 
-module _ (cs ls xs s : List ℕ) where
+module _ (g : ℕ) (cs ls xs s : List ℕ) where
   -- so this is the refusal of the call
   pub string-number :
-      {n r : ℕ} → n ≡ index-refusal cs ls xs → r ≡ or-else n (cond (string-wrong s) 6 0) → r ≡ string-refusal cs ls xs s
+      {n r : ℕ} → n ≡ index-refusal g cs ls xs → r ≡ or-else n (cond (string-wrong s) 6 0) → r ≡ string-refusal g cs ls xs s
   unfolding string-refusal
   string-number index e = rw index at e
 
   -- without one, the index is accepted and the string may be searched for
-  pub string-passes : string-refusal cs ls xs s ≡ 0 → (index-refusal cs ls xs ≡ 0) × Is-string s
+  pub string-passes : string-refusal g cs ls xs s ≡ 0 → (index-refusal g cs ls xs ≡ 0) × Is-string s
   unfolding string-refusal
   string-passes e = (none, record { some = some; short = short })
     where
       n : ℕ
-      n = index-refusal cs ls xs
+      n = index-refusal g cs ls xs
 
       none : n ≡ 0
       none =
@@ -106,15 +106,15 @@ module _ (cs ls xs s : List ℕ) where
 
 -- SEARCH AND THE CUT-DOWN INDEX: these, then 8
 
-module _ (cs ls xs s ys : List ℕ) (r : Answer) (o : List ℕ) where
+module _ (g : ℕ) (cs ls xs s ys : List ℕ) (r : Answer) (o : List ℕ) where
   pub finds-refused :
-      (string-refusal cs ls xs s ≡ 0 → ⊥) → r .refusal ≡ string-refusal cs ls xs s → r .count ≡ 0 →
-      Puts (find-refusal cs ls xs s (length ys) (length o)) ys r o o
+      (string-refusal g cs ls xs s ≡ 0 → ⊥) → r .refusal ≡ string-refusal g cs ls xs s → r .count ≡ 0 →
+      Puts (find-refusal g cs ls xs s (length ys) (length o)) ys r o o
   unfolding find-refusal or-else
   finds-refused some number none =
-      rw (ne-eqb (string-refusal cs ls xs s) 0 some) (refused (string-refusal cs ls xs s) ys r o some number none)
+      rw (ne-eqb (string-refusal g cs ls xs s) 0 some) (refused (string-refusal g cs ls xs s) ys r o some number none)
 
   pub finds-sized :
-      string-refusal cs ls xs s ≡ 0 → (z : List ℕ) → Sized ys r o z → Puts (find-refusal cs ls xs s (length ys) (length o)) ys r o z
+      string-refusal g cs ls xs s ≡ 0 → (z : List ℕ) → Sized ys r o z → Puts (find-refusal g cs ls xs s (length ys) (length o)) ys r o z
   unfolding find-refusal or-else Sized
   finds-sized none z h = rw none h

@@ -2,7 +2,7 @@
 use mathlib.Core.Path.{_≡_, refl, sym, ap, _∙_}
 use mathlib.Core.Bool.{Bool, true, false}
 use mathlib.Core.List.{List}
-use Prim.Native.Nat.{ℕ, _+_, _-_, _≤_, _<_, max}
+use Prim.Native.Nat.{ℕ, _+_, _-_, _^_, _≤_, _<_, max}
 use native.Mathlib.Omega.{arith}
 use lib.ListN.{length, getD, drop, set, length-set}
 use Rattle.basics.specs.Bools.{clash}
@@ -17,10 +17,10 @@ use Rattle.laws.specs.Window.ListRange.{Window-range}
 pub record Offset-fits (len i o q : ℕ) : Type 0 where
   pub shared : i ≤ o + len
   pub end-small : o + len ≤ greatest-number
-  pub first-small : q ≤ 65536
+  pub first-small : q ≤ 2 ^ 32
 
 -- a key of an index that starts within the string
-pub offset-fits : (len o q : ℕ) → len ≤ 32 → o ≤ 256 → q ≤ 65536 → Offset-fits len 0 o q
+pub offset-fits : (len o q : ℕ) → len ≤ 32 → o ≤ 256 → q ≤ 2 ^ 32 → Offset-fits len 0 o q
 offset-fits len o q short start first = record { shared = omega arith; end-small = omega arith; first-small = first }
 
 -- ONE START

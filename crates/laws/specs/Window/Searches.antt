@@ -1,7 +1,7 @@
 -- The search of one string in one window of starts: what holds throughout, and what it gives for a line of a word. Assumes nothing.
 use mathlib.Core.Path.{_≡_}
 use mathlib.Core.List.{List}
-use Prim.Native.Nat.{ℕ, _≤_, _<_}
+use Prim.Native.Nat.{ℕ, _^_, _≤_, _<_}
 use native.Mathlib.Omega.{arith}
 use lib.ListN.{length}
 use Rattle.spec.specs.Words.{spells}
@@ -22,7 +22,7 @@ pub record Searches (cs ws xs ts s : List ℕ) (w q : ℕ) : Type 0 where
   pub opened : Opened cs ws xs ts
   pub split : Split xs w
   pub string : Is-string s
-  pub first-small : q ≤ 65536
+  pub first-small : q ≤ 2 ^ 32
 
 -- a line of a word
 module _ {cs ws xs ts s : List ℕ} {w q : ℕ} (h : Searches cs ws xs ts s w q) {i : ℕ} (below : i < w) where

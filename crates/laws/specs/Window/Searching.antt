@@ -83,23 +83,23 @@ all-starts lex xs s r o z starts e h = rw e at h
 
 -- A CALL: refused, or answered by what is found or by the cut-down index
 
-module _ (cs ls xs s : List ℕ) (r : Answer) (o : List ℕ) where
+module _ (g : ℕ) (cs ls xs s : List ℕ) (r : Answer) (o : List ℕ) where
   pub search-refused :
-      (string-refusal cs ls xs s ≡ 0 → ⊥) → r .refusal ≡ string-refusal cs ls xs s → r .count ≡ 0 → Search-says cs ls xs s r o o
+      (string-refusal g cs ls xs s ≡ 0 → ⊥) → r .refusal ≡ string-refusal g cs ls xs s → r .count ≡ 0 → Search-says g cs ls xs s r o o
   unfolding Search-says
-  search-refused = finds-refused cs ls xs s (find (lexicon cs ls) xs (replaced s)) r o
+  search-refused = finds-refused g cs ls xs s (find (lexicon cs ls) xs (replaced s)) r o
 
   pub search-says :
-      string-refusal cs ls xs s ≡ 0 → (z : List ℕ) → Sized (find (lexicon cs ls) xs (replaced s)) r o z → Search-says cs ls xs s r o z
+      string-refusal g cs ls xs s ≡ 0 → (z : List ℕ) → Sized (find (lexicon cs ls) xs (replaced s)) r o z → Search-says g cs ls xs s r o z
   unfolding Search-says
-  search-says = finds-sized cs ls xs s (find (lexicon cs ls) xs (replaced s)) r o
+  search-says = finds-sized g cs ls xs s (find (lexicon cs ls) xs (replaced s)) r o
 
   pub cut-refused :
-      (string-refusal cs ls xs s ≡ 0 → ⊥) → r .refusal ≡ string-refusal cs ls xs s → r .count ≡ 0 → Cut-says cs ls xs s r o o
+      (string-refusal g cs ls xs s ≡ 0 → ⊥) → r .refusal ≡ string-refusal g cs ls xs s → r .count ≡ 0 → Cut-says g cs ls xs s r o o
   unfolding Cut-says
-  cut-refused = finds-refused cs ls xs s (cut-down (lexicon cs ls) xs (replaced s)) r o
+  cut-refused = finds-refused g cs ls xs s (cut-down (lexicon cs ls) xs (replaced s)) r o
 
   pub cut-says :
-      string-refusal cs ls xs s ≡ 0 → (z : List ℕ) → Sized (cut-down (lexicon cs ls) xs (replaced s)) r o z → Cut-says cs ls xs s r o z
+      string-refusal g cs ls xs s ≡ 0 → (z : List ℕ) → Sized (cut-down (lexicon cs ls) xs (replaced s)) r o z → Cut-says g cs ls xs s r o z
   unfolding Cut-says
-  cut-says = finds-sized cs ls xs s (cut-down (lexicon cs ls) xs (replaced s)) r o
+  cut-says = finds-sized g cs ls xs s (cut-down (lexicon cs ls) xs (replaced s)) r o

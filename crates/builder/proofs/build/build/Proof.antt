@@ -3,6 +3,7 @@ use mathlib.Core.Path.{_≡_, _∙_, ap}
 use Prim.Native.Nat.{ℕ}
 use lib.ListN.{length, replicate}
 use borrow.Author.Needs.{needs}
+use Rattle.spec.specs.Dictionary.{longest-text}
 use Rattle.spec.specs.Calls.{Build-says, zeros}
 use Rattle.laws.specs.Build.Building.{early-refusal, build-refused}
 use Rattle.builder.proofs.build.build.Statement.{statement}
@@ -17,8 +18,8 @@ returns c =
     let ts = start .args .text .now in
     let w = length (start .args .work .now) in
     let said = c .before .before .refuse .ensures in (
-      build-refused cs ls ts w (start .args .output .now)
-          (λ (none : early-refusal cs ls ts w ≡ 0). c .before .before .before .before .if1 .taken
+      build-refused longest-text cs ls ts w (start .args .output .now)
+          (λ (none : early-refusal longest-text cs ls ts w ≡ 0). c .before .before .before .before .if1 .taken
           (c .before .before .before .before .before .early-refusal .ensures ∙ none))
           (c .before .before .refuse .result) (said .is ∙ c .before .before .before .before .before .early-refusal .ensures)
           (said .nothing),

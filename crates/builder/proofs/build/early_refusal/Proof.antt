@@ -1,6 +1,6 @@
 -- `early_refusal` meets its contract: one law for each return. Assumes nothing.
 use mathlib.Core.Path.{_≡_, sym, _∙_}
-use Rattle.spec.specs.Dictionary.{dictionary-refusal}
+use Rattle.spec.specs.Dictionary.{longest-text, dictionary-refusal}
 use Rattle.laws.specs.Build.Building.{early-dictionary, early-text, early-work, early-none}
 use borrow.Author.Needs.{needs}
 use Rattle.builder.proofs.build.early_refusal.Statement.{statement}
@@ -11,28 +11,28 @@ returns c =
     let start = c .before .before .before .before .before in
     c .before .refusal-of .ensures
     ∙ sym
-    (early-dictionary (start .args .chars .now) (start .args .lengths .now) (start .args .text .now) (start .args .work)
+    (early-dictionary longest-text (start .args .chars .now) (start .args .lengths .now) (start .args .text .now) (start .args .work)
     (λ (none : dictionary-refusal (start .args .chars .now) (start .args .lengths .now) ≡ 0). c .if1 .taken
     (c .before .refusal-of .ensures ∙ none)))
 
 returns-2 : tie.Need-returns-2
 returns-2 c =
     let start = c .before .before .before .before .before .before in
-    sym (early-text (start .args .chars .now) (start .args .lengths .now) (start .args .text .now) (start .args .work)
+    sym (early-text longest-text (start .args .chars .now) (start .args .lengths .now) (start .args .text .now) (start .args .work)
     (sym (c .before .before .refusal-of .ensures) ∙ c .before .if1 .left) (c .if2 .taken))
 
 returns-3 : tie.Need-returns-3
 returns-3 c =
     let start = c .before .before .before .before .before .before .before in
     sym
-    (early-work (start .args .chars .now) (start .args .lengths .now) (start .args .text .now) (start .args .work)
+    (early-work longest-text (start .args .chars .now) (start .args .lengths .now) (start .args .text .now) (start .args .work)
     (sym (c .before .before .before .refusal-of .ensures) ∙ c .before .before .if1 .left) (c .before .if2 .left) (c .if3 .taken))
 
 returns-4 : tie.Need-returns-4
 returns-4 c =
     let start = c .before .before .before .before .before .before .before in
     sym
-    (early-none (start .args .chars .now) (start .args .lengths .now) (start .args .text .now) (start .args .work)
+    (early-none longest-text (start .args .chars .now) (start .args .lengths .now) (start .args .text .now) (start .args .work)
     (sym (c .before .before .before .refusal-of .ensures) ∙ c .before .before .if1 .left) (c .before .if2 .left) (c .if3 .left))
 
 pub early-refusal-spec : {M : Type 1} → statement M

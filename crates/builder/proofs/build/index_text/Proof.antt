@@ -5,7 +5,7 @@ use mathlib.Core.Bool.{true}
 use native.Mathlib.Omega.{arith}
 use lib.ListN.{length, replicate}
 use borrow.Author.Needs.{needs}
-use Rattle.spec.specs.Dictionary.{admitted}
+use Rattle.spec.specs.Dictionary.{longest-text, admitted}
 use Rattle.laws.specs.Dictionary.Lexicon.{Is-admitted, admitted-get}
 use Rattle.laws.specs.Dictionary.WordStarts.{filled-long, filled-lengths}
 use Rattle.laws.specs.Match.MatchTable.{filled-room}
@@ -27,7 +27,7 @@ accepted c =
     let s = start c in
     let first = c .before .before .before .before in
     reached-admitted (s .args .chars .now) (s .args .lengths .now) (λ i h. omega (arith, first .shared-slice-known .given i))
-    (reached (s .args .chars .now) (s .args .lengths .now) (s .args .text .now) (length (s .args .work .now)) (s .pre) .admits)
+    (reached longest-text (s .args .chars .now) (s .args .lengths .now) (s .args .text .now) (length (s .args .work .now)) (s .pre) .admits)
 
 facts : (c : tie.After-slice-known2) → Is-admitted (start c .args .chars .now) (start c .args .lengths .now)
 facts c = admitted-get (start c .args .chars .now) (start c .args .lengths .now) (accepted c)

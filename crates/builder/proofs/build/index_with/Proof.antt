@@ -3,6 +3,7 @@
 use native.Mathlib.Omega.{arith}
 use lib.ListN.{length}
 use borrow.Author.Needs.{needs}
+use Rattle.spec.specs.Dictionary.{longest-text}
 use Rattle.models.specs.WordStarts.{lengths-of}
 use Rattle.laws.specs.Build.Building.{Reached, reached, front-linkable, build-tokens}
 use Rattle.builder.proofs.build.index_with.Statement.{statement}
@@ -22,9 +23,10 @@ filled-before c = filled (c .before .before .before)
 
 met :
     (s : tie.Start) →
-    Reached (s .args .chars .now) (lengths-of (s .args .word-starts .now)) (s .args .text .now) (length (s .args .work .now))
+    Reached longest-text (s .args .chars .now) (lengths-of (s .args .word-starts .now)) (s .args .text .now) (length (s .args .work .now))
 met s =
-    reached (s .args .chars .now) (lengths-of (s .args .word-starts .now)) (s .args .text .now) (length (s .args .work .now)) (s .pre .0)
+    reached longest-text (s .args .chars .now) (lengths-of (s .args .word-starts .now)) (s .args .text .now)
+    (length (s .args .work .now)) (s .pre .0)
 
 scan-replaced-requires : tie.Need-scan-replaced-requires
 scan-replaced-requires c κs =
@@ -38,8 +40,9 @@ finish-requires c κs =
     let s = start known in
     let first = known .before .before .before .before in (
       omega (arith, met s .room, scanned .scan-replaced .kept),
-      front-linkable (s .args .chars .now) (lengths-of (s .args .word-starts .now)) (s .args .text .now) (length (s .args .work .now))
-          (scanned .scan-replaced .last .1 .1 .1 .1 .1 .0) (λ i h. omega (arith, first .shared-slice-known .given i)) (s .pre .0)
+      front-linkable longest-text (omega arith) (s .args .chars .now) (lengths-of (s .args .word-starts .now)) (s .args .text .now)
+          (length (s .args .work .now)) (scanned .scan-replaced .last .1 .1 .1 .1 .1 .0)
+          (λ i h. omega (arith, first .shared-slice-known .given i)) (s .pre .0)
           (scanned .scan-replaced .ensures),
     )
 
@@ -52,7 +55,7 @@ returns c =
     let third = known .before .before in
     let first = third .before .before in
     let a = s .args in
-    build-tokens (a .chars .now) (lengths-of (a .word-starts .now)) (a .text .now) (length (a .work .now)) (a .output .now)
+    build-tokens longest-text (a .chars .now) (lengths-of (a .word-starts .now)) (a .text .now) (length (a .work .now)) (a .output .now)
     (λ i h. omega (arith, first .shared-slice-known .given i)) (λ i h. omega (arith, third .shared-slice-known3 .given i)) (s .pre .0)
     (scanned .scan-replaced .ensures) (finished .finish .result) (finished .finish .last .1 .0) (finished .finish .ensures)
 

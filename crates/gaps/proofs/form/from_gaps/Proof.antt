@@ -1,4 +1,5 @@
 -- `from_gaps` meets its contract: the contract of both directions, at the restoring one. Assumes nothing.
+use Rattle.spec.specs.Dictionary.{longest-text}
 use Rattle.laws.specs.Demands.GapCalls.{from-gaps-said}
 use borrow.Author.Needs.{needs}
 use Rattle.gaps.proofs.form.from_gaps.Statement.{statement}
@@ -8,7 +9,7 @@ returns : tie.Need-returns
 returns c =
     let asked = c .before .before .before in
     let a = asked .before .before .before .before .before .args in
-    from-gaps-said (a .chars .now) (a .lengths .now) (a .gaps .now) (c .before .before .put-form .result) (a .output .now) _
+    from-gaps-said longest-text (a .chars .now) (a .lengths .now) (a .gaps .now) (c .before .before .put-form .result) (a .output .now) _
     (c .before .before .put-form .ensures)
 
 pub from-gaps-spec : {M : Type 1} → statement M

@@ -5,6 +5,7 @@ use Prim.Native.Nat.{ℕ, _<_}
 use native.Mathlib.Omega.{arith}
 use lib.ListN.{length}
 use lib.Seq.{length-take-le}
+use Rattle.spec.specs.Dictionary.{longest-text}
 use Rattle.spec.specs.Gaps.{with-lists}
 use Rattle.spec.specs.Calls.{index-refusal}
 use Rattle.models.specs.Readability.{read-as}
@@ -30,8 +31,8 @@ returns c =
     let cs = s .args .chars .now in
     let ls = s .args .lengths .now in
     let number = c .before .refusal-as .ensures in
-    gaps-refused cs ls (read s) (form s) _ (s .args .output .now)
-    (λ (none : index-refusal cs ls (read s) ≡ 0). c .if1 .taken (number ∙ none)) number refl
+    gaps-refused longest-text cs ls (read s) (form s) _ (s .args .output .now)
+    (λ (none : index-refusal longest-text cs ls (read s) ≡ 0). c .if1 .taken (number ∙ none)) number refl
 
 returns-2 : tie.Need-returns-2
 returns-2 c =
@@ -39,7 +40,8 @@ returns-2 c =
     let o = s .args .output .now in
     let none = sym (c .before .before .refusal-as .ensures) ∙ c .before .if1 .left in
     let short : length o < length (form s) = omega (arith, form-length (s .args .restore) (s .args .index .now)) in
-    gaps-sized (s .args .chars .now) (s .args .lengths .now) (read s) (form s) _ o none _ (sized-short (form s) _ o short refl refl)
+    gaps-sized longest-text (s .args .chars .now) (s .args .lengths .now) (read s) (form s) _ o none _
+    (sized-short (form s) _ o short refl refl)
 
 slice-aggregate-write-form : tie.Need-slice-aggregate-write-form
 slice-aggregate-write-form c =
@@ -51,7 +53,7 @@ write-form-requires c κs =
     let tested = c .before .before .before in
     let s = start tested in
     let none = sym (tested .refusal-as .ensures) ∙ c .before .before .if1 .left in (
-      writable (s .args .chars .now) (s .args .lengths .now) (s .args .index .now) (s .args .restore)
+      writable longest-text (omega arith) (s .args .chars .now) (s .args .lengths .now) (s .args .index .now) (s .args .restore)
           (λ (i : ℕ). omega (arith, tested .before .before .before .before .shared-slice-known .given i)) none,
       length-take-le (length (s .args .index .now)) (s .args .output .now) (c .before .if2 .left),
     )
@@ -63,7 +65,7 @@ returns-3 c =
     let o = s .args .output .now in
     let none = sym (room .before .before .refusal-as .ensures) ∙ room .before .if1 .left in
     let len = form-length (s .args .restore) (s .args .index .now) in
-    gaps-sized (s .args .chars .now) (s .args .lengths .now) (read s) (form s) _ o none _
+    gaps-sized longest-text (s .args .chars .now) (s .args .lengths .now) (read s) (form s) _ o none _
     (sized-written (form s) _ o _ (omega (arith, len)) refl (sym len)
     (form-front (s .args .restore) (s .args .index .now) o _ (c .before .before .write-form .ensures)))
 

@@ -42,6 +42,7 @@ use denote.Triple.Walked.{says, needs, Stays, stay-none-slice, gave-slice, walkO
 use denote.Triple.Walked.{walk-meets}
 use denote.Exit.{yes}
 use denote.Triple.Clauses.{ensured, lasts}
+use Rattle.spec.specs.Dictionary.{longest-text}
 use Rattle.basics.specs.Placed.{Wrote}
 use Rattle.models.specs.JobSheet.{shown}
 use Rattle.laws.specs.Readable.Opening.{Bounded, opened-keys}
@@ -152,7 +153,7 @@ module _ {M : Type 1} (𝓤 : URA M) (H : Heap 𝓤) (A : Atoms 𝓤) (W : Given
     abbrev to-callee : Callee 𝓤 H A mem run .Ghost
     to-callee = ((κs, qs, tt, args, passed), tt)
 
-    goes-callee : Bounded (now x) (now y) (now z) refusal keys first → keys < 2 ^ 64 →
+    goes-callee : Bounded longest-text (now x) (now y) (now z) refusal keys first → keys < 2 ^ 64 →
         ent 𝓤 (⋆ 𝓤 H A ((‵ (flft κ q) ⊛ ‵ ftrue) ∷ ‵ Aside ∷ [])) (Callee 𝓤 H A mem run .pre to-callee)
     goes-callee bounded keys-fit =
         qed W ((‵ (flft κ q) ⊛ ‵ ftrue) ∷ ‵ Aside ∷ []) ∵ says !

@@ -39,6 +39,7 @@ use denote.Triple.Table.{entered, cited}
 use denote.Triple.Walked.{says, Stays, stay-none-slice, walkOf, goes-none-slice, Walks, ends-at, walked, walk-meets}
 use denote.Exit.{yes}
 use denote.Triple.Clauses.{ensured, lasts}
+use Rattle.spec.specs.Dictionary.{longest-text}
 use Rattle.laws.specs.Readable.Opening.{Bounded}
 use Rattle.opening.specs.declared.opened.Opened.{Opened}
 use Rattle.opening.specs.declared.opened.Bounds.{Bounds}
@@ -60,7 +61,8 @@ use Rattle.opening.proofs.opened.open_index.Statement as stated
 use Rattle.opening.proofs.opened.open_index.Code as code
 
 -- bounds of equal numbers
-same-bounds : (cs ls xs : List ℕ) (a k f a′ k′ f′ : ℕ) → a′ ≡ a → k′ ≡ k → f′ ≡ f → Bounded cs ls xs a k f → Bounded cs ls xs a′ k′ f′
+same-bounds : (cs ls xs : List ℕ) (a k f a′ k′ f′ : ℕ) → a′ ≡ a → k′ ≡ k → f′ ≡ f → Bounded longest-text cs ls xs a k f →
+    Bounded longest-text cs ls xs a′ k′ f′
 same-bounds cs ls xs a k f a′ k′ f′ ea ek ef h = rw (ea, ek, ef) h
 
 -- the record's type, over the signature's lifetimes
@@ -137,7 +139,7 @@ module _ {M : Type 1} (𝓤 : URA M) (H : Heap 𝓤) (A : Atoms 𝓤) (W : Given
       nothing ! $ move ! (1 ∷ 0 ∷ []) $ fjoin ! $ move ! (2 ∷ 0 ∷ []) $ fjoin ! $ move ! (2 ∷ 0 ∷ []) $ fjoin ! $ frame ! $ done !
 
   abbrev Tested : Bounds → Type 0
-  Tested b = Bounded (now x) (now y) (now z) (b .refusal) (b .keys) (b .first)
+  Tested b = Bounded longest-text (now x) (now y) (now z) (b .refusal) (b .keys) (b .first)
 
   test-said : (b : Bounds) → ent 𝓤 (ensured 𝓤 H A test.ended (test.clauses 𝓤 H A mem run) (κ, tt) (x, (y, (z, tt))) tt b)
       (fact 𝓤 (Tested b))

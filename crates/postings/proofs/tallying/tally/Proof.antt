@@ -38,6 +38,7 @@ use denote.Triple.Table.{entered, cited}
 use denote.Triple.Walked.{says, Stays, stay-none-slice, walkOf, goes-none-slice, Walks, ends-at, walked, walk-meets}
 use denote.Exit.{yes}
 use denote.Triple.Clauses.{ensured, lasts}
+use Rattle.spec.specs.Dictionary.{longest-text}
 use Rattle.spec.specs.Calls.{Tally-says}
 use Rattle.spec.specs.declared.TallyAnswer.{TallyAnswer}
 use Rattle.spec.proofs.TallyAnswer as S
@@ -92,7 +93,7 @@ module _ {M : Type 1} (𝓤 : URA M) (H : Heap 𝓤) (A : Atoms 𝓤) (W : Given
       tt,
     )
 
-    goes-call : n < 2 ^ 32 → k < 2 ^ 64 → f < 2 ^ 64 → Bounded (now x) (now y) (now z) n k f →
+    goes-call : n < 2 ^ 32 → k < 2 ^ 64 → f < 2 ^ 64 → Bounded longest-text (now x) (now y) (now z) n k f →
         ent 𝓤 (⋆ 𝓤 H A ((‵ (flft κ q) ⊛ ‵ ftrue) ∷ ‵ (Lent κ x y z) ∷ [])) (Call 𝓤 H A mem run .pre to-call)
     goes-call n-fits k-fits f-fits bounded =
         qed W ((‵ (flft κ q) ⊛ ‵ ftrue) ∷ ‵ (Lent κ x y z) ∷ []) ∵ says ! bounded $ frame ! $ fsplit ! $ move !
@@ -104,11 +105,11 @@ module _ {M : Type 1} (𝓤 : URA M) (H : Heap 𝓤) (A : Atoms 𝓤) (W : Given
         move ! (1 ∷ 0 ∷ []) $ fjoin ! $ move ! (1 ∷ 0 ∷ []) $ fjoin ! $ move ! (1 ∷ 0 ∷ []) $ fjoin ! $ done !
 
     call-said : (t : TallyAnswer) → ent 𝓤 (ensured 𝓤 H A callee.ended (callee.clauses 𝓤 H A mem run) (κ, tt)
-        (x, (y, (z, (n, (k, (f, tt)))))) tt t) (fact 𝓤 (Tally-says (now x) (now y) (now z) t))
+        (x, (y, (z, (n, (k, (f, tt)))))) tt t) (fact 𝓤 (Tally-says longest-text (now x) (now y) (now z) t))
     call-said t = exE 𝓤 _ (λ ws. snd∗ 𝓤 (sem 𝓤 H A (lasts callee.ended (κ, tt) (x, (y, (z, (n, (k, (f, tt)))))) ws))
-        (fact 𝓤 (Tally-says (now x) (now y) (now z) t)))
+        (fact 𝓤 (Tally-says longest-text (now x) (now y) (now z) t)))
 
-  exits : (t : TallyAnswer) (u : Val) → Tally-says (now x) (now y) (now z) t →
+  exits : (t : TallyAnswer) (u : Val) → Tally-says longest-text (now x) (now y) (now z) t →
       ent 𝓤 (⋆ 𝓤 H A (‵ (S.the-row .own t (u ∷ [])) ∷ (‵ (flft κ q) ⊛ ‵ ftrue) ∷ ‵ (Lent κ x y z) ∷ [])) (Post u)
   exits t u e =
       qed W (‵ (S.the-row .own t (u ∷ [])) ∷ (‵ (flft κ q) ⊛ ‵ ftrue) ∷ ‵ (Lent κ x y z) ∷ []) ∵
@@ -158,8 +159,8 @@ module _ {M : Type 1} (𝓤 : URA M) (H : Heap 𝓤) (A : Atoms 𝓤) (W : Given
         use1 W (later (some (λ (t : TallyAnswer). ((‵ (flft κ q) ⊛ ‵ ftrue) ⊛ ‵ (S.the-row .own t (w ∷ []))) ⊛ raw
         (ensured 𝓤 H A callee.ended (callee.clauses 𝓤 H A mem run) (κ, tt) (x, (y, (z, (n, (k, (f, tt)))))) tt t))))
         (id⊢ 𝓤 _) $ await ! tt $ pick ! (λ t.
-        split ! $ move ! (1 ∷ []) $ use1 W (raw (fact 𝓤 (Tally-says (now x) (now y) (now z) t))) (call-said n k f t) $ heard !
-        (Tally-says (now x) (now y) (now z) t) (λ e. split ! $ move ! (1 ∷ []) $
+        split ! $ move ! (1 ∷ []) $ use1 W (raw (fact 𝓤 (Tally-says longest-text (now x) (now y) (now z) t))) (call-said n k f t) $ heard !
+        (Tally-says longest-text (now x) (now y) (now z) t) (λ e. split ! $ move ! (1 ∷ []) $
         -- [the result; the token; the three; _8; …]
         peeks ! S.the-row (Is S.the-row) (shows 𝓤 H A S.the-row) t (w ∷ []) (λ is′.
         land ! (from ! (stop !)) (init ! 19 refl (LL.lawful S.the-type S′.the-laws 𝓤 H A W .typed t _ is′ .0)) $

@@ -16,15 +16,16 @@ returns : tie.Need-returns
 returns c =
     let start = c .before .before .before .before in
     let a = start .args in
-    tally-refused (a .chars .now) (a .lengths .now) (a .index .now)
+    tally-refused longest-text (a .chars .now) (a .lengths .now) (a .index .now)
     (record { refusal = a .refusal; count = 0; «by_length» = replicate 32 0 }) (start .pre .number)
-    (λ (none : index-refusal (a .chars .now) (a .lengths .now) (a .index .now) ≡ 0). c .if1 .taken (start .pre .number ∙ none)) refl refl
+    (λ (none : index-refusal longest-text (a .chars .now) (a .lengths .now) (a .index .now) ≡ 0).
+    c .if1 .taken (start .pre .number ∙ none)) refl refl
 
 raised-requires : tie.Need-raised-requires
 raised-requires c κs =
     let start = c .before .before .before .before in
     let a = start .args in
-    let read = index-read (a .chars .now) (a .lengths .now) (a .index .now)
+    let read = index-read longest-text (a .chars .now) (a .lengths .now) (a .index .now)
     (λ (i : ℕ). omega (arith, c .before .before .before .shared-slice-known .given i)) (opened-accepted (start .pre) (c .if1 .left)) in
     let lines = opened-keys (start .pre) (c .if1 .left) in
     (read .is-admitted, read .is-readable, lines, omega (arith, lines), small-zeros)
@@ -33,7 +34,7 @@ sub-t12 : tie.Need-sub-t12
 sub-t12 c =
     let start = c .before .before .before .before .before in
     let a = start .args in
-    let read = index-read (a .chars .now) (a .lengths .now) (a .index .now)
+    let read = index-read longest-text (a .chars .now) (a .lengths .now) (a .index .now)
     (λ (i : ℕ). omega (arith, c .before .before .before .before .shared-slice-known .given i))
     (opened-accepted (start .pre) (c .before .if1 .left)) in
     omega (arith, opened-first (start .pre) (c .before .if1 .left))
@@ -43,11 +44,11 @@ returns-2 c =
     let start = c .before .before .before .before .before in
     let a = start .args in
     let none = opened-accepted (start .pre) (c .before .if1 .left) in
-    let read = index-read (a .chars .now) (a .lengths .now) (a .index .now)
+    let read = index-read longest-text (a .chars .now) (a .lengths .now) (a .index .now)
     (λ (i : ℕ). omega (arith, c .before .before .before .before .shared-slice-known .given i)) none in
     let positions = opened-first (start .pre) (c .before .if1 .left) in
     let left = entries-left longest-text (lexicon (a .chars .now) (a .lengths .now)) (a .index .now) (read .is-readable) in
-    tally-accepted (a .chars .now) (a .lengths .now) (a .index .now)
+    tally-accepted longest-text (a .chars .now) (a .lengths .now) (a .index .now)
     (record { refusal = a .refusal; count = length (a .index .now) - a .first; «by_length» = c .raised .result })
     (start .pre .number) none
     (omega (arith, positions, left)) (c .raised .ensures ∙ tally-afresh (lexicon (a .chars .now) (a .lengths .now)) (a .index .now))

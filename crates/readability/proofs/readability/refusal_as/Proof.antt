@@ -3,7 +3,7 @@ use mathlib.Core.Path.{_≡_, sym, _∙_}
 use Prim.Native.Nat.{ℕ}
 use native.Mathlib.Omega.{arith}
 use borrow.Author.Tests.{not-true, not-false}
-use Rattle.spec.specs.Dictionary.{dictionary-refusal}
+use Rattle.spec.specs.Dictionary.{longest-text, dictionary-refusal}
 use Rattle.spec.specs.Gaps.{with-lists}
 use Rattle.models.specs.Readability.{read-as}
 use Rattle.laws.specs.Readable.KeyTests.{dictionary-read}
@@ -18,7 +18,7 @@ returns c =
     let numbers = with-lists (read-as (args .as-gaps)) (args .index .now) in
     let found = c .before .refusal-of .ensures in
     found
-    ∙ refuses-dictionary (args .chars .now) (args .lengths .now) numbers
+    ∙ refuses-dictionary longest-text (args .chars .now) (args .lengths .now) numbers
     (λ (none : dictionary-refusal (args .chars .now) (args .lengths .now) ≡ 0). c .if1 .taken (found ∙ none))
 
 readable-requires : tie.Need-readable-requires
@@ -32,7 +32,7 @@ returns-2 c =
     let admitted = c .before .before in
     let args = admitted .before .before .before .before .before .args in
     let numbers = with-lists (read-as (args .as-gaps)) (args .index .now) in
-    refuses-unreadable (args .chars .now) (args .lengths .now) numbers
+    refuses-unreadable longest-text (args .chars .now) (args .lengths .now) numbers
     (sym (admitted .before .refusal-of .ensures) ∙ admitted .if1 .left)
     (sym (c .before .readable .ensures) ∙ not-true (c .before .readable .result) (c .if2 .taken))
 
@@ -41,7 +41,7 @@ returns-3 c =
     let admitted = c .before .before in
     let args = admitted .before .before .before .before .before .args in
     let numbers = with-lists (read-as (args .as-gaps)) (args .index .now) in
-    accepts-index (args .chars .now) (args .lengths .now) numbers
+    accepts-index longest-text (args .chars .now) (args .lengths .now) numbers
     (sym (admitted .before .refusal-of .ensures) ∙ admitted .if1 .left)
     (sym (c .before .readable .ensures) ∙ not-false (c .before .readable .result) (c .if2 .left))
 

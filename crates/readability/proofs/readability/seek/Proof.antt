@@ -1,5 +1,5 @@
--- `seek` meets its contract. The invariant: a character from `value` on is a word exactly if it is one of the words left. The measure is how
--- many words are left. Assumes nothing.
+-- `seek` meets its contract. The invariant: a character from `value` on is a word exactly if it is one of the words left. The measure is
+-- how many words are left. Assumes nothing.
 use Prim.Native.Nat.{_-_}
 use native.Mathlib.Omega.{arith}
 use lib.ListN.{length}
@@ -40,4 +40,6 @@ seek-spec =
     (tie.spec
     Inv-loop μ-loop (λ c. c .pre) (λ c. search needs) (λ c. word-some (c .before .before .loop .inv) (c .before .loop-test .taken))
     (λ c. omega (arith, c .shared-slice-known .given (c .before .before .loop .at))) returns (λ c. search needs) (λ c. search needs)
-    returns-2 (λ c. search needs) (λ c. search needs) (λ c. omega (arith, c .shared-slice-known3 .given (c .before .before .before .before .loop .word))) add-at (λ c. search needs) (λ c. search needs) loop-again returns-3)
+    returns-2 (λ c. search needs) (λ c. search needs)
+    (λ c. omega (arith, c .shared-slice-known3 .given (c .before .before .before .before .loop .word)))
+    add-at (λ c. search needs) (λ c. search needs) loop-again returns-3)

@@ -43,6 +43,7 @@ use denote.Triple.Walked.{says, Stays, stay-none-slice, gave-slice, walkOf, goes
 use denote.Triple.Walked.{walk-meets}
 use denote.Exit.{yes}
 use denote.Triple.Clauses.{ensured, lasts}
+use Rattle.spec.specs.Dictionary.{longest-text}
 use Rattle.spec.specs.Calls.{index-refusal, Receive-says}
 use Rattle.spec.specs.declared.Answer.{Answer}
 use Rattle.spec.proofs.Answer as S
@@ -112,14 +113,14 @@ module _ {M : Type 1} (𝓤 : URA M) (H : Heap 𝓤) (A : Atoms 𝓤) (W : Given
   Last l = fsep (finally u16 γ l) ftrue
 
   abbrev Said : Answer → List ℕ → Type 0
-  Said c l = (Receive-says (now x) (now y) (now z) c ws l) × (length l ≡ length ws)
+  Said c l = (Receive-says longest-text (now x) (now y) (now z) c ws l) × (length l ≡ length ws)
 
   -- the call of `receive_opened`, at the refusal n
   module _ (n : ℕ) where
     abbrev to-call : Call 𝓤 H A mem run .Ghost
     to-call = ((κs, qs, tt, (x, (y, (z, (n, (w, tt))))), (val x ∷ [], (val y ∷ [], (val z ∷ [], (vint w32 n ∷ [], (val w ∷ [], tt)))))), tt)
 
-    goes-call : n < 2 ^ 32 → n ≡ index-refusal (now x) (now y) (now z) →
+    goes-call : n < 2 ^ 32 → n ≡ index-refusal longest-text (now x) (now y) (now z) →
         ent 𝓤 (⋆ 𝓤 H A ((‵ (flft κ q) ⊛ ‵ (flft ν p) ⊛ ‵ ftrue) ∷ ‵ (Lent κ x y z) ∷ ‵ Gives ∷ [])) (Call 𝓤 H A mem run .pre to-call)
     goes-call fits number =
         qed W ((‵ (flft κ q) ⊛ ‵ (flft ν p) ⊛ ‵ ftrue) ∷ ‵ (Lent κ x y z) ∷ ‵ Gives ∷ []) ∵ says ! number $ frame ! $ fsplit ! $ move !
@@ -132,9 +133,9 @@ module _ {M : Type 1} (𝓤 : URA M) (H : Heap 𝓤) (A : Atoms 𝓤) (W : Given
         (ex 𝓤 (λ (l : List ℕ). sep 𝓤 (sem 𝓤 H A (Last l)) (fact 𝓤 (Said c l))))
     call-said c =
         exE 𝓤 _ (λ fins. qed W (‵ (lasts callee.ended κs (x, (y, (z, (n, (w, tt))))) fins) ∷ raw
-        (fact 𝓤 (Receive-says (now x) (now y) (now z) c ws (fins .1 .1 .1 .1 .0))) ∷ []) ∵
+        (fact 𝓤 (Receive-says longest-text (now x) (now y) (now z) c ws (fins .1 .1 .1 .1 .0))) ∷ []) ∵
         show ! (λ (l : List ℕ). sep 𝓤 (sem 𝓤 H A (Last l)) (fact 𝓤 (Said c l))) (fins .1 .1 .1 .1 .0) $ move ! (1 ∷ []) $ heard !
-        (Receive-says (now x) (now y) (now z) c ws (fins .1 .1 .1 .1 .0)) (λ e.
+        (Receive-says longest-text (now x) (now y) (now z) c ws (fins .1 .1 .1 .1 .0)) (λ e.
         fsplit ! $ drop ! $ fsplit ! $ drop ! $ fsplit ! $ drop ! $ fsplit ! $ drop ! $ fsplit ! $ fsplit ! $ move ! (1 ∷ []) $ feqL ! (λ l.
         -- [the last list; true]
         says ! (e, l) $ fjoin ! $ done !)))

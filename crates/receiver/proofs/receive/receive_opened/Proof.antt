@@ -4,6 +4,7 @@ use Prim.Native.Nat.{ℕ}
 use borrow.Author.Needs.{needs}
 use borrow.Author.Tests.{not-true, not-false}
 use lib.ListN.{length}
+use Rattle.spec.specs.Dictionary.{longest-text}
 use Rattle.laws.specs.Receive.Receiving.{delivery-refusal, delivery-header, opened-delivery, delivered}
 use Rattle.laws.specs.Receive.Receiving.{receive-refused, receive-unreceived, receive-received}
 use Rattle.receiver.proofs.receive.receive_opened.Statement.{statement}
@@ -11,14 +12,14 @@ use Rattle.receiver.proofs.receive.receive_opened.Tie as tie
 
 -- the refusal that needs no reconstruction
 abbrev due : tie.Start → ℕ
-due s = delivery-refusal (s .args .chars .now) (s .args .lengths .now) (s .args .index .now) (length (s .args .work .now))
+due s = delivery-refusal longest-text (s .args .chars .now) (s .args .lengths .now) (s .args .index .now) (length (s .args .work .now))
 
 early : (c : tie.After-delivery-refusal) → c .delivery-refusal .result ≡ due (c .before .before .before .before .before)
 early c =
     let s = c .before .before .before .before .before in
     let a = s .args in
-    opened-delivery (a .chars .now) (a .lengths .now) (a .index .now) (length (a .work .now)) (a .refusal) (c .delivery-refusal .result)
-    (s .pre) (c .delivery-refusal .ensures)
+    opened-delivery longest-text (a .chars .now) (a .lengths .now) (a .index .now) (length (a .work .now)) (a .refusal)
+    (c .delivery-refusal .result) (s .pre) (c .delivery-refusal .ensures)
 
 none : (c : tie.Else1) → due (c .before .before .before .before .before .before) ≡ 0
 none c = sym (early (c .before)) ∙ c .if1 .left
@@ -28,7 +29,8 @@ returns c =
     let asked = c .before .before .before .before .before in
     let a = asked .before .before .before .before .before .args in
     let answer = c .before .before .refuse in
-    receive-refused (a .chars .now) (a .lengths .now) (a .index .now) (answer .result) (a .work .now) (a .work .now) (answer .last .0)
+    receive-refused longest-text (a .chars .now) (a .lengths .now) (a .index .now) (answer .result) (a .work .now) (a .work .now)
+    (answer .last .0)
     refl (early asked) (c .before .before .before .before .if1 .taken) (answer .ensures)
 
 returns-2 : tie.Need-returns-2
@@ -37,7 +39,7 @@ returns-2 c =
     let on = tried .before .before in
     let a = on .before .before .before .before .before .before .args in
     let answer = c .before .before .no-text in
-    receive-unreceived (a .chars .now) (a .lengths .now) (a .index .now) (answer .result) (a .work .now)
+    receive-unreceived longest-text (a .chars .now) (a .lengths .now) (a .index .now) (answer .result) (a .work .now)
     (tried .text-of .last .1 .1 .1 .0) (answer .last .0) (tried .text-of .kept .1 .1 .1 .0) (none on)
     (sym (tried .text-of .ensures .exact) ∙ not-true (tried .text-of .result) (c .before .before .before .before .if2 .taken))
     (answer .ensures)
@@ -48,7 +50,7 @@ returns-3 c =
     let tried = cleared .before .before .before .before .before in
     let on = tried .before .before in
     let a = on .before .before .before .before .before .before .args in
-    receive-received (a .chars .now) (a .lengths .now) (a .index .now) (record { refusal = 0; count = c .text-len .result })
+    receive-received longest-text (a .chars .now) (a .lengths .now) (a .index .now) (record { refusal = 0; count = c .text-len .result })
     (a .work .now) (tried .text-of .last .1 .1 .1 .0) (cleared .clear .last .0) (tried .text-of .kept .1 .1 .1 .0) (none on)
     (sym (tried .text-of .ensures .exact) ∙ not-false (tried .text-of .result) (cleared .before .before .if2 .left)) refl
     (c .text-len .ensures .0) (cleared .clear .ensures)
@@ -57,7 +59,7 @@ pub receive-opened-spec : {M : Type 1} → statement M
 receive-opened-spec =
     tie.close
     (tie.spec
-    (λ c κs zero. delivery-header _ _ _ (sym (c .before .before .before .before .pre) ∙ zero)) (λ c κs. search needs) (λ c. search needs)
+    (λ c κs zero. delivery-header _ _ _ _ (sym (c .before .before .before .before .pre) ∙ zero)) (λ c κs. search needs) (λ c. search needs)
     returns (λ c κs. none (c .before)) (λ c κs. search needs) (λ c. search needs) returns-2 (λ c κs. search needs)
-    (λ c κs. delivered _ _ _ _ (none (c .before .before .before .before .before .before .before .before .before)) .fits .has-header)
+    (λ c κs. delivered _ _ _ _ _ (none (c .before .before .before .before .before .before .before .before .before)) .fits .has-header)
     (λ c. search needs) returns-3)

@@ -43,6 +43,7 @@ use denote.Triple.Walked.{says, Stays, stay-none-slice, gave-slice, walkOf, goes
 use denote.Triple.Walked.{walk-meets}
 use denote.Exit.{yes}
 use denote.Triple.Clauses.{ensured, lasts}
+use Rattle.spec.specs.Dictionary.{longest-text}
 use Rattle.spec.specs.Calls.{index-refusal, Recover-says}
 use Rattle.spec.specs.declared.Answer.{Answer}
 use Rattle.spec.proofs.Answer as S
@@ -111,7 +112,8 @@ module _ {M : Type 1} (𝓤 : URA M) (H : Heap 𝓤) (A : Atoms 𝓤) (W : Given
   Last l = fsep (finally u16 γ (l .0)) (fsep (finally u16 γ′ (l .1)) ftrue)
 
   abbrev Said : Answer → List ℕ × List ℕ → Type 0
-  Said c l = (Recover-says (now x) (now y) (now z) c os (l .0) ws (l .1)) × (length (l .0) ≡ length os) × (length (l .1) ≡ length ws)
+  Said c l =
+      Recover-says longest-text (now x) (now y) (now z) c os (l .0) ws (l .1) × (length (l .0) ≡ length os) × (length (l .1) ≡ length ws)
 
   -- the call of `recover_opened`, at the refusal n
   module _ (n : ℕ) where
@@ -130,7 +132,7 @@ module _ {M : Type 1} (𝓤 : URA M) (H : Heap 𝓤) (A : Atoms 𝓤) (W : Given
       tt,
     )
 
-    goes-call : n < 2 ^ 32 → n ≡ index-refusal (now x) (now y) (now z) →
+    goes-call : n < 2 ^ 32 → n ≡ index-refusal longest-text (now x) (now y) (now z) →
         ent 𝓤 (⋆ 𝓤 H A ((‵ (flft κ q) ⊛ ‵ (flft ν p) ⊛ ‵ (flft ν′ p′) ⊛ ‵ ftrue) ∷ ‵ (Lent κ x y z) ∷ ‵ Gives ∷ []))
         (Call 𝓤 H A mem run .pre to-call)
     goes-call fits number =
@@ -145,10 +147,10 @@ module _ {M : Type 1} (𝓤 : URA M) (H : Heap 𝓤) (A : Atoms 𝓤) (W : Given
         (ex 𝓤 (λ (l : List ℕ × List ℕ). sep 𝓤 (sem 𝓤 H A (Last l)) (fact 𝓤 (Said c l))))
     call-said c =
         exE 𝓤 _ (λ fins. qed W (‵ (lasts callee.ended κs (x, (y, (z, (n, (o, (w, tt)))))) fins) ∷ raw
-        (fact 𝓤 (Recover-says (now x) (now y) (now z) c os (fins .1 .1 .1 .1 .0) ws (fins .1 .1 .1 .1 .1 .0))) ∷ []) ∵
+        (fact 𝓤 (Recover-says longest-text (now x) (now y) (now z) c os (fins .1 .1 .1 .1 .0) ws (fins .1 .1 .1 .1 .1 .0))) ∷ []) ∵
         show ! (λ (l : List ℕ × List ℕ). sep 𝓤 (sem 𝓤 H A (Last l)) (fact 𝓤 (Said c l)))
         (fins .1 .1 .1 .1 .0, fins .1 .1 .1 .1 .1 .0) $ move ! (1 ∷ []) $ heard !
-        (Recover-says (now x) (now y) (now z) c os (fins .1 .1 .1 .1 .0) ws (fins .1 .1 .1 .1 .1 .0)) (λ e.
+        (Recover-says longest-text (now x) (now y) (now z) c os (fins .1 .1 .1 .1 .0) ws (fins .1 .1 .1 .1 .1 .0)) (λ e.
         fsplit ! $ drop ! $ fsplit ! $ drop ! $ fsplit ! $ drop ! $ fsplit ! $ drop ! $ fsplit ! $ fsplit ! $ move ! (1 ∷ []) $ feqL !
         (λ l. move ! (1 ∷ []) $ fsplit ! $ fsplit ! $ move ! (1 ∷ []) $ feqL ! (λ l′.
         -- [the last list of work; true; that of output]

@@ -23,9 +23,11 @@ abbrev front : tie.After-fill-line-map-behind → tie.After-reconstruct-front
 front c = c .before .before .before .before
 
 met : (s : tie.Start) →
-    Delivered (s .args .chars .now) (lengths-of (s .args .word-starts .now)) (s .args .index .now) (length (s .args .work .now))
+    Delivered longest-text (s .args .chars .now) (lengths-of (s .args .word-starts .now)) (s .args .index .now)
+    (length (s .args .work .now))
 met s =
-    delivered (s .args .chars .now) (lengths-of (s .args .word-starts .now)) (s .args .index .now) (length (s .args .work .now)) (s .pre .0)
+    delivered longest-text (s .args .chars .now) (lengths-of (s .args .word-starts .now)) (s .args .index .now)
+    (length (s .args .work .now)) (s .pre .0)
 
 good : (s : tie.Start) → Good-lexicon (lexicon-at (s .args .chars .now) (s .args .word-starts .now))
 good s = admitted-lexicon (s .args .chars .now) (lengths-of (s .args .word-starts .now)) (s .pre .1 .words .dictionary)
@@ -35,8 +37,9 @@ made :
     (c : tie.After-fill-line-map-behind) →
     let slices = read (front c) .before in
     let s = start slices in
-    In-work (lexicon-at (s .args .chars .now) (s .args .word-starts .now)) (s .args .index .now) (read (front c) .text-len .result)
-    (s .args .work .now) (front c .reconstruct-front .last .1 .1 .1 .1 .0) (c .fill-line-map-behind .last .1 .1 .0)
+    In-work longest-text (lexicon-at (s .args .chars .now) (s .args .word-starts .now)) (s .args .index .now)
+    (read (front c) .text-len .result) (s .args .work .now) (front c .reconstruct-front .last .1 .1 .1 .1 .0)
+    (c .fill-line-map-behind .last .1 .1 .0)
 made c =
     let slices = read (front c) .before in
     let s = start slices in

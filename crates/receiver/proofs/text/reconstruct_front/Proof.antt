@@ -4,6 +4,7 @@ use native.Mathlib.Omega.{arith}
 use lib.ListN.{length}
 use lib.Seq.{length-take-le}
 use borrow.Author.Needs.{needs}
+use Rattle.spec.specs.Dictionary.{longest-text}
 use Rattle.laws.specs.Receive.ReconstructionWalk.{started-reads}
 use Rattle.laws.specs.Receive.WorkParts.{front-put}
 use Rattle.receiver.proofs.text.reconstruct_front.Statement.{statement}
@@ -21,7 +22,8 @@ reconstruct-entries-requires : tie.Need-reconstruct-entries-requires
 reconstruct-entries-requires c κs =
     let s = start c in
     let a = s .args in (
-      started-reads (s .pre .0) (a .index .now) (s .pre .1) (omega (arith, c .before .before .shared-slice-known3 .given 1)),
+      started-reads (s .pre .0) longest-text (omega arith) (a .index .now) (s .pre .1)
+          (omega (arith, c .before .before .shared-slice-known3 .given 1)),
       length-take-le (a .n) (a .work .now) (s .pre .3) ∙ s .pre .2,
     )
 

@@ -7,6 +7,7 @@ use borrow.Author.Needs.{needs}
 use borrow.Author.Tests.{not-true, not-false}
 use lib.ListN.{length}
 use lib.Seq.{length-take-le}
+use Rattle.spec.specs.Dictionary.{longest-text}
 use Rattle.models.specs.WordStarts.{lengths-of}
 use Rattle.laws.specs.Receive.Receiving.{Delivered, delivered}
 use Rattle.laws.specs.Receive.ReceivedText.{not-tried, tried}
@@ -20,9 +21,11 @@ abbrev start : tie.After-shared-slice-known5 → tie.Start
 start c = c .before .before .before .before .before
 
 met : (s : tie.Start) →
-    Delivered (s .args .chars .now) (lengths-of (s .args .word-starts .now)) (s .args .index .now) (length (s .args .work .now))
+    Delivered longest-text (s .args .chars .now) (lengths-of (s .args .word-starts .now)) (s .args .index .now)
+    (length (s .args .work .now))
 met s =
-    delivered (s .args .chars .now) (lengths-of (s .args .word-starts .now)) (s .args .index .now) (length (s .args .work .now)) (s .pre .0)
+    delivered longest-text (s .args .chars .now) (lengths-of (s .args .word-starts .now)) (s .args .index .now)
+    (length (s .args .work .now)) (s .pre .0)
 
 room :
     (c : tie.After-text-len) →

@@ -5,7 +5,7 @@ use mathlib.Core.Bool.{true}
 use native.Mathlib.Omega.{arith}
 use lib.ListN.{length, replicate}
 use borrow.Author.Needs.{needs}
-use Rattle.spec.specs.Dictionary.{admitted}
+use Rattle.spec.specs.Dictionary.{longest-text, admitted}
 use Rattle.laws.specs.Dictionary.Lexicon.{Is-admitted, admitted-get}
 use Rattle.laws.specs.Dictionary.WordStarts.{filled-long, filled-lengths}
 use Rattle.laws.specs.Match.MatchTable.{filled-room}
@@ -25,7 +25,7 @@ filled c = c .before .before .before .before .before
 accepted : (c : tie.After-slice-known) → admitted (start c .args .chars .now) (start c .args .lengths .now) ≡ true
 accepted c =
     let s = start c in
-    delivered-admitted (s .args .chars .now) (s .args .lengths .now) (s .args .index .now) (length (s .args .work .now))
+    delivered-admitted longest-text (s .args .chars .now) (s .args .lengths .now) (s .args .index .now) (length (s .args .work .now))
     (λ i h. omega (arith, c .before .before .before .shared-slice-known .given i)) (s .pre)
 
 facts : (c : tie.After-slice-known) → Is-admitted (start c .args .chars .now) (start c .args .lengths .now)

@@ -4,6 +4,7 @@ use native.Mathlib.Nat.{mul-le-mul}
 use native.Mathlib.Omega.{arith}
 use lib.ListN.{length}
 use borrow.Author.Needs.{needs}
+use Rattle.spec.specs.Index.{greatest-number}
 use Rattle.laws.specs.Directory.Tables.{spelt-short}
 use Rattle.searcher.proofs.estimate.estimate_line.Statement.{statement}
 use Rattle.searcher.proofs.estimate.estimate_line.Tie as tie

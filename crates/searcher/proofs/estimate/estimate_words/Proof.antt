@@ -6,6 +6,7 @@ use native.Mathlib.Omega.{arith}
 use lib.ListN.{length}
 use lib.Seq.{length-take-le}
 use borrow.Author.Needs.{needs}
+use Rattle.spec.specs.Index.{greatest-number}
 use Rattle.models.specs.WordStarts.{lexicon-at}
 use Rattle.laws.specs.Window.AgreeingLines.{listed-few}
 use Rattle.laws.specs.Cut.Flagging.{agreeing-below}
@@ -14,14 +15,14 @@ use Rattle.searcher.proofs.estimate.estimate_words.Tie as tie
 
 abbrev Inv-loop : tie.InvT-loop
 Inv-loop chars word-starts index string key-start word-lines whole agreeing listed sum₀ i₀ sum i =
-    (i ≤ length listed) × (length listed ≤ 65535) × (sum ≤ 2 ^ 32 * i)
+    (i ≤ length listed) × (length listed ≤ greatest-number) × (sum ≤ 2 ^ 32 * i)
 
 abbrev μ-loop : tie.MeasureT-loop
 μ-loop chars word-starts index string key-start word-lines whole agreeing listed sum₀ i₀ sum i = length listed - i
 
 abbrev Inv-loop2 : tie.InvT-loop2
 Inv-loop2 chars word-starts index string key-start word-lines whole agreeing sum₀ i line₀ sum line =
-    (line ≤ agreeing .to) × (sum ≤ 2 ^ 32 * (65535 + line))
+    (line ≤ agreeing .to) × (sum ≤ 2 ^ 32 * (greatest-number + line))
 
 abbrev μ-loop2 : tie.MeasureT-loop2
 μ-loop2 chars word-starts index string key-start word-lines whole agreeing sum₀ i line₀ sum line = agreeing .to - line

@@ -39,6 +39,7 @@ use denote.Triple.Table.{entered, cited}
 use denote.Triple.Walked.{says, Stays, stay-none-slice, walkOf, goes-none-slice, Walks, ends-at, walked, walk-meets}
 use denote.Exit.{yes}
 use denote.Triple.Clauses.{ensured, lasts}
+use Rattle.spec.specs.Dictionary.{longest-text}
 use Rattle.spec.specs.Calls.{index-refusal, First-says}
 use Rattle.spec.specs.declared.FirstAnswer.{FirstAnswer}
 use Rattle.spec.proofs.FirstAnswer as R
@@ -116,7 +117,7 @@ module _ {M : Type 1} (𝓤 : URA M) (H : Heap 𝓤) (A : Atoms 𝓤) (W : Given
     abbrev to-callee : Callee 𝓤 H A mem run .Ghost
     to-callee = (((κ, tt), (q, tt), tt, args, passed), tt)
 
-    goes-callee : refusal ≡ index-refusal (now x) (now y) (now z) → refusal < 2 ^ 32 →
+    goes-callee : refusal ≡ index-refusal longest-text (now x) (now y) (now z) → refusal < 2 ^ 32 →
         ent 𝓤 (⋆ 𝓤 H A ((‵ (flft κ q) ⊛ ‵ ftrue) ∷ ‵ Aside ∷ [])) (Callee 𝓤 H A mem run .pre to-callee)
     goes-callee number refusal-fits =
         qed W ((‵ (flft κ q) ⊛ ‵ ftrue) ∷ ‵ Aside ∷ []) ∵ says ! number $ frame ! $
@@ -127,10 +128,11 @@ module _ {M : Type 1} (𝓤 : URA M) (H : Heap 𝓤) (A : Atoms 𝓤) (W : Given
         (1 ∷ 0 ∷ []) $ fjoin ! $ move ! (1 ∷ 0 ∷ []) $ fjoin ! $ done !
 
     said : (c : FirstAnswer) → ent 𝓤 (ensured 𝓤 H A callee.ended (callee.clauses 𝓤 H A mem run) (κ, tt) args tt c)
-        (fact 𝓤 (First-says (now x) (now y) (now z) (now s) c))
-    said c = exE 𝓤 _ (λ ws. snd∗ 𝓤 (sem 𝓤 H A (lasts callee.ended (κ, tt) args ws)) (fact 𝓤 (First-says (now x) (now y) (now z) (now s) c)))
+        (fact 𝓤 (First-says longest-text (now x) (now y) (now z) (now s) c))
+    said c = exE 𝓤 _ (λ ws. snd∗ 𝓤 (sem 𝓤 H A (lasts callee.ended (κ, tt) args ws))
+        (fact 𝓤 (First-says longest-text (now x) (now y) (now z) (now s) c)))
 
-  exits : (c : FirstAnswer) (u : Val) → First-says (now x) (now y) (now z) (now s) c →
+  exits : (c : FirstAnswer) (u : Val) → First-says longest-text (now x) (now y) (now z) (now s) c →
       ent 𝓤 (⋆ 𝓤 H A (‵ (R.the-row .own c (u ∷ [])) ∷ (‵ (flft κ q) ⊛ ‵ ftrue) ∷ ‵ Kept ∷ [])) (Post u)
   exits c u e =
       qed W (‵ (R.the-row .own c (u ∷ [])) ∷ (‵ (flft κ q) ⊛ ‵ ftrue) ∷ ‵ Kept ∷ []) ∵
@@ -178,8 +180,8 @@ module _ {M : Type 1} (𝓤 : URA M) (H : Heap 𝓤) (A : Atoms 𝓤) (W : Given
         use1 W (later (some (λ (c : FirstAnswer). ((‵ (flft κ q) ⊛ ‵ ftrue) ⊛ ‵ (R.the-row .own c (v ∷ []))) ⊛ raw
         (ensured 𝓤 H A callee.ended (callee.clauses 𝓤 H A mem run) (κ, tt) (args refusal) tt c))))
         (id⊢ 𝓤 _) $ await ! tt $ pick ! (λ c.
-        split ! $ move ! (1 ∷ []) $ use1 W (raw (fact 𝓤 (First-says (now x) (now y) (now z) (now s) c)))
-        (said refusal c) $ heard ! (First-says (now x) (now y) (now z) (now s) c) (λ e. split ! $ move ! (1 ∷ []) $
+        split ! $ move ! (1 ∷ []) $ use1 W (raw (fact 𝓤 (First-says longest-text (now x) (now y) (now z) (now s) c)))
+        (said refusal c) $ heard ! (First-says longest-text (now x) (now y) (now z) (now s) c) (λ e. split ! $ move ! (1 ∷ []) $
         -- [the result; the token; kept; _7; …; _0; …]
         peeks ! R.the-row (Is R.the-row) (shows 𝓤 H A R.the-row) c (v ∷ []) (λ is′.
         land ! (from ! (stop !)) (init ! 17 refl (LL.lawful R.the-type R′.the-laws 𝓤 H A W .typed c _ is′ .0)) $

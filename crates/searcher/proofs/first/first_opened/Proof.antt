@@ -3,7 +3,7 @@ use mathlib.Core.Path.{_≡_, refl, sym, _∙_}
 use native.Mathlib.Omega.{arith}
 use borrow.Author.Needs.{needs}
 use Rattle.spec.specs.Replaced.{replaced}
-use Rattle.spec.specs.Dictionary.{lexicon}
+use Rattle.spec.specs.Dictionary.{longest-text, lexicon}
 use Rattle.spec.specs.Calls.{string-refusal}
 use Rattle.laws.specs.Directory.Tables.{can-read}
 use Rattle.laws.specs.Search.Sizing.{string-number, string-passes}
@@ -16,14 +16,14 @@ use Rattle.searcher.proofs.first.first_opened.Tie as tie
 number :
     (c : tie.After-string-refusal) →
     let a = c .before .before .before .before .before .args in
-    c .string-refusal .result ≡ string-refusal (a .chars .now) (a .lengths .now) (a .index .now) (a .string .now)
-number c = string-number _ _ _ _ (c .before .before .before .before .before .pre) (c .string-refusal .ensures)
+    c .string-refusal .result ≡ string-refusal longest-text (a .chars .now) (a .lengths .now) (a .index .now) (a .string .now)
+number c = string-number _ _ _ _ _ (c .before .before .before .before .before .pre) (c .string-refusal .ensures)
 
 first-words-requires : tie.Need-first-words-requires
 first-words-requires c κs =
     let tested = c .before in
-    let passes = string-passes _ _ _ _ (sym (number tested) ∙ c .if1 .left) in (
-      can-read _ _ _ (λ i. omega (arith, tested .before .before .before .before .shared-slice-known .given i))
+    let passes = string-passes _ _ _ _ _ (sym (number tested) ∙ c .if1 .left) in (
+      can-read _ _ _ _ (λ i. omega (arith, tested .before .before .before .before .shared-slice-known .given i))
           (λ i. omega (arith, tested .before .before .shared-slice-known3 .given i)) (passes .0),
       passes .1,
     )
@@ -41,11 +41,11 @@ cast-position c =
 returns-2 : tie.Need-returns-2
 returns-2 c =
     let is = number (c .before .before) in
-    first-says _ _ _ _ _ is (sym is ∙ c .before .if1 .left) (c .first-words .ensures)
+    first-says _ _ _ _ _ _ is (sym is ∙ c .before .if1 .left) (c .first-words .ensures)
 
 pub first-opened-spec : {M : Type 1} → statement M
 first-opened-spec =
     tie.close
     (tie.spec
-    (λ c κs. search needs) (λ c. first-refused _ _ _ _ _ (number (c .before)) (λ e. c .if1 .taken (number (c .before) ∙ e)) refl)
+    (λ c κs. search needs) (λ c. first-refused _ _ _ _ _ _ (number (c .before)) (λ e. c .if1 .taken (number (c .before) ∙ e)) refl)
     first-words-requires cast-position returns-2)

@@ -43,6 +43,7 @@ use denote.Triple.Walked.{says, Stays, stay-none-slice, gave-slice, walkOf, goes
 use denote.Triple.Walked.{walk-meets}
 use denote.Exit.{yes}
 use denote.Triple.Clauses.{ensured, lasts}
+use Rattle.spec.specs.Dictionary.{longest-text}
 use Rattle.spec.specs.Calls.{index-refusal, Search-says}
 use Rattle.spec.specs.declared.Answer.{Answer}
 use Rattle.spec.proofs.Answer as R
@@ -134,7 +135,7 @@ module _ {M : Type 1} (𝓤 : URA M) (H : Heap 𝓤) (A : Atoms 𝓤) (W : Given
     abbrev to-callee : Callee 𝓤 H A mem run .Ghost
     to-callee = ((κs, qs, tt, args, passed), tt)
 
-    goes-callee : refusal ≡ index-refusal (now x) (now y) (now z) → refusal < 2 ^ 32 →
+    goes-callee : refusal ≡ index-refusal longest-text (now x) (now y) (now z) → refusal < 2 ^ 32 →
         ent 𝓤 (⋆ 𝓤 H A ((‵ (flft κ q) ⊛ ‵ ftrue) ∷ ‵ Aside ∷ [])) (Callee 𝓤 H A mem run .pre to-callee)
     goes-callee number refusal-fits =
         qed W ((‵ (flft κ q) ⊛ ‵ ftrue) ∷ ‵ Aside ∷ []) ∵ says ! number $
@@ -146,16 +147,16 @@ module _ {M : Type 1} (𝓤 : URA M) (H : Heap 𝓤) (A : Atoms 𝓤) (W : Given
         (1 ∷ 0 ∷ []) $ fjoin ! $ move ! (1 ∷ 0 ∷ []) $ fjoin ! $ done !
 
   abbrev Answered : Answer → List ℕ → Type 0
-  Answered c ws = Search-says (now x) (now y) (now z) (now s) c old ws × (length ws ≡ length old)
+  Answered c ws = Search-says longest-text (now x) (now y) (now z) (now s) c old ws × (length ws ≡ length old)
 
   -- of the callee's `ensured`: the output's last list, and what is said of it
   answered : (refusal : ℕ) (c : Answer) → ent 𝓤 (ensured 𝓤 H A callee.ended (callee.clauses 𝓤 H A mem run) κs
       (args refusal) tt c) (ex 𝓤 (λ (ws : List ℕ). sep 𝓤 (sem 𝓤 H A (finally u16 γ ws)) (fact 𝓤 (Answered c ws))))
   answered refusal c =
       exE 𝓤 _ (λ fins. qed W (‵ (lasts callee.ended κs (args refusal) fins) ∷ raw
-      (fact 𝓤 (Search-says (now x) (now y) (now z) (now s) c old (fins .1 .1 .1 .1 .1 .0))) ∷ []) ∵
+      (fact 𝓤 (Search-says longest-text (now x) (now y) (now z) (now s) c old (fins .1 .1 .1 .1 .1 .0))) ∷ []) ∵
       show ! (λ (ws : List ℕ). sep 𝓤 (sem 𝓤 H A (finally u16 γ ws)) (fact 𝓤 (Answered c ws))) (fins .1 .1 .1 .1 .1 .0) $
-      move ! (1 ∷ []) $ heard ! (Search-says (now x) (now y) (now z) (now s) c old (fins .1 .1 .1 .1 .1 .0)) (λ e.
+      move ! (1 ∷ []) $ heard ! (Search-says longest-text (now x) (now y) (now z) (now s) c old (fins .1 .1 .1 .1 .1 .0)) (λ e.
       fsplit ! $ drop ! $ fsplit ! $ drop ! $ fsplit ! $ drop ! $ fsplit ! $ drop ! $ fsplit ! $ drop ! $ fsplit ! $
       fsplit ! $ move ! (1 ∷ []) $ feqL ! (λ l. says ! (e, l) $ keep ! (0 ∷ []) $ done !)))
 

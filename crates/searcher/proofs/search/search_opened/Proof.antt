@@ -2,6 +2,7 @@
 use mathlib.Core.Path.{_≡_, refl, sym, _∙_}
 use native.Mathlib.Omega.{arith}
 use borrow.Author.Needs.{needs}
+use Rattle.spec.specs.Dictionary.{longest-text}
 use Rattle.spec.specs.Calls.{string-refusal}
 use Rattle.laws.specs.Directory.Tables.{can-read}
 use Rattle.laws.specs.Search.Sizing.{string-number, string-passes}
@@ -14,14 +15,14 @@ start c = c .before .before .before .before .before
 
 -- the refusal of the call
 number : (c : tie.After-string-refusal) → let a = start (c .before) .args in
-    c .string-refusal .result ≡ string-refusal (a .chars .now) (a .lengths .now) (a .index .now) (a .string .now)
+    c .string-refusal .result ≡ string-refusal longest-text (a .chars .now) (a .lengths .now) (a .index .now) (a .string .now)
 number c = string-number _ _ _ _ (start (c .before) .pre) (c .string-refusal .ensures)
 
 search-words-requires : tie.Need-search-words-requires
 search-words-requires c κs =
     let tested = c .before .before in
-    let passes = string-passes _ _ _ _ (sym (number tested) ∙ c .before .if1 .left) in (
-      can-read _ _ _ (λ i. omega (arith, tested .before .before .before .before .before .shared-slice-known .given i))
+    let passes = string-passes _ _ _ _ _ (sym (number tested) ∙ c .before .if1 .left) in (
+      can-read _ _ _ _ (λ i. omega (arith, tested .before .before .before .before .before .shared-slice-known .given i))
           (λ i. omega (arith, tested .before .before .before .shared-slice-known3 .given i)) (passes .0),
       passes .1,
     )
@@ -29,11 +30,11 @@ search-words-requires c κs =
 returns-2 : tie.Need-returns-2
 returns-2 c =
     let none = c .before .before .before .before in
-    search-says _ _ _ _ _ _ (sym (number (none .before)) ∙ none .if1 .left) _ (c .before .before .search-words .ensures)
+    search-says _ _ _ _ _ _ _ (sym (number (none .before)) ∙ none .if1 .left) _ (c .before .before .search-words .ensures)
 
 pub search-opened-spec : {M : Type 1} → statement M
 search-opened-spec =
     tie.close
     (tie.spec
-    (λ c κs. search needs) (λ c. search-refused _ _ _ _ _ _ (λ e. c .if1 .taken (number (c .before) ∙ e)) (number (c .before)) refl)
+    (λ c κs. search needs) (λ c. search-refused _ _ _ _ _ _ _ (λ e. c .if1 .taken (number (c .before) ∙ e)) (number (c .before)) refl)
     search-words-requires (λ c. search needs) returns-2)
