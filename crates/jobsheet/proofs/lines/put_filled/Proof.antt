@@ -13,8 +13,11 @@ use Rattle.laws.specs.JobSheet.JobAnswering.{index-lines-fit, then-finds}
 use Rattle.jobsheet.proofs.lines.put_filled.Statement.{statement}
 use Rattle.jobsheet.proofs.lines.put_filled.Tie as tie
 
-abbrev start : tie.After-shared-slice-known5 → tie.Start
-start c = c .before .before .before .before .before
+abbrev known : tie.After-fill-word-starts → tie.After-shared-slice-known5
+known c = c .before .before .before .before .before
+
+abbrev start : tie.After-fill-word-starts → tie.Start
+start c = known c .before .before .before .before .before
 
 abbrev filled : tie.After-slice-known4 → tie.After-fill-word-starts
 filled c = c .before .before .before .before .before
@@ -24,35 +27,35 @@ index-printed c = c .before .before .before .before
 
 put-index-lines-requires : tie.Need-put-index-lines-requires
 put-index-lines-requires c κs =
-    let known = filled (c .before) .before .before .before .before .before in
-    let s = start known in (
+    let f = filled (c .before) in
+    let s = start f in (
       usable-whole (s .pre .0 .0),
-      index-lines-fit (s .args .out .now) (s .pre .0 .0) (λ i. omega (arith, known .before .before .shared-slice-known3 .given i))
+      index-lines-fit (s .args .out .now) (s .pre .0 .0) (λ i. omega (arith, known f .before .before .shared-slice-known3 .given i))
           (s .pre .1 .0) (s .pre .1 .2),
     )
 
 -- what is left to print after the lines of the index
 at-finds :
-    (c : tie.After-put-index-lines) → let a = start (filled (c .before .before) .before .before .before .before .before) .args in
+    (c : tie.After-put-index-lines) → let a = start (filled (c .before .before)) .args in
     Writing (shown (a .chars .now) (a .lengths .now) (a .index .now) (a .strings .now) (a .counts .now)) 0 (a .out .now)
     (found-lines (lexicon (a .chars .now) (a .lengths .now)) (a .index .now) (words-from (a .counts .now) (a .strings .now)))
     (c .put-index-lines .result) (c .put-index-lines .last .0)
 at-finds c =
-    let known = filled (c .before .before) .before .before .before .before .before in
-    let s = start known in
-    then-finds (s .args .out .now) (s .pre .0 .0) (λ i. omega (arith, known .before .before .shared-slice-known3 .given i)) (s .pre .1 .0)
+    let f = filled (c .before .before) in
+    let s = start f in
+    then-finds (s .args .out .now) (s .pre .0 .0) (λ i. omega (arith, known f .before .before .shared-slice-known3 .given i)) (s .pre .1 .0)
     (s .pre .1 .2) (c .put-index-lines .ensures)
 
 slice-aggregate-put-finds : tie.Need-slice-aggregate-put-finds
 slice-aggregate-put-finds c =
     let f = filled (c .before .before .before .before .before) in
-    front-long (start (f .before .before .before .before .before) .pre .0 .1) (replicate 4097 0) (f .fill-word-starts .ensures)
+    front-long (start f .pre .0 .1) (replicate 4097 0) (f .fill-word-starts .ensures)
 
 put-finds-requires : tie.Need-put-finds-requires
 put-finds-requires c κs =
     let printed = index-printed (c .before .before) in
     let f = filled (printed .before .before) in
-    let s = start (f .before .before .before .before .before) in
+    let s = start f in
     let table = f .fill-word-starts .ensures in (
       (
         record {
@@ -70,7 +73,7 @@ returns c =
     let put = c .before .before .before .before in
     let printed = index-printed (put .before .before .before) in
     let f = filled (printed .before .before) in
-    let s = start (f .before .before .before .before .before) in
+    let s = start f in
     let a = s .args in
     let lengths = front-lengths (s .pre .0 .1) (replicate 4097 0) (f .fill-word-starts .ensures) in
     writing-last (found-lines (lexicon (a .chars .now) (a .lengths .now)) (a .index .now) (words-from (a .counts .now) (a .strings .now)))
