@@ -8,7 +8,7 @@ ghost use Rattle.spec.specs.Replaced.{replaced};
 ghost use Rattle.models.specs.WordStarts.{lexicon-at};
 ghost use Rattle.laws.specs.Match.MatchTable.{Tables};
 ghost use Rattle.laws.specs.Build.Tokens.{Tokens};
-use folding::forms::replace_into;
+use folding::forms::replace_as_numbers;
 use scanning::scan::scan;
 use width::Number;
 
@@ -20,7 +20,7 @@ fn replace_behind(text: &[u16], work: &mut [Number])
 {
     let n = text.len();
     let behind = 2 * n;
-    replace_into(text, &mut work[n..behind]);
+    replace_as_numbers(text, &mut work[n..behind]);
 }
 
 // Writes the tokens of the replaced text to the first numbers of the work slice.

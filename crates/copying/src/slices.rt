@@ -4,7 +4,9 @@ ghost use mathlib.Core.List.{_++_};
 ghost use Prim.Native.Nat.{_+_, _≤_};
 ghost use lib.ListN.{length, take, replicate};
 ghost use Rattle.basics.specs.Writing.{over};
+ghost use Rattle.laws.specs.Text.Facts.{Chars};
 use width::Number;
+use width::number_at;
 
 // Writes a list into the output, from the index `from` on.
 pub fn write_list(list: &[Number], from: usize, output: &mut [Number])
@@ -14,6 +16,18 @@ pub fn write_list(list: &[Number], from: usize, output: &mut [Number])
     let mut i = 0;
     while i < list.len() {
         output[from + i] = list[i];
+        i += 1;
+    }
+}
+
+// Writes the characters of a text that lies as numbers to the start of the output.
+pub fn write_chars(text: &[Number], output: &mut [u16])
+    requires { ⌜ Chars (now text) × (length (now text) ≤ length (now output)) ⌝ }
+    ensures { λ r. ⌜ now (output .exit) ≡ over (now (text .entry)) (now (output .entry)) ⌝ }
+{
+    let mut i = 0;
+    while i < text.len() {
+        output[i] = number_at(text, i) as u16;
         i += 1;
     }
 }

@@ -7,6 +7,8 @@ ghost use Prim.Native.Nat.{_-_, _≤_};
 ghost use lib.ListN.{length, take};
 ghost use Rattle.spec.specs.Replaced.{is-full-width, replaced-char, replaced, holds-full-width};
 ghost use Rattle.spec.specs.Calls.{in-front};
+use width::Number;
+use width::from_char;
 
 // Whether a character is a full-width form.
 fn is_full_width(character: u16) -> bool
@@ -74,13 +76,25 @@ pub fn holds_full_width(text: &[u16]) -> bool
 }
 
 // Writes the replaced text to the start of a slice.
-pub fn replace_into(text: &[u16], slots: &mut [u16])
+fn replace_into(text: &[u16], slots: &mut [u16])
     requires { ⌜ length (now text) ≤ length (now slots) ⌝ }
     ensures { λ _. ⌜ now (slots .exit) ≡ in-front (replaced (now (text .entry))) (now (slots .entry)) ⌝ }
 {
     let mut i = 0;
     while i < text.len() {
         slots[i] = replace(text[i]);
+        i += 1;
+    }
+}
+
+// Writes the replaced text, as numbers, to the start of a slice.
+pub fn replace_as_numbers(text: &[u16], numbers: &mut [Number])
+    requires { ⌜ length (now text) ≤ length (now numbers) ⌝ }
+    ensures { λ _. ⌜ now (numbers .exit) ≡ in-front (replaced (now (text .entry))) (now (numbers .entry)) ⌝ }
+{
+    let mut i = 0;
+    while i < text.len() {
+        numbers[i] = from_char(replace(text[i]));
         i += 1;
     }
 }

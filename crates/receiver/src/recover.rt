@@ -4,14 +4,15 @@
 // that is known to be long enough.
 ghost use mathlib.Core.Path.{_≡_};
 ghost use Prim.Native.Nat.{_≤_};
-ghost use lib.ListN.{length};
+ghost use lib.ListN.{length, take};
 ghost use Rattle.spec.specs.Dictionary.{longest-text};
 ghost use Rattle.spec.specs.Calls.{index-refusal, Recover-says};
+ghost use Rattle.laws.specs.Text.Facts.{Chars};
 ghost use Rattle.laws.specs.Receive.Receiving.{Gives};
 use crate::receive::delivery_refusal;
 use crate::receive::no_text;
 use crate::text::text_of;
-use copying::slices::write_list;
+use copying::slices::write_chars;
 use layout::fields::text_len;
 use opening::opened::open_index;
 use scanning::work::clear;
@@ -21,13 +22,13 @@ use width::Number;
 
 // Copies the first `n` numbers of the work slice to the output, or answers 8; and clears the work slice.
 fn give_text(n: usize, output: &mut [u16], work: &mut [Number]) -> Answer
-    requires { ⌜ n ≤ length (now work) ⌝ }
+    requires { ⌜ (n ≤ length (now work)) × Chars (take n (now work)) ⌝ }
     ensures { λ r. ⌜ Gives n r (now (output .entry)) (now (output .exit)) (now (work .entry)) (now (work .exit)) ⌝ }
 {
     if output.len() < n {
         return refuse(work, 8);
     }
-    write_list(&work[..n], 0, output);
+    write_chars(&work[..n], output);
     clear(work);
     Answer {
         refusal: 0,

@@ -2,9 +2,10 @@
 //
 // Where two entries contradict each other, one of them does not stand in the reconstructed text.
 ghost use mathlib.Core.Path.{_≡_};
+ghost use Prim.Native.Nat.{_≤_};
 ghost use lib.ListN.{length};
 ghost use Rattle.basics.specs.Bools.{Reflects};
-ghost use Rattle.spec.specs.Index.{n-of, lines-in};
+ghost use Rattle.spec.specs.Index.{greatest-number, n-of, lines-in};
 ghost use Rattle.models.specs.WordStarts.{lexicon-at};
 ghost use Rattle.models.specs.Reception.{reconstructed-over};
 ghost use Rattle.laws.specs.Text.Facts.{All-stand};
@@ -19,17 +20,19 @@ pub fn reconstruct_checked(
     chars: &[u16],
     word_starts: &[u16],
     index: &[Number],
-    sentinel: u16,
+    sentinel: usize,
     text: &mut [Number],
 ) -> bool
-    requires { ⌜ Reads (now chars) (now «word_starts») (now index) × (length (now text) ≡ n-of (now index)) ⌝ }
+    requires { ⌜
+        Reads (now chars) (now «word_starts») (now index) × (length (now text) ≡ n-of (now index)) ×
+        (sentinel ≤ greatest-number) ⌝ }
     ensures { λ r. ⌜
         (now (text .exit) ≡ reconstructed-over (lexicon-at (now (chars .entry)) (now («word_starts» .entry)))
         (lines-in (now (index .entry))) (n-of (now (index .entry))) sentinel) ×
         Reflects r (All-stand (lexicon-at (now (chars .entry)) (now («word_starts» .entry))) (lines-in (now (index .entry)))
         (now (text .exit))) ⌝ }
 {
-    fill(text, sentinel);
+    fill(text, sentinel as Number);
     reconstruct_entries(chars, word_starts, index, text);
     entries_match(chars, word_starts, index, text)
 }

@@ -22,6 +22,7 @@ use layout::fields::line_start;
 use layout::lines::Line;
 use layout::lines::next_line;
 use width::Number;
+use width::from_char;
 use width::number_at;
 
 // Writes a string's characters into the text, from the index `at` on.
@@ -31,7 +32,7 @@ fn reconstruct_string(string: &[u16], at: usize, text: &mut [Number])
 {
     let mut i = 0;
     while i < string.len() {
-        text[at + i] = string[i];
+        text[at + i] = from_char(string[i]);
         i += 1;
     }
 }

@@ -5,6 +5,7 @@
 // position are right already, and only as many as the distance are left to compare. So a word of equal characters at every
 // position costs one comparison a position.
 ghost use mathlib.Core.Path.{_≡_};
+ghost use mathlib.Core.Bool.{true};
 ghost use mathlib.Core.List.{[], _∷_};
 ghost use Prim.Native.Nat.{suc, _+_, _-_, _≤_};
 ghost use lib.ListN.{length, take, drop};
@@ -34,7 +35,22 @@ fn equal_from(string: &[u16], from: usize, text: &[Number], at: usize) -> bool
 {
     let mut i = from;
     while i < string.len() {
-        if string[i] != text[at + i] {
+        if string[i] as usize != number_at(text, at + i) {
+            return false;
+        }
+        i += 1;
+    }
+    true
+}
+
+// Whether a string is equal to itself `step` further on.
+fn repeats_after(string: &[u16], step: usize) -> bool
+    requires { ⌜ step ≤ length (now string) ⌝ }
+    ensures { λ r. ⌜ (r ≡ true → Period (now (string .entry)) step) ⌝ }
+{
+    let mut i = step;
+    while i < string.len() {
+        if string[i] != string[i - step] {
             return false;
         }
         i += 1;
@@ -53,7 +69,7 @@ fn period_of(string: &[u16], known: usize, step: usize) -> usize
     if string.len() <= step {
         return known;
     }
-    if equal_from(&string[step..], 0, string, 0) {
+    if repeats_after(string, step) {
         return step;
     }
     known

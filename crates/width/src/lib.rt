@@ -15,6 +15,13 @@ pub type Sum = u32;
 // The greatest length of a text.
 pub const LONGEST: usize = 65535;
 
+// A character as a number, where a text is written as numbers.
+pub fn from_char(character: u16) -> Number
+    ensures { λ r. ⌜ r ≡ character ⌝ }
+{
+    character as Number
+}
+
 // The number at an index of a slice.
 pub fn number_at(numbers: &[Number], at: usize) -> usize
     requires { ⌜ at < length (now numbers) ⌝ }

@@ -7,9 +7,10 @@ ghost use lib.ListN.{length};
 ghost use Rattle.laws.specs.TextScan.ZSearch.{Z-array, Prefix-lengths};
 use crate::zbox::extend;
 use crate::zbox::known_from;
+use width::Number;
 
 // Fills `reach` with the length of the longest prefix of the string that matches at each start of the text, by the string's Z-array.
-pub fn fill_prefix_lengths(text: &[u16], string: &[u16], zarray: &[u16], reach: &mut [u16])
+pub fn fill_prefix_lengths(text: &[Number], string: &[u16], zarray: &[u16], reach: &mut [Number])
     requires { ⌜
         Z-array (now string) (now zarray) × (length (now string) ≤ 256) × (length (now string) ≤ length (now zarray)) ×
         (length (now reach) + length (now string) ≤ suc (length (now text))) ⌝ }
@@ -22,7 +23,7 @@ pub fn fill_prefix_lengths(text: &[u16], string: &[u16], zarray: &[u16], reach: 
         let here = at;
         let known = known_from(zarray, here, left, right);
         let len = extend(text, string, here, known, string.len());
-        reach[here] = len as u16;
+        reach[here] = len as Number;
         at += 1;
         if right < here + len {
             left = here;

@@ -9,12 +9,12 @@ ghost use Rattle.basics.specs.Member.{In};
 ghost use Rattle.basics.specs.Absent.{Least-absent};
 
 // Whether a character is one of the string's.
-fn has_char(string: &[u16], character: u16) -> bool
+fn has_char(string: &[u16], character: usize) -> bool
     ensures { λ r. ⌜ Reflects r (In character (now (string .entry))) ⌝ }
 {
     let mut i = 0;
     while i < string.len() {
-        if string[i] == character {
+        if string[i] as usize == character {
             return true;
         }
         i += 1;
@@ -23,11 +23,11 @@ fn has_char(string: &[u16], character: u16) -> bool
 }
 
 // The least number that is no character of the string.
-pub fn sentinel_of(string: &[u16]) -> u16
+pub fn sentinel_of(string: &[u16]) -> usize
     requires { ⌜ length (now string) ≤ 256 ⌝ }
-    ensures { λ r. ⌜ Least-absent (now (string .entry)) r ⌝ }
+    ensures { λ r. ⌜ Least-absent (now (string .entry)) r × (r ≤ 256) ⌝ }
 {
-    let mut sentinel = 0u16;
+    let mut sentinel = 0usize;
     while has_char(string, sentinel) {
         sentinel += 1;
     }

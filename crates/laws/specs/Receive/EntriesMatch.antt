@@ -5,8 +5,7 @@ use mathlib.Core.Logic.{_⊎_, inl, inr, ⊎-elim}
 use mathlib.Core.List.{List, [], _∷_}
 use Prim.Native.Nat.{ℕ, zero, suc, _+_, _*_, _-_, _≤_, _<_}
 use native.Mathlib.Omega.{arith}
-use lib.ListN.{length, getD, take, drop, length-take, length-drop}
-use lib.Seq.{getD-take, getD-drop}
+use lib.ListN.{length, getD, take, drop}
 use borrow.Author.Count.{below-more}
 use Rattle.basics.specs.Bools.{le-or-lt}
 use Rattle.basics.specs.Member.{In, in-getD, in-place, in-append-get}
@@ -49,20 +48,6 @@ pub record Period (s : List ℕ) (d : ℕ) : Type 0 where
 module _ (s : List ℕ) where
   pub period-whole : Period s (length s)
   period-whole = record { within = omega arith; equal = λ x b. absurd (omega arith) }
-
-  -- by comparing the suffix after d characters, as it is lent, with the string's start
-  pub period-put :
-      (d : ℕ) → d ≤ length s →
-      Equal-part (take (length s - d) (drop d s)) 0 (length (take (length s - d) (drop d s))) s 0 → Period s d
-  period-put d within h =
-      record {
-        within = within;
-        equal =
-            λ x b.
-            let z : 0 + x ≡ x = omega arith in
-            sym (getD-take (length s - d) (drop d s) x 0 (omega arith) ∙ getD-drop d s x 0)
-            ∙ rw z at (h x (omega arith) (omega (arith, length-take (length s - d) (drop d s), length-drop d s)));
-      }
 
   module _ (ts : List ℕ) (p : ℕ) (some : 1 ≤ p) (room : p + length s ≤ suc (length ts)) where
     -- all characters are equal

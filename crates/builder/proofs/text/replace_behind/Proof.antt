@@ -11,11 +11,12 @@ use Rattle.builder.proofs.text.replace_behind.Tie as tie
 
 returns : tie.Need-returns
 returns c =
-    let start = c .before .before .before .before .before .before in
+    let put = c .before .before in
+    let start = put .before .before .before .before in
     let text = start .args .text .now in
     let work = start .args .work .now in
     let n = length text in
-    let call = c .before .before .replace-into in
+    let call = put .replace-as-numbers in
     let part = call .last .1 .0 in
     let len : length (take (2 * n - n) (drop n work)) ≡ n = behind-long n work (start .pre) in
     behind-put n work (start .pre) part (call .kept .1 .0 ∙ len)

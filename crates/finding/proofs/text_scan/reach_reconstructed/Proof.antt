@@ -18,17 +18,18 @@ start c = c .before .before .before .before .before
 
 returns : tie.Need-returns
 returns c =
-    let checked = c .before .before .before in
-    let a = start (checked .before .before .before .before) .args in
-    let sentinel = checked .before .before .sentinel-of in
-    let shown = checked .reconstruct-checked in (
+    let read = c .before .before .before .before .before in
+    let a = start (read .before .before) .args in
+    let sentinel = read .sentinel-of in
+    let shown = c .before .before .before .reconstruct-checked in (
       λ t. clash t refl,
       (
         λ f. refl,
         (
           reconstructed-once (lexicon-at (a .chars .now) (a .word-starts .now)) (lines-in (a .index .now)) (n-of (a .index .now))
-              (a .string .now) (shown .last .1 .1 .1 .1 .0) (sentinel .result) (shown .result) false (sentinel .ensures)
-              (shown .ensures .0) (shown .ensures .1) (not-true (shown .result) (c .if1 .taken)),
+              (a .string .now)
+              (shown .last .1 .1 .1 .1 .0) (sentinel .result) (shown .result) false (sentinel .ensures .0) (shown .ensures .0)
+              (shown .ensures .1) (not-true (shown .result) (c .if1 .taken)),
           λ t. clash t refl,
         ),
       ),
@@ -36,26 +37,27 @@ returns c =
 
 returns-2 : tie.Need-returns-2
 returns-2 c =
-    let reached = c .before .before in
-    let all = reached .before .before .before in
-    let checked = all .before .before .before in
-    let s = start (checked .before .before .before .before) in
+    let on = c .before .before .before .before .before in
+    let checked = on .before .before .before in
+    let read = checked .before .before in
+    let s = start (read .before .before) in
     let a = s .args in
-    let sentinel = checked .before .before .sentinel-of in
+    let sentinel = read .sentinel-of in
     let shown = checked .reconstruct-checked in
-    let yes-all = not-false (shown .result) (all .if1 .left) in
-    let told = reached .reach-prefixes in (
+    let yes-all = not-false (shown .result) (on .if1 .left) in
+    let told = c .before .before .reach-prefixes in (
       λ t.
           reconstructed-finds (lexicon-at (a .chars .now) (a .word-starts .now)) (a .index .now) (n-of (a .index .now)) (sentinel .result)
           (shown .last .1 .1 .1 .1 .0) (a .string .now) (told .last .1 .1 .0)
           (record { is = shown .ensures .0; all = shown .ensures .1 .holds yes-all })
-          (absent-at (a .string .now) (sentinel .result) (sentinel .ensures .absent)) (omega arith) (told .ensures),
+          (absent-at (a .string .now) (sentinel .result) (sentinel .ensures .0 .absent)) (omega arith) (told .ensures),
       (
         λ f. clash refl f,
         (
           reconstructed-once (lexicon-at (a .chars .now) (a .word-starts .now)) (lines-in (a .index .now)) (n-of (a .index .now))
-              (a .string .now) (shown .last .1 .1 .1 .1 .0) (sentinel .result) (shown .result) true (sentinel .ensures)
-              (shown .ensures .0) (shown .ensures .1) yes-all,
+              (a .string .now)
+              (shown .last .1 .1 .1 .1 .0) (sentinel .result) (shown .result) true (sentinel .ensures .0) (shown .ensures .0)
+              (shown .ensures .1) yes-all,
           λ t. told .ensures,
         ),
       ),

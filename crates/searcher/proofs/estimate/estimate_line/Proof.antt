@@ -11,11 +11,11 @@ use Rattle.searcher.proofs.estimate.estimate_line.Tie as tie
 
 -- what the whole word costs
 cost :
-    (c : tie.After-word-at) → c .before .before .count-at .result * length (c .word-at .result .now) ≤ 65535 * 32
+    (c : tie.After-word-at) → c .before .before .count-at .result * length (c .word-at .result .now) ≤ greatest-number * 32
 cost c =
     let counted = c .before .before in
     let s = counted .before .before .before .before in
-    mul-le-mul {n₂ = 65535} (omega arith)
+    mul-le-mul {n₂ = greatest-number} (omega arith)
     (spelt-short (s .pre .0 .can) (s .args .line) (s .pre .1) (c .word-at .result .now) (c .word-at .ensures))
 
 pub estimate-line-spec : {M : Type 1} → statement M

@@ -12,7 +12,7 @@ start c = c .before .before .before .before .before
 first-by-text-requires : tie.Need-first-by-text-requires
 first-by-text-requires c κs =
     let s = start (c .before .before) in
-    (s .pre .0, s .pre .1, omega (arith, length-take-le (s .args .starts) (s .args .room .now) (s .pre .2)))
+    (s .pre .0, s .pre .1, omega (arith, length-take-le (s .args .starts) (s .args .room .now) (s .pre .2)), s .pre .4)
 
 returns : tie.Need-returns
 returns c =

@@ -16,7 +16,7 @@ start c = c .before .before .before .before .before
 -- the refusal of the call
 number : (c : tie.After-string-refusal) → let a = start (c .before) .args in
     c .string-refusal .result ≡ string-refusal longest-text (a .chars .now) (a .lengths .now) (a .index .now) (a .string .now)
-number c = string-number _ _ _ _ (start (c .before) .pre) (c .string-refusal .ensures)
+number c = string-number _ _ _ _ _ (start (c .before) .pre) (c .string-refusal .ensures)
 
 search-words-requires : tie.Need-search-words-requires
 search-words-requires c κs =

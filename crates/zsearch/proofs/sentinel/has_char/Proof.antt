@@ -41,5 +41,6 @@ pub has-char-spec : {M : Type 1} → statement M
 has-char-spec =
     tie.close
     (tie.spec
-    Inv-loop μ-loop (λ c. (omega arith, λ k h. absurd (omega arith))) (λ c. search needs) (λ c. search needs) returns (λ c. search needs)
-    (λ c. search needs) loop-again returns-2)
+    Inv-loop μ-loop (λ c. (omega arith, λ k h. absurd (omega arith))) (λ c. search needs) (λ c. search needs)
+    (λ c. omega (arith, c .shared-slice-known .given (c .before .before .loop .i))) returns (λ c. search needs) (λ c. search needs)
+    loop-again returns-2)

@@ -33,7 +33,12 @@ loop-less c =
     omega (arith, lower-few (s .args .string .now) (c .before .before .loop .sentinel + 1) (more c))
 
 returns : tie.Need-returns Inv-loop μ-loop
-returns c = record { absent = c .before .has-char .ensures .fails (c .if1 .left); lower = c .before .before .loop .inv }
+returns c =
+    let turn = c .before .before in
+    let s = turn .before .before in (
+      record { absent = c .before .has-char .ensures .fails (c .if1 .left); lower = turn .loop .inv },
+      omega (arith, lower-few (s .args .string .now) (turn .loop .sentinel) (turn .loop .inv)),
+    )
 
 pub sentinel-of-spec : {M : Type 1} → statement M
 sentinel-of-spec =

@@ -17,8 +17,8 @@ Inv-loop string zarray₀ left₀ right₀ at₀ zarray left right at =
 abbrev μ-loop : tie.MeasureT-loop
 μ-loop string zarray₀ left₀ right₀ at₀ zarray left right at = length string - at
 
-abbrev start : tie.In-loop Inv-loop μ-loop → tie.Start Inv-loop μ-loop
-start c = c .before .before .before .before
+abbrev start : tie.At-loop Inv-loop μ-loop → tie.Start Inv-loop μ-loop
+start turn = turn .before .before .before
 
 loop-holds : tie.Need-loop-holds Inv-loop μ-loop
 loop-holds c =
@@ -29,43 +29,45 @@ loop-holds c =
 
 known-from-requires : tie.Need-known-from-requires Inv-loop μ-loop
 known-from-requires c κs =
-    let s = start (c .before) in
+    let s = start (c .before .before) in
     let l = c .before .before .loop in
     λ b.
     let short = zbox-short 1 (s .args .string .now) (s .args .string .now) (l .at) (l .inv .0 .zbox) b in
     (omega (arith, l .inv .0 .zbox .begun b .1), omega (arith, short))
 
-extend-requires : tie.Need-extend-requires Inv-loop μ-loop
-extend-requires c κs =
-    let s = start (c .before .before) in
+extend-own-requires : tie.Need-extend-own-requires Inv-loop μ-loop
+extend-own-requires c κs =
+    let s = start (c .before .before .before) in
     let l = c .before .before .before .loop in
     let below = c .before .before .loop-test .taken in
     let lies : Prefix-at (s .args .string .now) (s .args .string .now) (l .at) (c .known-from .result) =
     known-lies 1 (s .args .string .now) (s .args .string .now) (l .at) (l .inv .0 .zbox) (l .at)
     (l .inv .0 .told) (λ b. omega (arith, l .inv .0 .zbox .begun b .0, l .inv .0 .zbox .begun b .1))
     (omega (arith, below)) (c .known-from .ensures) in
-    (lies, omega arith, omega arith, omega (arith, below))
+    (lies, omega arith, omega (arith, below))
 
 loop-again : tie.Need-loop-again Inv-loop μ-loop
 loop-again c =
-    let a = start (c .before .before .before .before) .args in
-    let l = c .before .before .before .before .before .loop in
-    let end = c .before .extend .ensures in
+    let turn = c .before .before .before .before .before in
+    let a = start turn .args in
+    let l = turn .loop in
+    let end = c .before .extend-own .ensures in
     let below = c .before .before .before .before .loop-test .taken in (
-      filling-new 1 (a .string .now) (a .string .now) (Z-value (a .string .now)) (a .zarray .now) (c .before .extend .result) (l .inv .0)
-          (omega (arith, below))
+      filling-new 1 (a .string .now) (a .string .now) (Z-value (a .string .now)) (a .zarray .now) (c .before .extend-own .result)
+          (l .inv .0) (omega (arith, below))
           (λ from. end) (end .lies),
       λ more. omega (arith, below),
     )
 
 loop-again-2 : tie.Need-loop-again-2 Inv-loop μ-loop
 loop-again-2 c =
-    let a = start (c .before .before .before .before) .args in
-    let l = c .before .before .before .before .before .loop in
-    let end = c .before .extend .ensures in
+    let turn = c .before .before .before .before .before in
+    let a = start turn .args in
+    let l = turn .loop in
+    let end = c .before .extend-own .ensures in
     let below = c .before .before .before .before .loop-test .taken in (
-      filling-on 1 (a .string .now) (a .string .now) (Z-value (a .string .now)) (a .zarray .now) (c .before .extend .result) (l .inv .0)
-          (omega (arith, below))
+      filling-on 1 (a .string .now) (a .string .now) (Z-value (a .string .now)) (a .zarray .now) (c .before .extend-own .result)
+          (l .inv .0) (omega (arith, below))
           (λ from. end),
       λ more. omega (arith, below),
     )
@@ -81,6 +83,6 @@ pub fill-zarray-spec : {M : Type 1} → statement M
 fill-zarray-spec =
     tie.close
     (tie.spec
-    Inv-loop μ-loop loop-holds known-from-requires (λ c. search needs) extend-requires (λ c. search needs) (λ c. search needs)
+    Inv-loop μ-loop loop-holds known-from-requires (λ c. search needs) extend-own-requires (λ c. search needs) (λ c. search needs)
     (λ c. search needs) (λ c. search needs) (λ c. search needs) (λ c. search needs) (λ c. search needs) loop-again (λ c. search needs)
     loop-again-2 (λ c. c .before .loop .inv .0 .len) returns)
