@@ -11,7 +11,7 @@ put-filled-requires c κs =
     let index = known .before .before in
     let chars = index .before .before in
     let s = chars .before in
-    let can = can-read _ _ _ (λ i. omega (arith, chars .shared-slice-known .given i))
+    let can = can-read _ _ _ _ (λ i. omega (arith, chars .shared-slice-known .given i))
     (λ i. omega (arith, index .shared-slice-known3 .given i)) (s .pre .0 .accepts) in
     ((s .pre .0, can, s .pre .1, omega arith), (s .pre .2, s .pre .3, s .pre .4))
 

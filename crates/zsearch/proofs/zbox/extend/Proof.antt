@@ -19,7 +19,7 @@ start turn = turn .before .before .before
 returns : tie.Need-returns Inv-loop μ-loop
 returns c =
     let l = c .before .before .before .before .loop in
-    record { lies = l .inv .0; bound = l .inv .1; longest = λ b same. c .if1 .taken (c .before .before .number-at .ensures .0 ∙ same) }
+    record { lies = l .inv .0; bound = l .inv .1; longest = λ b. rw (c .before .before .number-at .ensures .0) at (c .if1 .taken) }
 
 loop-again : tie.Need-loop-again Inv-loop μ-loop
 loop-again c =
