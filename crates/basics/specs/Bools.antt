@@ -60,6 +60,13 @@ pub and-right : (a b : Bool) → (a && b) ≡ true → b ≡ true
 and-right true b t = t
 and-right false b t = clash t refl
 
+-- a test of both bounds
+pub between-get : {low high : ℕ} (b : ℕ) → (leb low b && leb b high) ≡ true → (low ≤ b) × (b ≤ high)
+between-get {low} {high} b t = (
+  leb-true low b (and-left (leb low b) (leb b high) t),
+  leb-true b high (and-right (leb low b) (leb b high) t),
+)
+
 pub or-left : {a : Bool} → (b : Bool) → a ≡ true → (a || b) ≡ true
 or-left b p = rw p
 

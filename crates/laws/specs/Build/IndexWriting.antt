@@ -1,5 +1,5 @@
 -- Header, directory and positions written one after the other are the numbers of an index. Assumes nothing.
-use mathlib.Core.Path.{_≡_, refl, _∙_}
+use mathlib.Core.Path.{_≡_, _∙_}
 use mathlib.Core.List.{List, [], _∷_, _++_}
 use Prim.Native.Nat.{ℕ, _+_, _*_, _≤_}
 use native.Mathlib.Omega.{arith}
@@ -7,11 +7,7 @@ use lib.ListN.{length, take, drop, length-append, length-drop}
 use Rattle.basics.specs.Writing.{over, Writing, starts, appends, lent-tail, tail-back, lent-room, tail-written}
 use Rattle.spec.specs.Numbers.{Line, directory, all-positions, numbers}
 use Rattle.spec.specs.Index.{header}
-
-pub length-directory : (ls : List Line) → length (directory ls) ≡ 3 * length ls
-unfolding directory
-length-directory [] = refl
-length-directory (l ∷ ls) = omega (arith, length-directory ls)
+use Rattle.laws.specs.Numbers.Slices.{length-directory}
 
 module _ (n : ℕ) (ls : List Line) (keys : ℕ) (k : keys ≡ length ls) (old : List ℕ) (room : length (numbers n ls) ≤ length old) where
   pub room-is : header + 3 * keys + length (all-positions ls) ≤ length old

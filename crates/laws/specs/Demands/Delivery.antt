@@ -82,6 +82,23 @@ module _ (cs ls : List ℕ) where
       accepts-zero (dictionary-rows cs ls) (dictionary-refusal cs ls) Unit Unit dictionary-decides
       (eqb-true (dictionary-refusal cs ls) 0 (and-right (all-chars cs) (eqb (dictionary-refusal cs ls) 0) a)) .none-met
 
+-- an accepted call on an index, whatever lines follow those of the index
+module _ (g : ℕ) (cs ls xs : List ℕ) (rows : List Row) (none : None-met (index-rows g cs ls xs ++ rows)) where
+  -- the index is readable
+  pub none-readable : readable g (lexicon cs ls) xs ≡ true
+  none-readable = true-put (readable g (lexicon cs ls) xs) (λ f. none 5 (inr (inr (inr (inr (inl (refl, f)))))))
+
+  -- the dictionary is accepted with any readable index
+  pub none-other :
+      (ys : List ℕ) (more : List Row) → readable g (lexicon cs ls) ys ≡ true → None-met more →
+      None-met (index-rows g cs ls ys ++ more)
+  none-other ys more can later =
+      none-both (index-rows g cs ls ys) more
+      (none-both (dictionary-rows cs ls) (row 5 (Unreadable g (lexicon cs ls) ys) ∷ [])
+      (none-left (dictionary-rows cs ls) (row 5 (Unreadable g (lexicon cs ls) xs) ∷ rows) none)
+      (none-row 5 (Unreadable g (lexicon cs ls) ys) [] (λ f. clash can f) none-nil))
+      later
+
 -- NUMBERS OF A TEXT
 
 module _ (g : ℕ) (cs ls : List ℕ) (adm : admitted cs ls ≡ true) where

@@ -8,7 +8,6 @@ use native.Mathlib.Omega.{arith}
 use lib.Dec.{eqb}
 use lib.ListN.{length, take}
 use borrow.Author.Tests.{eqb-true, eqb-false}
-use Rattle.basics.specs.Bools.{clash}
 use Rattle.spec.specs.declared.Answer.{Answer}
 use Rattle.spec.specs.declared.FirstAnswer.{FirstAnswer}
 use Rattle.spec.specs.Replaced.{replaced}
@@ -19,8 +18,8 @@ use Rattle.spec.specs.First.{first-of, first-position, index-to}
 use Rattle.spec.specs.Cut.{cut-down}
 use Rattle.spec.specs.FurtherTheorems.{Cut-any}
 use Rattle.spec.specs.Calls.{output-short, string-refusal, find-refusal, Answers, Puts, Search-says, Cut-says, First-says}
-use Rattle.spec.specs.RefusalTable.{Written, Untouched, Unreadable, String-wrong, Output-short, row, Meets, Accepts, Refuses}
-use Rattle.spec.specs.RefusalTable.{dictionary-rows, index-rows, string-rows, find-rows}
+use Rattle.spec.specs.RefusalTable.{Row, Written, Untouched, String-wrong, Output-short, row, Meets, Accepts, Refuses}
+use Rattle.spec.specs.RefusalTable.{string-rows, find-rows}
 use Rattle.spec.specs.FirstTheorems.{Same-to, First-calls}
 use Rattle.laws.specs.Dictionary.Answering.{or-else-some, or-else-none}
 use Rattle.laws.specs.Text.WidthFolding.{length-replaced}
@@ -29,7 +28,8 @@ use Rattle.laws.specs.First.Positions.{first-there}
 use Rattle.laws.specs.First.IndexTo.{index-to-readable, index-to-same}
 use Rattle.laws.specs.Demands.RefusalRows.{first-meets}
 use Rattle.laws.specs.Demands.DemandOne.{first-demand}
-use Rattle.laws.specs.Demands.Delivery.{true-put, None-met, accepts-zero, accepts-none, none-nil, none-row, none-left, none-both}
+use Rattle.laws.specs.Demands.Delivery.{None-met, accepts-zero, accepts-none, none-nil, none-row, none-left}
+use Rattle.laws.specs.Demands.Delivery.{none-readable, none-other}
 
 -- the outcome of a call of first if no line is met
 module _ (g : ℕ) (cs ls xs s : List ℕ) (f : FirstAnswer) (says : First-says g cs ls xs s f) where
@@ -106,26 +106,18 @@ module _ (g : ℕ) (cs ls xs s : List ℕ) (f : FirstAnswer) (r : Answer) (o z :
 
 -- ANOTHER SLICE
 
--- a dictionary and a string that are accepted with one slice are accepted with any readable one
-other-none :
-    (g : ℕ) (cs ls xs ys s : List ℕ) → None-met (string-rows g cs ls xs s) → readable g (lexicon cs ls) ys ≡ true →
-    None-met (string-rows g cs ls ys s)
-other-none g cs ls xs ys s none can =
-    none-both (index-rows g cs ls ys) (row 6 (String-wrong s) ∷ [])
-    (none-both (dictionary-rows cs ls) (row 5 (Unreadable g (lexicon cs ls) ys) ∷ [])
-    (none-left (dictionary-rows cs ls) (row 5 (Unreadable g (lexicon cs ls) xs) ∷ row 6 (String-wrong s) ∷ []) none)
-    (none-row 5 (Unreadable g (lexicon cs ls) ys) [] (λ f. clash can f) none-nil))
-    (none-row 6 (String-wrong s) [] (λ w. none 6 (inr (inr (inr (inr (inr (inl (refl, w)))))))) none-nil)
-
-can-read : (g : ℕ) (cs ls xs s : List ℕ) → None-met (string-rows g cs ls xs s) → readable g (lexicon cs ls) xs ≡ true
-can-read g cs ls xs s none = true-put (readable g (lexicon cs ls) xs) (λ f. none 5 (inr (inr (inr (inr (inl (refl, f)))))))
+-- the line of a wrong string
+abbrev string-row : (string : List ℕ) → List Row
+string-row s = row 6 (String-wrong s) ∷ []
 
 -- that call answers its own first position
 other-first :
     (g : ℕ) (cs ls xs ys s : List ℕ) → None-met (string-rows g cs ls xs s) → readable g (lexicon cs ls) ys ≡ true →
     (h : FirstAnswer) → First-says g cs ls ys s h → (h .refusal ≡ 0) × (h .position ≡ first-position (lexicon cs ls) ys (replaced s))
 other-first g cs ls xs ys s none can h says =
-    let a = accepts-first g cs ls ys s h says (other-none g cs ls xs ys s none can) in (a .number, a .result)
+    let six = none-row 6 (String-wrong s) [] (λ w. none 6 (inr (inr (inr (inr (inr (inl (refl, w)))))))) none-nil in
+    let a = accepts-first g cs ls ys s h says (none-other g cs ls xs (string-row s) none ys (string-row s) can six) in
+    (a .number, a .result)
 
 module _ (g : ℕ) (cs ls xs s : List ℕ) (f h : FirstAnswer) (says : First-says g cs ls xs s f) where
   same-answer :
@@ -143,7 +135,7 @@ module _ (g : ℕ) (cs ls xs s : List ℕ) (f h : FirstAnswer) (says : First-say
       1 ≤ f .position → First-says g cs ls (index-to (f .position + length s - 1) xs) s h → (h .refusal ≡ 0) × (h .position ≡ f .position)
   kept-answer some other =
       let q = f .position + length s - 1 in
-      let can = can-read g cs ls xs s (position-accepted g cs ls xs s f says some .none-met) in
+      let can = none-readable g cs ls xs (string-row s) (position-accepted g cs ls xs s f says some .none-met) in
       same-answer some (index-to-readable q xs g (lexicon cs ls) can) (index-to-same q xs) other
 
   cut-answer :
@@ -156,7 +148,7 @@ module _ (g : ℕ) (cs ls xs s : List ℕ) (f h : FirstAnswer) (says : First-say
       accepts-zero (find-rows g cs ls xs s cut o) (r .refusal) (Written cut r o z) (Untouched r o z)
       (first-demand g .cuts cs ls xs s r o z says-cut) zero in
       let none = none-left (string-rows g cs ls xs s) (row 8 (Output-short cut o) ∷ []) (c .none-met) in
-      let any = cut-any g (lexicon cs ls) xs (replaced s) (can-read g cs ls xs s none) in
+      let any = cut-any g (lexicon cs ls) xs (replaced s) (none-readable g cs ls xs (string-row s) none) in
       let b =
       other-first g cs ls xs cut s none (any .0) h (subst (λ (ys : List ℕ). First-says g cs ls ys s h) (c .result .front) other) in
       (b .0, b .1 ∙ ap first-of (any .1) ∙ sym (accepts-first g cs ls xs s f says none .result))

@@ -1,12 +1,11 @@
 -- The calls of to_gaps and from_gaps: from the tests to the contract, one call after the other, and what meets 5. Assumes nothing.
 use mathlib.Core.Path.{_≡_, refl, sym, ap, _∙_}
 use mathlib.Core.Bool.{Bool, true, false, cond}
-use mathlib.Core.Logic.{inl, inr, ⊎-elim}
+use mathlib.Core.Logic.{⊎-elim}
 use mathlib.Core.List.{List, [], _∷_, _++_}
 use Prim.Native.Nat.{ℕ, _≤_}
 use native.Mathlib.Omega.{arith}
 use lib.ListN.{length, take, drop}
-use borrow.Author.Tests.{ne-eqb}
 use Rattle.basics.specs.Bools.{clash, true-or-false}
 use Rattle.spec.specs.declared.Answer.{Answer}
 use Rattle.spec.specs.Dictionary.{lexicon, dictionary-refusal}
@@ -14,7 +13,7 @@ use Rattle.spec.specs.Index.{greatest-number, readable}
 use Rattle.spec.specs.Gaps.{gaps, prefix-sums, with-lists, gap-form, restored}
 use Rattle.spec.specs.GapsTheorems.{Gap-calls}
 use Rattle.spec.specs.Calls.{output-short, or-else, index-refusal, gaps-refusal, Answers, in-front, Puts, To-gaps-says, From-gaps-says}
-use Rattle.spec.specs.RefusalTable.{Written, Untouched, Unreadable, Output-short, row, gaps-rows, dictionary-rows, index-rows}
+use Rattle.spec.specs.RefusalTable.{Row, Written, Untouched, Output-short, row, gaps-rows}
 use Rattle.models.specs.Readability.{read-as}
 use Rattle.models.specs.Gaps.{write-as}
 use Rattle.laws.specs.Dictionary.Answering.{or-else-some, or-else-none}
@@ -26,25 +25,12 @@ use Rattle.laws.specs.Gaps.WithLists.{length-with}
 use Rattle.laws.specs.Gaps.ReadLists.{read-positions, read-gaps}
 use Rattle.laws.specs.Gaps.GapParts.{Writable}
 use Rattle.laws.specs.Readable.IndexRefusal.{refuses-unreadable, accepts-index, index-accepted}
-use Rattle.laws.specs.Search.Sizing.{Sized, refused}
+use Rattle.laws.specs.Search.Sizing.{Sized-after}
 use Rattle.laws.specs.Gaps.GapForms.{gaps-restored, restored-gaps, count-some, restored-fits, restored-some, totals-small, sums-small}
 use Rattle.laws.specs.Demands.DemandOne.{first-demand}
-use Rattle.laws.specs.Demands.Delivery.{true-put, None-met, accepts-zero, accepts-none, none-nil, none-row, none-left, none-both}
+use Rattle.laws.specs.Demands.Delivery.{None-met, accepts-zero, accepts-none, none-nil, none-row, none-readable, none-other}
 
 -- FROM THE TESTS TO THE CONTRACT
-
-module _ (g : ℕ) (cs ls xs ys : List ℕ) (r : Answer) (o : List ℕ) where
-  pub gaps-refused :
-      (index-refusal g cs ls xs ≡ 0 → ⊥) → r .refusal ≡ index-refusal g cs ls xs → r .count ≡ 0 →
-      Puts (gaps-refusal g cs ls xs (length ys) (length o)) ys r o o
-  unfolding gaps-refusal or-else
-  gaps-refused some number none =
-      rw (ne-eqb (index-refusal g cs ls xs) 0 some) (refused (index-refusal g cs ls xs) ys r o some number none)
-
-  pub gaps-sized :
-      index-refusal g cs ls xs ≡ 0 → (z : List ℕ) → Sized ys r o z → Puts (gaps-refusal g cs ls xs (length ys) (length o)) ys r o z
-  unfolding gaps-refusal or-else Sized
-  gaps-sized accepts z h = rw accepts h
 
 -- what the writer relies on once no line is met
 pub writable :
@@ -85,34 +71,25 @@ form-front b xs o part is = rw (is, form-length b xs)
 -- the contract of both directions, as the contract of each
 abbrev pub Form-says : (g : ℕ) → (restore : Bool) → (chars lengths numbers : List ℕ) → Answer → (out out-now : List ℕ) → Type 0
 Form-says g b cs ls xs r o z =
-    let form = with-lists (write-as b) xs in
-    Puts (gaps-refusal g cs ls (with-lists (read-as b) xs) (length form) (length o)) form r o z
+    Sized-after (index-refusal g cs ls (with-lists (read-as b) xs)) (with-lists (write-as b) xs) r o z
 
 module _ (g : ℕ) (cs ls xs : List ℕ) (r : Answer) (o z : List ℕ) where
   pub to-gaps-said : Form-says g false cs ls xs r o z → To-gaps-says g cs ls xs r o z
-  unfolding To-gaps-says gap-form
+  unfolding To-gaps-says gap-form gaps-refusal
   to-gaps-said says = rw (read-positions xs) at says
 
   pub from-gaps-said : Form-says g true cs ls xs r o z → From-gaps-says g cs ls xs r o z
-  unfolding From-gaps-says restored
+  unfolding From-gaps-says restored gaps-refusal
   from-gaps-said says = rw (read-gaps xs) at says
 
 -- ONE CALL AFTER THE OTHER
 
--- a dictionary that is accepted with one index is accepted with any readable one, if the output is long enough
-other-none :
-    (g : ℕ) (cs ls xs ys us vs o p : List ℕ) → None-met (gaps-rows g cs ls xs us o) → readable g (lexicon cs ls) ys ≡ true →
-    length vs ≤ length p → None-met (gaps-rows g cs ls ys vs p)
-other-none g cs ls xs ys us vs o p none can room =
-    none-both (index-rows g cs ls ys) (row 8 (Output-short vs p) ∷ [])
-    (none-both (dictionary-rows cs ls) (row 5 (Unreadable g (lexicon cs ls) ys) ∷ [])
-    (none-left (dictionary-rows cs ls) (row 5 (Unreadable g (lexicon cs ls) xs) ∷ row 8 (Output-short us o) ∷ []) none)
-    (none-row 5 (Unreadable g (lexicon cs ls) ys) [] (λ f. clash can f) none-nil))
-    (none-row 8 (Output-short vs p) [] (λ short. omega arith) none-nil)
+-- the line of a too short output
+abbrev output-row : (result out : List ℕ) → List Row
+output-row ys o = row 8 (Output-short ys o) ∷ []
 
-can-read : (g : ℕ) (cs ls xs us o : List ℕ) → None-met (gaps-rows g cs ls xs us o) → readable g (lexicon cs ls) xs ≡ true
-can-read g cs ls xs us o none =
-    true-put (readable g (lexicon cs ls) xs) (λ f. none 5 (inr (inr (inr (inr (inl (refl, f)))))))
+output-none : (ys o : List ℕ) → length ys ≤ length o → None-met (output-row ys o)
+output-none ys o room = none-row 8 (Output-short ys o) [] (λ short. omega arith) none-nil
 
 restores :
     (g : ℕ) (cs ls xs : List ℕ) (r s : Answer) (o z p q : List ℕ) → To-gaps-says g cs ls xs r o z → r .refusal ≡ 0 → length xs ≤ length p →
@@ -123,12 +100,13 @@ restores g cs ls xs r s o z p q to zero room from =
     let h =
     accepts-zero (gaps-rows g cs ls xs form o) (r .refusal) (Written form r o z) (Untouched r o z)
     (first-demand g .rearranges cs ls xs r o z to) zero in
-    let can = can-read g cs ls xs form o (h .none-met) in
+    let can = none-readable g cs ls xs (output-row form o) (h .none-met) in
     let back : index ≡ xs = ap restored (h .result .front) ∙ gaps-restored g (lexicon cs ls) xs can in
     let a =
     accepts-none (gaps-rows g cs ls index index p) (s .refusal) (Written index s p q) (Untouched s p q)
     (first-demand g .restores cs ls (take (r .count) z) s p q from)
-    (other-none g cs ls xs index form index o p (h .none-met) (rw back can) (omega (arith, ap length back))) in
+    (none-other g cs ls xs (output-row form o) (h .none-met) index (output-row index p) (rw back can)
+    (output-none index p (omega (arith, ap length back)))) in
     (a .number, a .result .count ∙ ap length back, a .result .front ∙ back)
 
 comes-back :
@@ -142,12 +120,13 @@ comes-back g cs ls ds r s o z p q from zero room to =
     let h =
     accepts-zero (gaps-rows g cs ls index index o) (r .refusal) (Written index r o z) (Untouched r o z)
     (first-demand g .restores cs ls ds r o z from) zero in
-    let can = can-read g cs ls index index o (h .none-met) in
+    let can = none-readable g cs ls index (output-row index o) (h .none-met) in
     let back : form ≡ ds = ap gap-form (h .result .front) ∙ restored-gaps ds in
     let a =
     accepts-none (gaps-rows g cs ls ys form p) (s .refusal) (Written form s p q) (Untouched s p q)
     (first-demand g .rearranges cs ls ys s p q to)
-    (other-none g cs ls index ys index form o p (h .none-met) (rw (h .result .front) can) (omega (arith, ap length back))) in
+    (none-other g cs ls index (output-row index o) (h .none-met) ys (output-row form p) (rw (h .result .front) can)
+    (output-none form p (omega (arith, ap length back)))) in
     (a .number, a .result .count ∙ ap length back, a .result .front ∙ back)
 
 -- WHAT MEETS 5

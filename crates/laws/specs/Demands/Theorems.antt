@@ -24,7 +24,8 @@ use Rattle.laws.specs.Text.WidthFolding.{plain-get, length-replaced}
 use Rattle.laws.specs.Text.Chars.{all-chars-get, is-text-get, is-text-put}
 use Rattle.laws.specs.Dictionary.Lexicon.{admitted-lexicon}
 use Rattle.laws.specs.Numbers.Flat.{posting, Fewer}
-use Rattle.laws.specs.Readable.IndexOf.{entry-whole, among-get, under-get, under-put, under-flat, index-tells, tells-index}
+use Rattle.laws.specs.Readable.IndexOf.{entry-whole, among-get, under-get, under-put, under-flat}
+use Rattle.laws.specs.Readable.IndexOf.{index-readable, index-tells, tells-index}
 use Rattle.laws.specs.Tally.Sum.{tally-sums}
 use Rattle.laws.specs.Readable.Recover.{length-recovered}
 use Rattle.laws.specs.Search.Agree.{agrees-get, agrees-put}
@@ -36,7 +37,7 @@ use Rattle.laws.specs.Cut.Readable.{n-of-cut, lines-in-cut, cut-readable
 use Rattle.laws.specs.First.Positions.{first-heads-find, first-stands}
 use Rattle.laws.specs.Receive.ReceptionTest.{counted-index, index-taken, is-index-all, is-index-count}
 use Rattle.laws.specs.Receive.Received.{Is-index, is-index-get, Received, received-get, received-put, received-reads, readable-chars}
-use Rattle.laws.specs.Receive.Received.{readable-small, index-recovered, index-can-read, is-index-received, is-index-recovered}
+use Rattle.laws.specs.Receive.Received.{readable-small, index-recovered, is-index-received, is-index-recovered}
 use Rattle.laws.specs.Receive.Received.{index-find, index-injective}
 
 -- THE SECOND DEMAND
@@ -46,7 +47,7 @@ unfolding Recovers
 recovers g cs ls ts a t =
     let good = admitted-lexicon cs ls a in
     let text = is-text-get g ts t in
-    (index-can-read good ts (text .0) g (text .1), index-recovered good ts (text .0))
+    (index-readable (lexicon cs ls) good ts (text .0) g (text .1), index-recovered good ts (text .0))
 
 pub only-readable : (g : ℕ) → Only-readable g
 unfolding Only-readable

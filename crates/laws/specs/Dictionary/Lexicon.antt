@@ -9,8 +9,8 @@ use native.Mathlib.Omega.{arith}
 use lib.Dec.{ltb, leb, eqb}
 use lib.ListN.{length, getD, drop, length-drop}
 use lib.Seq.{length-take-le}
-use borrow.Author.Tests.{le-ltb, le-leb, eq-eqb, ltb-false, leb-true, eqb-true, not-false}
-use Rattle.basics.specs.Bools.{clash, and-put, and-left, and-right, or-none}
+use borrow.Author.Tests.{le-ltb, le-leb, eq-eqb, ltb-false, eqb-true, not-false}
+use Rattle.basics.specs.Bools.{clash, and-put, between-get, and-left, and-right, or-none}
 use Rattle.basics.specs.Member.{In}
 use Rattle.spec.specs.Dictionary.{all-chars, words-from, lexicon, total, too-large, length-good, lengths-good, lengths-wrong, word-before}
 use Rattle.spec.specs.Dictionary.{ascend, disordered, some-full-width, unreplaced, dictionary-refusal, admitted}
@@ -25,8 +25,7 @@ pub lengths-good-get : (ls : List ℕ) → lengths-good ls ≡ true → (i : ℕ
 unfolding lengths-good length-good
 lengths-good-get [] t i h = absurd (omega arith)
 lengths-good-get (l ∷ ls) t zero h =
-    let here : (leb 1 l && leb l 32) ≡ true = and-left (leb 1 l && leb l 32) (lengths-good ls) t in
-    (leb-true 1 l (and-left (leb 1 l) (leb l 32) here), leb-true l 32 (and-right (leb 1 l) (leb l 32) here))
+    between-get l (and-left (leb 1 l && leb l 32) (lengths-good ls) t)
 lengths-good-get (l ∷ ls) t (suc i) h =
     lengths-good-get ls (and-right (leb 1 l && leb l 32) (lengths-good ls) t) i (omega arith)
 
@@ -110,6 +109,13 @@ length-words [] cs = refl
 length-words (l ∷ ls) cs = ap suc (length-words ls (drop l cs))
 
 -- if there are enough characters, each word has its full length
+pub words-long :
+    (ls cs : List ℕ) (i : ℕ) → total ls ≤ length cs → i < length ls → length (getD (words-from ls cs) i []) ≡ getD ls i 0
+unfolding words-from total
+words-long [] cs i h b = absurd (omega arith)
+words-long (l ∷ ls) cs zero h b = length-take-le l cs (omega arith)
+words-long (l ∷ ls) cs (suc i) h b = words-long ls (drop l cs) i (omega (arith, length-drop l cs)) (omega arith)
+
 pub word-lengths :
     (ls cs : List ℕ) → lengths-good ls ≡ true → total ls ≤ length cs → (w : List ℕ) → In w (words-from ls cs) →
     (1 ≤ length w) × (length w ≤ 32)

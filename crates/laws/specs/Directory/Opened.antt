@@ -10,7 +10,8 @@ use Rattle.spec.specs.Numbers.{Line, line}
 use Rattle.spec.specs.Index.{header, greatest-number, keys-of, kind-at, value-at}
 use Rattle.spec.specs.Index.{count-at, key-at, counts-from, entries-of, lines-from, lines-in}
 use Rattle.models.specs.Window.{list-start}
-use Rattle.laws.specs.Numbers.Slices.{length-lines-from, Fits}
+use Rattle.laws.specs.Numbers.Slices.{Fits}
+use Rattle.laws.specs.Numbers.LineNumbers.{length-lines-in}
 
 -- LINES
 
@@ -55,10 +56,6 @@ lines-cut (suc k) i (suc j) xs ps h =
     line (key-at xs (suc i + j)) (take (count-at xs (suc i + j)) d)
     ∷ drop (suc j) (lines-from k (suc i) xs (drop (count-at xs i) ps)))
     (drop-drop (counts-from j (suc i) xs) (count-at xs i) ps))
-
-pub length-lines-in : (xs : List ℕ) → length (lines-in xs) ≡ keys-of xs
-unfolding lines-in
-length-lines-in xs = length-lines-from (keys-of xs) 0 xs (drop (header + 3 * keys-of xs) xs)
 
 module _ (xs : List ℕ) (i : ℕ) (below : i < keys-of xs) where
   -- the lines from i on start with line i

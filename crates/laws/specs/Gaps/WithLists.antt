@@ -19,10 +19,6 @@ use Rattle.laws.specs.Numbers.Slices.{Fits, numbers-lines-in}
 abbrev pub Keeps-length : (List ℕ → List ℕ) → Type 0
 Keeps-length f = (ps : List ℕ) → length (f ps) ≡ length ps
 
-empty : (ps : List ℕ) → length ps ≡ 0 → ps ≡ []
-empty [] e = refl
-empty (p ∷ ps) e = absurd (omega arith)
-
 -- the directory lines before `to` are the same
 pub record Same-lines (xs ys : List ℕ) (to : ℕ) : Type 0 where
   pub kinds : (j : ℕ) → j < to → kind-at ys j ≡ kind-at xs j
@@ -56,7 +52,8 @@ module _ (f : List ℕ → List ℕ) (keeps : Keeps-length f) where
       let len : length (f (take c ps)) ≡ c = keeps (take c ps) ∙ length-take-le c ps few in
       (take-at (f (take c ps)) more c len, drop-at (f (take c ps)) more c len))
       (λ (many : length ps < c).
-      let none : more ≡ [] = empty more (e ∙ omega (arith, length-drop c ps)) in
+      let short : length more ≤ 0 = omega (arith, e, length-drop c ps) in
+      let none : more ≡ [] = drop-of-length-le more short in
       let len : length (f (take c ps)) ≤ c = omega (arith, keeps (take c ps), ap length (take-all c ps (omega arith))) in
       rw (none, append-nil (f (take c ps))) (take-all c (f (take c ps)) len, drop-of-length-le (f (take c ps)) len))
       (le-or-lt c (length ps))
@@ -143,12 +140,9 @@ module _ (f : List ℕ → List ℕ) (keeps : Keeps-length f) where
     without short =
         let few : length xs ≤ first = omega arith in
         let none : drop first xs ≡ [] = drop-of-length-le xs few in
-        rw (
-          none,
-          take-all first xs (omega arith),
-          empty (lists-from f (keys-of xs) 0 xs []) (length-lists (keys-of xs) 0 xs []),
-          append-nil xs,
-        )
+        let nothing : lists-from f (keys-of xs) 0 xs [] ≡ [] =
+        drop-of-length-le (lists-from f (keys-of xs) 0 xs []) {i = 0} (omega (arith, length-lists (keys-of xs) 0 xs [])) in
+        rw (none, take-all first xs (omega arith), nothing, append-nil xs)
 
     pub n-with : n-of ys ≡ n-of xs
     n-with =

@@ -6,8 +6,8 @@ use mathlib.Core.List.{[], _∷_}
 use Prim.Native.Nat.{ℕ, _+_, _*_, _-_, _/_, _%_, _≤_, _<_}
 use native.Mathlib.Omega.{arith}
 use lib.Dec.{leb}
-use borrow.Author.Tests.{lt-ltb, le-leb, lt-leb, ltb-true, leb-true}
-use Rattle.basics.specs.Bools.{clash, true-or-false, le-or-lt, and-left, and-right}
+use borrow.Author.Tests.{lt-ltb, le-leb, lt-leb, ltb-true}
+use Rattle.basics.specs.Bools.{clash, true-or-false, le-or-lt, between-get}
 use Rattle.spec.specs.JobSheet.{no-digit, digit, is-digit, character}
 use Rattle.spec.specs.JobAnswer.{digit-byte, hexadecimal}
 use Rattle.laws.specs.JobSheet.Printing.{digit-byte-decimal, digit-byte-letter}
@@ -17,13 +17,6 @@ use Rattle.laws.specs.JobSheet.Printing.{digit-byte-decimal, digit-byte-
 -- a byte from `0` to `9`, or from `A` to `F`
 abbrev Digit : ℕ → Type 0
 Digit b = ((48 ≤ b) × (b ≤ 57)) ⊎ ((65 ≤ b) × (b ≤ 70))
-
--- what a test of both bounds shows
-pub between-get : {low high : ℕ} (b : ℕ) → (leb low b && leb b high) ≡ true → (low ≤ b) × (b ≤ high)
-between-get {low} {high} b t = (
-  leb-true low b (and-left (leb low b) (leb b high) t),
-  leb-true b high (and-right (leb low b) (leb b high) t),
-)
 
 pub digit-figure : (b : ℕ) → 48 ≤ b → b ≤ 57 → digit b ≡ b - 48
 unfolding digit

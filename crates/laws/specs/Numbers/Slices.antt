@@ -46,7 +46,7 @@ line-at xs i l ls more e =
     at : (j : ℕ) → getD xs (header + 3 * i + j) 0 ≡ getD (directory (l ∷ ls) ++ more) j 0
     at j = sym (getD-drop (header + 3 * i) xs j 0) ∙ ap (λ (k : List ℕ). getD k j 0) e
 
-length-directory : (ls : List Line) → length (directory ls) ≡ 3 * length ls
+pub length-directory : (ls : List Line) → length (directory ls) ≡ 3 * length ls
 unfolding directory
 length-directory [] = refl
 length-directory (l ∷ ls) = omega (arith, length-directory ls)

@@ -5,17 +5,16 @@ use mathlib.Core.List.{List, [], _∷_}
 use Prim.Native.Nat.{ℕ, zero, suc, _+_, _*_, _≤_, _<_}
 use native.Mathlib.Omega.{arith}
 use lib.Dec.{leb}
-use lib.ListN.{length, getD, drop, length-drop}
-use lib.Seq.{length-take-le}
+use lib.ListN.{length, getD}
 use borrow.Author.Tests.{le-leb, lt-leb, lt-ltb, le-ltb, eq-eqb}
 use Rattle.basics.specs.Bools.{and-put}
-use Rattle.spec.specs.Dictionary.{Lexicon, is-char, total, words-from, lexicon, dictionary-refusal, admitted}
+use Rattle.spec.specs.Dictionary.{Lexicon, is-char, lexicon, dictionary-refusal, admitted}
 use Rattle.spec.specs.Words.{key, spells, is-word}
 use Rattle.spec.specs.Index.{key-good}
 use Rattle.models.specs.Readability.{line-list-good, key-fits, line-fits}
 use Rattle.laws.specs.Dictionary.WordCode.{Small}
 use Rattle.laws.specs.Text.Chars.{all-chars-put}
-use Rattle.laws.specs.Dictionary.Lexicon.{Is-admitted, admitted-get, length-words}
+use Rattle.laws.specs.Dictionary.Lexicon.{Is-admitted, admitted-get, length-words, words-long}
 
 -- THE DICTIONARY
 
@@ -28,17 +27,10 @@ no-refusal cs ls small none =
 pub dictionary-read : (cs ls : List ℕ) → Small cs → dictionary-refusal cs ls ≡ 0 → Is-admitted cs ls
 dictionary-read cs ls small none = admitted-get cs ls (no-refusal cs ls small none)
 
-word-longs :
-    (ls cs : List ℕ) (v : ℕ) → total ls ≤ length cs → v < length ls → length (getD (words-from ls cs) v []) ≡ getD ls v 0
-unfolding words-from total
-word-longs [] cs v h b = absurd (omega arith)
-word-longs (l ∷ ls) cs zero h b = length-take-le l cs (omega arith)
-word-longs (l ∷ ls) cs (suc v) h b = word-longs ls (drop l cs) v (omega (arith, length-drop l cs)) (omega arith)
-
 module _ {cs ls : List ℕ} (h : Is-admitted cs ls) where
   pub word-long : (v : ℕ) → v < length ls → length (getD (lexicon cs ls .words) v []) ≡ getD ls v 0
   unfolding lexicon
-  word-long v b = word-longs ls cs v (omega arith) b
+  word-long v b = words-long ls cs v (omega arith) b
 
   pub word-count : length (lexicon cs ls .words) ≡ length ls
   unfolding lexicon

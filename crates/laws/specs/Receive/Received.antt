@@ -77,12 +77,10 @@ module _ {lex : Lexicon} (good : Good-lexicon lex) where
     pub index-recovered : recovered lex (index-of lex ts) ≡ ts
     index-recovered = recovered-text (index-of lex ts) (index-match lex good ts chars) (n-of-index lex ts)
 
-    pub index-can-read : (g : ℕ) → length ts ≤ g → readable g lex (index-of lex ts) ≡ true
-    index-can-read g small = index-readable lex good ts chars g small
-
     own-index : (g : ℕ) → length ts ≤ g → is-index g lex (index-of lex ts) ≡ true
     own-index g small =
-        is-index-put g lex (index-of lex ts) (record { can-read = index-can-read g small; index-is = ap (index-of lex) index-recovered })
+        is-index-put g lex (index-of lex ts)
+        (record { can-read = index-readable lex good ts chars g small; index-is = ap (index-of lex) index-recovered })
 
     -- if numbers are the index of these characters, they are the index of the text recovered from them, and the characters are that text
     pub equal-own-index : (g : ℕ) (xs : List ℕ) → length ts ≤ g → index-of lex ts ≡ xs → is-index g lex xs ≡ true

@@ -11,7 +11,7 @@ use borrow.Author.Tests.{lt-ltb, le-ltb, eq-eqb, ne-eqb}
 use Rattle.basics.specs.Bools.{or-left, or-right, or-none, le-or-lt}
 use Rattle.spec.specs.declared.Answer.{Answer}
 use Rattle.spec.specs.Replaced.{replaced}
-use Rattle.spec.specs.Calls.{string-wrong, output-short, or-else, index-refusal, string-refusal, find-refusal, in-front, Puts}
+use Rattle.spec.specs.Calls.{string-wrong, output-short, or-else, index-refusal, string-refusal, in-front, Puts}
 use Rattle.laws.specs.Text.WidthFolding.{length-replaced}
 use Rattle.laws.specs.Dictionary.Answering.{or-else-some, or-else-none, accepted-yes, accepted-no, answers-accepted, answers-refused}
 
@@ -50,6 +50,19 @@ module _ (ys : List ℕ) (r : Answer) (o : List ℕ) where
   sized-written z enough number count is =
       rw (le-ltb (length o) (length ys) enough)
       (answers-accepted 0 (length ys) r number refl count, is ∙ sym (accepted-yes 0 (in-front ys o) o refl))
+
+-- 8 is tested last: n is the refusal before it
+abbrev pub Sized-after : (refusal : ℕ) → (result : List ℕ) → Answer → (out out-now : List ℕ) → Type 0
+Sized-after n ys r o z = Puts (or-else n (cond (output-short (length ys) (length o)) 8 0)) ys r o z
+
+module _ {n : ℕ} (ys : List ℕ) (r : Answer) (o : List ℕ) where
+  pub refused-before : (n ≡ 0 → ⊥) → r .refusal ≡ n → r .count ≡ 0 → Sized-after n ys r o o
+  unfolding or-else
+  refused-before some number none = rw (ne-eqb n 0 some) (refused n ys r o some number none)
+
+  pub sized-after : n ≡ 0 → (z : List ℕ) → Sized ys r o z → Sized-after n ys r o z
+  unfolding or-else Sized
+  sized-after none z h = rw none h
 
 -- THE REFUSALS BEFORE A RESULT: 1, 2, 3, 5, then 6
 
@@ -103,18 +116,3 @@ module _ (g : ℕ) (cs ls xs s : List ℕ) where
       short =
           ⊎-elim (λ (p : length s ≤ 256). p) (λ (z : 256 < length s). absurd (omega (arith, string-long n s none z ∙ e)))
           (le-or-lt (length s) 256)
-
--- SEARCH AND THE CUT-DOWN INDEX: these, then 8
-
-module _ (g : ℕ) (cs ls xs s ys : List ℕ) (r : Answer) (o : List ℕ) where
-  pub finds-refused :
-      (string-refusal g cs ls xs s ≡ 0 → ⊥) → r .refusal ≡ string-refusal g cs ls xs s → r .count ≡ 0 →
-      Puts (find-refusal g cs ls xs s (length ys) (length o)) ys r o o
-  unfolding find-refusal or-else
-  finds-refused some number none =
-      rw (ne-eqb (string-refusal g cs ls xs s) 0 some) (refused (string-refusal g cs ls xs s) ys r o some number none)
-
-  pub finds-sized :
-      string-refusal g cs ls xs s ≡ 0 → (z : List ℕ) → Sized ys r o z → Puts (find-refusal g cs ls xs s (length ys) (length o)) ys r o z
-  unfolding find-refusal or-else Sized
-  finds-sized none z h = rw none h

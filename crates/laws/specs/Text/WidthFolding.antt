@@ -6,12 +6,11 @@ use mathlib.Core.List.{List, [], _∷_}
 use Prim.Native.Nat.{ℕ, zero, suc, _+_, _-_, _≤_, _<_}
 use native.Mathlib.Omega.{arith}
 use native.Mathlib.Numerals.{add-one}
-use lib.Dec.{leb}
 use lib.Bits.{bitAnd, bitOr, or-add-and, and-le-l, and-le-r}
 use lib.ListN.{length, getD, take, drop, length-drop, drop-of-length-le}
 use lib.Seq.{drop-cons, ext-getD}
-use borrow.Author.Tests.{le-leb, leb-true}
-use Rattle.basics.specs.Bools.{clash, true-or-false, false-put, and-put, and-left, and-right, or-none, or-false}
+use borrow.Author.Tests.{le-leb}
+use Rattle.basics.specs.Bools.{clash, true-or-false, false-put, and-put, between-get, or-none, or-false}
 use Rattle.basics.specs.Member.{In}
 use Rattle.spec.specs.Replaced.{first-form, last-form, form-distance, is-full-width, replaced-char, replaced, holds-full-width}
 use Rattle.spec.specs.Dictionary.{words-from, total, some-full-width}
@@ -22,10 +21,7 @@ use Rattle.laws.specs.Text.Facts.{Chars, Plain}
 module _ (c : ℕ) where
   pub form-get : is-full-width c ≡ true → (first-form ≤ c) × (c ≤ last-form)
   unfolding is-full-width
-  form-get t = (
-    leb-true first-form c (and-left (leb first-form c) (leb c last-form) t),
-    leb-true c last-form (and-right (leb first-form c) (leb c last-form) t),
-  )
+  form-get t = between-get c t
 
   pub form-put : first-form ≤ c → c ≤ last-form → is-full-width c ≡ true
   unfolding is-full-width

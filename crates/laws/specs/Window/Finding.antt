@@ -125,10 +125,6 @@ module _ (m : ℕ) (rs : List ℕ) (from : ℕ) where
 
 -- WRITING
 
-empty-of : (l : List ℕ) → length l ≡ 0 → l ≡ []
-empty-of [] e = refl
-empty-of (x ∷ l) e = absurd (omega arith)
-
 -- after i of the reaches, with `written` of the starts written to the slice
 pub record Finding (m q : ℕ) (rs old out : List ℕ) (written i : ℕ) : Type 0 where
   pub within : i ≤ length rs
@@ -167,10 +163,10 @@ module _ (m q : ℕ) (rs old : List ℕ) where
     unfolding in-front
     finding-end past =
         let count : written ≡ length (found-in m q rs) = omega arith in
-        let none : length (found-in m (q + i) (drop i rs)) ≡ 0 = omega arith in
+        let none : length (found-in m (q + i) (drop i rs)) ≤ 0 = omega arith in
         let front : take written out ≡ found-in m q rs =
         sym (append-nil (take written out))
-        ∙ ap (λ (l : List ℕ). take written out ++ l) (sym (empty-of (found-in m (q + i) (drop i rs)) none))
+        ∙ ap (λ (l : List ℕ). take written out ++ l) (sym (drop-of-length-le (found-in m (q + i) (drop i rs)) none))
         ∙ h .ahead in
         sym (take-append-drop written out)
         ∙ ap (λ (l : List ℕ). l ++ drop written out) front

@@ -10,12 +10,12 @@ use Rattle.spec.specs.Dictionary.{Lexicon, lexicon}
 use Rattle.spec.specs.Index.{n-of, lines-in}
 use Rattle.spec.specs.Search.{found-from, find}
 use Rattle.spec.specs.Cut.{cut-down}
-use Rattle.spec.specs.Calls.{string-refusal, in-front, Search-says, Cut-says}
+use Rattle.spec.specs.Calls.{string-refusal, find-refusal, in-front, Search-says, Cut-says}
 use Rattle.models.specs.Window.{found-in, leading-all, offsets-all, count-in}
 use Rattle.laws.specs.Window.Window.{Within, within-none, Reaches}
 use Rattle.laws.specs.Window.WindowSearch.{window-found}
 use Rattle.laws.specs.Window.Finding.{count-found, none-found}
-use Rattle.laws.specs.Search.Sizing.{Sized, sized-short, sized-written, finds-refused, finds-sized}
+use Rattle.laws.specs.Search.Sizing.{Sized, sized-short, sized-written, refused-before, sized-after}
 
 -- the n starts from q on, searched
 unfoldable pub Window-says : Lexicon → (index string : List ℕ) → (n q : ℕ) → Answer → (out out-now : List ℕ) → Type 0
@@ -86,20 +86,20 @@ all-starts lex xs s r o z starts e h = rw e at h
 module _ (g : ℕ) (cs ls xs s : List ℕ) (r : Answer) (o : List ℕ) where
   pub search-refused :
       (string-refusal g cs ls xs s ≡ 0 → ⊥) → r .refusal ≡ string-refusal g cs ls xs s → r .count ≡ 0 → Search-says g cs ls xs s r o o
-  unfolding Search-says
-  search-refused = finds-refused g cs ls xs s (find (lexicon cs ls) xs (replaced s)) r o
+  unfolding Search-says find-refusal
+  search-refused = refused-before (find (lexicon cs ls) xs (replaced s)) r o
 
   pub search-says :
       string-refusal g cs ls xs s ≡ 0 → (z : List ℕ) → Sized (find (lexicon cs ls) xs (replaced s)) r o z → Search-says g cs ls xs s r o z
-  unfolding Search-says
-  search-says = finds-sized g cs ls xs s (find (lexicon cs ls) xs (replaced s)) r o
+  unfolding Search-says find-refusal
+  search-says = sized-after (find (lexicon cs ls) xs (replaced s)) r o
 
   pub cut-refused :
       (string-refusal g cs ls xs s ≡ 0 → ⊥) → r .refusal ≡ string-refusal g cs ls xs s → r .count ≡ 0 → Cut-says g cs ls xs s r o o
-  unfolding Cut-says
-  cut-refused = finds-refused g cs ls xs s (cut-down (lexicon cs ls) xs (replaced s)) r o
+  unfolding Cut-says find-refusal
+  cut-refused = refused-before (cut-down (lexicon cs ls) xs (replaced s)) r o
 
   pub cut-says :
       string-refusal g cs ls xs s ≡ 0 → (z : List ℕ) → Sized (cut-down (lexicon cs ls) xs (replaced s)) r o z → Cut-says g cs ls xs s r o z
-  unfolding Cut-says
-  cut-says = finds-sized g cs ls xs s (cut-down (lexicon cs ls) xs (replaced s)) r o
+  unfolding Cut-says find-refusal
+  cut-says = sized-after (cut-down (lexicon cs ls) xs (replaced s)) r o

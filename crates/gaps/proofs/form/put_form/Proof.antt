@@ -10,8 +10,8 @@ use Rattle.spec.specs.Gaps.{with-lists}
 use Rattle.spec.specs.Calls.{index-refusal}
 use Rattle.models.specs.Readability.{read-as}
 use Rattle.models.specs.Gaps.{write-as}
-use Rattle.laws.specs.Search.Sizing.{sized-short, sized-written}
-use Rattle.laws.specs.Demands.GapCalls.{gaps-refused, gaps-sized, writable, form-length, form-front}
+use Rattle.laws.specs.Search.Sizing.{refused-before, sized-after, sized-short, sized-written}
+use Rattle.laws.specs.Demands.GapCalls.{writable, form-length, form-front}
 use borrow.Author.Needs.{needs}
 use Rattle.gaps.proofs.form.put_form.Statement.{statement}
 use Rattle.gaps.proofs.form.put_form.Tie as tie
@@ -31,7 +31,7 @@ returns c =
     let cs = s .args .chars .now in
     let ls = s .args .lengths .now in
     let number = c .before .refusal-as .ensures in
-    gaps-refused longest-text cs ls (read s) (form s) _ (s .args .output .now)
+    refused-before (form s) _ (s .args .output .now)
     (λ (none : index-refusal longest-text cs ls (read s) ≡ 0). c .if1 .taken (number ∙ none)) number refl
 
 returns-2 : tie.Need-returns-2
@@ -40,7 +40,7 @@ returns-2 c =
     let o = s .args .output .now in
     let none = sym (c .before .before .refusal-as .ensures) ∙ c .before .if1 .left in
     let short : length o < length (form s) = omega (arith, form-length (s .args .restore) (s .args .index .now)) in
-    gaps-sized longest-text (s .args .chars .now) (s .args .lengths .now) (read s) (form s) _ o none _
+    sized-after (form s) _ o none _
     (sized-short (form s) _ o short refl refl)
 
 slice-aggregate-write-form : tie.Need-slice-aggregate-write-form
@@ -65,7 +65,7 @@ returns-3 c =
     let o = s .args .output .now in
     let none = sym (room .before .before .refusal-as .ensures) ∙ room .before .if1 .left in
     let len = form-length (s .args .restore) (s .args .index .now) in
-    gaps-sized longest-text (s .args .chars .now) (s .args .lengths .now) (read s) (form s) _ o none _
+    sized-after (form s) _ o none _
     (sized-written (form s) _ o _ (omega (arith, len)) refl (sym len)
     (form-front (s .args .restore) (s .args .index .now) o _ (c .before .before .write-form .ensures)))
 

@@ -2,7 +2,8 @@
 use mathlib.Core.Path.{sym, _∙_}
 use native.Mathlib.Omega.{arith}
 use borrow.Author.Needs.{needs}
-use Rattle.laws.specs.JobSheet.Hexadecimal.{between-get, digit-figure, digit-letter, digit-none}
+use Rattle.basics.specs.Bools.{between-get}
+use Rattle.laws.specs.JobSheet.Hexadecimal.{digit-figure, digit-letter, digit-none}
 use Rattle.jobreader.proofs.digits.value_of.Statement.{statement}
 use Rattle.jobreader.proofs.digits.value_of.Tie as tie
 
