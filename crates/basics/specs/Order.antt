@@ -116,11 +116,11 @@ module _ {A : Type 0} {before : A → A → Bool} (strict : Strict before) where
 
   -- if each list's least element is in the other list, the two are equal
   same-first :
-      (x y : A) (xs ys : List A) → ((a : A) → In a xs → before x a ≡ true) → ((a : A) → In a ys → before y a ≡ true) →
+      {x y : A} (xs ys : List A) → ((a : A) → In a xs → before x a ≡ true) → ((a : A) → In a ys → before y a ≡ true) →
       In x (y ∷ ys) → In y (x ∷ xs) → x ≡ y
-  same-first x y xs ys p q (inl e) m = e
-  same-first x y xs ys p q (inr k) (inl e) = sym e
-  same-first x y xs ys p q (inr k) (inr l) = not-itself x x (strict .transitive x y x (p y l) (q x k)) refl
+  same-first xs ys p q (inl e) m = e
+  same-first xs ys p q (inr k) (inl e) = sym e
+  same-first {x} {y} xs ys p q (inr k) (inr l) = not-itself x x (strict .transitive x y x (p y l) (q x k)) refl
 
   other : (a x y : A) (ys : List A) → before x a ≡ true → x ≡ y → In a (y ∷ ys) → In a ys
   other a x y ys t e (inl k) = not-itself x a t (e ∙ sym k)
@@ -134,7 +134,7 @@ module _ {A : Type 0} {before : A → A → Bool} (strict : Strict before) where
   ascend-unique [] (y ∷ ys) p q f g = absurd (g y (inl refl))
   ascend-unique (x ∷ xs) [] p q f g = absurd (f x (inl refl))
   ascend-unique (x ∷ xs) (y ∷ ys) p q f g =
-      let heads : x ≡ y = same-first x y xs ys (p .0) (q .0) (f x (inl refl)) (g y (inl refl)) in
+      let heads : x ≡ y = same-first xs ys (p .0) (q .0) (f x (inl refl)) (g y (inl refl)) in
       let tails : xs ≡ ys =
       ascend-unique xs ys (p .1) (q .1) (λ a m. other a x y ys (p .0 a m) heads (f a (inr m)))
       (λ a m. other a y x xs (q .0 a m) (sym heads) (g a (inr m))) in
@@ -142,11 +142,11 @@ module _ {A : Type 0} {before : A → A → Bool} (strict : Strict before) where
 
   -- if the first list's least element is in the tail of the second, all common elements are
   in-rest :
-      (x y : A) (xs ys : List A) → ((a : A) → In a xs → before x a ≡ true) → ((a : A) → In a ys → before y a ≡ true) → In x ys →
-      (a : A) → In a (x ∷ xs) → In a (y ∷ ys) → In a ys
-  in-rest x y xs ys p q k a m (inr l) = l
-  in-rest x y xs ys p q k a (inl d) (inl e) = rw d k
-  in-rest x y xs ys p q k a (inr m) (inl e) = not-itself x x (strict .transitive x a x (p a m) (rw e (q x k))) refl
+      {x y : A} (xs ys : List A) → ((a : A) → In a xs → before x a ≡ true) → ((a : A) → In a ys → before y a ≡ true) → In x ys →
+      {a : A} → In a (x ∷ xs) → In a (y ∷ ys) → In a ys
+  in-rest xs ys p q k m (inr l) = l
+  in-rest xs ys p q k (inl d) (inl e) = rw d k
+  in-rest {x} xs ys p q k {a} (inr m) (inl e) = not-itself x x (strict .transitive x a x (p a m) (rw e (q x k))) refl
 
   -- a strictly ascending list whose members are all in another such list is no longer than it
   pub ascend-fits : (ys xs : List A) → Ascend before xs → Ascend before ys → ((a : A) → In a xs → In a ys) → length xs ≤ length ys
@@ -156,7 +156,7 @@ module _ {A : Type 0} {before : A → A → Bool} (strict : Strict before) where
       ⊎-elim
       (λ (e : x ≡ y). omega (arith, ascend-fits ys xs (p .1) (q .1) (λ a m. other a x y ys (p .0 a m) e (f a (inr m)))))
       (λ (k : In x ys).
-      omega (arith, ascend-fits ys (x ∷ xs) p (q .1) (λ a m. in-rest x y xs ys (p .0) (q .0) k a m (f a m))))
+      omega (arith, ascend-fits ys (x ∷ xs) p (q .1) (λ a m. in-rest xs ys (p .0) (q .0) k m (f a m))))
       (f x (inl refl))
 
   -- and if it is no shorter, it is that list
@@ -172,7 +172,7 @@ module _ {A : Type 0} {before : A → A → Bool} (strict : Strict before) where
       ascend-counted xs ys (p .1) (q .1) (λ a m. other a x y ys (p .0 a m) e (f a (inr m))) (omega arith) in
       rw (e, tails))
       (λ (k : In x ys).
-      absurd (omega (arith, ascend-fits ys (x ∷ xs) p (q .1) (λ a m. in-rest x y xs ys (p .0) (q .0) k a m (f a m)))))
+      absurd (omega (arith, ascend-fits ys (x ∷ xs) p (q .1) (λ a m. in-rest xs ys (p .0) (q .0) k m (f a m)))))
       (f x (inl refl))
 
   -- no element is at two indexes

@@ -20,6 +20,14 @@ pub from-less :
 from-less P n i rest here j b lo =
     ⊎-elim (λ (h : i ≤ j). rest j b h) (λ (h : j < i). let e : j ≡ i - 1 = omega arith in rw e here) (le-or-lt i j)
 
+-- of the numbers a to b − 1, what holds at those before r and those from t on
+pub record Outside (P : ℕ → Type 0) (a r t b : ℕ) : Type 0 where
+  pub from : a ≤ r
+  pub order : r ≤ t
+  pub to : t ≤ b
+  pub front : (i : ℕ) → a ≤ i → i < r → P i
+  pub back : (i : ℕ) → t ≤ i → i < b → P i
+
 -- AT EACH
 
 unfoldable pub all-from : (left p : ℕ) → (ℕ → Bool) → Bool

@@ -30,9 +30,11 @@ module _ {A : Type 0} (z : A) where
       (λ (e : (i ≡ k) × (getD (set l k v) i z ≡ v)). e .1 ∙ right (e .0)) (set-either l k v i)
 
   -- what holds for each element below i, and for the store at i, holds for each below i + 1
+  abbrev Each-below : (P : ℕ → A → Type 0) (l : List A) (i : ℕ) → Type 0
+  Each-below P l i = (k : ℕ) → k < i → P k (getD l k z)
+
   pub set-more :
-      (P : ℕ → A → Type 0) (l : List A) (i : ℕ) (v : A) → i < length l → ((k : ℕ) → k < i → P k (getD l k z)) → P i v →
-      (k : ℕ) → k < i + 1 → P k (getD (set l i v) k z)
+      (P : ℕ → A → Type 0) (l : List A) (i : ℕ) (v : A) → i < length l → Each-below P l i → P i v → Each-below P (set l i v) (i + 1)
   set-more P l i v room all here =
       below-more (λ (k : ℕ). P k (getD (set l i v) k z)) i
       (λ k b. subst (P k) (sym (getD-set-other l i k v z (λ e. omega arith))) (all k b))
@@ -69,10 +71,10 @@ module _ {A : Type 0} (z : A) where
 
   -- and what is stored at i is there
   pub sets-writes :
-      (l : List A) (k : ℕ) (vs : List A) (i : ℕ) (c : A) → i < length l → k ≤ i → i < k + length vs → getD vs (i - k) z ≡ c →
+      (l : List A) (k : ℕ) (vs : List A) (i : ℕ) {c : A} → i < length l → (k ≤ i) × (i < k + length vs) → getD vs (i - k) z ≡ c →
       getD (sets l k vs) i z ≡ c
-  sets-writes l k [] i c b lo hi e = absurd (omega arith)
-  sets-writes l k (v ∷ vs) i c b lo hi e =
+  sets-writes l k [] i b within e = absurd (omega arith)
+  sets-writes l k (v ∷ vs) i {c} b within e =
       ⊎-elim
       (λ (h : i ≤ k).
       let at-k : i ≡ k = omega arith in
@@ -81,5 +83,5 @@ module _ {A : Type 0} (z : A) where
       sets-keeps (set l k v) (suc k) vs i c (rw at-k (getD-set-same l k v z (omega arith) ∙ first)) (λ p q. absurd (omega arith)))
       (λ (h : k < i).
       let w : i - k ≡ suc (i - suc k) = omega arith in
-      sets-writes (set l k v) (suc k) vs i c (omega (arith, length-set l k v)) h (omega arith) (rw w at e))
+      sets-writes (set l k v) (suc k) vs i (omega (arith, length-set l k v)) (h, omega arith) (rw w at e))
       (le-or-lt i k)

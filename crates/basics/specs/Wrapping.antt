@@ -12,7 +12,7 @@ once s past short =
     let back : s ≡ s - 2 ^ 64 + 2 ^ 64 = omega arith in
     ap (λ (k : ℕ). k % 2 ^ 64) back ∙ add-mod-right (s - 2 ^ 64) (2 ^ 64) ∙ mod-eq-of-lt (omega arith)
 
-module _ (w a b n : ℕ) (wraps : (w + b) % 2 ^ 64 ≡ a) where
+module _ (w : ℕ) {a : ℕ} (b n : ℕ) (wraps : (w + b) % 2 ^ 64 ≡ a) where
   pub wrap-below : n + b ≤ 2 ^ 64 → w < n → w + b ≡ a
   wrap-below small below = sym (mod-eq-of-lt (omega arith)) ∙ wraps
 

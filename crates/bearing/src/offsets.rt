@@ -6,7 +6,7 @@ ghost use Prim.Native.Nat.{_<_};
 ghost use lib.ListN.{length};
 ghost use Rattle.spec.specs.Index.{keys-of};
 ghost use Rattle.models.specs.WordStarts.{lexicon-at};
-ghost use Rattle.laws.specs.Cut.Flagging.{Flags, Flagging, Flagged};
+ghost use Rattle.laws.specs.Cut.Flagging.{Flags, Flagged, Offset-flagged};
 ghost use Rattle.laws.specs.Cut.FlagWalks.{Bears-on, Offsets};
 use crate::flags::flag_list;
 use crate::flags::flag_run;
@@ -29,10 +29,8 @@ fn flag_words(
         Bears-on (now chars) (now «word_starts») (now index) (now string) «word_lines» × («key_start» < length (now string)) ×
         Flags (lexicon-at (now chars) (now «word_starts»)) (now index) (now string) (now flags) ⌝ }
     ensures { λ r. ⌜
-        Flagging (lexicon-at (now (chars .entry)) (now («word_starts» .entry))) (now (index .entry)) (now (string .entry))
-        (now (flags .entry)) (now (flags .exit)) ×
-        Flagged (lexicon-at (now (chars .entry)) (now («word_starts» .entry))) (now (index .entry)) (now (string .entry)) 0 «key_start» 0
-        «word_lines» (now (flags .exit)) ⌝ }
+        Offset-flagged (lexicon-at (now (chars .entry)) (now («word_starts» .entry))) (now (index .entry)) (now (string .entry)) «key_start»
+        0 «word_lines» (now (flags .entry)) (now (flags .exit)) ⌝ }
 {
     let mut lines = [0u16; 36];
     let agreeing = agreeing_words(
@@ -63,10 +61,8 @@ pub(crate) fn flag_lone(
         Bears-on (now chars) (now «word_starts») (now index) (now string) «word_lines» × («key_start» < length (now string)) ×
         Flags (lexicon-at (now chars) (now «word_starts»)) (now index) (now string) (now flags) ⌝ }
     ensures { λ r. ⌜
-        Flagging (lexicon-at (now (chars .entry)) (now («word_starts» .entry))) (now (index .entry)) (now (string .entry))
-        (now (flags .entry)) (now (flags .exit)) ×
-        Flagged (lexicon-at (now (chars .entry)) (now («word_starts» .entry))) (now (index .entry)) (now (string .entry)) 0 «key_start»
-        «word_lines» (keys-of (now (index .entry))) (now (flags .exit)) ⌝ }
+        Offset-flagged (lexicon-at (now (chars .entry)) (now («word_starts» .entry))) (now (index .entry)) (now (string .entry)) «key_start»
+        «word_lines» (keys-of (now (index .entry))) (now (flags .entry)) (now (flags .exit)) ⌝ }
 {
     let line = lone_line(index, word_lines, string[key_start]);
     if line < key_count(index) {
@@ -88,10 +84,8 @@ fn flag_offset(
         Bears-on (now chars) (now «word_starts») (now index) (now string) «word_lines» × («key_start» < length (now string)) ×
         Flags (lexicon-at (now chars) (now «word_starts»)) (now index) (now string) (now flags) ⌝ }
     ensures { λ r. ⌜
-        Flagging (lexicon-at (now (chars .entry)) (now («word_starts» .entry))) (now (index .entry)) (now (string .entry))
-        (now (flags .entry)) (now (flags .exit)) ×
-        Flagged (lexicon-at (now (chars .entry)) (now («word_starts» .entry))) (now (index .entry)) (now (string .entry)) 0 «key_start» 0
-        (keys-of (now (index .entry))) (now (flags .exit)) ⌝ }
+        Offset-flagged (lexicon-at (now (chars .entry)) (now («word_starts» .entry))) (now (index .entry)) (now (string .entry)) «key_start»
+        0 (keys-of (now (index .entry))) (now (flags .entry)) (now (flags .exit)) ⌝ }
 {
     flag_words(
         chars,

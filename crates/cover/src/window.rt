@@ -2,12 +2,10 @@
 //
 // Entries are taken by ascending offset, so one pass is enough: whatever can extend the covered prefix up to an entry comes before it.
 ghost use mathlib.Core.Path.{_≡_};
-ghost use Prim.Native.Nat.{_-_};
-ghost use lib.ListN.{length};
-ghost use Rattle.spec.specs.Index.{lines-in};
-ghost use Rattle.models.specs.Window.{leading-all, offsets-all, leading-lines};
+ghost use Rattle.models.specs.Window.{leading-lines};
 ghost use Rattle.models.specs.WordStarts.{lexicon-at};
-ghost use Rattle.laws.specs.Window.Window.{Within, Reaches};
+ghost use Rattle.laws.specs.Window.Window.{Within};
+ghost use Rattle.laws.specs.Window.Extending.{Window-done};
 ghost use Rattle.laws.specs.Window.Searches.{Searches};
 use crate::leading::extend_leading;
 use crate::offsets::extend_offsets;
@@ -31,10 +29,8 @@ pub fn extend_window(
         (now lines ≡ leading-lines (lexicon-at (now chars) (now «word_starts»)) (now index) (now string) «word_lines») ×
         Within 0 (now reach) ⌝ }
     ensures { λ r. ⌜
-        Reaches (offsets-all (length (now (string .entry)) - 1) 1 (lexicon-at (now (chars .entry)) (now («word_starts» .entry)))
-        (lines-in (now (index .entry))) (now (string .entry)) first
-        (leading-all (lexicon-at (now (chars .entry)) (now («word_starts» .entry))) (lines-in (now (index .entry))) (now (string .entry))
-        first (now (reach .entry)))) (now (reach .exit)) r ⌝ }
+        Window-done (lexicon-at (now (chars .entry)) (now («word_starts» .entry))) (now (index .entry)) (now (string .entry)) first
+        (now (reach .entry)) (now (reach .exit)) r ⌝ }
 {
     let begun = extend_leading(
         chars,

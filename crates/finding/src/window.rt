@@ -1,13 +1,14 @@
 // Searches a window of starts by the entries: the greedy cover extends each start's reach, and the starts found are written
 // once their number is known to fit.
 ghost use mathlib.Core.Path.{_≡_};
-ghost use Prim.Native.Nat.{_+_, _-_, _^_, _≤_};
+ghost use Prim.Native.Nat.{_+_, _^_, _≤_};
 ghost use lib.ListN.{length, replicate};
-ghost use Rattle.spec.specs.Index.{greatest-number, lines-in};
-ghost use Rattle.models.specs.Window.{found-in, leading-all, offsets-all, leading-lines};
+ghost use Rattle.spec.specs.Index.{greatest-number};
+ghost use Rattle.models.specs.Window.{found-in, leading-lines};
 ghost use Rattle.models.specs.WordStarts.{lexicon-at};
 ghost use Rattle.laws.specs.Directory.Tables.{Opened};
-ghost use Rattle.laws.specs.Window.Window.{Within, Reaches};
+ghost use Rattle.laws.specs.Window.Window.{Within};
+ghost use Rattle.laws.specs.Window.Extending.{Window-done};
 ghost use Rattle.laws.specs.Search.Sizing.{Is-string, Sized};
 ghost use Rattle.laws.specs.Window.Searching.{Window-says};
 ghost use Rattle.laws.specs.Window.Searches.{Searches};
@@ -52,11 +53,8 @@ fn extend_listing(
         Opened (now chars) (now «word_starts») (now index) (now «list_starts») × Is-string (now string) ×
         (4096 ≤ length (now lines)) × (first ≤ 2 ^ 32) × Within 0 (now reach) ⌝ }
     ensures { λ r. ⌜
-        Reaches (offsets-all (length (now (string .entry)) - 1) 1 (lexicon-at (now (chars .entry)) (now («word_starts» .entry)))
-        (lines-in (now (index .entry))) (now (string .entry)) first
-        (leading-all (lexicon-at (now (chars .entry)) (now («word_starts» .entry))) (lines-in (now (index .entry)))
-        (now (string .entry)) first
-        (now (reach .entry)))) (now (reach .exit)) r ⌝ }
+        Window-done (lexicon-at (now (chars .entry)) (now («word_starts» .entry))) (now (index .entry)) (now (string .entry)) first
+        (now (reach .entry)) (now (reach .exit)) r ⌝ }
 {
     let leading = list_leading(chars, word_starts, index, string, lines);
     let count = leading.count;

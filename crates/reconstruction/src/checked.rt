@@ -4,12 +4,10 @@
 ghost use mathlib.Core.Path.{_≡_};
 ghost use Prim.Native.Nat.{_≤_};
 ghost use lib.ListN.{length};
-ghost use Rattle.basics.specs.Bools.{Reflects};
 ghost use Rattle.spec.specs.Index.{greatest-number, n-of, lines-in};
 ghost use Rattle.models.specs.WordStarts.{lexicon-at};
-ghost use Rattle.models.specs.Reception.{reconstructed-over};
-ghost use Rattle.laws.specs.Text.Facts.{All-stand};
 ghost use Rattle.laws.specs.Directory.Tables.{Reads};
+ghost use Rattle.laws.specs.TextScan.ReconstructedSearch.{Checked};
 use crate::entries::reconstruct_entries;
 use crate::matches::entries_match;
 use copying::slices::fill;
@@ -27,10 +25,8 @@ pub fn reconstruct_checked(
         Reads (now chars) (now «word_starts») (now index) × (length (now text) ≡ n-of (now index)) ×
         (sentinel ≤ greatest-number) ⌝ }
     ensures { λ r. ⌜
-        (now (text .exit) ≡ reconstructed-over (lexicon-at (now (chars .entry)) (now («word_starts» .entry)))
-        (lines-in (now (index .entry))) (n-of (now (index .entry))) sentinel) ×
-        Reflects r (All-stand (lexicon-at (now (chars .entry)) (now («word_starts» .entry))) (lines-in (now (index .entry)))
-        (now (text .exit))) ⌝ }
+        Checked (lexicon-at (now (chars .entry)) (now («word_starts» .entry))) (lines-in (now (index .entry))) (n-of (now (index .entry)))
+        sentinel (now (text .exit)) r ⌝ }
 {
     fill(text, sentinel as Number);
     reconstruct_entries(chars, word_starts, index, text);

@@ -1,10 +1,10 @@
 -- Header, directory and positions written one after the other are the numbers of an index. Assumes nothing.
-use mathlib.Core.Path.{_≡_, _∙_}
+use mathlib.Core.Path.{_≡_}
 use mathlib.Core.List.{List, [], _∷_, _++_}
 use Prim.Native.Nat.{ℕ, _+_, _*_, _≤_}
 use native.Mathlib.Omega.{arith}
-use lib.ListN.{length, take, drop, length-append, length-drop}
-use Rattle.basics.specs.Writing.{over, Writing, starts, appends, lent-tail, tail-back, lent-room, tail-written}
+use lib.ListN.{length, take, length-append}
+use Rattle.basics.specs.Writing.{over, Writing, starts, appends}
 use Rattle.spec.specs.Numbers.{Line, directory, all-positions, numbers}
 use Rattle.spec.specs.Index.{header}
 use Rattle.laws.specs.Numbers.Slices.{length-directory}
@@ -33,19 +33,3 @@ module _ (n : ℕ) (ls : List Line) (keys : ℕ) (k : keys ≡ length ls) (old :
     directory-written =
         let len : 3 * keys ≡ length (directory ls) = omega (arith, length-directory ls) in
         rw (e, len) (appends (directory ls) (all-positions ls) header-written)
-
-    pub positions-room : length (all-positions ls) ≤ length (lent-tail (header + 3 * keys) now)
-    positions-room = lent-room directory-written
-
-    pub positions-start : header + 3 * keys ≤ length now
-    positions-start = omega (arith, directory-written .room, directory-written .len)
-
-    pub index-written :
-        (part : List ℕ) → part ≡ over (all-positions ls) (lent-tail (header + 3 * keys) now) →
-        tail-back (header + 3 * keys) now part ≡ over (numbers n ls) old
-    index-written part e = tail-written part directory-written e
-
-  pub written-long : length (over (numbers n ls) old) ≡ length old
-  written-long =
-      length-append (numbers n ls) (drop (length (numbers n ls)) old)
-      ∙ omega (arith, room, length-drop (length (numbers n ls)) old)

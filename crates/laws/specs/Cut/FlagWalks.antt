@@ -1,12 +1,12 @@
 -- The walks that set the flags of the lines whose keys bear on a string: the offsets from 0 up, and those below 0. After both, the flags
 -- are exact. Assumes nothing.
-use mathlib.Core.Path.{_≡_, refl, ap, _∙_}
+use mathlib.Core.Path.{_≡_, refl, _∙_}
 use mathlib.Core.Bool.{Bool, true, false, cond}
 use mathlib.Core.Logic.{⊎-elim}
 use mathlib.Core.List.{List, [], _∷_, _++_, append-nil}
 use Prim.Native.Nat.{ℕ, _+_, _-_, _≤_, _<_}
 use native.Mathlib.Omega.{arith}
-use lib.ListN.{length, getD, set}
+use lib.ListN.{length, getD}
 use Rattle.basics.specs.Bools.{le-or-lt}
 use Rattle.basics.specs.Member.{In}
 use Rattle.basics.specs.Steps.{any-from-get, any-from-put, those-from, those-from-get, those-from-put, those-from-append}
@@ -21,44 +21,20 @@ use Rattle.laws.specs.Directory.Tables.{Can-read, Reads, key-some}
 use Rattle.laws.specs.Window.LineRanges.{Split, lone-single}
 use Rattle.laws.specs.Search.Sizing.{Is-string}
 use Rattle.laws.specs.Cut.ExactFlags.{bears-at, Exact-flags}
-use Rattle.laws.specs.Cut.Flagging.{Ones-at, Flags, Flagging, Flagged, flagging-start, flagging-on, flagging-list, flagged-kept}
+use Rattle.laws.specs.Cut.Flagging.{Ones-at, Flags, Flagging, Flagged, Offset-flagged, flagging-start, flagging-on, flagging-list}
+use Rattle.laws.specs.Cut.Flagging.{flagged-kept}
 use Rattle.laws.specs.Cut.Flagging.{agrees-bears-at}
 
 module _ (lex : Lexicon) (xs s : List ℕ) where
-  -- ALL OFFSETS FROM 0 UP
-
   -- the offsets below o are done
   pub record Offsets (old fs : List ℕ) (o : ℕ) : Type 0 where
     pub way : Flagging lex xs s old fs
     pub done : (q : ℕ) → q < o → Flagged lex xs s 0 q 0 (keys-of xs) fs
 
-  -- the offset 0 is done
-  pub offsets-start : {fs : List ℕ} → Flags lex xs s fs → Flagged lex xs s 0 0 0 (keys-of xs) fs → Offsets fs fs 1
-  offsets-start h zero-done =
-      record { way = flagging-start lex xs s h; done = λ q b. let e : q ≡ 0 = omega arith in rw e zero-done }
-
-  pub offsets-next :
-      {old fs : List ℕ} (now : List ℕ) {o : ℕ} → Offsets old fs o → Flagging lex xs s fs now × Flagged lex xs s 0 o 0 (keys-of xs) now →
-      Offsets old now (o + 1)
-  offsets-next {old} {fs} now {o} h next =
-      record {
-        way = flagging-on lex xs s (h .way) (next .0);
-        done =
-            λ q b.
-            ⊎-elim (λ (p : o ≤ q). let e : q ≡ o = omega arith in rw e (next .1))
-            (λ (p : q < o). flagged-kept lex xs s 0 q 0 (keys-of xs) (next .0) (omega arith) (h .done q p)) (le-or-lt o q);
-      }
-
-  -- ALL OFFSETS OF 0 AND BELOW
-
   -- the first n lines are done at every offset of 0 or below
   pub record Backs (old fs : List ℕ) (n : ℕ) : Type 0 where
     pub way : Flagging lex xs s old fs
     pub done : (p : ℕ) → Flagged lex xs s p 0 0 n fs
-
-  pub backs-kept : {old mid fs : List ℕ} {n : ℕ} → Backs old mid n → Flagging lex xs s mid fs → n ≤ keys-of xs → Backs old fs n
-  backs-kept {n} h on within =
-      record { way = flagging-on lex xs s (h .way) on; done = λ p. flagged-kept lex xs s p 0 0 n on within (h .done p) }
 
   -- the leading ones of no lines, and of one line more
   pub leading-none : leading-lines lex xs s 0 ≡ []
@@ -77,12 +53,39 @@ module _ (lex : Lexicon) (xs s : List ℕ) where
       let z : 0 + i ≡ i = omega arith in
       those-from-append i 1 0 (is-leading lex xs s) ∙ rw (z, f, append-nil (those-from i 0 (is-leading lex xs s)))
 
+module _ {lex : Lexicon} {xs s : List ℕ} where
+  -- ALL OFFSETS FROM 0 UP
+
+  -- the offset 0 is done
+  pub offsets-start : {fs : List ℕ} → Flags lex xs s fs → Flagged lex xs s 0 0 0 (keys-of xs) fs → Offsets lex xs s fs fs 1
+  offsets-start h zero-done =
+      record { way = flagging-start h; done = λ q b. let e : q ≡ 0 = omega arith in rw e zero-done }
+
+  pub offsets-next :
+      {old fs now : List ℕ} {o : ℕ} → Offsets lex xs s old fs o → Offset-flagged lex xs s o 0 (keys-of xs) fs now →
+      Offsets lex xs s old now (o + 1)
+  offsets-next {o} h next =
+      record {
+        way = flagging-on (h .way) (next .way);
+        done =
+            λ q b.
+            ⊎-elim (λ (p : o ≤ q). let e : q ≡ o = omega arith in rw e (next .done))
+            (λ (p : q < o). flagged-kept 0 q 0 (keys-of xs) (next .way) (omega arith) (h .done q p)) (le-or-lt o q);
+      }
+
+  -- ALL OFFSETS OF 0 AND BELOW
+
+  pub backs-kept :
+      {old mid fs : List ℕ} {n : ℕ} → Backs lex xs s old mid n → Flagging lex xs s mid fs → n ≤ keys-of xs → Backs lex xs s old fs n
+  backs-kept {n} h on within =
+      record { way = flagging-on (h .way) on; done = λ p. flagged-kept p 0 0 n on within (h .done p) }
+
   -- the leading lines have all of these
   pub backs-leading :
-      {w : ℕ} {is fs now : List ℕ} → is ≡ leading-lines lex xs s w → Flags lex xs s fs → Ones-at is fs now → Backs fs now w
+      {w : ℕ} {is fs now : List ℕ} → is ≡ leading-lines lex xs s w → Flags lex xs s fs → Ones-at is fs now → Backs lex xs s fs now w
   unfolding leading-lines agrees-leading
   backs-leading {w} {is} {fs} {now} e h ones =
-      record { way = flagging-list lex xs s h ones bear; done = λ p i a b t. omega (arith, ones .listed i (there p i b t)) }
+      record { way = flagging-list h ones bear; done = λ p i a b t. omega (arith, ones .listed i (there p i b t)) }
     where
       bear : (i : ℕ) → In i is → bears-at lex xs s i ≡ true
       bear i m =

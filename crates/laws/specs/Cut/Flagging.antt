@@ -19,6 +19,7 @@ use Rattle.spec.specs.Search.{agrees}
 use Rattle.models.specs.Window.{agrees-line}
 use Rattle.laws.specs.Search.Agree.{agrees-get}
 use Rattle.laws.specs.Window.AgreeingLines.{Agreeing-listed, listed-agrees, agrees-listed}
+use Rattle.laws.specs.Window.LineRanges.{Only-line}
 use Rattle.laws.specs.Cut.Bears.{bears-put}
 use Rattle.laws.specs.Cut.ExactFlags.{bears-at}
 
@@ -127,32 +128,40 @@ module _ (lex : Lexicon) (xs s : List ℕ) where
   abbrev pub Flagged : (p q a b : ℕ) (fs : List ℕ) → Type 0
   Flagged p q a b fs = (i : ℕ) → a ≤ i → i < b → agrees s p (spells lex (key-at xs i)) q ≡ true → 1 ≤ getD fs i 0
 
-  pub flags-none : (fs : List ℕ) → fs ≡ replicate (length fs) 0 → keys-of xs ≤ length fs → Flags fs
-  flags-none fs clear room =
-      record {
-        room = room;
-        sound = λ i b. omega (arith, ap (λ (l : List ℕ). getD l i 0) clear, getD-replicate {A = ℕ} (length fs) i 0 0 (omega arith));
-      }
-
-  pub flagging-start : {fs : List ℕ} → Flags fs → Flagging fs fs
-  flagging-start h = record { flags = h; len = refl; kept = λ i b. omega arith }
-
-  pub flagging-on : {old mid fs : List ℕ} → Flagging old mid → Flagging mid fs → Flagging old fs
-  flagging-on h g =
-      record { flags = g .flags; len = g .len ∙ h .len; kept = λ i b. omega (arith, h .kept i b, g .kept i b) }
-
-  pub flagged-kept : (p q a b : ℕ) {old fs : List ℕ} → Flagging old fs → b ≤ keys-of xs → Flagged p q a b old → Flagged p q a b fs
-  flagged-kept p q a b h within done i l r t = omega (arith, done i l r t, h .kept i (omega arith))
+  -- `fs` is a later state of `old`, in which of the lines a to b − 1 those that agree at the offset o are flagged
+  pub record Offset-flagged (o a b : ℕ) (old fs : List ℕ) : Type 0 where
+    pub way : Flagging old fs
+    pub done : Flagged 0 o a b fs
 
   -- a key that agrees at some offset bears
   pub agrees-bears-at : (p q i : ℕ) → agrees s p (spells lex (key-at xs i)) q ≡ true → bears-at lex xs s i ≡ true
   agrees-bears-at p q i t = bears-put (spells lex (key-at xs i)) s (agrees-get s p (spells lex (key-at xs i)) q t)
 
+module _ {lex : Lexicon} {xs s : List ℕ} where
+  pub flags-none : {fs : List ℕ} → fs ≡ replicate (length fs) 0 → keys-of xs ≤ length fs → Flags lex xs s fs
+  flags-none {fs} clear room =
+      record {
+        room = room;
+        sound = λ i b. omega (arith, ap (λ (l : List ℕ). getD l i 0) clear, getD-replicate {A = ℕ} (length fs) i 0 0 (omega arith));
+      }
+
+  pub flagging-start : {fs : List ℕ} → Flags lex xs s fs → Flagging lex xs s fs fs
+  flagging-start h = record { flags = h; len = refl; kept = λ i b. omega arith }
+
+  pub flagging-on : {old mid fs : List ℕ} → Flagging lex xs s old mid → Flagging lex xs s mid fs → Flagging lex xs s old fs
+  flagging-on h g =
+      record { flags = g .flags; len = g .len ∙ h .len; kept = λ i b. omega (arith, h .kept i b, g .kept i b) }
+
+  pub flagged-kept :
+      (p q a b : ℕ) {old fs : List ℕ} → Flagging lex xs s old fs → b ≤ keys-of xs → Flagged lex xs s p q a b old →
+      Flagged lex xs s p q a b fs
+  flagged-kept p q a b h within done i l r t = omega (arith, done i l r t, h .kept i (omega arith))
+
   -- setting flags of bearing lines
   pub flagging-set :
-      {fs now : List ℕ} → Flags fs → length now ≡ length fs →
+      {fs now : List ℕ} → Flags lex xs s fs → length now ≡ length fs →
       ((i : ℕ) → i < keys-of xs → ((getD now i 0 ≡ 1) × (bears-at lex xs s i ≡ true)) ⊎ (getD now i 0 ≡ getD fs i 0)) →
-      Flagging fs now
+      Flagging lex xs s fs now
   flagging-set {fs} {now} h len at =
       record { flags = record { room = omega arith; sound = λ i b. sound i b }; len = len; kept = λ i b. kept i b }
     where
@@ -174,8 +183,9 @@ module _ (lex : Lexicon) (xs s : List ℕ) where
           (λ (p : getD now i 0 ≡ getD fs i 0). omega arith) (at i b)
 
   pub flagging-ones :
-      {from to : ℕ} {fs now : List ℕ} → Flags fs → Ones from to fs now → ((i : ℕ) → from ≤ i → i < to → bears-at lex xs s i ≡ true) →
-      Flagging fs now
+      {from to : ℕ} {fs now : List ℕ} → Flags lex xs s fs → Ones from to fs now →
+      ((i : ℕ) → from ≤ i → i < to → bears-at lex xs s i ≡ true) →
+      Flagging lex xs s fs now
   flagging-ones {from} {to} {fs} {now} h ones bear =
       flagging-set h (ones .len)
       (λ i b.
@@ -183,7 +193,8 @@ module _ (lex : Lexicon) (xs s : List ℕ) where
       (λ (p : getD now i 0 ≡ getD fs i 0). inr p) (ones-run ones i))
 
   pub flagging-list :
-      {is fs now : List ℕ} → Flags fs → Ones-at is fs now → ((i : ℕ) → In i is → bears-at lex xs s i ≡ true) → Flagging fs now
+      {is fs now : List ℕ} → Flags lex xs s fs → Ones-at is fs now → ((i : ℕ) → In i is → bears-at lex xs s i ≡ true) →
+      Flagging lex xs s fs now
   flagging-list {is} {fs} {now} h ones bear =
       flagging-set h (ones .len)
       (λ i b.
@@ -195,36 +206,40 @@ module _ (lex : Lexicon) (xs s : List ℕ) where
       {o w : ℕ} {lines : List ℕ} {count from to : ℕ} → Agreeing-listed o lex xs s w lines count from to → {n : ℕ} → w ≤ n →
       All-below (take count lines) n
   agreeing-below {o} {lines} {count} h within j b =
-      omega (arith, listed-agrees o lex xs s h (getD (take count lines) j 0) (in-getD (take count lines) j 0 b) .0)
+      omega (arith, listed-agrees h (getD (take count lines) j 0) (in-getD (take count lines) j 0 b) .0)
 
   -- the words that agree: those listed, then a range
   pub flagged-words :
       {o w : ℕ} {lines : List ℕ} {count from to : ℕ} → Agreeing-listed o lex xs s w lines count from to → w ≤ keys-of xs →
-      ((i : ℕ) → from ≤ i → i < to → agrees-line o lex xs s i ≡ true) → {fs mid now : List ℕ} → Flags fs →
-      Ones-at (take count lines) fs mid → Ones from to mid now → Flagging fs now × Flagged 0 o 0 w now
-  flagged-words {o} {w} {lines} {count} {from} {to} h within all {fs} {mid} {now} flags listed range = (
-    flagging-on first second,
-    λ i a b t.
-        ⊎-elim (λ (p : In i (take count lines)). omega (arith, listed .listed i p, second .kept i (omega arith)))
-        (λ (p : (from ≤ i) × (i < to)). omega (arith, range .inside i (p .0) (p .1))) (agrees-listed o lex xs s h i b t),
-  )
+      ((i : ℕ) → from ≤ i → i < to → agrees-line o lex xs s i ≡ true) → {fs mid now : List ℕ} → Flags lex xs s fs →
+      Ones-at (take count lines) fs mid → Ones from to mid now → Offset-flagged lex xs s o 0 w fs now
+  flagged-words {o} {w} {lines} {count} {from} {to} h within all {fs} {mid} {now} flags listed range =
+      record {
+        way = flagging-on first second;
+        done =
+            λ i a b t.
+            ⊎-elim (λ (p : In i (take count lines)). omega (arith, listed .listed i p, second .kept i (omega arith)))
+            (λ (p : (from ≤ i) × (i < to)). omega (arith, range .inside i (p .0) (p .1))) (agrees-listed h i b t);
+      }
     where
-      first : Flagging fs mid
-      first = flagging-list flags listed (λ i m. agrees-bears-at 0 o i (listed-agrees o lex xs s h i m .1))
+      first : Flagging lex xs s fs mid
+      first = flagging-list flags listed (λ i m. agrees-bears-at lex xs s 0 o i (listed-agrees h i m .1))
 
-      second : Flagging mid now
-      second = flagging-ones (first .flags) range (λ i a b. agrees-bears-at 0 o i (all i a b))
+      second : Flagging lex xs s mid now
+      second = flagging-ones (first .flags) range (λ i a b. agrees-bears-at lex xs s 0 o i (all i a b))
 
   -- of the lines a to b − 1 only r agrees, or none does
-  module _ (o a b : ℕ) (fs : List ℕ) (h : Flags fs) where
+  module _ {o a b : ℕ} {fs : List ℕ} (h : Flags lex xs s fs) where
     pub flagged-one :
         (r : ℕ) → r < keys-of xs → agrees s 0 (spells lex (key-at xs r)) o ≡ true →
-        ((i : ℕ) → a ≤ i → i < b → (i ≡ r → ⊥) → agrees s 0 (spells lex (key-at xs i)) o ≡ false) →
-        Flagging fs (set fs r 1) × Flagged 0 o a b (set fs r 1)
-    flagged-one r below agree others = (
-      flagging-ones h one (λ i x y. let e : i ≡ r = omega arith in ap (bears-at lex xs s) e ∙ agrees-bears-at 0 o r agree),
-      λ i x y t. at i x y t (eqb i r) refl,
-    )
+        Only-line lex xs s o a b r → Offset-flagged lex xs s o a b fs (set fs r 1)
+    flagged-one r below agree others =
+        record {
+          way =
+              flagging-ones h one
+              (λ i x y. let e : i ≡ r = omega arith in ap (bears-at lex xs s) e ∙ agrees-bears-at lex xs s 0 o r agree);
+          done = λ i x y t. at i x y t (eqb i r) refl;
+        }
       where
         one : Ones r (r + 1) fs (set fs r 1)
         one = ones-one r fs (omega arith)
@@ -236,16 +251,18 @@ module _ (lex : Lexicon) (xs s : List ℕ) where
         at i x y t false d = clash t (others i x y (eqb-false i r d))
 
     pub flagged-none :
-        ((i : ℕ) → a ≤ i → i < b → agrees s 0 (spells lex (key-at xs i)) o ≡ false) → Flagging fs fs × Flagged 0 o a b fs
-    flagged-none none = (flagging-start h, λ i x y t. clash t (none i x y))
+        ((i : ℕ) → a ≤ i → i < b → agrees s 0 (spells lex (key-at xs i)) o ≡ false) → Offset-flagged lex xs s o a b fs fs
+    flagged-none none = record { way = flagging-start h; done = λ i x y t. clash t (none i x y) }
 
   -- the words' lines, then the lone characters'
   pub flagged-both :
-      (o w : ℕ) → w ≤ keys-of xs → (old mid fs : List ℕ) → Flagging old mid × Flagged 0 o 0 w mid →
-      Flagging mid fs × Flagged 0 o w (keys-of xs) fs → Flagging old fs × Flagged 0 o 0 (keys-of xs) fs
-  flagged-both o w within old mid fs words lone = (
-    flagging-on (words .0) (lone .0),
-    λ i a b t.
-        ⊎-elim (λ (p : w ≤ i). lone .1 i p b t) (λ (p : i < w). flagged-kept 0 o 0 w (lone .0) within (words .1) i a p t)
-        (le-or-lt w i),
-  )
+      {o w : ℕ} {old mid fs : List ℕ} → w ≤ keys-of xs → Offset-flagged lex xs s o 0 w old mid →
+      Offset-flagged lex xs s o w (keys-of xs) mid fs → Offset-flagged lex xs s o 0 (keys-of xs) old fs
+  flagged-both {o} {w} within words lone =
+      record {
+        way = flagging-on (words .way) (lone .way);
+        done =
+            λ i a b t.
+            ⊎-elim (λ (p : w ≤ i). lone .done i p b t)
+            (λ (p : i < w). flagged-kept 0 o 0 w (lone .way) within (words .done) i a p t) (le-or-lt w i);
+      }

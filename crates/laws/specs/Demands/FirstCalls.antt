@@ -29,7 +29,8 @@ use Rattle.laws.specs.First.IndexTo.{index-to-readable, index-to-same}
 use Rattle.laws.specs.Demands.RefusalRows.{first-meets}
 use Rattle.laws.specs.Demands.DemandOne.{first-demand}
 use Rattle.laws.specs.Demands.Delivery.{None-met, accepts-zero, accepts-none, none-nil, none-row, none-left}
-use Rattle.laws.specs.Demands.Delivery.{none-readable, none-other}
+use Rattle.laws.specs.Demands.Delivery.{none-readable}
+use Rattle.laws.specs.Demands.Delivery.{none-other}
 
 -- the outcome of a call of first if no line is met
 module _ (g : ℕ) (cs ls xs s : List ℕ) (f : FirstAnswer) (says : First-says g cs ls xs s f) where

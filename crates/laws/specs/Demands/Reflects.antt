@@ -50,10 +50,6 @@ reflects-or true t A B p q = record { holds = λ e. inl (p .holds refl); fails =
 reflects-or false t A B p q =
     record { holds = λ e. inr (q .holds e); fails = λ f. ⊎-elim (λ (v : A). p .fails refl v) (λ (w : B). q .fails f w) }
 
-pub reflects-and : (s t : Bool) (A B : Type 0) → Reflects s A → Reflects t B → Reflects (s && t) (A × B)
-reflects-and true t A B p q = record { holds = λ e. (p .holds refl, q .holds e); fails = λ f h. q .fails f (h .1) }
-reflects-and false t A B p q = record { holds = λ e. clash e refl; fails = λ f h. p .fails refl (h .0) }
-
 -- one of two tests fails
 pub reflects-nand : (s t : Bool) {A B : Type 0} → Reflects (not s) A → Reflects (not t) B → Reflects (not (s && t)) (A ⊎ B)
 reflects-nand true t {A} {B} p q =

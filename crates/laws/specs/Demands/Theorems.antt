@@ -25,7 +25,8 @@ use Rattle.laws.specs.Text.Chars.{all-chars-get, is-text-get, is-text-pu
 use Rattle.laws.specs.Dictionary.Lexicon.{admitted-lexicon}
 use Rattle.laws.specs.Numbers.Flat.{posting, Fewer}
 use Rattle.laws.specs.Readable.IndexOf.{entry-whole, among-get, under-get, under-put, under-flat}
-use Rattle.laws.specs.Readable.IndexOf.{index-readable, index-tells, tells-index}
+use Rattle.laws.specs.Readable.IndexOf.{index-readable, index-tells}
+use Rattle.laws.specs.Readable.IndexOf.{tells-index}
 use Rattle.laws.specs.Tally.Sum.{tally-sums}
 use Rattle.laws.specs.Readable.Recover.{length-recovered}
 use Rattle.laws.specs.Search.Agree.{agrees-get, agrees-put}

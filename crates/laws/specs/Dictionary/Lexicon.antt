@@ -12,12 +12,12 @@ use lib.Seq.{length-take-le}
 use borrow.Author.Tests.{le-ltb, le-leb, eq-eqb, ltb-false, eqb-true, not-false}
 use Rattle.basics.specs.Bools.{clash, and-put, between-get, and-left, and-right, or-none}
 use Rattle.basics.specs.Member.{In}
-use Rattle.spec.specs.Dictionary.{all-chars, words-from, lexicon, total, too-large, length-good, lengths-good, lengths-wrong, word-before}
+use Rattle.spec.specs.Dictionary.{all-chars, words-from, lexicon, total, too-large, length-good, lengths-good, lengths-wrong}
 use Rattle.spec.specs.Dictionary.{ascend, disordered, some-full-width, unreplaced, dictionary-refusal, admitted}
 use Rattle.laws.specs.Text.Facts.{Chars, Good-lexicon}
 use Rattle.laws.specs.Text.WidthFolding.{words-plain-get}
 use Rattle.laws.specs.Text.Chars.{all-chars-get, all-chars-put, chars-take, chars-drop}
-use Rattle.laws.specs.Dictionary.WordOrder.{ascend-get, ascend-distinct}
+use Rattle.laws.specs.Dictionary.WordOrder.{ascend-distinct}
 
 -- ADMISSION
 
@@ -151,12 +151,6 @@ admitted-lexicon cs ls t =
 
     len : (w : List ℕ) → In w (words-from ls cs) → (1 ≤ length w) × (length w ≤ 32)
     len = word-lengths ls cs (lengths-good-put ls (a .lengths)) (omega (arith, a .sum))
-
-pub words-ascend :
-    (cs ls : List ℕ) → admitted cs ls ≡ true → (i j : ℕ) → i < j → j < length (lexicon cs ls .words) →
-    word-before (getD (lexicon cs ls .words) i []) (getD (lexicon cs ls .words) j []) ≡ true
-unfolding lexicon
-words-ascend cs ls t = ascend-get (words-from ls cs) (admitted-get cs ls t .order)
 
 pub admitted-ascend : (cs ls : List ℕ) → admitted cs ls ≡ true → ascend (lexicon cs ls .words) ≡ true
 unfolding lexicon

@@ -123,10 +123,10 @@ below-first w v d e =
 
 -- if one number of three digits is below another, the first digit that differs is below
 lower :
-    (a b c x y z : ℕ) → b ≤ 65536 → c ≤ 65536 → y ≤ 65536 → z ≤ 65536 →
+    {a b c x y z : ℕ} → b ≤ 65536 → c ≤ 65536 → y ≤ 65536 → z ≤ 65536 →
     (a * 131072 + b) * 131072 + c < (x * 131072 + y) * 131072 + z →
     (a < x) ⊎ (((a ≡ x) × (b < y)) ⊎ ((a ≡ x) × (b ≡ y) × (c < z)))
-lower a b c x y z hb hc hy hz h =
+lower {a} {b} {x} {y} hb hc hy hz h =
     ⊎-elim
     (λ (p : x ≤ a).
     let e : a ≡ x = omega arith in
@@ -145,8 +145,7 @@ differ :
     (first-digit (drop 2 w) < first-digit (drop 2 v))))
 unfolding code
 differ w v hw hv h =
-    lower (first-digit w) (first-digit (drop 1 w)) (first-digit (drop 2 w)) (first-digit v) (first-digit (drop 1 v))
-    (first-digit (drop 2 v))
+    lower
     (later 1 w hw) (later 2 w hw) (later 1 v hv) (later 2 v hv) h
   where
     later : (i : ℕ) (u : List ℕ) → Small u → first-digit (drop i u) ≤ 65536
@@ -216,18 +215,18 @@ pub record Reads-three (cs : List ℕ) (at end s t : ℕ) : Type 0 where
 
 -- three digits read this way make the code of the word
 pub code-read :
-    (cs : List ℕ) (at end s t a b c : ℕ) → at < end → end ≤ length cs → (1 < end - at → s ≡ at + 1) → (2 < end - at → t ≡ at + 2) →
-    a ≡ getD cs at 0 + 1 → b ≡ cond (ltb 1 (end - at)) (getD cs s 0 + 1) 0 → c ≡ cond (ltb 2 (end - at)) (getD cs t 0 + 1) 0 →
+    {cs : List ℕ} {at end s t a b c : ℕ} → Reads-three cs at end s t → a ≡ getD cs at 0 + 1 →
+    b ≡ cond (ltb 1 (end - at)) (getD cs s 0 + 1) 0 → c ≡ cond (ltb 2 (end - at)) (getD cs t 0 + 1) 0 →
     (a * 131072 + b) * 131072 + c ≡ code (part cs at end)
 unfolding code
-code-read cs at end s t a b c some room second third ea eb ec =
+code-read {cs} {at} {end} {s} {t} {a} {b} {c} reads ea eb ec =
     let order : at ≤ end = omega arith in
     let one : a ≡ first-digit (part cs at end) =
     ea
     ∙ ap (λ (q : Bool). cond q (getD cs at 0 + 1) 0) (sym (lt-ltb 0 (end - at) (omega arith)))
-    ∙ digit-read cs at end 0 at order room (λ (h : 0 < end - at). omega arith) in
-    let two : b ≡ first-digit (drop 1 (part cs at end)) = eb ∙ digit-read cs at end 1 s order room second in
-    let three : c ≡ first-digit (drop 2 (part cs at end)) = ec ∙ digit-read cs at end 2 t order room third in
+    ∙ digit-read cs at end 0 at order (reads .room) (λ (h : 0 < end - at). omega arith) in
+    let two : b ≡ first-digit (drop 1 (part cs at end)) = eb ∙ digit-read cs at end 1 s order (reads .room) (reads .second) in
+    let three : c ≡ first-digit (drop 2 (part cs at end)) = ec ∙ digit-read cs at end 2 t order (reads .room) (reads .third) in
     rw (one, two, three)
 
 -- two neighbouring words and their codes

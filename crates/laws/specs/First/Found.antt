@@ -12,16 +12,16 @@ use Rattle.spec.specs.Numbers.{Line}
 use Rattle.spec.specs.Index.{n-of, lines-in}
 use Rattle.spec.specs.Search.{all-covered, found-from, find}
 use Rattle.spec.specs.First.{first-of, first-position}
-use Rattle.models.specs.Window.{found-in, leading-all, offsets-all}
+use Rattle.models.specs.Window.{found-in}
 use Rattle.laws.specs.Search.Search.{found-from-append}
-use Rattle.laws.specs.Window.Window.{Reaches}
-use Rattle.laws.specs.Window.Finding.{cut, none-found}
-use Rattle.laws.specs.Window.Searching.{in-window}
+use Rattle.laws.specs.Window.Finding.{cut}
+use Rattle.laws.specs.Window.Extending.{Window-done}
+use Rattle.laws.specs.Window.Searching.{in-window, none-in-window}
 use Rattle.laws.specs.TextScan.ReconstructedSearch.{Finds}
 
 -- r is the first found of the n starts from q on, 0 if none is
-unfoldable pub First-in : Lexicon → (index string : List ℕ) → (n q r : ℕ) → Type 0
-First-in lex xs s n q r = r ≡ first-of (found-from n q lex (lines-in xs) s)
+pub record First-in (lex : Lexicon) (xs s : List ℕ) (n q r : ℕ) : Type 0 where
+  pub is : r ≡ first-of (found-from n q lex (lines-in xs) s)
 
 -- A WINDOW WITHOUT A HIT, SO FAR
 
@@ -51,28 +51,23 @@ module _ (m q : ℕ) (rs : List ℕ) where
 
 -- THE STARTS OF A WINDOW
 
-module _ (lex : Lexicon) (xs s : List ℕ) (n q : ℕ) where
-  -- by what was done to a cleared window
-  module _ {rs : List ℕ} {max-reach : ℕ} (old : List ℕ) (clear : old ≡ replicate n 0)
-      (done : Reaches (offsets-all (length s - 1) 1 lex (lines-in xs) s q (leading-all lex (lines-in xs) s q old)) rs max-reach) where
-    pub first-in-window : (r : ℕ) → r ≡ first-of (found-in (length s) q rs) → First-in lex xs s n q r
-    unfolding First-in
-    first-in-window r e = e ∙ ap first-of (in-window lex xs s n q [] old clear done)
+-- by what was done to a cleared window
+module _ (n : ℕ) {lex : Lexicon} {xs s : List ℕ} {q : ℕ} {old rs : List ℕ} {max-reach : ℕ} (clear : old ≡ replicate n 0)
+    (done : Window-done lex xs s q old rs max-reach) where
+  pub first-in-window : {r : ℕ} → r ≡ first-of (found-in (length s) q rs) → First-in lex xs s n q r
+  first-in-window e = record { is = e ∙ ap first-of (in-window n clear done) }
 
-    -- no reach comes to the string's end
-    pub first-in-none : max-reach < length s → First-in lex xs s n q 0
-    unfolding First-in first-of
-    first-in-none early =
-        sym
-        (ap first-of (sym (in-window lex xs s n q [] old clear done) ∙ none-found (length s) max-reach q rs (done .bounded) early))
+  -- no reach comes to the string's end
+  pub first-in-none : max-reach < length s → First-in lex xs s n q 0
+  unfolding first-of
+  first-in-none early = record { is = sym (ap first-of (none-in-window n clear done early)) }
 
 -- by a window whose reaches are right for the index
 pub first-in-told :
-    (lex : Lexicon) (xs s : List ℕ) (n : ℕ) (rs : List ℕ) → Finds lex xs s rs → length rs ≡ n → (r : ℕ) →
+    {lex : Lexicon} {xs s : List ℕ} {n : ℕ} (rs : List ℕ) → Finds lex xs s rs → length rs ≡ n → {r : ℕ} →
     r ≡ first-of (found-in (length s) 1 rs) → First-in lex xs s n 1 r
-unfolding First-in
-first-in-told lex xs s n rs finds len r e =
-    e ∙ ap first-of (finds ∙ ap (λ (k : ℕ). found-from k 1 lex (lines-in xs) s) len)
+first-in-told {lex} {xs} {s} rs finds len e =
+    record { is = e ∙ ap first-of (finds ∙ ap (λ (k : ℕ). found-from k 1 lex (lines-in xs) s) len) }
 
 -- ONE WINDOW AFTER ANOTHER
 
@@ -108,27 +103,26 @@ module _ (lex : Lexicon) (ls : List Line) (s : List ℕ) where
       go true ih = omega arith
       go false ih = omega (arith, ih)
 
-module _ (lex : Lexicon) (xs s : List ℕ) (n a b q : ℕ) (all : n ≡ a + b) (r : ℕ) (near : First-in lex xs s a q r) where
+module _ {lex : Lexicon} {xs s : List ℕ} {n a : ℕ} (b : ℕ) {q : ℕ} (all : n ≡ a + b) {r : ℕ} (near : First-in lex xs s a q r) where
   -- found in the first of two windows
   pub first-in-first : (r ≡ 0 → ⊥) → First-in lex xs s n q r
-  unfolding First-in
   first-in-first some =
-      rw (all, found-from-append lex (lines-in xs) s a b q)
-      (first-append (found-from a q lex (lines-in xs) s) (found-from b (q + a) lex (lines-in xs) s) r near some)
+      let first = first-append (found-from a q lex (lines-in xs) s) (found-from b (q + a) lex (lines-in xs) s) r (near .is) some in
+      record { is = rw (all, found-from-append lex (lines-in xs) s a b q) first }
 
   -- not found in the first
-  pub first-in-second : 1 ≤ q → r ≡ 0 → (t : ℕ) → First-in lex xs s b (q + a) t → First-in lex xs s n q t
-  unfolding First-in
-  first-in-second from none t far =
-      rw (all, found-from-append lex (lines-in xs) s a b q, none-first lex (lines-in xs) s a q from (sym near ∙ none)) far
+  pub first-in-second : 1 ≤ q → r ≡ 0 → {t : ℕ} → First-in lex xs s b (q + a) t → First-in lex xs s n q t
+  first-in-second from none far =
+      let nothing = none-first lex (lines-in xs) s a q from (sym (near .is) ∙ none) in
+      record { is = rw (all, found-from-append lex (lines-in xs) s a b q, nothing) (far .is) }
 
 -- ALL STARTS at which the string fits
 
 pub first-in-all :
-    (lex : Lexicon) (xs s : List ℕ) (starts r : ℕ) → starts ≡ suc (n-of xs) - length s → First-in lex xs s starts 1 r →
+    {lex : Lexicon} {xs s : List ℕ} {starts r : ℕ} → starts ≡ suc (n-of xs) - length s → First-in lex xs s starts 1 r →
     r ≡ first-position lex xs s
-unfolding First-in first-position find
-first-in-all lex xs s starts r e h = rw e at h
+unfolding first-position find
+first-in-all e h = rw e at (h .is)
 
 -- the answer is at most n + 2, even for an empty string
 pub first-position-small : (lex : Lexicon) (xs s : List ℕ) → first-position lex xs s ≤ n-of xs + 2

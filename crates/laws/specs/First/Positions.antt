@@ -1,6 +1,6 @@
 -- The first found position: it is the head of the ascending list, the first at which the string stands, and depends on few entries.
 -- Assumes nothing.
-use mathlib.Core.Path.{_≡_, refl, ap}
+use mathlib.Core.Path.{_≡_, refl, sym, ap}
 use mathlib.Core.Bool.{false}
 use mathlib.Core.Logic.{inl, inr, ⊎-elim}
 use mathlib.Core.List.{List, [], _∷_}
@@ -10,11 +10,11 @@ use lib.ListN.{length}
 use Rattle.basics.specs.Bools.{clash, false-put, le-or-lt}
 use Rattle.basics.specs.Member.{In}
 use Rattle.spec.specs.Dictionary.{Lexicon}
-use Rattle.spec.specs.Words.{Key, stands}
-use Rattle.spec.specs.Index.{n-of, lines-in}
+use Rattle.spec.specs.Words.{stands}
+use Rattle.spec.specs.Index.{lines-in}
 use Rattle.spec.specs.Search.{find}
 use Rattle.spec.specs.First.{first-of, first-position}
-use Rattle.spec.specs.FurtherTheorems.{Under, Exactly-positions, First-stands}
+use Rattle.spec.specs.FurtherTheorems.{Exactly-positions, First-stands}
 use Rattle.spec.specs.FirstTheorems.{Is-first, Same-to}
 use Rattle.laws.specs.Text.Facts.{Rise}
 use Rattle.laws.specs.Numbers.FlatOrder.{rise-least}
@@ -73,8 +73,7 @@ first-stands {s} {ts} {ps} {p} exactly first =
 -- THE ENTRIES IT DEPENDS ON
 
 -- Only entries that start at or before the string's last character cover a start, so those are enough.
-module _ (lex : Lexicon) (xs ys s : List ℕ) (q : ℕ) (n : n-of xs ≡ n-of ys)
-    (there : (k : Key) (b : ℕ) → b ≤ q → Under k b xs → Under k b ys) where
+module _ (lex : Lexicon) {xs ys : List ℕ} (s : List ℕ) {q : ℕ} (same : Same-to q xs ys) where
   pub found-there : (a : ℕ) → a + length s ≤ suc q → In a (find lex xs s) → In a (find lex ys s)
   found-there a ends m =
       let h = find-get lex xs s a m in
@@ -88,7 +87,7 @@ module _ (lex : Lexicon) (xs ys s : List ℕ) (q : ℕ) (n : n-of xs ≡ n-of ys
             covered-put lex (lines-in ys) s a x
             (record {
               among =
-                  under-flat lex xs ys (e .0) (there (e .0 .key-of) (e .0 .at) (omega arith)) (e .1 .among);
+                  under-flat lex xs ys (e .0) (same .there (e .0 .key-of) (e .0 .at) (omega arith)) (e .1 .among);
               from = e .1 .from;
               to = e .1 .to;
               agree = e .1 .agree;
@@ -100,8 +99,11 @@ module _ (lex : Lexicon) (xs ys s : List ℕ) (p : ℕ) (some : 1 ≤ p) (same :
   pub first-there : p ≡ first-position lex xs s → first-position lex ys s ≡ p
   first-there is =
       first-only p (first-heads-find lex ys s)
-      (found-there lex xs ys s (p + length s - 1) (same .n-is) (same .there) p (omega arith) here) least
+      (found-there lex s same p (omega arith) here) least
     where
+      back : Same-to (p + length s - 1) ys xs
+      back = record { n-is = sym (same .n-is); there = same .back; back = same .there }
+
       here : In p (find lex xs s)
       here = rw (← is) at (first-heads-find lex xs s .among (omega (arith, is)))
 
@@ -112,6 +114,6 @@ module _ (lex : Lexicon) (xs ys s : List ℕ) (p : ℕ) (some : 1 ≤ p) (same :
           omega (
             arith,
             is,
-            first-heads-find lex xs s .least a (found-there lex ys xs s (p + length s - 1) (omega arith) (same .back) a (omega arith) m),
+            first-heads-find lex xs s .least a (found-there lex s back a (omega arith) m),
           ))
           (le-or-lt p a)

@@ -95,52 +95,64 @@ module _ {xs : List ℕ} (fits : Fits xs) (first : ℕ) (is : first ≡ header +
 
 -- THE WHOLE: the directory copied, and the lists written after it
 
-module _ (f : List ℕ → List ℕ) (keeps : Keeps-length f) {xs : List ℕ} (fits : Fits xs)
-    (first : ℕ) (is : first ≡ header + 3 * keys-of xs) where
-  pub front-long : first ≡ length (take first xs)
-  front-long = sym (length-take-le first xs (omega (arith, is)))
+pub front-long : {xs : List ℕ} → Fits xs → {first : ℕ} → first ≡ header + 3 * keys-of xs → first ≡ length (take first xs)
+front-long {xs} fits {first} is = sym (length-take-le first xs (omega (arith, is)))
 
-  module _ (old now : List ℕ) (even : length old ≡ length xs) (copied : now ≡ over (take 0 old ++ take first xs) old) where
+-- the numbers before `first` are copied to the front of a slice as long as the whole
+pub record Copied (xs : List ℕ) (first : ℕ) (old now : List ℕ) : Type 0 where
+  pub fits : Fits xs
+  pub is : first ≡ header + 3 * keys-of xs
+  pub even : length old ≡ length xs
+  pub copied : now ≡ over (take 0 old ++ take first xs) old
+
+module _ {xs : List ℕ} {first : ℕ} {old now : List ℕ} (h : Copied xs first old now) where
+  front-taken : first ≡ length (take first xs)
+  front-taken = front-long (h .fits) (h .is)
+
+  copied-long : length now ≡ length old
+  copied-long =
+      ap length (h .copied)
+      ∙ length-append (take first xs) (drop (length (take first xs)) old)
+      ∙ omega (arith, length-drop (length (take first xs)) old, front-taken, h .even, h .is)
+
+  pub part-long : length (lent-tail first now) ≡ length (drop (header + 3 * keys-of xs) xs)
+  part-long =
+      ap length (lent-tail-is first now)
+      ∙ omega (arith, length-drop first now, length-drop (header + 3 * keys-of xs) xs, copied-long, h .even, h .is)
+
+  module _ (f : List ℕ → List ℕ) (keeps : Keeps-length f) where
     front-way : Writing (with-lists f xs) old now (lists-from f (keys-of xs) 0 xs (drop (header + 3 * keys-of xs) xs)) first
     unfolding with-lists
     front-way =
         record {
           so-far =
-              ap (λ (l : List ℕ). take first l ++ lists-from f (keys-of xs) 0 xs (drop (header + 3 * keys-of xs) xs)) copied
+              ap (λ (l : List ℕ). take first l ++ lists-from f (keys-of xs) 0 xs (drop (header + 3 * keys-of xs) xs)) (h .copied)
               ∙ ap (λ (l : List ℕ). l ++ lists-from f (keys-of xs) 0 xs (drop (header + 3 * keys-of xs) xs))
-              (take-at (take first xs) (drop (length (take first xs)) old) first (sym front-long))
-              ∙ ap (λ (j : ℕ). take j xs ++ lists-from f (keys-of xs) 0 xs (drop (header + 3 * keys-of xs) xs)) is;
+              (take-at (take first xs) (drop (length (take first xs)) old) first (sym front-taken))
+              ∙ ap (λ (j : ℕ). take j xs ++ lists-from f (keys-of xs) 0 xs (drop (header + 3 * keys-of xs) xs)) (h .is);
           rest =
-              ap (λ (l : List ℕ). drop first l) copied
-              ∙ drop-at (take first xs) (drop (length (take first xs)) old) first (sym front-long)
-              ∙ ap (λ (j : ℕ). drop j old) (sym front-long);
-          len =
-              ap length copied
-              ∙ length-append (take first xs) (drop (length (take first xs)) old)
-              ∙ omega (arith, length-drop (length (take first xs)) old, front-long, even, is);
+              ap (λ (l : List ℕ). drop first l) (h .copied)
+              ∙ drop-at (take first xs) (drop (length (take first xs)) old) first (sym front-taken)
+              ∙ ap (λ (j : ℕ). drop j old) (sym front-taken);
+          len = copied-long;
           room =
               omega (
                 arith,
                 length-lists f keeps (keys-of xs) 0 xs (drop (header + 3 * keys-of xs) xs),
                 length-drop (header + 3 * keys-of xs) xs,
-                even,
-                is,
+                h .even,
+                h .is,
               );
         }
 
-    pub part-long : length (lent-tail first now) ≡ length (drop (header + 3 * keys-of xs) xs)
-    part-long =
-        ap length (lent-tail-is first now)
-        ∙ omega (arith, length-drop first now, length-drop (header + 3 * keys-of xs) xs, front-way .len, even, is)
-
     pub form-written :
-        (part : List ℕ) → part ≡ lists-from f (keys-of xs) 0 xs (drop (header + 3 * keys-of xs) xs) →
+        {part : List ℕ} → part ≡ lists-from f (keys-of xs) 0 xs (drop (header + 3 * keys-of xs) xs) →
         tail-back first now part ≡ with-lists f xs
-    form-written part e =
+    form-written {part} e =
         let todo : List ℕ = lists-from f (keys-of xs) 0 xs (drop (header + 3 * keys-of xs) xs) in
         let part-all : length (lent-tail first now) ≤ length todo =
         omega (arith, part-long, length-lists f keeps (keys-of xs) 0 xs (drop (header + 3 * keys-of xs) xs)) in
-        let all : length old ≤ length (with-lists f xs) = omega (arith, even, length-with f keeps xs) in
+        let all : length old ≤ length (with-lists f xs) = omega (arith, h .even, length-with f keeps xs) in
         tail-written part front-way
         (e ∙ sym (append-nil todo) ∙ ap (λ (l : List ℕ). todo ++ l) (sym (drop-of-length-le (lent-tail first now) part-all)))
         ∙ ap (λ (l : List ℕ). with-lists f xs ++ l) (drop-of-length-le old all)
@@ -155,12 +167,11 @@ pub record Line-there (xs part : List ℕ) (i at : ℕ) : Type 0 where
 pub line-there :
     {b : Bool} {xs part : List ℕ} {i at : ℕ} → Writable b xs →
     Firsts (first-as b) (pair-as b) xs (drop (header + 3 * keys-of xs) xs) part i at → i < keys-of xs → Line-there xs part i at
-line-there {b} {xs} {part} {i} {at} can h below =
-    let write : at < length part =
-    first-room (first-as b) (pair-as b) xs (drop (header + 3 * keys-of xs) xs) part i at h below (can .some i below) in
+line-there {xs} {part} {i} {at} can h below =
+    let write : at < length part = first-room h below (can .some i below) in
     let len = length-drop (header + 3 * keys-of xs) xs in
     record {
       read = omega (arith, write, len);
       write = write;
-      next = omega (arith, list-room (first-as b) (pair-as b) xs (drop (header + 3 * keys-of xs) xs) part i at h below, len);
+      next = omega (arith, list-room h below, len);
     }

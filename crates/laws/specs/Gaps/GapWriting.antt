@@ -34,34 +34,6 @@ drop-pairs x b (suc c) (p ∷ ps) = drop-pairs x p c ps
 
 -- THE FIRST NUMBER OF EACH LIST, after all were written as one
 
--- the first number of a list is put in: with the m numbers after it the list is complete, and the rest is unchanged
-first-put :
-    (y : ℕ → ℕ) (x : ℕ → ℕ → ℕ) (at : ℕ) (now : List ℕ) (b p : ℕ) (qs : List ℕ) (m : ℕ) → at < length now →
-    drop at now ≡ by-pairs x b (p ∷ qs) →
-    (take (at + suc m) (set now at (y p)) ≡ take at now ++ first-apart y x (take (suc m) (p ∷ qs)))
-    × (drop (at + suc m) (set now at (y p)) ≡ by-pairs x (getD (p ∷ qs) m 0) (drop (suc m) (p ∷ qs)))
-unfolding by-pairs first-apart
-first-put y x at now b p qs m room is = (
-  ap (λ (j : ℕ). take j new) later ∙ take-add (suc at) m new ∙ front ∙ append-assoc (take at now) (y p ∷ []) (by-pairs x p (take m qs)),
-  ap (λ (j : ℕ). drop j new) later ∙ sym (drop-drop m (suc at) new) ∙ ap (λ (l : List ℕ). drop m l) after ∙ drop-pairs x p m qs,
-)
-  where
-    new : List ℕ
-    new = set now at (y p)
-
-    later : at + suc m ≡ suc at + m
-    later = omega arith
-
-    after : drop (suc at) (set now at (y p)) ≡ by-pairs x p qs
-    after =
-        drop-set-lt (suc at) now at (y p) (omega arith)
-        ∙ ap (λ (j : ℕ). drop j now) (sym (add-one at))
-        ∙ sym (drop-drop 1 at now)
-        ∙ ap (λ (l : List ℕ). drop 1 l) is
-
-    front : take (suc at) new ++ take m (drop (suc at) new) ≡ (take at now ++ (y p ∷ [])) ++ by-pairs x p (take m qs)
-    front = rw (take-suc-set now at (y p) room, after, take-pairs x p m qs)
-
 module _ (y : ℕ → ℕ) (x : ℕ → ℕ → ℕ) (xs ps : List ℕ) where
   -- before line i, whose list starts at `at`: the lists before it are complete, and everything from it on is written as one list
   pub record Firsts (now : List ℕ) (i at : ℕ) : Type 0 where
@@ -74,8 +46,10 @@ module _ (y : ℕ → ℕ) (x : ℕ → ℕ → ℕ) (xs ps : List ℕ) where
     pub len : length now ≡ length ps
     pub counted : at + counts-from (keys-of xs - i) i xs ≡ length ps
 
-  pub firsts-start : (b : ℕ) (now : List ℕ) → now ≡ by-pairs x b ps → counts-from (keys-of xs) 0 xs ≡ length ps → Firsts now 0 0
-  firsts-start b now is counts =
+module _ {y : ℕ → ℕ} {x : ℕ → ℕ → ℕ} {xs ps : List ℕ} where
+  pub firsts-start :
+      (b : ℕ) {now : List ℕ} → now ≡ by-pairs x b ps → counts-from (keys-of xs) 0 xs ≡ length ps → Firsts y x xs ps now 0 0
+  firsts-start b is counts =
       let z : keys-of xs - 0 ≡ keys-of xs = omega arith in
       record {
         within = omega arith;
@@ -86,7 +60,7 @@ module _ (y : ℕ → ℕ) (x : ℕ → ℕ → ℕ) (xs ps : List ℕ) where
         counted = rw z (omega (arith, counts));
       }
 
-  module _ (now : List ℕ) (i at : ℕ) (h : Firsts now i at) where
+  module _ {now : List ℕ} {i at : ℕ} (h : Firsts y x xs ps now i at) where
     pub firsts-end : keys-of xs ≤ i → now ≡ lists-from (first-apart y x) (keys-of xs) 0 xs ps
     unfolding lists-from counts-from
     firsts-end past =
@@ -112,8 +86,8 @@ module _ (y : ℕ → ℕ) (x : ℕ → ℕ → ℕ) (xs ps : List ℕ) where
       pub first-room : 1 ≤ count-at xs i → at < length now
       first-room some = omega (arith, list-room)
 
-      pub firsts-step : 1 ≤ count-at xs i → Firsts (set now at (y (getD ps at 0))) (i + 1) (at + count-at xs i)
-      unfolding lists-from
+      pub firsts-step : 1 ≤ count-at xs i → Firsts y x xs ps (set now at (y (getD ps at 0))) (i + 1) (at + count-at xs i)
+      unfolding lists-from by-pairs first-apart
       firsts-step some = by-count (count-at xs i) refl some
         where
           p : ℕ
@@ -125,29 +99,57 @@ module _ (y : ℕ → ℕ) (x : ℕ → ℕ → ℕ) (xs ps : List ℕ) where
           cut : drop at ps ≡ p ∷ drop (suc at) ps
           cut = drop-cons ps at 0 there
 
+          new : List ℕ
+          new = set now at (y p)
+
+          after : drop (suc at) new ≡ by-pairs x p (drop (suc at) ps)
+          after =
+              drop-set-lt (suc at) now at (y p) (omega arith)
+              ∙ ap (λ (j : ℕ). drop j now) (sym (add-one at))
+              ∙ sym (drop-drop 1 at now)
+              ∙ ap (λ (l : List ℕ). drop 1 l) (h .todo ∙ ap (by-pairs x (h .before)) cut)
+
+          -- with the m numbers after its first the list is complete, and the rest is unchanged
+          put :
+              (m : ℕ) →
+              (take (at + suc m) new ≡ take at now ++ first-apart y x (take (suc m) (p ∷ drop (suc at) ps)))
+              × (drop (at + suc m) new ≡ by-pairs x (getD (p ∷ drop (suc at) ps) m 0) (drop (suc m) (p ∷ drop (suc at) ps)))
+          put m =
+              let later : at + suc m ≡ suc at + m = omega arith in
+              let front : take (suc at) new ++ take m (drop (suc at) new) ≡
+              (take at now ++ (y p ∷ [])) ++ by-pairs x p (take m (drop (suc at) ps)) =
+              rw (take-suc-set now at (y p) (first-room some), after, take-pairs x p m (drop (suc at) ps)) in (
+                ap (λ (j : ℕ). take j new) later
+                    ∙ take-add (suc at) m new
+                    ∙ front
+                    ∙ append-assoc (take at now) (y p ∷ []) (by-pairs x p (take m (drop (suc at) ps))),
+                ap (λ (j : ℕ). drop j new) later
+                    ∙ sym (drop-drop m (suc at) new)
+                    ∙ ap (λ (l : List ℕ). drop m l) after
+                    ∙ drop-pairs x p m (drop (suc at) ps),
+              )
+
           -- the lists before line i, its own, and those after it
           standing : (list more : List ℕ) → List ℕ
           standing ls ms = take at now ++ (first-apart y x ls ++ lists-from (first-apart y x) (keys-of xs - (i + 1)) (i + 1) xs ms)
 
-          by-count : (c : ℕ) → count-at xs i ≡ c → 1 ≤ c → Firsts (set now at (y p)) (i + 1) (at + c)
+          by-count : (c : ℕ) → count-at xs i ≡ c → 1 ≤ c → Firsts y x xs ps (set now at (y p)) (i + 1) (at + c)
           by-count zero e none = absurd (omega arith)
           by-count (suc m) e one =
-              let put =
-              first-put y x at now (h .before) p (drop (suc at) ps) m (first-room some)
-              (h .todo ∙ ap (by-pairs x (h .before)) cut) in
               let past : drop (suc m) (p ∷ drop (suc at) ps) ≡ drop (at + suc m) ps =
               ap (λ (l : List ℕ). drop (suc m) l) (sym cut) ∙ drop-drop (suc m) at ps in
               record {
                 within = omega arith;
                 before = getD (p ∷ drop (suc at) ps) m 0;
                 so-far =
-                    ap (λ (l : List ℕ). l ++ lists-from (first-apart y x) (keys-of xs - (i + 1)) (i + 1) xs (drop (at + suc m) ps)) (put .0)
+                    ap (λ (l : List ℕ). l ++ lists-from (first-apart y x) (keys-of xs - (i + 1)) (i + 1) xs (drop (at + suc m) ps))
+                    (put m .0)
                     ∙ append-assoc (take at now) (first-apart y x (take (suc m) (p ∷ drop (suc at) ps)))
                     (lists-from (first-apart y x) (keys-of xs - (i + 1)) (i + 1) xs (drop (at + suc m) ps))
                     ∙ ap (λ (l : List ℕ). standing (take (suc m) (p ∷ drop (suc at) ps)) l) (sym past)
                     ∙ ap (λ (l : List ℕ). standing (take (suc m) l) (drop (suc m) l)) (sym cut)
                     ∙ rw (add-one i) (rw (next, add-one i, e) at (h .so-far));
-                todo = put .1 ∙ ap (by-pairs x (getD (p ∷ drop (suc at) ps) m 0)) past;
+                todo = put m .1 ∙ ap (by-pairs x (getD (p ∷ drop (suc at) ps) m 0)) past;
                 len = length-set now at (y p) ∙ h .len;
                 counted = omega (arith, counted-next, e);
               }

@@ -53,10 +53,10 @@ module _ (read : List ℕ → List ℕ) (keeps : Keeps-length read) where
         unreadable-directory g lex (with-lists read xs) (omega (arith, length-with read keeps xs, keys-with read keeps xs))
 
     pub walk-tells :
-        header ≤ length xs → header + 3 * keys-of xs ≤ length xs → n-of xs ≤ g →
+        header + 3 * keys-of xs ≤ length xs → n-of xs ≤ g →
         ((j : ℕ) → j < keys-of xs → value-at xs j < 65536) → walk-good read lex xs ≡ readable g lex (with-lists read xs)
     unfolding walk-good
-    walk-tells head dir allowed chars =
+    walk-tells dir allowed chars =
         whole
         ∙ readable-walk g lex ys (omega (arith, length-with read keeps xs))
         (omega (arith, length-with read keeps xs, keys-with read keeps xs)) (omega (arith, n-with read keeps xs))
@@ -125,12 +125,12 @@ module _ (b : Bool) (n l : ℕ) (ps : List ℕ) where
 
 -- one number from `at` on
 pub positions-only :
-    (b : Bool) (xs : List ℕ) (at n l c : ℕ) → at ≤ length xs → c ≤ length xs - at → c ≡ 1 →
+    (b : Bool) (xs : List ℕ) (at n l : ℕ) {c : ℕ} → at ≤ length xs → c ≤ length xs - at → c ≡ 1 →
     (leb (getD xs at 0 + l) (n + 1) && ltb 0 (getD xs at 0)) ≡ line-list-good (read-as b) n l c (drop at xs)
-positions-only b xs at n l c room present one =
+positions-only b xs at n l {c} room present one =
     ap (λ (p : ℕ). leb (p + l) (n + 1) && ltb 0 p) (sym first)
     ∙ good-only b n l only len
-    ∙ positions-there (read-as b) xs at n l c room present (λ (none : c ≡ 0). omega arith)
+    ∙ positions-there (read-as b) xs at n l room present (λ (none : c ≡ 0). omega arith)
   where
     only : List ℕ
     only = take (at + c - at) (drop at xs)

@@ -45,8 +45,8 @@ puts-get n ys r o z none puts =
     (puts .1 ∙ accepted-yes n (in-front ys o) o none)
 
 pub sized-get : (ys : List ℕ) (r : Answer) (o z : List ℕ) → length ys ≤ length o → Sized ys r o z → In-hand ys (r .count) z
-unfolding Sized output-short
-sized-get ys r o z enough h = puts-get 0 ys r o z refl (rw (le-ltb (length o) (length ys) enough) at h)
+unfolding output-short
+sized-get ys r o z enough h = puts-get 0 ys r o z refl (rw (le-ltb (length o) (length ys) enough) at (h .puts))
 
 -- SEARCH
 

@@ -123,8 +123,8 @@ pub handed-over :
     Wrote ys 0 o end z → Sized ys r o z
 unfolding placed in-front
 handed-over {ys} r {o} {z} enough number count w =
-    sized-written ys r o z enough number count (w .content ∙ ap (λ (n : ℕ). ys ++ drop n o) (zero-add (length ys)))
+    sized-written enough number count (w .content ∙ ap (λ (n : ℕ). ys ++ drop n o) (zero-add (length ys)))
 
 pub job-says : (s ys : List ℕ) (r : Answer) (o z : List ℕ) → ys ≡ job-answer s → Sized ys r o z → Job-says s r o z
-unfolding Job-says Sized
-job-says s ys r o z e sized = rw e at sized
+unfolding Job-says
+job-says s ys r o z e sized = rw e at (sized .puts)

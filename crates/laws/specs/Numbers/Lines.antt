@@ -74,7 +74,7 @@ abbrev pub Measured : Lexicon → List Entry → Type 0
 Measured lex es = (e : Entry) → In e es → e .len ≡ length (spells lex (e .key-of))
 
 -- e is before all of es
-module _ (lex : Lexicon) (e : Entry) (es : List Entry) (len : e .len ≡ length (spells lex (e .key-of)))
+module _ {lex : Lexicon} (e : Entry) {es : List Entry} (len : e .len ≡ length (spells lex (e .key-of)))
     (before : (f : Entry) → In f es → entry-before e f ≡ true) where
   made-new :
       {ls : List Line} → Lines-made lex es ls → ((m : Line) → In m ls → key-before (e .key-of) (m .key-of) ≡ true) →
@@ -89,17 +89,17 @@ module _ (lex : Lexicon) (e : Entry) (es : List Entry) (len : e .len ≡ length 
       }
 
   first-after :
-      (l : Line) (ls : List Line) → Lines-made lex es (l ∷ ls) → (q : ℕ) → In q (l .positions) →
+      {l : Line} {ls : List Line} → Lines-made lex es (l ∷ ls) → (q : ℕ) → In q (l .positions) →
       Entry-before e (posting lex (l .key-of) q)
-  first-after l ls made q m =
+  first-after {l} {ls} made q m =
       entry-before-get e (posting lex (l .key-of) q)
       (before (posting lex (l .key-of) q) (rw (made .flat-is) at (flat-put lex (l ∷ ls) l q (inl refl) m)))
 
   made-same :
-      (l : Line) (ls : List Line) → Lines-made lex es (l ∷ ls) → e .key-of ≡ l .key-of →
+      {l : Line} {ls : List Line} → Lines-made lex es (l ∷ ls) → e .key-of ≡ l .key-of →
       Lines-made lex (e ∷ es) (line (l .key-of) (e .at ∷ l .positions) ∷ ls)
   unfolding flat entries-at line entry
-  made-same l ls made k =
+  made-same {l} {ls} made k =
       record {
         flat-is = rw (← made .flat-is) (ap (λ (f : Entry). f ∷ flat lex (l ∷ ls)) first);
         some =
@@ -108,7 +108,7 @@ module _ (lex : Lexicon) (e : Entry) (es : List Entry) (len : e .len ≡ length 
         rise =
             all-cons (λ (m : Line). Rise 0 (m .positions)) (line (l .key-of) (e .at ∷ l .positions)) ls (
               omega arith,
-              rise-more 0 (suc (e .at)) (l .positions) (made .rise l (inl refl)) (λ q m. later q (first-after l ls made q m)),
+              rise-more 0 (suc (e .at)) (l .positions) (made .rise l (inl refl)) (λ q m. later q (first-after made q m)),
             )
             (λ m i. made .rise m (inr i));
         order = made .order;
@@ -127,7 +127,7 @@ module _ (lex : Lexicon) (e : Entry) (es : List Entry) (len : e .len ≡ length 
   made-with (l ∷ ls) made = go (key-before-total (e .key-of) (l .key-of))
     where
       first : Entry-before e (posting lex (l .key-of) (getD (l .positions) 0 0))
-      first = first-after l ls made (getD (l .positions) 0 0) (in-getD (l .positions) 0 0 (made .some l (inl refl)))
+      first = first-after made (getD (l .positions) 0 0) (in-getD (l .positions) 0 0 (made .some l (inl refl)))
 
       after : key-before (e .key-of) (l .key-of) ≡ true → (m : Line) → In m (l ∷ ls) → key-before (e .key-of) (m .key-of) ≡ true
       after t =
@@ -138,7 +138,7 @@ module _ (lex : Lexicon) (e : Entry) (es : List Entry) (len : e .len ≡ length 
       new t = rw (with-entry-new e (l ∷ ls) (after t)) (made-new made (after t))
 
       same : e .key-of ≡ l .key-of → Lines-made lex (e ∷ es) (with-entry e (l ∷ ls))
-      same k = rw (with-entry-same e l ls k) (made-same l ls made k)
+      same k = rw (with-entry-same e l ls k) (made-same made k)
 
       go :
           (key-before (e .key-of) (l .key-of) ≡ true) ⊎ ((key-before (l .key-of) (e .key-of) ≡ true) ⊎ (e .key-of ≡ l .key-of)) →
@@ -153,7 +153,7 @@ pub lines-of-made : (lex : Lexicon) (es : List Entry) → Ascend entry-before es
 unfolding lines-of flat
 lines-of-made lex [] p len = record { flat-is = refl; some = λ l m. absurd m; rise = λ l m. absurd m; order = tt }
 lines-of-made lex (e ∷ es) p len =
-    made-with lex e es (len e (inl refl)) (p .0) (lines-of es) (lines-of-made lex es (p .1) (λ f m. len f (inr m)))
+    made-with e (len e (inl refl)) (p .0) (lines-of es) (lines-of-made lex es (p .1) (λ f m. len f (inr m)))
 
 pub flat-lines-of : (lex : Lexicon) (es : List Entry) → Ascend entry-before es → Measured lex es → flat lex (lines-of es) ≡ es
 flat-lines-of lex es p len = lines-of-made lex es p len .flat-is

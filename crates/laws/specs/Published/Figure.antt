@@ -45,20 +45,24 @@ module _ (lex : Lexicon) (ts : List ℕ) where
       stand-unique (stands-get v ts p (h .is-item .stand)) (stands-get w ts p (k .is-item .stand))
       (omega (arith, h .longest w (k .is-item), k .longest v (h .is-item)))
 
+-- the longest entry at each position of a text, and what it spells
+record Longest-spelt (lex : Lexicon) (ts : List ℕ) (l-prefix : ℕ → List ℕ) (longest : ℕ → Entry) : Type 0 where
+  is : (p : ℕ) → 1 ≤ p → p ≤ length ts → Longest-at lex ts p (longest p)
+  spelt : (p : ℕ) → 1 ≤ p → p ≤ length ts → l-prefix p ≡ spells lex (longest p .key-of)
+
+module _ {lex : Lexicon} {ts : List ℕ} {l-prefix : ℕ → List ℕ} {longest : ℕ → Entry} (h : Longest-spelt lex ts l-prefix longest) where
   figure-1-from :
-      (l-prefix : ℕ → List ℕ) (longest : ℕ → Entry) →
-      ((p : ℕ) → 1 ≤ p → p ≤ length ts → Longest-at lex ts p (longest p)) →
-      ((p : ℕ) → 1 ≤ p → p ≤ length ts → l-prefix p ≡ spells lex (longest p .key-of)) → (left p last : ℕ) → 1 ≤ p →
-      p + left ≡ suc (length ts) → figure-1 l-prefix left p last ≡ map (item-of lex) (scan longest left p last)
+      (left p last : ℕ) → 1 ≤ p → p + left ≡ suc (length ts) →
+      figure-1 l-prefix left p last ≡ map (item-of lex) (scan longest left p last)
   unfolding figure-1 scan item-of
-  figure-1-from l-prefix longest is spelt zero p last lo fits = refl
-  figure-1-from l-prefix longest is spelt (suc n) p last lo fits =
-      rw (spelt p lo (omega arith), ← len)
-      (cases (figure-1-from l-prefix longest is spelt n (suc p) (p + longest p .len) (omega arith) (omega arith))
-      (figure-1-from l-prefix longest is spelt n (suc p) last (omega arith) (omega arith)) (ltb last (p + longest p .len)))
+  figure-1-from zero p last lo fits = refl
+  figure-1-from (suc n) p last lo fits =
+      rw (h .spelt p lo (omega arith), ← len)
+      (cases (figure-1-from n (suc p) (p + longest p .len) (omega arith) (omega arith))
+      (figure-1-from n (suc p) last (omega arith) (omega arith)) (ltb last (p + longest p .len)))
     where
       l : Longest-at lex ts p (longest p)
-      l = is p lo (omega arith)
+      l = h .is p lo (omega arith)
 
       len : longest p .len ≡ length (spells lex (longest p .key-of))
       len = l .is-longest .is-entry .len-is
@@ -106,8 +110,10 @@ figure-1-holds g cs ls ts a t l-prefix is i =
 
     same : figure-1 l-prefix (length ts) 1 1 ≡ map (item-of lex) (make-index lex ts)
     same =
-        figure-1-from lex ts l-prefix (longest-at lex ts) (longest-at-is lex good ts chars)
-        (λ p lo hi.
-        longest-prefix-unique lex ts (is p lo hi)
-        (longest-prefix-put lex ts (longest-at-is lex good ts chars p lo hi)))
+        figure-1-from {longest = longest-at lex ts}
+        (record {
+          is = longest-at-is lex good ts chars;
+          spelt =
+              λ p lo hi. longest-prefix-unique lex ts (is p lo hi) (longest-prefix-put lex ts (longest-at-is lex good ts chars p lo hi));
+        })
         (length ts) 1 1 (omega arith) (omega arith)

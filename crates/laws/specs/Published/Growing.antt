@@ -139,31 +139,28 @@ module _ (lex : Lexicon) (ts : List ℕ) (chars : Chars ts) where
             longest = λ v h. longest (stands-get v ts p (h .stand)) (h .is-word);
           }
 
-  -- THE WHOLE SCAN
-
-  growing-scan-from :
-      (l-prefix : ℕ → List ℕ) → ((p : ℕ) → 1 ≤ p → p ≤ length ts → Longest-prefix lex ts p (l-prefix p)) → (left p last : ℕ)
-      {dict : List (List ℕ)} → Grown lex dict → 1 ≤ p → p + left ≡ suc (length ts) →
-      growing-scan left p last dict ts ≡ figure-1 l-prefix left p last
-  unfolding growing-scan figure-1
-  growing-scan-from l-prefix is zero p last g lo fits = refl
-  growing-scan-from l-prefix is (suc n) p last {dict} g lo fits =
-      let next : Grown lex (grown dict ts p) = grown-step p lo (omega arith) g in
-      let same : longest-word (grown dict ts p) ts p ≡ l-prefix p =
-      longest-prefix-unique lex ts
-      (grown-longest p lo (omega arith) g) (is p lo (omega arith)) in
-      rw (
-        same,
-        growing-scan-from l-prefix is n (suc p) (p + length (l-prefix p)) next (omega arith) (omega arith),
-        growing-scan-from l-prefix is n (suc p) last next (omega arith) (omega arith),
-      )
+-- THE WHOLE SCAN
 
 pub growing-figure-1 :
     (lex : Lexicon) (ts : List ℕ) → Chars ts → (l-prefix : ℕ → List ℕ) →
     ((p : ℕ) → 1 ≤ p → p ≤ length ts → Longest-prefix lex ts p (l-prefix p)) →
     growing-scan (length ts) 1 1 (lex .words) ts ≡ figure-1 l-prefix (length ts) 1 1
-growing-figure-1 lex ts chars l-prefix is =
-    growing-scan-from lex ts chars l-prefix is (length ts) 1 1 (grown-start lex) (omega arith) (omega arith)
+unfolding growing-scan figure-1
+growing-figure-1 lex ts chars l-prefix is = scan-from (length ts) 1 1 (grown-start lex) (omega arith) (omega arith)
+  where
+    scan-from :
+        (left p last : ℕ) {dict : List (List ℕ)} → Grown lex dict → 1 ≤ p → p + left ≡ suc (length ts) →
+        growing-scan left p last dict ts ≡ figure-1 l-prefix left p last
+    scan-from zero p last g lo fits = refl
+    scan-from (suc n) p last {dict} g lo fits =
+        let next : Grown lex (grown dict ts p) = grown-step lex ts chars p lo (omega arith) g in
+        let same : longest-word (grown dict ts p) ts p ≡ l-prefix p =
+        longest-prefix-unique lex ts (grown-longest lex ts chars p lo (omega arith) g) (is p lo (omega arith)) in
+        rw (
+          same,
+          scan-from n (suc p) (p + length (l-prefix p)) next (omega arith) (omega arith),
+          scan-from n (suc p) last next (omega arith) (omega arith),
+        )
 
 pub growing-same : (g : ℕ) → Growing-same g
 unfolding Growing-same Figure-1

@@ -144,7 +144,7 @@ module _ (ps : List ℕ) (n l : ℕ) (some : 1 ≤ length ps) where
   list-rises h = rw (le-leb (last-of ps + l) (suc n) (omega (arith, last-read)))
 
 -- c numbers from `at` on
-module _ (read : List ℕ → List ℕ) (xs : List ℕ) (at n l c : ℕ) where
+module _ (read : List ℕ → List ℕ) (xs : List ℕ) (at n l : ℕ) {c : ℕ} where
   pub positions-missing : length xs - at < c → false ≡ line-list-good read n l c (drop at xs)
   unfolding line-list-good
   positions-missing h = rw (lt-leb c (length (drop at xs)) (omega (arith, length-drop at xs)))

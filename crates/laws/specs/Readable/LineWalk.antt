@@ -91,7 +91,7 @@ module _ (read : List ℕ → List ℕ) (lex : Lexicon) (n a : ℕ) (k : Key) (c
 
 -- A LINE READ AS IT IS
 
-module _ (lex : Lexicon) (n a : ℕ) (k : Key) (c : ℕ) (ps : List ℕ) where
+module _ {lex : Lexicon} {n a : ℕ} {k : Key} {c : ℕ} {ps : List ℕ} where
   -- the line is good
   fits-line : Line-fits as-is lex n a k c ps → line-good lex n (line k (take c ps)) ≡ true
   unfolding line-good line
@@ -151,7 +151,7 @@ rest-get lex n (suc k) i a xs ps t =
           counts = omega (arith, length-drop (count-at xs i) ps);
           kinds = and-put (le-leb (kind-at xs i) 1 (f .kind-small)) (r .kinds);
           order = and-put (le-leb a (key-code (key-at xs i)) (f .code-least)) (r .order);
-          good = and-put (fits-line lex n a (key-at xs i) (count-at xs i) ps f) (r .good);
+          good = and-put (fits-line f) (r .good);
         }
 
 rest-put : (lex : Lexicon) (n k i a : ℕ) (xs ps : List ℕ) → Rest lex n k i a xs ps → rest-good as-is lex n k i a xs ps ≡ true
@@ -175,7 +175,7 @@ rest-put lex n (suc k) i a xs ps h =
 
     fit : Line-fits as-is lex n a (key-at xs i) (count-at xs i) ps
     fit =
-        line-fit lex n a (key-at xs i) (count-at xs i) ps
+        line-fit
         (leb-true (kind-at xs i) 1 (and-left small (kinds-good k (suc i) xs) (h .kinds)))
         (leb-true a (key-code (key-at xs i)) (and-left least (codes-ascend (suc (key-code (key-at xs i))) rest) (h .order)))
         (omega arith)

@@ -86,7 +86,7 @@ module _ (lex : Lexicon) (ts : List ℕ) where
       let from : f .at ≤ suc i = rw q at lo in
       let to : suc i < f .at + length (spells lex (f .key-of)) = rw q at hi in
       reconstruct-keeps es (sets us (f .at - 1) (spells lex (f .key-of))) i (λ g m. stand g (inr m))
-      (sets-writes 0 us (f .at - 1) (spells lex (f .key-of)) i (getD ts i 0) b (omega arith) (omega arith)
+      (sets-writes 0 us (f .at - 1) (spells lex (f .key-of)) i b (omega arith, omega arith)
       (stood f h i (omega arith) (omega arith)))
   reconstruct-writes (f ∷ es) us i b stand e (inr m) lo hi =
       reconstruct-writes es (sets us (f .at - 1) (spells lex (f .key-of))) i

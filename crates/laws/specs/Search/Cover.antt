@@ -17,7 +17,7 @@ use Rattle.spec.specs.Numbers.{Line}
 use Rattle.spec.specs.Search.{covered, all-covered}
 use Rattle.models.specs.Entries.{flat}
 use Rattle.laws.specs.Search.Agree.{Agree}
-use Rattle.laws.specs.Search.Search.{covered-get, covered-put, all-covered-get, all-covered-put}
+use Rattle.laws.specs.Search.Search.{covered-get, covered-put, found-at-get, found-at-put}
 
 -- the first r positions under the string are covered
 abbrev pub Covered-to : Lexicon → List Line → (string : List ℕ) → (p r : ℕ) → Type 0
@@ -35,21 +35,21 @@ pub record Extends (lex : Lexicon) (ls : List Line) (s : List ℕ) (p : ℕ) (Ta
   pub keeps : Covered-to lex ls s p r → Covered-to lex ls s p t
   pub ends : (e : Entry) → Taken e → Agree s p (spells lex (e .key-of)) (e .at) → e .at ≤ p + r → e .at + e .len ≤ p + t
 
-module _ (lex : Lexicon) (ls : List Line) (s : List ℕ) (p : ℕ) where
+module _ {lex : Lexicon} {ls : List Line} {s : List ℕ} {p : ℕ} where
   -- A reach that no entry can extend comes to the string's end exactly if all of it is covered.
   pub reached-exact : {r : ℕ} → Reached lex ls s p r → leb (length s) r ≡ all-covered (length s) p lex ls s p
   reached-exact {r} h =
       iff-eq (leb (length s) r) (all-covered (length s) p lex ls s p)
       (λ t.
       let far : length s ≤ r = leb-true (length s) r t in
-      all-covered-put lex ls s p (length s) p (λ x lo hi. h .covered-to x lo (omega arith) hi))
+      found-at-put lex ls s p (λ x lo hi. h .covered-to x lo (omega arith) hi))
       (λ t.
       le-leb (length s) r
       (⊎-elim (λ (far : length s ≤ r). far) (λ (near : r < length s). absurd (stuck t near)) (le-or-lt (length s) r)))
     where
       stuck : all-covered (length s) p lex ls s p ≡ true → r < length s → ⊥
       stuck t near =
-          let e = covered-get lex ls s p (p + r) (all-covered-get lex ls s p (length s) p t (p + r) (omega arith) (omega arith)) in
+          let e = covered-get lex ls s p (p + r) (found-at-get lex ls s p t (p + r) (omega arith) (omega arith)) in
           let end : e .0 .at + e .0 .len ≤ p + r = h .closed (e .0) (e .1 .among) (e .1 .agree) (e .1 .from) in
           omega arith
 

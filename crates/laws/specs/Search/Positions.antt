@@ -13,12 +13,12 @@ use Rattle.spec.specs.Dictionary.{Lexicon}
 use Rattle.spec.specs.Words.{stands}
 use Rattle.spec.specs.Numbers.{Line}
 use Rattle.spec.specs.Index.{n-of, lines-in}
-use Rattle.spec.specs.Search.{covered, all-covered, found-from, find}
+use Rattle.spec.specs.Search.{covered, find}
 use Rattle.spec.specs.Theorems.{positions}
 use Rattle.laws.specs.Text.Strings.{Stand, stands-get, stands-put}
 use Rattle.laws.specs.Text.Facts.{Rise}
 use Rattle.laws.specs.Numbers.FlatOrder.{rise-least, rise-more, rise-ascends}
-use Rattle.laws.specs.Search.Search.{all-covered-get, all-covered-put, found-at, found-from-those, positions-from-those}
+use Rattle.laws.specs.Search.Search.{found-at-get, found-at-put, found-at, found-from-those, positions-from-those}
 
 -- ASCENDING
 
@@ -62,15 +62,6 @@ pub record Is-found (lex : Lexicon) (ls : List Line) (n : ℕ) (s : List ℕ) (p
   pub within : p + length s ≤ suc n
   pub each : (x : ℕ) → p ≤ x → x < p + length s → covered lex ls s p x ≡ true
 
-module _ (lex : Lexicon) (ls : List Line) (s : List ℕ) where
-  pub found-from-get :
-      (n q p : ℕ) → In p (found-from n q lex ls s) → (q ≤ p) × (p < q + n) × (all-covered (length s) p lex ls s p ≡ true)
-  found-from-get n q p m = those-from-get n q (found-at lex ls s) p (rw (found-from-those lex ls s n q) at m)
-
-  pub found-from-put :
-      (n q p : ℕ) → q ≤ p → p < q + n → all-covered (length s) p lex ls s p ≡ true → In p (found-from n q lex ls s)
-  found-from-put n q p lo hi t = rw (found-from-those lex ls s n q) (those-from-put n q (found-at lex ls s) p lo hi t)
-
 module _ (lex : Lexicon) (xs s : List ℕ) where
   pub find-rise : Rise 1 (find lex xs s)
   unfolding find
@@ -81,15 +72,17 @@ module _ (lex : Lexicon) (xs s : List ℕ) where
   pub find-get : (p : ℕ) → In p (find lex xs s) → Is-found lex (lines-in xs) (n-of xs) s p
   unfolding find
   find-get p m =
-      let h = found-from-get lex (lines-in xs) s (suc (n-of xs) - length s) 1 p m in
+      let starts = suc (n-of xs) - length s in
+      let h = those-from-get starts 1 (found-at lex (lines-in xs) s) p (rw (found-from-those lex (lines-in xs) s starts 1) at m) in
       record {
         from = h .0;
         within = omega arith;
-        each = all-covered-get lex (lines-in xs) s p (length s) p (h .2);
+        each = found-at-get lex (lines-in xs) s p (h .2);
       }
 
   pub find-put : {p : ℕ} → Is-found lex (lines-in xs) (n-of xs) s p → In p (find lex xs s)
   unfolding find
   find-put {p} h =
-      found-from-put lex (lines-in xs) s (suc (n-of xs) - length s) 1 p (h .from) (omega arith)
-      (all-covered-put lex (lines-in xs) s p (length s) p (h .each))
+      let starts = suc (n-of xs) - length s in
+      rw (found-from-those lex (lines-in xs) s starts 1)
+      (those-from-put starts 1 (found-at lex (lines-in xs) s) p (h .from) (omega arith) (found-at-put lex (lines-in xs) s p (h .each)))

@@ -20,7 +20,7 @@ module _ (lex : Lexicon) (ls : List Line) (s : List ℕ) (p : ℕ) where
   unfolding reach-offsets
   reach-offsets-at-offsets zero o r = at-offsets-none lex ls s p o r
   reach-offsets-at-offsets (suc n) o r =
-      at-offsets-then lex ls s p o (reach-offset-extends lex ls s p ls o r (λ e m. m))
+      at-offsets-then lex ls s p o (reach-offset-extends ls o r (λ e m. m))
       (reach-offsets-at-offsets n (suc o) t) stop
     where
       t : ℕ
@@ -33,12 +33,12 @@ module _ (lex : Lexicon) (ls : List Line) (s : List ℕ) (p : ℕ) where
   unfolding reach
   reach-reached =
       let t = reach-leading lex ls s p 0 in
-      at-offsets-reached lex ls s p (reach-leading-extends lex ls s p ls 0 (λ e m. m))
+      at-offsets-reached lex ls s p (reach-leading-extends ls 0 (λ e m. m))
       (reach-offsets-at-offsets (length s - 1) 1 t)
 
   -- The reach comes to the string's end exactly if every position under it is covered by an entry that agrees.
   pub reach-exact : leb (length s) (reach lex ls s p) ≡ all-covered (length s) p lex ls s p
-  reach-exact = reached-exact lex ls s p reach-reached
+  reach-exact = reached-exact reach-reached
 
 -- the starts whose reach comes to the string's end are those found, however the reach is computed
 pub found-reached :
@@ -47,7 +47,7 @@ pub found-reached :
 found-reached lex ls s n q f reached =
     found-from-those lex ls s n q
     ∙ those-from-alike n q (found-at lex ls s) (λ p. leb (length s) (f p))
-    (λ p lo hi. sym (reached-exact lex ls s p (reached p lo hi)))
+    (λ p lo hi. sym (reached-exact (reached p lo hi)))
 
 pub found-reach :
     (lex : Lexicon) (ls : List Line) (s : List ℕ) (n q : ℕ) →

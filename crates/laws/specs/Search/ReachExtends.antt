@@ -24,7 +24,7 @@ use Rattle.laws.specs.Search.Cover.{Extends, extends-none, extends-then,
 abbrev pub At-offset : Lexicon → (p i o : ℕ) → Key → (positions : List ℕ) → Entry → Type 0
 At-offset lex p i o k bs e = In e (entries-at lex k bs) × (e .at + i ≡ p + o)
 
-module _ (lex : Lexicon) (ls : List Line) (s : List ℕ) (p : ℕ) where
+module _ {lex : Lexicon} {ls : List Line} {s : List ℕ} {p : ℕ} where
   pub extend-extends :
       {i o : ℕ} (k : Key) (b r : ℕ) → min i o ≡ 0 → Agree s i (spells lex k) o → In (posting lex k b) (flat lex ls) →
       Extends lex ls s p (λ e. (e ≡ posting lex k b) × (e .at + i ≡ p + o)) r (extend i o (length (spells lex k)) p b r)
@@ -40,23 +40,23 @@ module _ (lex : Lexicon) (ls : List Line) (s : List ℕ) (p : ℕ) where
           let near : o ≤ r = leb-true o r t in
           let end : (o + length (spells lex k)) - i ≡ (b + length (spells lex k)) - p = omega arith in
           rw end
-          (extends-fewer lex ls s p Taken (λ e taken a. taken .0)
-          (extends-by lex ls s p (posting lex k b) m (agree-move p b (omega arith) agree) r (omega arith)))
+          (extends-fewer Taken (λ e taken a. taken .0)
+          (extends-by (posting lex k b) m (agree-move p b (omega arith) agree) r (omega arith)))
       by-reach z false t =
           let far : r < o = leb-false o r t in
-          extends-later lex ls s p Taken r (λ e taken. let at : e .at + i ≡ p + o = taken .1 in omega arith)
+          extends-later Taken r (λ e taken. let at : e .at + i ≡ p + o = taken .1 in omega arith)
 
       by-offset :
           (t : Bool) → eqb (b + i) (p + o) ≡ t →
           Extends lex ls s p Taken r (cond t (cond (leb o r) (max r ((o + length (spells lex k)) - i)) r) r)
       by-offset true t = by-reach (eqb-true (b + i) (p + o) t) (leb o r) refl
       by-offset false t =
-          extends-fewer lex ls s p Taken
+          extends-fewer Taken
           (λ e taken a.
           let at : e .at ≡ b = ap (λ (f : Entry). f .at) (taken .0) in
           let z : b + i ≡ p + o = omega arith in
           eqb-false (b + i) (p + o) t z)
-          (extends-none lex ls s p r)
+          (extends-none r)
 
   pub reach-positions-extends :
       {i o : ℕ} (k : Key) (bs : List ℕ) (r : ℕ) → min i o ≡ 0 → Agree s i (spells lex k) o →
@@ -64,11 +64,11 @@ module _ (lex : Lexicon) (ls : List Line) (s : List ℕ) (p : ℕ) where
       Extends lex ls s p (At-offset lex p i o k bs) r (reach-positions i o (length (spells lex k)) p bs r)
   unfolding reach-positions entries-at entry
   reach-positions-extends {i} {o} k [] r one agree kept =
-      extends-fewer lex ls s p (At-offset lex p i o k []) (λ e taken a. taken .0) (extends-none lex ls s p r)
+      extends-fewer (At-offset lex p i o k []) (λ e taken a. taken .0) (extends-none r)
   reach-positions-extends {i} {o} k (b ∷ bs) r one agree kept =
       let len = length (spells lex k) in
       let t = extend i o len p b r in
-      extends-then lex ls s p (At-offset lex p i o k (b ∷ bs))
+      extends-then (At-offset lex p i o k (b ∷ bs))
       (λ e taken. split e (taken .0) (taken .1))
       (extend-extends k b r one agree (kept (posting lex k b) (inl refl)))
       (reach-positions-extends k bs t one agree (λ e m. kept e (inr m)))
@@ -91,13 +91,13 @@ module _ (lex : Lexicon) (ls : List Line) (s : List ℕ) (p : ℕ) where
           Extends lex ls s p (At-offset lex p i o k bs) r (cond t (reach-positions i o (length (spells lex k)) p bs r) r)
       by-test true t = reach-positions-extends k bs r one (agrees-get s i (spells lex k) o t) kept
       by-test false t =
-          extends-fewer lex ls s p (At-offset lex p i o k bs)
+          extends-fewer (At-offset lex p i o k bs)
           (λ e taken a.
           let b = entries-at-get lex k bs e (taken .0) in
           let key : e .key-of ≡ k = ap (λ (f : Entry). f .key-of) (b .2) in
           let agree : Agree s p (spells lex k) (e .at) = rw key at a in
           clash (agrees-put s i (spells lex k) o (agree-move i o (omega arith) agree)) t)
-          (extends-none lex ls s p r)
+          (extends-none r)
 
   -- one key at n offsets from −i down
   pub reach-back-extends :
@@ -106,11 +106,11 @@ module _ (lex : Lexicon) (ls : List Line) (s : List ℕ) (p : ℕ) where
       (reach-back n i s (spells lex k) p bs r)
   unfolding reach-back
   reach-back-extends zero i k bs r kept =
-      extends-fewer lex ls s p (λ e. In e (entries-at lex k bs) × (e .at + i ≤ p) × (p < e .at + i + 0))
-      (λ e taken a. omega arith) (extends-none lex ls s p r)
+      extends-fewer (λ e. In e (entries-at lex k bs) × (e .at + i ≤ p) × (p < e .at + i + 0))
+      (λ e taken a. omega arith) (extends-none r)
   reach-back-extends (suc n) i k bs r kept =
       let t = reach-key i 0 s (spells lex k) p bs r in
-      extends-then lex ls s p (λ e. In e (entries-at lex k bs) × (e .at + i ≤ p) × (p < e .at + i + suc n))
+      extends-then (λ e. In e (entries-at lex k bs) × (e .at + i ≤ p) × (p < e .at + i + suc n))
       (λ e taken. split e (taken .0) (taken .1) (taken .2) (le-or-lt p (e .at + i)))
       (reach-key-extends i 0 k bs r (omega arith) kept) (reach-back-extends n (suc i) k bs t kept)
     where
@@ -126,9 +126,9 @@ module _ (lex : Lexicon) (ls : List Line) (s : List ℕ) (p : ℕ) where
       Extends lex ls s p (λ e. In e (flat lex ks) × (e .at ≤ p)) r (reach-leading lex ks s p r)
   unfolding reach-leading flat
   reach-leading-extends [] r kept =
-      extends-fewer lex ls s p (λ e. ⊥ × (e .at ≤ p)) (λ e taken a. taken .0) (extends-none lex ls s p r)
+      extends-fewer (λ e. ⊥ × (e .at ≤ p)) (λ e taken a. taken .0) (extends-none r)
   reach-leading-extends (l ∷ ks) r kept =
-      extends-then lex ls s p (λ e. In e (flat lex (l ∷ ks)) × (e .at ≤ p))
+      extends-then (λ e. In e (flat lex (l ∷ ks)) × (e .at ≤ p))
       (λ e taken. split e (taken .1) (in-append-get e (entries-at lex (l .key-of) (l .positions)) (flat lex ks) (taken .0)))
       line
       (reach-leading-extends ks t (λ e m. kept e (in-append-right e (entries-at lex (l .key-of) (l .positions)) (flat lex ks) m)))
@@ -144,7 +144,7 @@ module _ (lex : Lexicon) (ls : List Line) (s : List ℕ) (p : ℕ) where
 
       line : Extends lex ls s p Here r t
       line =
-          extends-fewer lex ls s p Here
+          extends-fewer Here
           (λ e taken a.
           let b = entries-at-get lex (l .key-of) (l .positions) e (taken .0) in
           let key : e .key-of ≡ l .key-of = ap (λ (f : Entry). f .key-of) (b .2) in
@@ -165,10 +165,10 @@ module _ (lex : Lexicon) (ls : List Line) (s : List ℕ) (p : ℕ) where
       Extends lex ls s p (λ e. In e (flat lex ks) × (e .at ≡ p + o)) r (reach-offset o lex ks s p r)
   unfolding reach-offset flat
   reach-offset-extends [] o r kept =
-      extends-fewer lex ls s p (λ e. ⊥ × (e .at ≡ p + o)) (λ e taken a. taken .0) (extends-none lex ls s p r)
+      extends-fewer (λ e. ⊥ × (e .at ≡ p + o)) (λ e taken a. taken .0) (extends-none r)
   reach-offset-extends (l ∷ ks) o r kept =
       let t = reach-key 0 o s (spells lex (l .key-of)) p (l .positions) r in
-      extends-then lex ls s p (λ e. In e (flat lex (l ∷ ks)) × (e .at ≡ p + o))
+      extends-then (λ e. In e (flat lex (l ∷ ks)) × (e .at ≡ p + o))
       (λ e taken. split e (taken .1) (in-append-get e (entries-at lex (l .key-of) (l .positions)) (flat lex ks) (taken .0)))
       (reach-key-extends 0 o (l .key-of) (l .positions) r (omega arith)
       (λ e m. kept e (in-append-left e (entries-at lex (l .key-of) (l .positions)) (flat lex ks) m)))

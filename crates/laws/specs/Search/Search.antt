@@ -96,26 +96,23 @@ module _ (lex : Lexicon) (ls : List Line) (s : List ℕ) (a p : ℕ) where
       covered-line-put lex ls s a p (l .0) (l .1)
       (covers-put p (l .0 .positions) (l .2) (h .from) (omega arith) agree)
 
--- each of n positions from p on
+-- FOUND
+
+-- the test of one start
+abbrev pub found-at : Lexicon → List Line → (string : List ℕ) → (p : ℕ) → Bool
+found-at lex ls s p = all-covered (length s) p lex ls s p
+
 module _ (lex : Lexicon) (ls : List Line) (s : List ℕ) (a : ℕ) where
   all-covered-all : (n p : ℕ) → all-covered n p lex ls s a ≡ all-from n p (covered lex ls s a)
   unfolding all-covered all-from
   all-covered-all zero p = refl
   all-covered-all (suc n) p = rw (all-covered-all n (suc p))
 
-  pub all-covered-get :
-      (n p : ℕ) → all-covered n p lex ls s a ≡ true → (x : ℕ) → p ≤ x → x < p + n → covered lex ls s a x ≡ true
-  all-covered-get n p t = all-from-get n p (covered lex ls s a) (sym (all-covered-all n p) ∙ t)
+  pub found-at-get : found-at lex ls s a ≡ true → (x : ℕ) → a ≤ x → x < a + length s → covered lex ls s a x ≡ true
+  found-at-get t = all-from-get (length s) a (covered lex ls s a) (sym (all-covered-all (length s) a) ∙ t)
 
-  pub all-covered-put :
-      (n p : ℕ) → ((x : ℕ) → p ≤ x → x < p + n → covered lex ls s a x ≡ true) → all-covered n p lex ls s a ≡ true
-  all-covered-put n p h = all-covered-all n p ∙ all-from-put n p (covered lex ls s a) h
-
--- FOUND
-
--- the test of one start
-abbrev pub found-at : Lexicon → List Line → (string : List ℕ) → (p : ℕ) → Bool
-found-at lex ls s p = all-covered (length s) p lex ls s p
+  pub found-at-put : ((x : ℕ) → a ≤ x → x < a + length s → covered lex ls s a x ≡ true) → found-at lex ls s a ≡ true
+  found-at-put h = all-covered-all (length s) a ∙ all-from-put (length s) a (covered lex ls s a) h
 
 pub found-from-those :
     (lex : Lexicon) (ls : List Line) (s : List ℕ) (n p : ℕ) → found-from n p lex ls s ≡ those-from n p (found-at lex ls s)
@@ -139,12 +136,15 @@ positions-from-those s ts (suc n) p = rw (positions-from-those s ts n (suc p))
 -- LINES WHOSE ENTRIES STAND IN A TEXT
 
 -- every position of an occurrence of the string in the text is covered by an entry
-module _ (lex : Lexicon) (ls : List Line) (ts : List ℕ) (all : All-stand lex ls ts) (s : List ℕ)
-    (cover :
-    (p : ℕ) → Stand s ts p → (x : ℕ) → p ≤ x → x < p + length s →
-    (e : Entry) × In e (flat lex ls) × (e .at ≤ x) × (x < e .at + e .len)) where
+pub record Occurrences-covered (lex : Lexicon) (ls : List Line) (ts s : List ℕ) : Type 0 where
+  pub all : All-stand lex ls ts
+  pub cover :
+      (p : ℕ) → Stand s ts p → (x : ℕ) → p ≤ x → x < p + length s →
+      (e : Entry) × In e (flat lex ls) × (e .at ≤ x) × (x < e .at + e .len)
+
+module _ {lex : Lexicon} {ls : List Line} {ts s : List ℕ} (o : Occurrences-covered lex ls ts s) where
   -- the string is covered at p exactly if it stands there
-  pub all-stand-stands : (p : ℕ) → 1 ≤ p → p + length s ≤ suc (length ts) → all-covered (length s) p lex ls s p ≡ stands s ts p
+  all-stand-stands : (p : ℕ) → 1 ≤ p → p + length s ≤ suc (length ts) → found-at lex ls s p ≡ stands s ts p
   all-stand-stands p lo hi = iff-eq (all-covered (length s) p lex ls s p) (stands s ts p) (λ t. stands-put s ts p (to t)) from
     where
       to : all-covered (length s) p lex ls s p ≡ true → Stand s ts p
@@ -154,15 +154,15 @@ module _ (lex : Lexicon) (ls : List Line) (ts : List ℕ) (all : All-stand lex l
             within = hi;
             equal =
                 λ x l h.
-                let e = covered-get lex ls s p x (all-covered-get lex ls s p (length s) p t x l h) in
+                let e = covered-get lex ls s p x (found-at-get lex ls s p t x l h) in
                 let len = flat-long lex ls (e .0) (e .1 .among) in
                 e .1 .agree .equal x l h (e .1 .from) (omega arith)
-                ∙ all (e .0) (e .1 .among) .equal x (e .1 .from) (omega arith);
+                ∙ o .all (e .0) (e .1 .among) .equal x (e .1 .from) (omega arith);
           }
 
       covered-at : Stand s ts p → (x : ℕ) → p ≤ x → x < p + length s → covered lex ls s p x ≡ true
       covered-at st x l h =
-          let over = cover p st x l h in
+          let over = o .cover p st x l h in
           let len = flat-long lex ls (over .0) (over .1) in
           covered-put lex ls s p x
           (record {
@@ -177,12 +177,12 @@ module _ (lex : Lexicon) (ls : List Line) (ts : List ℕ) (all : All-stand lex l
                   entry-from = over .2;
                   entry-to = omega arith;
                   equal =
-                      λ y c d f g. st .equal y c d ∙ sym (all (over .0) (over .1) .equal y f g);
+                      λ y c d f g. st .equal y c d ∙ sym (o .all (over .0) (over .1) .equal y f g);
                 };
           })
 
       from : stands s ts p ≡ true → all-covered (length s) p lex ls s p ≡ true
-      from t = all-covered-put lex ls s p (length s) p (covered-at (stands-get s ts p t))
+      from t = found-at-put lex ls s p (covered-at (stands-get s ts p t))
 
   -- among starts at which the string fits, those found are those where it stands
   pub all-stand-found :
@@ -194,16 +194,14 @@ module _ (lex : Lexicon) (ls : List Line) (ts : List ℕ) (all : All-stand lex l
 -- LINES THAT MATCH A TEXT
 
 module _ (lex : Lexicon) (ls : List Line) (ts : List ℕ) (show : Lines-match lex ls ts) (s : List ℕ) where
-  cover-string :
-      (p : ℕ) → Stand s ts p → (x : ℕ) → p ≤ x → x < p + length s →
-      (e : Entry) × In e (flat lex ls) × (e .at ≤ x) × (x < e .at + e .len)
-  cover-string p st x lo hi = show .cover x (omega arith) (omega arith)
+  occurrences : Occurrences-covered lex ls ts s
+  occurrences = record { all = show .stand; cover = λ p st x lo hi. show .cover x (omega arith) (omega arith) }
 
   -- the starts found are those where the string stands; `positions` also tests starts at which the string does not fit
   pub found-positions : 1 ≤ length s → found-from (suc (length ts) - length s) 1 lex ls s ≡ positions s ts
   unfolding positions
   found-positions some =
-      all-stand-found lex ls ts (show .stand) s cover-string (suc (length ts) - length s) (omega arith)
+      all-stand-found occurrences (suc (length ts) - length s) (omega arith)
       ∙ sym (those-from-fewer (suc (length ts) - length s) (length ts - (suc (length ts) - length s)) 1 (stands s ts) outside)
       ∙ ap (λ (n : ℕ). those-from n 1 (stands s ts)) steps
       ∙ sym (positions-from-those s ts (length ts) 1)

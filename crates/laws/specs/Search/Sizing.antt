@@ -29,8 +29,8 @@ module _ (s own : List ℕ) (is : take (length s) own ≡ replaced s) where
   own-string string = record { some = omega (arith, own-long); short = omega (arith, own-long) }
 
 -- 8 if the output is too short for the result, else the result at its start
-unfoldable pub Sized : (result : List ℕ) → Answer → (out out-now : List ℕ) → Type 0
-Sized ys r o z = Puts (cond (output-short (length ys) (length o)) 8 0) ys r o z
+pub record Sized (ys : List ℕ) (r : Answer) (o z : List ℕ) : Type 0 where
+  pub puts : Puts (cond (output-short (length ys) (length o)) 8 0) ys r o z
 
 -- a refusal, and nothing written
 pub refused : (n : ℕ) (ys : List ℕ) (r : Answer) (o : List ℕ) → (n ≡ 0 → ⊥) → r .refusal ≡ n → r .count ≡ 0 → Puts n ys r o o
@@ -38,31 +38,35 @@ unfolding Puts
 refused n ys r o some number none =
     (answers-refused n (length ys) r number some none, sym (accepted-no n (in-front ys o) o some))
 
-module _ (ys : List ℕ) (r : Answer) (o : List ℕ) where
+module _ {ys : List ℕ} {r : Answer} {o : List ℕ} where
   pub sized-short : length o < length ys → r .refusal ≡ 8 → r .count ≡ 0 → Sized ys r o o
-  unfolding Sized output-short
+  unfolding output-short
   sized-short few number none =
-      rw (lt-ltb (length o) (length ys) few) (refused 8 ys r o (λ (e : _≡_ {A = ℕ} 8 0). omega arith) number none)
+      let eight = refused 8 ys r o (λ (e : _≡_ {A = ℕ} 8 0). omega arith) number none in
+      record { puts = rw (lt-ltb (length o) (length ys) few) eight }
 
   pub sized-written :
-      (z : List ℕ) → length ys ≤ length o → r .refusal ≡ 0 → r .count ≡ length ys → z ≡ in-front ys o → Sized ys r o z
-  unfolding Sized output-short Puts
-  sized-written z enough number count is =
-      rw (le-ltb (length o) (length ys) enough)
-      (answers-accepted 0 (length ys) r number refl count, is ∙ sym (accepted-yes 0 (in-front ys o) o refl))
+      {z : List ℕ} → length ys ≤ length o → r .refusal ≡ 0 → r .count ≡ length ys → z ≡ in-front ys o → Sized ys r o z
+  unfolding output-short Puts
+  sized-written enough number count is =
+      record {
+        puts =
+            rw (le-ltb (length o) (length ys) enough)
+            (answers-accepted 0 (length ys) r number refl count, is ∙ sym (accepted-yes 0 (in-front ys o) o refl));
+      }
 
 -- 8 is tested last: n is the refusal before it
 abbrev pub Sized-after : (refusal : ℕ) → (result : List ℕ) → Answer → (out out-now : List ℕ) → Type 0
 Sized-after n ys r o z = Puts (or-else n (cond (output-short (length ys) (length o)) 8 0)) ys r o z
 
-module _ {n : ℕ} (ys : List ℕ) (r : Answer) (o : List ℕ) where
-  pub refused-before : (n ≡ 0 → ⊥) → r .refusal ≡ n → r .count ≡ 0 → Sized-after n ys r o o
-  unfolding or-else
-  refused-before some number none = rw (ne-eqb n 0 some) (refused n ys r o some number none)
+pub refused-before :
+    {n : ℕ} (ys : List ℕ) (r : Answer) (o : List ℕ) → (n ≡ 0 → ⊥) → r .refusal ≡ n → r .count ≡ 0 → Sized-after n ys r o o
+unfolding or-else
+refused-before {n} ys r o some number none = rw (ne-eqb n 0 some) (refused n ys r o some number none)
 
-  pub sized-after : n ≡ 0 → (z : List ℕ) → Sized ys r o z → Sized-after n ys r o z
-  unfolding or-else Sized
-  sized-after none z h = rw none h
+pub sized-after : {n : ℕ} {ys : List ℕ} {r : Answer} {o z : List ℕ} → n ≡ 0 → Sized ys r o z → Sized-after n ys r o z
+unfolding or-else
+sized-after none h = rw none (h .puts)
 
 -- THE REFUSALS BEFORE A RESULT: 1, 2, 3, 5, then 6
 

@@ -34,14 +34,6 @@ pub record Longest-prefix-at (s ts : List ℕ) (at limit n : ℕ) : Type 0 where
   pub bound : n ≤ limit
   pub longest : n < limit → getD ts (at + n) 0 ≡ getD s n 0 → ⊥
 
--- there is only one such n
-pub longest-one : {s ts : List ℕ} {at limit n k : ℕ} → Longest-prefix-at s ts at limit n → Longest-prefix-at s ts at limit k → n ≡ k
-longest-one {n} {k} p q =
-    ⊎-elim
-    (λ (a : n ≤ k).
-    ⊎-elim (λ (b : k ≤ n). omega arith) (λ (b : n < k). absurd (p .longest (omega arith) (q .lies .equal n b))) (le-or-lt k n))
-    (λ (a : k < n). absurd (q .longest (omega arith) (p .lies .equal k a))) (le-or-lt n k)
-
 -- WHAT THE TABLES HOLD
 
 -- v is the length of the longest prefix of s that also starts at j > 0 in s
@@ -127,7 +119,7 @@ pub record Known (zs : List ℕ) (at left right n : ℕ) : Type 0 where
   pub repeated : at < right → n ≤ getD zs (at - left) 0
   pub reached : at < right → at + n ≤ right
 
-module _ (first : ℕ) (s ts : List ℕ) where
+module _ {first : ℕ} {s ts : List ℕ} where
   pub zbox-start : Z-box first s ts first 0 0
   zbox-start =
       record {
@@ -136,7 +128,7 @@ module _ (first : ℕ) (s ts : List ℕ) where
         lies = record { short = omega arith; within = omega arith; equal = λ x h. absurd (omega arith) };
       }
 
-  module _ (at : ℕ) where
+  module _ {at : ℕ} where
     -- a new Z-box
     pub zbox-new : {n : ℕ} → first ≤ at → Prefix-at s ts at n → Z-box first s ts (at + 1) at (at + n)
     zbox-new {n} from h =
@@ -194,7 +186,7 @@ pub record Filling (first : ℕ) (s ts : List ℕ) (P : ℕ → ℕ → Type 0) 
 
 module _ (first : ℕ) (s ts : List ℕ) (P : ℕ → ℕ → Type 0) (old : List ℕ) where
   pub filling-start : ((j : ℕ) → j < first → P j (getD old j 0)) → Filling first s ts P old old first 0 0
-  filling-start h = record { from = omega arith; zbox = zbox-start first s ts; told = h; rest = λ j b. refl; len = refl }
+  filling-start h = record { from = omega arith; zbox = zbox-start; told = h; rest = λ j b. refl; len = refl }
 
   module _
       {xs : List ℕ}
@@ -223,10 +215,10 @@ module _ (first : ℕ) (s ts : List ℕ) (P : ℕ → ℕ → Type 0) (old : Lis
 
       -- the Z-box stays, or the prefix found here is the new one
       pub filling-on : Filling first s ts P old (set xs at n) (at + 1) left right
-      filling-on = kept (zbox-on first s ts at (h .zbox))
+      filling-on = kept (zbox-on (h .zbox))
 
       pub filling-new : Prefix-at s ts at n → Filling first s ts P old (set xs at n) (at + 1) at (at + n)
-      filling-new f = kept (zbox-new first s ts at (h .from) f)
+      filling-new f = kept (zbox-new (h .from) f)
 
 -- a table over the string's own indexes is unchanged outside them
 pub filled-rest :

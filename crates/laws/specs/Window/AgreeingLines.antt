@@ -9,7 +9,7 @@ use native.Mathlib.Omega.{arith}
 use lib.ListN.{length, take, set, length-set, length-append}
 use lib.Seq.{take-suc-set}
 use Rattle.basics.specs.Member.{In, in-append-get, in-append-left}
-use Rattle.basics.specs.Steps.{those-from, those-from-get, those-from-put, those-from-none, those-from-append, those-from-fewer}
+use Rattle.basics.specs.Steps.{Outside, those-from, those-from-get, those-from-put, those-from-none, those-from-append, those-from-fewer}
 use Rattle.spec.specs.Dictionary.{Lexicon}
 use Rattle.models.specs.Window.{agrees-line, agreeing-lines}
 use Rattle.laws.specs.Build.PostingsByKey.{those-short}
@@ -36,17 +36,16 @@ module _ (o : ℕ) (lex : Lexicon) (xs s : List ℕ) where
 
   -- lines at both ends that do not agree are left out
   agreeing-part :
-      (a r t b : ℕ) → a ≤ r → r ≤ t → t ≤ b → ((i : ℕ) → a ≤ i → i < r → agrees-line o lex xs s i ≡ false) →
-      ((i : ℕ) → t ≤ i → i < b → agrees-line o lex xs s i ≡ false) → those a b ≡ those r t
+      {a r t b : ℕ} → Outside (λ i. agrees-line o lex xs s i ≡ false) a r t b → those a b ≡ those r t
   unfolding agreeing-lines
-  agreeing-part a r t b p q u front back =
+  agreeing-part {a} {r} {t} {b} h =
       let x : b - a ≡ (r - a) + (b - r) = omega arith in
       let y : a + (r - a) ≡ r = omega arith in
       let z : b - r ≡ (t - r) + (b - t) = omega arith in
       rw x
       (those-from-append (r - a) (b - r) a test
-      ∙ rw (those-from-none (r - a) a test (λ i l m. front i l (omega arith)), y, z)
-      (those-from-fewer (t - r) (b - t) r test (λ i l m. back i (omega arith) (omega arith))))
+      ∙ rw (those-from-none (r - a) a test (λ i l m. h .front i l (omega arith)), y, z)
+      (those-from-fewer (t - r) (b - t) r test (λ i l m. h .back i (omega arith) (omega arith))))
     where
       test : ℕ → Bool
       test = agrees-line o lex xs s
@@ -58,42 +57,43 @@ module _ (o : ℕ) (lex : Lexicon) (xs s : List ℕ) where
     pub within : hi ≤ w
     pub room : count ≤ length lines
 
-  pub agreeing-start : (w : ℕ) (lines : List ℕ) → Agreeing-listed w lines 0 0 w
+module _ {o : ℕ} {lex : Lexicon} {xs s : List ℕ} where
+  pub agreeing-start : (w : ℕ) (lines : List ℕ) → Agreeing-listed o lex xs s w lines 0 0 w
   agreeing-start w lines = record { found = refl; order = omega arith; within = omega arith; room = omega arith }
 
-  module _ {w : ℕ} {lines : List ℕ} {count lo hi : ℕ} (h : Agreeing-listed w lines count lo hi) where
+  module _ {w : ℕ} {lines : List ℕ} {count lo hi : ℕ} (h : Agreeing-listed o lex xs s w lines count lo hi) where
     pub agreeing-push :
-        lo < hi → count < length lines → agrees-line o lex xs s lo ≡ true → Agreeing-listed w (set lines count lo) (count + 1) (lo + 1) hi
+        lo < hi → count < length lines → agrees-line o lex xs s lo ≡ true →
+        Agreeing-listed o lex xs s w (set lines count lo) (count + 1) (lo + 1) hi
     agreeing-push some free t =
         let more : take (count + 1) (set lines count lo) ≡ take count lines ++ lo ∷ [] =
         rw (add-one count) (take-suc-set lines count lo free) in
         record {
           found =
               h .found
-              ∙ ap (λ (is : List ℕ). take count lines ++ is) (agreeing-yes lo hi some t)
-              ∙ sym (append-assoc (take count lines) (lo ∷ []) (those (lo + 1) hi))
-              ∙ ap (λ (is : List ℕ). is ++ those (lo + 1) hi) (sym more);
+              ∙ ap (λ (is : List ℕ). take count lines ++ is) (agreeing-yes o lex xs s lo hi some t)
+              ∙ sym (append-assoc (take count lines) (lo ∷ []) (those o lex xs s (lo + 1) hi))
+              ∙ ap (λ (is : List ℕ). is ++ those o lex xs s (lo + 1) hi) (sym more);
           order = omega arith;
           within = h .within;
           room = omega (arith, length-set lines count lo);
         }
 
-    pub agreeing-pass : lo < hi → agrees-line o lex xs s lo ≡ false → Agreeing-listed w lines count (lo + 1) hi
+    pub agreeing-pass : lo < hi → agrees-line o lex xs s lo ≡ false → Agreeing-listed o lex xs s w lines count (lo + 1) hi
     agreeing-pass some f =
         record {
-          found = h .found ∙ ap (λ (is : List ℕ). take count lines ++ is) (agreeing-no lo hi some f);
+          found = h .found ∙ ap (λ (is : List ℕ). take count lines ++ is) (agreeing-no o lex xs s lo hi some f);
           order = omega arith;
           within = h .within;
           room = h .room;
         }
 
     pub agreeing-range :
-        (r t : ℕ) → lo ≤ r → r ≤ t → t ≤ hi → ((i : ℕ) → lo ≤ i → i < r → agrees-line o lex xs s i ≡ false) →
-        ((i : ℕ) → t ≤ i → i < hi → agrees-line o lex xs s i ≡ false) → Agreeing-listed w lines count r t
-    agreeing-range r t p q u front back =
+        {r t : ℕ} → Outside (λ i. agrees-line o lex xs s i ≡ false) lo r t hi → Agreeing-listed o lex xs s w lines count r t
+    agreeing-range out =
         record {
-          found = h .found ∙ ap (λ (is : List ℕ). take count lines ++ is) (agreeing-part lo r t hi p q u front back);
-          order = q;
+          found = h .found ∙ ap (λ (is : List ℕ). take count lines ++ is) (agreeing-part o lex xs s out);
+          order = out .order;
           within = omega arith;
           room = h .room;
         }
@@ -102,7 +102,7 @@ module _ (o : ℕ) (lex : Lexicon) (xs s : List ℕ) where
     pub listed-agrees : Lines-agree o lex xs s w (take count lines)
     unfolding agreeing-lines
     listed-agrees i m =
-        let here : In i (those 0 w) = rw (h .found) (in-append-left i (take count lines) (those lo hi) m) in
+        let here : In i (those o lex xs s 0 w) = rw (h .found) (in-append-left i (take count lines) (those o lex xs s lo hi) m) in
         let there = those-from-get (w - 0) 0 (agrees-line o lex xs s) i here in
         (omega arith, there .2)
 
@@ -111,11 +111,11 @@ module _ (o : ℕ) (lex : Lexicon) (xs s : List ℕ) where
         (i : ℕ) → i < w → agrees-line o lex xs s i ≡ true → In i (take count lines) ⊎ ((lo ≤ i) × (i < hi))
     unfolding agreeing-lines
     agrees-listed i b t =
-        let all : In i (those 0 w) = those-from-put (w - 0) 0 (agrees-line o lex xs s) i (omega arith) (omega arith) t in
+        let all : In i (those o lex xs s 0 w) = those-from-put (w - 0) 0 (agrees-line o lex xs s) i (omega arith) (omega arith) t in
         ⊎-elim (λ (l : In i (take count lines)). inl l)
-        (λ (r : In i (those lo hi)).
+        (λ (r : In i (those o lex xs s lo hi)).
         let there = those-from-get (hi - lo) lo (agrees-line o lex xs s) i r in inr (there .0, omega arith))
-        (in-append-get i (take count lines) (those lo hi) (rw (h .found) at all))
+        (in-append-get i (take count lines) (those o lex xs s lo hi) (rw (h .found) at all))
 
     -- no more are listed than there are lines
     pub listed-few : length (take count lines) ≤ w
@@ -124,5 +124,5 @@ module _ (o : ℕ) (lex : Lexicon) (xs s : List ℕ) where
         omega (
           arith,
           those-short (w - 0) 0 (agrees-line o lex xs s),
-          ap length (h .found) ∙ length-append (take count lines) (those lo hi),
+          ap length (h .found) ∙ length-append (take count lines) (those o lex xs s lo hi),
         )

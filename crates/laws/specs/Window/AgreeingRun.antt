@@ -23,18 +23,20 @@ module _ (o : ℕ) (lex : Lexicon) (xs s : List ℕ) (q : ℕ) where
   unfolding agreeing-lines
   agreeing-run a b rs = run-those step (agrees-line o lex xs s) (λ i f old. offset-apart lex xs s q o i f old) (b - a) a rs
 
-  pub agreeing-reaches :
-      {w : ℕ} {lines : List ℕ} {count from to : ℕ} → Agreeing-listed o lex xs s w lines count from to → (old : List ℕ)
-      {mid now : List ℕ} {highest max-reach : ℕ} → Reaches (run-list step (take count lines) old) mid highest →
-      Reaches (run step from to mid) now max-reach → Reaches (run step 0 w old) now max-reach
-  agreeing-reaches {w} {lines} {count} {from} {to} h old listed range =
-      record {
-        is =
-            range .is
-            ∙ ap (run step from to) (listed .is)
-            ∙ sym (agreeing-run from to (run-list step (take count lines) old))
-            ∙ sym (run-append step (take count lines) (agreeing-lines o lex xs s from to) old)
-            ∙ ap (λ (is : List ℕ). run-list step is old) (sym (h .found))
-            ∙ agreeing-run 0 w old;
-        bounded = range .bounded;
-      }
+pub agreeing-reaches :
+    {o : ℕ} {lex : Lexicon} {xs s : List ℕ} {w : ℕ} {lines : List ℕ} {count from to : ℕ} →
+    Agreeing-listed o lex xs s w lines count from to → (q : ℕ) (old : List ℕ) {mid now : List ℕ} {highest max-reach : ℕ} →
+    Reaches (run-list (step o lex xs s q) (take count lines) old) mid highest →
+    Reaches (run (step o lex xs s q) from to mid) now max-reach → Reaches (run (step o lex xs s q) 0 w old) now max-reach
+agreeing-reaches {o} {lex} {xs} {s} {w} {lines} {count} {from} {to} h q old listed range =
+    let go = step o lex xs s q in
+    record {
+      is =
+          range .is
+          ∙ ap (run go from to) (listed .is)
+          ∙ sym (agreeing-run o lex xs s q from to (run-list go (take count lines) old))
+          ∙ sym (run-append go (take count lines) (agreeing-lines o lex xs s from to) old)
+          ∙ ap (λ (is : List ℕ). run-list go is old) (sym (h .found))
+          ∙ agreeing-run o lex xs s q 0 w old;
+      bounded = range .bounded;
+    }

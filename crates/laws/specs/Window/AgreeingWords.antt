@@ -1,15 +1,15 @@
 -- The lines of words that agree with a string at an offset, by refining the range of those that share its next characters: a word that ends
 -- on the way is listed, the others are left as one range. Assumes nothing.
-use mathlib.Core.Path.{_≡_, refl, sym, _∙_}
-use mathlib.Core.Bool.{true, false}
+use mathlib.Core.Path.{_≡_, sym, _∙_}
+use mathlib.Core.Bool.{true}
 use mathlib.Core.Logic.{inl, inr}
 use mathlib.Core.List.{List}
-use Prim.Native.Nat.{ℕ, _+_, _-_, _≤_, _<_}
+use Prim.Native.Nat.{ℕ, _+_, _≤_, _<_}
 use native.Mathlib.Omega.{arith}
 use lib.ListN.{length, getD, set, length-set}
 use Rattle.basics.specs.LowerBound.{Lower-bound}
 use Rattle.spec.specs.Words.{spells}
-use Rattle.spec.specs.Index.{keys-of, key-at}
+use Rattle.spec.specs.Index.{key-at}
 use Rattle.models.specs.WordStarts.{lexicon-at}
 use Rattle.models.specs.Window.{agrees-line}
 use Rattle.laws.specs.Match.PrefixRanges.{prefix-not-before}
@@ -36,7 +36,7 @@ module _ {cs ws xs : List ℕ} (reads : Reads cs ws xs) {w : ℕ} (split : Split
   refining-start {s} {o} {lines} len =
       record {
         shared = shared-prefix-start (lexicon-at cs ws) xs s o w;
-        listed = agreeing-start o (lexicon-at cs ws) xs s w lines;
+        listed = agreeing-start w lines;
         few = omega arith;
         free = λ some e. absurd (omega (arith, key-some (reads .can) 0 (omega arith)));
         deep = omega arith;
@@ -59,7 +59,7 @@ module _ {cs ws xs : List ℕ} (reads : Reads cs ws xs) {w : ℕ} (split : Split
           record {
             shared = shared-prefix-next reads split (h .shared) some;
             listed =
-                agreeing-push o (lexicon-at cs ws) xs s (h .listed) some (omega (arith, h .free some ends))
+                agreeing-push (h .listed) some (omega (arith, h .free some ends))
                 (shared-prefix-agrees reads split (h .shared) below lo (omega arith) some (inr ends));
             few = omega (arith, h .free some ends);
             free = λ more e. absurd (longer more e);
@@ -82,9 +82,14 @@ module _ {cs ws xs : List ℕ} (reads : Reads cs ws xs) {w : ℕ} (split : Split
           record {
             shared = shared-prefix-deeper reads split (h .shared) some more is below low high;
             listed =
-                agreeing-range o (lexicon-at cs ws) xs s (h .listed) from to (low .from) (high .from) (high .to)
-                (apart-front reads split (h .shared) some more is below low high)
-                (apart-back reads split (h .shared) some more is below low high);
+                agreeing-range (h .listed)
+                (record {
+                  from = low .from;
+                  order = high .from;
+                  to = high .to;
+                  front = apart-front reads split (h .shared) some more is below low high;
+                  back = apart-back reads split (h .shared) some more is below low high;
+                });
             few = omega arith;
             free = λ rest e. omega arith;
             deep = omega (arith, refining-deep);

@@ -9,8 +9,9 @@ use Rattle.basics.specs.Bools.{clash}
 use Rattle.spec.specs.Index.{greatest-number}
 use Rattle.models.specs.Window.{extend-all, positions-all}
 use Rattle.laws.specs.Window.Window.{Within, within-more, within-set, Reaches, Progress, progress-start, progress-step, progress-pass}
-use Rattle.laws.specs.Window.Window.{progress-end}
-use Rattle.laws.specs.Window.WindowSearch.{extend-outside, extend-passed, extend-here, positions-none, positions-next, positions-skip}
+use Rattle.laws.specs.Window.Window.{progress-end, reaches-same}
+use Rattle.laws.specs.Window.WindowSearch.{Own-start, Outside-window, extend-outside, extend-passed, extend-here, positions-none}
+use Rattle.laws.specs.Window.WindowSearch.{positions-next, positions-skip}
 use Rattle.laws.specs.Window.ListRange.{Window-range}
 
 -- a key of this length shares a position with the string at the offset, and the numbers that the pass computes are small
@@ -58,15 +59,11 @@ module _ {bs : List ℕ} {l i o q : ℕ} {old : List ℕ} {max-reach : ℕ} {rs 
 
   -- positions outside the window are skipped
   pub extending-skip :
-      (k : ℕ) → j ≤ k → k ≤ length bs →
-      ((x : ℕ) → j ≤ x → x < k → q + o ≤ getD bs x 0 + i → length rs + (q + o) ≤ getD bs x 0 + i) →
-      Extending bs l i o q old max-reach rs highest k
-  extending-skip k order within outside =
+      {k : ℕ} → Outside-window i o q bs rs j k → Extending bs l i o q old max-reach rs highest k
+  extending-skip {k} out =
       record {
-        within = within;
-        way =
-            progress-pass (positions-all i o l q (drop k bs))
-            (h .way) (positions-skip i o l q bs rs j k order within outside);
+        within = out .within;
+        way = progress-pass (positions-all i o l q (drop k bs)) (h .way) (positions-skip l out);
         top-small = h .top-small;
       }
 
@@ -87,12 +84,12 @@ module _ {bs : List ℕ} {l i o q : ℕ} {old : List ℕ} {max-reach : ℕ} {rs 
     pub extending-outside : (q + o ≤ getD bs j 0 + i → length rs + (q + o) ≤ getD bs j 0 + i) →
         Extending bs l i o q old max-reach rs highest (j + 1)
     extending-outside outside =
-        step refl (record { is = sym (extend-outside i o l q (getD bs j 0) rs outside); bounded = h .way .bounded }) (h .top-small)
+        step refl (reaches-same (extend-outside i o l q (getD bs j 0) rs outside) (h .way .bounded)) (h .top-small)
 
     -- it belongs to the start p
     module _
-        {p : ℕ} (own : p + (q + o) ≡ getD bs j 0 + i) (inside : p < length rs) {end : ℕ} (is : end ≡ max o (o + l - i)) {r : Bool}
-        {now : List ℕ} (done : Extends o end rs p r now) where
+        {p : ℕ} (start : Own-start i o q (getD bs j 0) rs p) {end : ℕ} (is : end ≡ max o (o + l - i)) {r : Bool} {now : List ℕ}
+        (done : Extends o end rs p r now) where
       pub extending-extended : r ≡ true → (peak : ℕ) → peak ≡ max max-reach end → Extending bs l i o q old max-reach now peak (j + 1)
       extending-extended t peak greatest = rw (done .extended t .2) extended
         where
@@ -102,8 +99,7 @@ module _ {bs : List ℕ} {l i o q : ℕ} {old : List ℕ} {max-reach : ℕ} {rs 
               (record {
                 is =
                     ap (set rs p) is
-                    ∙ sym
-                    (extend-here i o l q (getD bs j 0) rs p own inside (done .extended t .0) (omega (arith, done .extended t .1)));
+                    ∙ sym (extend-here l start (done .extended t .0) (omega (arith, done .extended t .1)));
                 bounded =
                     within-set peak rs p end (omega arith) (within-more highest peak rs (omega arith) (h .way .bounded));
               })
@@ -113,12 +109,7 @@ module _ {bs : List ℕ} {l i o q : ℕ} {old : List ℕ} {max-reach : ℕ} {rs 
       extending-passed f =
           rw (done .passed f .1)
           (step refl
-          (record {
-            is =
-                sym
-                (extend-passed i o l q (getD bs j 0) rs p own inside (λ near. omega (arith, done .passed f .0 near)));
-            bounded = h .way .bounded;
-          })
+          (reaches-same (extend-passed l start (λ near. omega (arith, done .passed f .0 near))) (h .way .bounded))
           (h .top-small))
 
 -- THE PASS OVER A WINDOW'S RANGE
@@ -126,14 +117,14 @@ module _ {bs : List ℕ} {l i o q : ℕ} {old : List ℕ} {max-reach : ℕ} {rs 
 module _ {bs : List ℕ} {l i o q : ℕ} {old : List ℕ} {max-reach a b : ℕ} (r : Window-range bs i o q (length old) a b) where
   pub range-start : Within max-reach old → Extending bs l i o q old max-reach old max-reach a
   range-start w =
-      extending-skip (extending-start w) a (omega arith) (r .from)
-      (λ x m h from. absurd (omega (arith, r .below x h)))
+      extending-skip (extending-start w)
+      (record { order = omega arith; within = r .from; none = λ x m h from. absurd (omega (arith, r .below x h)) })
 
   pub range-end :
       {rs : List ℕ} {highest j : ℕ} → Extending bs l i o q old max-reach rs highest j → b ≤ j →
       Reaches (positions-all i o l q bs old) rs highest
   range-end {rs} {highest} {j} h past =
       extending-end
-      (extending-skip h (length bs) (h .within) (omega arith)
-      (λ x m below from. omega (arith, r .above x (omega arith) below)))
+      (extending-skip h
+      (record { order = h .within; within = omega arith; none = λ x m below from. omega (arith, r .above x (omega arith) below) }))
       (omega arith)

@@ -1,6 +1,5 @@
 -- The passes of the search over the offsets of a key and over the offsets above 0, each with the window in progress. Assumes nothing.
-use mathlib.Core.Path.{_≡_, refl, sym, ap, _∙_}
-use mathlib.Core.Bool.{true, false}
+use mathlib.Core.Path.{_≡_, refl, ap, _∙_}
 use mathlib.Core.List.{List}
 use Prim.Native.Nat.{ℕ, _+_, _-_, _≤_, _<_}
 use native.Mathlib.Nat.{sub-zero}
@@ -8,22 +7,11 @@ use native.Mathlib.Omega.{arith}
 use lib.ListN.{length, getD}
 use Rattle.spec.specs.Dictionary.{Lexicon}
 use Rattle.spec.specs.Numbers.{Line}
-use Rattle.spec.specs.Search.{agrees}
-use Rattle.models.specs.Window.{positions-all, key-all, back-all, leading-all, offset-all, offsets-all}
+use Rattle.spec.specs.Index.{lines-in}
+use Rattle.models.specs.Window.{key-all, back-all, leading-all, offset-all, offsets-all}
 use Rattle.laws.specs.Search.AgreeWalk.{key-starts-apart}
-use Rattle.laws.specs.Window.Window.{Within, Reaches, Progress, progress-start, progress-step, progress-end}
-use Rattle.laws.specs.Window.WindowSearch.{key-apart, key-agrees, back-none, back-next, offsets-none, offsets-next, offsets-stop}
-
--- ONE KEY AT ONE OFFSET
-
-module _ (i o : ℕ) (s k : List ℕ) (q : ℕ) (bs old : List ℕ) where
-  pub extends-none : agrees s i k o ≡ false → (max-reach : ℕ) → Within max-reach old → Reaches (key-all i o s k q bs old) old max-reach
-  extends-none f max-reach w = record { is = sym (key-apart i o s k q bs old f); bounded = w }
-
-  pub extends-all :
-      agrees s i k o ≡ true → {rs : List ℕ} {max-reach : ℕ} → Reaches (positions-all i o (length k) q bs old) rs max-reach →
-      Reaches (key-all i o s k q bs old) rs max-reach
-  extends-all t r = record { is = r .is ∙ sym (key-agrees i o s k q bs old t); bounded = r .bounded }
+use Rattle.laws.specs.Window.Window.{Within, Reaches, reaches-same, Progress, progress-start, progress-step, progress-end}
+use Rattle.laws.specs.Window.WindowSearch.{key-apart, back-none, back-next, offsets-none, offsets-next, offsets-stop}
 
 -- ONE KEY AT THE OFFSETS OF 0 AND BELOW
 
@@ -61,7 +49,7 @@ module _ {s k : List ℕ} {q : ℕ} {bs old : List ℕ} where
     -- at an offset at which the key does not have the string's first character
     pub backing-pass : i < length k → (getD k i 0 ≡ getD s 0 0 → ⊥) → Backing s k q bs old rs highest (i + 1)
     backing-pass some other =
-        backing-step some refl (extends-none i 0 s k q bs rs (key-starts-apart i s k some other) highest (h .way .bounded))
+        backing-step some refl (reaches-same (key-apart i 0 s k q bs rs (key-starts-apart i s k some other)) (h .way .bounded))
 
     pub backing-end : length k ≤ i → Reaches (back-all (length k) 0 s k q bs old) rs highest
     backing-end past =
@@ -102,13 +90,18 @@ module _ {lex : Lexicon} {ls : List Line} {s : List ℕ} {q : ℕ} {old : List �
     pub offsets-early : highest < o → Reaches (offsets-all (length s - 1) 1 lex ls s q old) rs highest
     offsets-early early =
         progress-end (h .way)
-        (offsets-stop lex ls s q (length s - o) o highest rs (h .way .bounded) early)
+        (offsets-stop lex ls s q (length s - o) o rs (λ j b. omega (arith, h .way .bounded j b)))
 
--- all offsets above 0, after the leading keys
+-- ALL OFFSETS
+
+-- a window extended by every line at every offset: the leading keys, then the offsets above 0
+pub record Window-done (lex : Lexicon) (xs s : List ℕ) (q : ℕ) (old rs : List ℕ) (max-reach : ℕ) : Type 0 where
+  pub reaches :
+      Reaches (offsets-all (length s - 1) 1 lex (lines-in xs) s q (leading-all lex (lines-in xs) s q old)) rs max-reach
+
 pub offsets-after :
-    (lex : Lexicon) (ls : List Line) (s : List ℕ) (q : ℕ) (old : List ℕ) {mid now : List ℕ} {highest max-reach : ℕ} →
-    Reaches (leading-all lex ls s q old) mid highest →
-    Reaches (offsets-all (length s - 1) 1 lex ls s q mid) now max-reach →
-    Reaches (offsets-all (length s - 1) 1 lex ls s q (leading-all lex ls s q old)) now max-reach
-offsets-after lex ls s q old p r =
-    record { is = r .is ∙ ap (offsets-all (length s - 1) 1 lex ls s q) (p .is); bounded = r .bounded }
+    {lex : Lexicon} {xs s : List ℕ} {q : ℕ} {old mid now : List ℕ} {highest max-reach : ℕ} →
+    Reaches (leading-all lex (lines-in xs) s q old) mid highest →
+    Reaches (offsets-all (length s - 1) 1 lex (lines-in xs) s q mid) now max-reach → Window-done lex xs s q old now max-reach
+offsets-after {lex} {xs} {s} {q} p r =
+    record { reaches = record { is = r .is ∙ ap (offsets-all (length s - 1) 1 lex (lines-in xs) s q) (p .is); bounded = r .bounded } }

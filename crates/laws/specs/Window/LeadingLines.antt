@@ -123,10 +123,10 @@ module _ (lex : Lexicon) (xs s : List ℕ) where
   leading-run q w rs = rw (sub-zero w) (run-those (leading-at lex xs s q) (is-leading lex xs s) (leading-apart q) w 0 rs)
 
   pub leading-reaches :
-      (q w : ℕ) (is old : List ℕ) {now : List ℕ} {max-reach : ℕ} → is ≡ leading-lines lex xs s w →
+      (q w : ℕ) {is : List ℕ} (old : List ℕ) {now : List ℕ} {max-reach : ℕ} → is ≡ leading-lines lex xs s w →
       Reaches (run-list (leading-at lex xs s q) is old) now max-reach →
       Reaches (run (leading-at lex xs s q) 0 w old) now max-reach
-  leading-reaches q w is old e r =
+  leading-reaches q w {is} old e r =
       record {
         is = r .is ∙ ap (λ (js : List ℕ). run-list (leading-at lex xs s q) js old) e ∙ leading-run q w old;
         bounded = r .bounded;

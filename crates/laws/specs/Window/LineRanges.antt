@@ -1,6 +1,6 @@
 -- The directory lines of an accepted index in order: words first, then lone characters, each part ascending; and which of the lone
 -- characters can agree at an offset. Assumes nothing.
-use mathlib.Core.Path.{_≡_, refl, sym, ap, _∙_}
+use mathlib.Core.Path.{_≡_, sym, ap, _∙_}
 use mathlib.Core.Bool.{true, false}
 use mathlib.Core.Logic.{⊎-elim}
 use mathlib.Core.List.{List, [], _∷_}
@@ -9,13 +9,13 @@ use native.Mathlib.Nat.{add-zero}
 use native.Mathlib.Omega.{arith}
 use lib.ListN.{length, getD, drop}
 use lib.Seq.{drop-nil}
-use Rattle.basics.specs.Bools.{clash, false-put, le-or-lt}
-use Rattle.spec.specs.Dictionary.{lexicon, word-before}
+use Rattle.basics.specs.Bools.{false-put, le-or-lt}
+use Rattle.spec.specs.Dictionary.{Lexicon, lexicon, word-before}
 use Rattle.spec.specs.Words.{key, spells}
 use Rattle.spec.specs.Numbers.{Line, line, key-before}
 use Rattle.spec.specs.Index.{header, keys-of, kind-at, value-at, key-at, lines-in}
 use Rattle.spec.specs.Search.{agrees}
-use Rattle.models.specs.Window.{field-at, positions-all, run, positions-at, offset-at}
+use Rattle.models.specs.Window.{field-at}
 use Rattle.laws.specs.Text.Facts.{Keys-rise}
 use Rattle.laws.specs.Dictionary.Keys.{spells-word, spells-lone}
 use Rattle.laws.specs.Numbers.KeyOrder.{Key-before, key-before-get}
@@ -23,24 +23,25 @@ use Rattle.laws.specs.Dictionary.Lexicon.{length-words}
 use Rattle.laws.specs.Dictionary.WordOrder.{ascend-get}
 use Rattle.laws.specs.Search.Agree.{agrees-get, agree-first}
 use Rattle.laws.specs.Search.AgreeWalk.{together}
-use Rattle.laws.specs.Directory.Opened.{line-of, lines-next}
+use Rattle.laws.specs.Directory.Opened.{lines-next}
 use Rattle.laws.specs.Directory.Tables.{Can-read, key-is, word-below, in-front-of}
 use Rattle.basics.specs.LowerBound.{Rising, Lower-bound}
-use Rattle.laws.specs.Window.Window.{Within, Reaches}
-use Rattle.laws.specs.Window.Extending.{extends-all}
-use Rattle.laws.specs.Window.LineSteps.{run-one, run-skip, run-unchanged, Unchanged, offset-apart, offset-done}
 
 -- KEYS ASCEND
 
 rise-at :
-    (ls : List Line) → Keys-rise ls → (i j : ℕ) (l m : Line) (after later : List Line) → i < j → drop i ls ≡ l ∷ after →
+    (ls : List Line) → Keys-rise ls → (i j : ℕ) {l m : Line} {after later : List Line} → i < j → drop i ls ≡ l ∷ after →
     drop j ls ≡ m ∷ later → key-before (l .key-of) (m .key-of) ≡ true
-rise-at [] k i j l m after later h p q = absurd (omega (arith, sym (ap length (drop-nil i)) ∙ ap length p))
-rise-at (x ∷ xs) k i zero l m after later h p q = absurd (omega arith)
-rise-at (x ∷ xs) k zero (suc j) l m after later h p q =
+rise-at [] k i j h p q = absurd (omega (arith, sym (ap length (drop-nil i)) ∙ ap length p))
+rise-at (x ∷ xs) k i zero h p q = absurd (omega arith)
+rise-at (x ∷ xs) k zero (suc j) {l} {m} {later} h p q =
     let e : x ≡ l = ap (λ (ys : List Line). getD ys 0 l) p in
     ap (λ (y : Line). key-before (y .key-of) (m .key-of)) (sym e) ∙ k .0 m (in-front-of xs j m later q)
-rise-at (x ∷ xs) k (suc i) (suc j) l m after later h p q = rise-at xs (k .1) i j l m after later (omega arith) p q
+rise-at (x ∷ xs) k (suc i) (suc j) h p q = rise-at xs (k .1) i j (omega arith) p q
+
+-- of the lines a to b − 1 only r can agree with the string at the offset o
+abbrev pub Only-line : Lexicon → (numbers string : List ℕ) → (o a b r : ℕ) → Type 0
+Only-line lex xs s o a b r = (i : ℕ) → a ≤ i → i < b → (i ≡ r → ⊥) → agrees s 0 (spells lex (key-at xs i)) o ≡ false
 
 -- the first w lines are words, the others lone characters
 pub record Split (xs : List ℕ) (w : ℕ) : Type 0 where
@@ -107,8 +108,7 @@ module _ {cs ls xs : List ℕ} (can : Can-read cs ls xs) where
   unfolding line
   keys-before i j h b =
       key-before-get (key-at xs i) (key-at xs j)
-      (rise-at (lines-in xs) (can .lines .order) i j (line-of xs i) (line-of xs j) (drop (i + 1) (lines-in xs))
-      (drop (j + 1) (lines-in xs)) h (lines-next xs i (omega arith)) (lines-next xs j b))
+      (rise-at (lines-in xs) (can .lines .order) i j h (lines-next xs i (omega arith)) (lines-next xs j b))
 
   -- of two lines of one kind the later has the greater value
   values-before : (i j : ℕ) → i < j → j < keys-of xs → kind-at xs i ≡ kind-at xs j → value-at xs i < value-at xs j
@@ -194,80 +194,21 @@ module _ {cs ls xs : List ℕ} (can : Can-read cs ls xs) where
     pub lone-single : (i : ℕ) → w ≤ i → i < keys-of xs → length (spells (lexicon cs ls) (key-at xs i)) ≡ 1
     lone-single i a b = ap length (lone-is i a b)
 
-    module _ (s : List ℕ) (o c : ℕ) (is : c ≡ getD s o 0) where
-      -- another character does not agree
-      lone-apart :
-          (i : ℕ) → w ≤ i → i < keys-of xs → (value-at xs i ≡ c → ⊥) → agrees s 0 (spells (lexicon cs ls) (key-at xs i)) o ≡ false
-      lone-apart i a b other =
+    -- of all these lines only that of the string's character can agree, and it does
+    module _ (s : List ℕ) (o : ℕ) {r : ℕ} (h : Lone-line xs w (getD s o 0) r) where
+      pub lone-others : Only-line (lexicon cs ls) xs s o w (keys-of xs) r
+      lone-others i a b other =
           rw (lone-is i a b)
           (false-put (agrees s 0 (value-at xs i ∷ []) o)
-          (λ t. other (sym (agree-first s (value-at xs i ∷ []) o (agrees-get s 0 (value-at xs i ∷ []) o t)) ∙ sym is)))
+          (λ t. h .others i a b other (sym (agree-first s (value-at xs i ∷ []) o (agrees-get s 0 (value-at xs i ∷ []) o t)))))
 
-      -- the character itself does
-      pub lone-agrees :
-          (i : ℕ) → w ≤ i → i < keys-of xs → value-at xs i ≡ c → o < length s → agrees s 0 (spells (lexicon cs ls) (key-at xs i)) o ≡ true
-      lone-agrees i a b e below =
-          rw (lone-is i a b)
-          (sym (together s (value-at xs i ∷ []) o 1 below (λ z. omega arith) (omega arith) (λ j l. same j l)))
+      pub lone-agrees : r < keys-of xs → o < length s → agrees s 0 (spells (lexicon cs ls) (key-at xs r)) o ≡ true
+      lone-agrees some below =
+          rw (lone-is r (h .from) some)
+          (sym (together s (value-at xs r ∷ []) o 1 below (λ z. omega arith) (omega arith) (λ j l. same j l)))
         where
-          same : (j : ℕ) → j < 1 → getD s (o + j) 0 ≡ getD (value-at xs i ∷ []) j 0
+          same : (j : ℕ) → j < 1 → getD s (o + j) 0 ≡ getD (value-at xs r ∷ []) j 0
           same j l =
               let z : j ≡ 0 = omega arith in
               let y : o + 0 ≡ o = omega arith in
-              rw z (rw y (sym (e ∙ is)))
-
-      -- so extending at its positions is the step of its line
-      pub lone-done :
-          (i : ℕ) → w ≤ i → i < keys-of xs → value-at xs i ≡ c → o < length s → (q : ℕ) (bs : List ℕ) → bs ≡ positions-at xs i →
-          (old : List ℕ) {now : List ℕ} {max-reach : ℕ} → Reaches (positions-all 0 o 1 q bs old) now max-reach →
-          Reaches (offset-at o (lexicon cs ls) xs s q i old) now max-reach
-      lone-done i a b e below q bs positions old {now} {max-reach} r =
-          offset-done (lexicon cs ls) xs s q i (spells (lexicon cs ls) (key-at xs i)) bs refl positions old now max-reach o
-          (extends-all 0 o s (spells (lexicon cs ls) (key-at xs i)) q bs old (lone-agrees i a b e below)
-          (rw (lone-single i a b) r))
-
-      module _ {r : ℕ} (h : Lone-line xs w c r) where
-        -- of all these lines only that of the character can agree
-        pub lone-others :
-            (i : ℕ) → w ≤ i → i < keys-of xs → (i ≡ r → ⊥) → agrees s 0 (spells (lexicon cs ls) (key-at xs i)) o ≡ false
-        lone-others i a b other = lone-apart i a b (h .others i a b other)
-
-        module _ (q : ℕ) where
-          step : ℕ → List ℕ → List ℕ
-          step = offset-at o (lexicon cs ls) xs s q
-
-          -- the character has a line, and that alone can agree
-          pub lone-found :
-              r < keys-of xs → (old : List ℕ) {now : List ℕ} {max-reach : ℕ} →
-              Reaches (offset-at o (lexicon cs ls) xs s q r old) now max-reach →
-              Reaches (run (offset-at o (lexicon cs ls) xs s q) w (keys-of xs) old) now max-reach
-          unfolding step
-          lone-found some old done =
-              record {
-                is =
-                    done .is
-                    ∙ sym (run-one step r old)
-                    ∙ sym (run-skip step w r (r + 1) (keys-of xs) (h .from) (omega arith) (omega arith) before after old);
-                bounded = done .bounded;
-              }
-            where
-              before : Unchanged step w r
-              before i a b =
-                  offset-apart (lexicon cs ls) xs s q o i (lone-others i a (omega arith) (λ e. omega arith))
-
-              after : Unchanged step (r + 1) (keys-of xs)
-              after i a b =
-                  offset-apart (lexicon cs ls) xs s q o i (lone-others i (omega arith) b (λ e. omega arith))
-
-          -- or it has none
-          pub lone-none :
-              keys-of xs ≤ r → (old : List ℕ) (max-reach : ℕ) → Within max-reach old →
-              Reaches (run (offset-at o (lexicon cs ls) xs s q) w (keys-of xs) old) old max-reach
-          lone-none past old max-reach within =
-              record {
-                is =
-                    sym
-                    (run-unchanged (offset-at o (lexicon cs ls) xs s q) w (keys-of xs)
-                    (λ i a b. offset-apart (lexicon cs ls) xs s q o i (lone-others i a b (λ e. omega arith))) old);
-                bounded = within;
-              }
+              rw z (rw y (sym (h .is some)))

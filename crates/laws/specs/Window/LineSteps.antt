@@ -2,20 +2,21 @@
 -- lines that it may skip. Assumes nothing.
 use mathlib.Core.Path.{_≡_, refl, sym, ap, _∙_}
 use mathlib.Core.Bool.{false}
-use mathlib.Core.List.{List}
+use mathlib.Core.List.{List, [], _∷_}
 use Prim.Native.Nat.{ℕ, zero, suc, _+_, _-_, _≤_, _<_}
 use native.Mathlib.Nat.{sub-zero}
 use native.Mathlib.Numerals.{add-one}
 use native.Mathlib.Omega.{arith}
 use lib.ListN.{length, drop}
+use Rattle.basics.specs.Steps.{Outside}
 use Rattle.spec.specs.Dictionary.{Lexicon}
 use Rattle.spec.specs.Words.{spells}
-use Rattle.spec.specs.Numbers.{line}
+use Rattle.spec.specs.Numbers.{Line, line}
 use Rattle.spec.specs.Index.{keys-of, key-at, lines-in}
 use Rattle.spec.specs.Search.{agrees}
 use Rattle.models.specs.Window.{key-all, back-all, leading-all, offset-all, run-from, run, positions-at, offset-at, leading-at}
 use Rattle.laws.specs.Directory.Opened.{line-of, lines-next, lines-none}
-use Rattle.laws.specs.Window.Window.{Within, Reaches, Progress, progress-start, progress-step, progress-pass, progress-end}
+use Rattle.laws.specs.Window.Window.{Within, Reaches, Progress, progress-start, progress-step, progress-end}
 use Rattle.laws.specs.Window.WindowSearch.{key-apart, back-none, back-next, first-none, leading-next, offset-none, offset-next}
 
 -- A WALK OF STEPS
@@ -63,13 +64,12 @@ module _ (f : ℕ → List ℕ → List ℕ) where
   run-unchanged a b still rs = from-unchanged (b - a) a (λ j l r. still j l (omega arith)) rs
 
   -- steps at both ends that change nothing are skipped
-  pub run-skip :
-      (a r t b : ℕ) → a ≤ r → r ≤ t → t ≤ b → Unchanged f a r → Unchanged f t b → (rs : List ℕ) → run f a b rs ≡ run f r t rs
-  run-skip a r t b p q s front back rs =
-      sym (run-join a r b p (omega arith) rs)
-      ∙ ap (run f r b) (run-unchanged a r front rs)
-      ∙ sym (run-join r t b q s rs)
-      ∙ run-unchanged t b back (run f r t rs)
+  pub run-skip : {a r t b : ℕ} → Outside (λ i. (rs : List ℕ) → f i rs ≡ rs) a r t b → (rs : List ℕ) → run f a b rs ≡ run f r t rs
+  run-skip {a} {r} {t} {b} h rs =
+      sym (run-join a r b (h .from) (omega arith) rs)
+      ∙ ap (run f r b) (run-unchanged a r (h .front) rs)
+      ∙ sym (run-join r t b (h .order) (h .to) rs)
+      ∙ run-unchanged t b (h .back) (run f r t rs)
 
   module _ (g : ℕ → List ℕ → List ℕ) where
     from-alike :
@@ -87,64 +87,54 @@ module _ (f : ℕ → List ℕ → List ℕ) where
 -- WHAT IS LEFT OF A WALK
 
 -- of the steps a to b − 1 those from lo to hi − 1 are still to do, `rs` is the window now, and no reach is above `highest`
-abbrev pub Left : (step : ℕ → List ℕ → List ℕ) → (a b : ℕ) → (old rs : List ℕ) → (highest lo hi : ℕ) → Type 0
-Left f a b old rs highest lo hi = Progress (run f lo hi) (run f a b old) old rs highest
+pub record Left (step : ℕ → List ℕ → List ℕ) (a b : ℕ) (old rs : List ℕ) (highest lo hi : ℕ) : Type 0 where
+  pub way : Progress (run step lo hi) (run step a b old) old rs highest
 
-module _ (f : ℕ → List ℕ → List ℕ) (a b : ℕ) (old : List ℕ) where
-  pub left-start : (max-reach : ℕ) → Within max-reach old → Left f a b old old max-reach a b
-  left-start max-reach w = progress-start (run f a b) old max-reach w
+module _ {f : ℕ → List ℕ → List ℕ} {a b : ℕ} {old : List ℕ} where
+  pub left-start : {max-reach : ℕ} → Within max-reach old → Left f a b old old max-reach a b
+  left-start {max-reach} w = record { way = progress-start (run f a b) old max-reach w }
 
-  module _ (rs : List ℕ) (highest lo hi : ℕ) (h : Left f a b old rs highest lo hi) where
+  module _ {rs : List ℕ} {highest lo hi : ℕ} (h : Left f a b old rs highest lo hi) where
     -- the first of them is done
     pub left-step :
         lo < hi → {now : List ℕ} {max-reach : ℕ} → length now ≡ length rs → Reaches (f lo rs) now max-reach →
         Left f a b old now max-reach (lo + 1) hi
-    left-step some {now} {max-reach} kept r =
-        progress-step (run f (lo + 1) hi) h (run-next f lo hi some rs) kept r
-
-    -- those at both ends are skipped
-    pub left-range : (r t : ℕ) → lo ≤ r → r ≤ t → t ≤ hi → Unchanged f lo r → Unchanged f t hi → Left f a b old rs highest r t
-    left-range r t p q s front back =
-        progress-pass (run f r t) h (run-skip f lo r t hi p q s front back rs)
+    left-step some kept r = record { way = progress-step (run f (lo + 1) hi) (h .way) (run-next f lo hi some rs) kept r }
 
     pub left-end : hi ≤ lo → Reaches (run f a b old) rs highest
-    left-end past = progress-end h (run-none f lo hi past rs)
-
-    -- all of them are done
-    pub left-all : {now : List ℕ} {max-reach : ℕ} → Reaches (run f lo hi rs) now max-reach → Reaches (run f a b old) now max-reach
-    left-all r = record { is = r .is ∙ h .left; bounded = r .bounded }
+    left-end past = progress-end (h .way) (run-none f lo hi past rs)
 
 -- THE LINES OF AN INDEX
 
+-- a pass that takes lines one after the other, each by its step
+record Pass (xs : List ℕ) (step : ℕ → List ℕ → List ℕ) (pass : List Line → List ℕ → List ℕ) : Type 0 where
+  none : (rs : List ℕ) → pass [] rs ≡ rs
+  next : (i : ℕ) (ls : List Line) (rs : List ℕ) → pass (line-of xs i ∷ ls) rs ≡ pass ls (step i rs)
+
+module _ (xs : List ℕ) (f : ℕ → List ℕ → List ℕ) (pass : List Line → List ℕ → List ℕ) (h : Pass xs f pass) where
+  pass-from : (n i : ℕ) → i + n ≡ keys-of xs → (rs : List ℕ) → run-from f n i rs ≡ pass (drop i (lines-in xs)) rs
+  unfolding run-from
+  pass-from zero i e rs = rw (lines-none xs i (omega arith)) (sym (h .none rs))
+  pass-from (suc n) i e rs =
+      pass-from n (suc i) (omega arith) (f i rs)
+      ∙ rw (lines-next xs i (omega arith)) (rw (add-one i) (sym (h .next i (drop (suc i) (lines-in xs)) rs)))
+
+  -- over all lines it is the walk over them
+  pass-whole : (rs : List ℕ) → run f 0 (keys-of xs) rs ≡ pass (lines-in xs) rs
+  pass-whole rs = rw (sub-zero (keys-of xs)) (pass-from (keys-of xs) 0 (omega arith) rs)
+
 module _ (lex : Lexicon) (xs s : List ℕ) (q : ℕ) where
-  offset-from :
-      (o n i : ℕ) → i + n ≡ keys-of xs → (rs : List ℕ) →
-      run-from (offset-at o lex xs s q) n i rs ≡ offset-all o lex (drop i (lines-in xs)) s q rs
-  unfolding run-from offset-at line
-  offset-from o zero i e rs = rw (lines-none xs i (omega arith)) (sym (offset-none lex s q o rs))
-  offset-from o (suc n) i e rs =
-      offset-from o n (suc i) (omega arith) (key-all 0 o s (spells lex (key-at xs i)) q (positions-at xs i) rs)
-      ∙ rw (lines-next xs i (omega arith))
-      (rw (add-one i) (sym (offset-next lex s q o (line-of xs i) (drop (suc i) (lines-in xs)) rs)))
-
-  -- the pass at one offset is the walk over all lines
   pub offset-whole : (o : ℕ) (rs : List ℕ) → run (offset-at o lex xs s q) 0 (keys-of xs) rs ≡ offset-all o lex (lines-in xs) s q rs
-  offset-whole o rs = rw (sub-zero (keys-of xs)) (offset-from o (keys-of xs) 0 (omega arith) rs)
+  unfolding offset-at line
+  offset-whole o =
+      pass-whole xs (offset-at o lex xs s q) (λ ls. offset-all o lex ls s q)
+      (record { none = offset-none lex s q o; next = λ i. offset-next lex s q o (line-of xs i) })
 
-  leading-from :
-      (n i : ℕ) → i + n ≡ keys-of xs → (rs : List ℕ) →
-      run-from (leading-at lex xs s q) n i rs ≡ leading-all lex (drop i (lines-in xs)) s q rs
-  unfolding run-from leading-at line
-  leading-from zero i e rs = rw (lines-none xs i (omega arith)) (sym (first-none lex s q rs))
-  leading-from (suc n) i e rs =
-      leading-from n (suc i) (omega arith)
-      (back-all (length (spells lex (key-at xs i))) 0 s (spells lex (key-at xs i)) q (positions-at xs i) rs)
-      ∙ rw (lines-next xs i (omega arith))
-      (rw (add-one i) (sym (leading-next lex s q (line-of xs i) (drop (suc i) (lines-in xs)) rs)))
-
-  -- and so is the pass of the leading keys
   pub leading-whole : (rs : List ℕ) → run (leading-at lex xs s q) 0 (keys-of xs) rs ≡ leading-all lex (lines-in xs) s q rs
-  leading-whole rs = rw (sub-zero (keys-of xs)) (leading-from (keys-of xs) 0 (omega arith) rs)
+  unfolding leading-at line
+  leading-whole =
+      pass-whole xs (leading-at lex xs s q) (λ ls. leading-all lex ls s q)
+      (record { none = first-none lex s q; next = λ i. leading-next lex s q (line-of xs i) })
 
   -- a key that does not agree
   pub offset-apart : (o i : ℕ) → agrees s 0 (spells lex (key-at xs i)) o ≡ false → (rs : List ℕ) → offset-at o lex xs s q i rs ≡ rs
@@ -164,45 +154,3 @@ module _ (lex : Lexicon) (xs s : List ℕ) (q : ℕ) where
           ap (λ (n : ℕ). back-all n 0 s k q (positions-at xs i) rs) (sym (sub-zero (length k)))
           ∙ back-next s k q (positions-at xs i) 0 (omega arith) rs
           ∙ back-none s k q (positions-at xs i) 1 (omega arith) (key-all 0 0 s k q (positions-at xs i) rs)
-
-  -- two walks one after the other, over the lines before w and those from it on
-  pub offset-both :
-      (o w : ℕ) → w ≤ keys-of xs → (old : List ℕ) {mid now : List ℕ} {highest max-reach : ℕ} →
-      Reaches (run (offset-at o lex xs s q) 0 w old) mid highest →
-      Reaches (run (offset-at o lex xs s q) w (keys-of xs) mid) now max-reach →
-      Reaches (offset-all o lex (lines-in xs) s q old) now max-reach
-  offset-both o w within old p r =
-      record {
-        is =
-            r .is
-            ∙ ap (run (offset-at o lex xs s q) w (keys-of xs)) (p .is)
-            ∙ run-join (offset-at o lex xs s q) 0 w (keys-of xs) (omega arith) within old
-            ∙ offset-whole o old;
-        bounded = r .bounded;
-      }
-
-  -- the leading keys, if the keys from w on have one character
-  pub leading-both :
-      (w : ℕ) → w ≤ keys-of xs → ((i : ℕ) → w ≤ i → i < keys-of xs → length (spells lex (key-at xs i)) ≡ 1) →
-      (old : List ℕ) {mid now : List ℕ} {highest max-reach : ℕ} → Reaches (run (leading-at lex xs s q) 0 w old) mid highest →
-      Reaches (run (offset-at 0 lex xs s q) w (keys-of xs) mid) now max-reach →
-      Reaches (leading-all lex (lines-in xs) s q old) now max-reach
-  leading-both w within single old {mid} p r =
-      record {
-        is =
-            r .is
-            ∙ sym
-            (run-alike (leading-at lex xs s q) (offset-at 0 lex xs s q) w (keys-of xs)
-            (λ j a b rs. leading-single j (single j a b) rs) mid)
-            ∙ ap (run (leading-at lex xs s q) w (keys-of xs)) (p .is)
-            ∙ run-join (leading-at lex xs s q) 0 w (keys-of xs) (omega arith) within old
-            ∙ leading-whole old;
-        bounded = r .bounded;
-      }
-
-  -- a step by the key and the positions of line i is the step of line i
-  module _ (i : ℕ) (k bs : List ℕ) (key : k ≡ spells lex (key-at xs i)) (positions : bs ≡ positions-at xs i) (rs now : List ℕ)
-      (max-reach : ℕ) where
-    pub offset-done : (o : ℕ) → Reaches (key-all 0 o s k q bs rs) now max-reach → Reaches (offset-at o lex xs s q i rs) now max-reach
-    unfolding offset-at
-    offset-done o r = rw (key, positions) at r

@@ -1,21 +1,25 @@
--- The search of one string in one window of starts: what holds throughout, and what it gives for a line of a word. Assumes nothing.
-use mathlib.Core.Path.{_≡_}
+-- The search of one string in one window of starts: what holds throughout, and what it gives for the lines of words and of lone
+-- characters. Assumes nothing.
+use mathlib.Core.Path.{_≡_, sym, ap, _∙_}
 use mathlib.Core.List.{List}
 use Prim.Native.Nat.{ℕ, _^_, _≤_, _<_}
 use native.Mathlib.Omega.{arith}
-use lib.ListN.{length}
+use lib.ListN.{length, getD}
 use Rattle.spec.specs.Words.{spells}
-use Rattle.spec.specs.Index.{keys-of, kind-at, key-at}
-use Rattle.models.specs.Window.{key-all, back-all, positions-at, offset-at, leading-at}
+use Rattle.spec.specs.Index.{keys-of, kind-at, key-at, lines-in}
+use Rattle.models.specs.Window.{positions-all, key-all, back-all, leading-all, offset-all, run, positions-at, offset-at, leading-at}
 use Rattle.models.specs.WordStarts.{lexicon-at}
 use Rattle.laws.specs.Numbers.Slices.{Fits}
 use Rattle.laws.specs.Directory.Tables.{Reads, List-starts, Opened, spelt-short}
 use Rattle.laws.specs.Search.Sizing.{Is-string}
-use Rattle.laws.specs.Window.Window.{Reaches}
-use Rattle.laws.specs.Window.LineSteps.{offset-done}
+use Rattle.laws.specs.Window.Window.{Within, Reaches, reaches-same, reaches-by}
+use Rattle.laws.specs.Window.WindowSearch.{key-agrees}
+use Rattle.laws.specs.Window.LineSteps.{run-one, run-join, run-unchanged, run-skip, run-alike, offset-whole, leading-whole}
+use Rattle.laws.specs.Window.LineSteps.{offset-apart}
+use Rattle.laws.specs.Window.LineSteps.{leading-single}
 use Rattle.laws.specs.Window.ListRange.{Ascending, listed-rise}
 use Rattle.laws.specs.Window.ExtendAtPositions.{Offset-fits, offset-fits}
-use Rattle.laws.specs.Window.LineRanges.{Split}
+use Rattle.laws.specs.Window.LineRanges.{Split, Lone-line, lone-single, lone-others, lone-agrees}
 
 -- the index is opened, its first w lines are those of words, the string may be searched for, and q is a start
 pub record Searches (cs ws xs ts s : List ℕ) (w q : ℕ) : Type 0 where
@@ -48,9 +52,82 @@ module _ {cs ws xs ts s : List ℕ} {w q : ℕ} (h : Searches cs ws xs ts s w q)
       module _ (rs : List ℕ) {now : List ℕ} {max-reach : ℕ} where
         pub word-offset :
             (o : ℕ) → Reaches (key-all 0 o s k q bs rs) now max-reach → Reaches (offset-at o (lexicon-at cs ws) xs s q i rs) now max-reach
-        word-offset o r = offset-done (lexicon-at cs ws) xs s q i k bs key positions rs now max-reach o r
+        unfolding offset-at
+        word-offset o r = rw (key, positions) at r
 
         pub word-leading :
             Reaches (back-all (length k) 0 s k q bs rs) now max-reach → Reaches (leading-at (lexicon-at cs ws) xs s q i rs) now max-reach
         unfolding leading-at
         word-leading r = rw (key, positions) at r
+
+module _ {cs ws xs ts s : List ℕ} {w q : ℕ} (h : Searches cs ws xs ts s w q) where
+  abbrev step : (o : ℕ) → ℕ → List ℕ → List ℕ
+  step o = offset-at o (lexicon-at cs ws) xs s q
+
+  -- the lines of lone characters: only that of the string's character can agree
+  module _ (o : ℕ) {r : ℕ} (line : Lone-line xs w (getD s o 0) r) where
+    apart : (i : ℕ) → w ≤ i → i < keys-of xs → (i ≡ r → ⊥) → (rs : List ℕ) → step o i rs ≡ rs
+    apart i a b other =
+        offset-apart (lexicon-at cs ws) xs s q o i (lone-others (h .opened .reads .can) (h .split) s o line i a b other)
+
+    module _ (old : List ℕ) where
+      -- it has a line, and extending at its positions is the step of all
+      pub lone-found :
+          r < keys-of xs → o < length s → {bs now : List ℕ} {max-reach : ℕ} → bs ≡ positions-at xs r →
+          Reaches (positions-all 0 o 1 q bs old) now max-reach → Reaches (run (step o) w (keys-of xs) old) now max-reach
+      unfolding offset-at
+      lone-found some below {bs} positions done =
+          let key = spells (lexicon-at cs ws) (key-at xs r) in
+          let can = h .opened .reads .can in
+          reaches-by
+          (run-skip (step o)
+          (record {
+            from = line .from;
+            order = omega arith;
+            to = omega arith;
+            front = λ i a b. apart i a (omega arith) (λ e. omega arith);
+            back = λ i a b. apart i (omega (arith, line .from)) b (λ e. omega arith);
+          })
+          old
+          ∙ run-one (step o) r old
+          ∙ ap (λ (ps : List ℕ). key-all 0 o s key q ps old) (sym positions)
+          ∙ key-agrees 0 o s key q bs old (lone-agrees can (h .split) s o line some below))
+          (rw (lone-single can (h .split) r (line .from) some) done)
+
+      -- or it has none
+      pub lone-none : keys-of xs ≤ r → {max-reach : ℕ} → Within max-reach old → Reaches (run (step o) w (keys-of xs) old) old max-reach
+      lone-none past = reaches-same (run-unchanged (step o) w (keys-of xs) (λ i a b. apart i a b (λ e. omega arith)) old)
+
+  -- the lines of words, then those of lone characters
+  module _ (old : List ℕ) {mid now : List ℕ} {highest max-reach : ℕ} where
+    pub offset-both :
+        (o : ℕ) → Reaches (run (step o) 0 w old) mid highest → Reaches (run (step o) w (keys-of xs) mid) now max-reach →
+        Reaches (offset-all o (lexicon-at cs ws) (lines-in xs) s q old) now max-reach
+    offset-both o p r =
+        record {
+          is =
+              r .is
+              ∙ ap (run (step o) w (keys-of xs)) (p .is)
+              ∙ run-join (step o) 0 w (keys-of xs) (omega arith) (h .split .within) old
+              ∙ offset-whole (lexicon-at cs ws) xs s q o old;
+          bounded = r .bounded;
+        }
+
+    -- a leading key of one character is at the offset 0
+    pub leading-both :
+        Reaches (run (leading-at (lexicon-at cs ws) xs s q) 0 w old) mid highest → Reaches (run (step 0) w (keys-of xs) mid) now max-reach →
+        Reaches (leading-all (lexicon-at cs ws) (lines-in xs) s q old) now max-reach
+    leading-both p r =
+        let leading = leading-at (lexicon-at cs ws) xs s q in
+        let single = lone-single (h .opened .reads .can) (h .split) in
+        record {
+          is =
+              r .is
+              ∙ sym
+              (run-alike leading (step 0) w (keys-of xs)
+              (λ j a b rs. leading-single (lexicon-at cs ws) xs s q j (single j a b) rs) mid)
+              ∙ ap (run leading w (keys-of xs)) (p .is)
+              ∙ run-join leading 0 w (keys-of xs) (omega arith) (h .split .within) old
+              ∙ leading-whole (lexicon-at cs ws) xs s q old;
+          bounded = r .bounded;
+        }

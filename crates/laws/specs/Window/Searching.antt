@@ -12,14 +12,15 @@ use Rattle.spec.specs.Search.{found-from, find}
 use Rattle.spec.specs.Cut.{cut-down}
 use Rattle.spec.specs.Calls.{string-refusal, find-refusal, in-front, Search-says, Cut-says}
 use Rattle.models.specs.Window.{found-in, leading-all, offsets-all, count-in}
-use Rattle.laws.specs.Window.Window.{Within, within-none, Reaches}
+use Rattle.laws.specs.Window.Window.{Within, within-none}
+use Rattle.laws.specs.Window.Extending.{Window-done}
 use Rattle.laws.specs.Window.WindowSearch.{window-found}
 use Rattle.laws.specs.Window.Finding.{count-found, none-found}
 use Rattle.laws.specs.Search.Sizing.{Sized, sized-short, sized-written, refused-before, sized-after}
 
 -- the n starts from q on, searched
-unfoldable pub Window-says : Lexicon → (index string : List ℕ) → (n q : ℕ) → Answer → (out out-now : List ℕ) → Type 0
-Window-says lex xs s n q r o z = Sized (found-from n q lex (lines-in xs) s) r o z
+pub record Window-says (lex : Lexicon) (xs s : List ℕ) (n q : ℕ) (r : Answer) (o z : List ℕ) : Type 0 where
+  pub sized : Sized (found-from n q lex (lines-in xs) s) r o z
 
 -- every reach is 0 in a cleared window
 pub cleared-within : (n : ℕ) (rs : List ℕ) → rs ≡ replicate n 0 → Within 0 rs
@@ -34,52 +35,49 @@ cleared-part n k rs e h =
     part zero (suc k) h = absurd (omega arith)
     part (suc n) (suc k) h = ap (λ (l : List ℕ). 0 ∷ l) (part n k (omega arith))
 
-module _ (lex : Lexicon) (xs s : List ℕ) (n q : ℕ) (o : List ℕ) where
-  found : List ℕ
-  found = found-from n q lex (lines-in xs) s
+module _ (n : ℕ) {lex : Lexicon} {xs s : List ℕ} {q : ℕ} {old rs : List ℕ} {max-reach : ℕ} (clear : old ≡ replicate n 0)
+    (done : Window-done lex xs s q old rs max-reach) where
+  -- what the window has found is what the starts find
+  pub in-window : found-in (length s) q rs ≡ found-from n q lex (lines-in xs) s
+  in-window =
+      ap (found-in (length s) q)
+      (done .reaches .is
+      ∙ ap (λ (l : List ℕ). offsets-all (length s - 1) 1 lex (lines-in xs) s q (leading-all lex (lines-in xs) s q l)) clear)
+      ∙ window-found lex (lines-in xs) s q n
 
-  module _ {rs : List ℕ} {max-reach : ℕ} (old : List ℕ) (clear : old ≡ replicate n 0)
-      (done : Reaches (offsets-all (length s - 1) 1 lex (lines-in xs) s q (leading-all lex (lines-in xs) s q old)) rs max-reach) where
-    -- what the window has found is what the starts find
-    pub in-window : found-in (length s) q rs ≡ found-from n q lex (lines-in xs) s
-    in-window =
-        ap (found-in (length s) q)
-        (done .is
-        ∙ ap (λ (l : List ℕ). offsets-all (length s - 1) 1 lex (lines-in xs) s q (leading-all lex (lines-in xs) s q l)) clear)
-        ∙ window-found lex (lines-in xs) s q n
+  -- no reach comes to the string's end
+  pub none-in-window : max-reach < length s → found-from n q lex (lines-in xs) s ≡ []
+  none-in-window early = sym in-window ∙ none-found (length s) max-reach q rs (done .reaches .bounded) early
 
-    -- no reach comes to the string's end
-    pub says-none : max-reach < length s → (r : Answer) → r .refusal ≡ 0 → r .count ≡ 0 → Window-says lex xs s n q r o o
-    unfolding Window-says found in-front
-    says-none early r a b =
-        let none : found ≡ [] = sym in-window ∙ none-found (length s) max-reach q rs (done .bounded) early in
-        rw none (sized-written [] r o o (omega arith) a b refl)
+  pub says-none : max-reach < length s → {r : Answer} {o : List ℕ} → r .refusal ≡ 0 → r .count ≡ 0 → Window-says lex xs s n q r o o
+  unfolding in-front
+  says-none early a b = record { sized = rw (none-in-window early) (sized-written (omega arith) a b refl) }
 
-    -- an answer from the window is an answer for the starts
-    pub says-answered : (r : Answer) (z : List ℕ) → Sized (found-in (length s) q rs) r o z → Window-says lex xs s n q r o z
-    unfolding Window-says found
-    says-answered r z h = subst (λ (l : List ℕ). Sized l r o z) in-window h
+  -- an answer from the window is an answer for the starts
+  pub says-answered : {r : Answer} {o z : List ℕ} → Sized (found-in (length s) q rs) r o z → Window-says lex xs s n q r o z
+  says-answered {r} {o} {z} h = record { sized = subst (λ (l : List ℕ). Sized l r o z) in-window h }
 
 -- THE STARTS OF A WINDOW, counted and written
 
-module _ (m q : ℕ) (rs o : List ℕ) (count : ℕ) (e : count ≡ count-in m rs) where
+module _ (m q : ℕ) (rs : List ℕ) {count : ℕ} (e : count ≡ count-in m rs) where
   pub count-is : count ≡ length (found-in m q rs)
   count-is = e ∙ count-found m q rs
 
-  pub answer-short : length o < count → (r : Answer) → r .refusal ≡ 8 → r .count ≡ 0 → Sized (found-in m q rs) r o o
-  answer-short few r a b = sized-short (found-in m q rs) r o (omega (arith, count-is)) a b
+  module _ {r : Answer} {o : List ℕ} where
+    pub answer-short : length o < count → r .refusal ≡ 8 → r .count ≡ 0 → Sized (found-in m q rs) r o o
+    answer-short few a b = sized-short (omega (arith, count-is)) a b
 
-  pub answer-found :
-      count ≤ length o → (z : List ℕ) → z ≡ in-front (found-in m q rs) o → (r : Answer) → r .refusal ≡ 0 → r .count ≡ count →
-      Sized (found-in m q rs) r o z
-  answer-found enough z w r a b = sized-written (found-in m q rs) r o z (omega (arith, count-is)) a (b ∙ count-is) w
+    pub answer-found :
+        {z : List ℕ} → count ≤ length o → z ≡ in-front (found-in m q rs) o → r .refusal ≡ 0 → r .count ≡ count →
+        Sized (found-in m q rs) r o z
+    answer-found enough w a b = sized-written (omega (arith, count-is)) a (b ∙ count-is) w
 
 -- all starts at which the string fits
 pub all-starts :
-    (lex : Lexicon) (xs s : List ℕ) (r : Answer) (o z : List ℕ) → (starts : ℕ) → starts ≡ suc (n-of xs) - length s →
+    {lex : Lexicon} {xs s : List ℕ} {r : Answer} {o z : List ℕ} {starts : ℕ} → starts ≡ suc (n-of xs) - length s →
     Window-says lex xs s starts 1 r o z → Sized (find lex xs s) r o z
-unfolding Window-says find
-all-starts lex xs s r o z starts e h = rw e at h
+unfolding find
+all-starts e h = rw e at (h .sized)
 
 -- A CALL: refused, or answered by what is found or by the cut-down index
 
@@ -92,7 +90,7 @@ module _ (g : ℕ) (cs ls xs s : List ℕ) (r : Answer) (o : List ℕ) where
   pub search-says :
       string-refusal g cs ls xs s ≡ 0 → (z : List ℕ) → Sized (find (lexicon cs ls) xs (replaced s)) r o z → Search-says g cs ls xs s r o z
   unfolding Search-says find-refusal
-  search-says = sized-after (find (lexicon cs ls) xs (replaced s)) r o
+  search-says none z = sized-after none
 
   pub cut-refused :
       (string-refusal g cs ls xs s ≡ 0 → ⊥) → r .refusal ≡ string-refusal g cs ls xs s → r .count ≡ 0 → Cut-says g cs ls xs s r o o
@@ -102,4 +100,4 @@ module _ (g : ℕ) (cs ls xs s : List ℕ) (r : Answer) (o : List ℕ) where
   pub cut-says :
       string-refusal g cs ls xs s ≡ 0 → (z : List ℕ) → Sized (cut-down (lexicon cs ls) xs (replaced s)) r o z → Cut-says g cs ls xs s r o z
   unfolding Cut-says find-refusal
-  cut-says = sized-after (cut-down (lexicon cs ls) xs (replaced s)) r o
+  cut-says none z = sized-after none

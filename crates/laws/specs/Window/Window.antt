@@ -92,6 +92,13 @@ pub record Reaches (goal rs : List ℕ) (max-reach : ℕ) : Type 0 where
   pub is : rs ≡ goal
   pub bounded : Within max-reach rs
 
+-- a window that is already the goal, and a goal by another name
+pub reaches-same : {goal rs : List ℕ} {max-reach : ℕ} → goal ≡ rs → Within max-reach rs → Reaches goal rs max-reach
+reaches-same e w = record { is = sym e; bounded = w }
+
+pub reaches-by : {goal other rs : List ℕ} {max-reach : ℕ} → goal ≡ other → Reaches other rs max-reach → Reaches goal rs max-reach
+reaches-by e r = record { is = r .is ∙ sym e; bounded = r .bounded }
+
 -- `rs` is the window now: what is left to do gives the goal, and no reach is above `max-reach`
 pub record Progress (rest : List ℕ → List ℕ) (goal old rs : List ℕ) (max-reach : ℕ) : Type 0 where
   pub left : rest rs ≡ goal

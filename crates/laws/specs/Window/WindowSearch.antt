@@ -20,7 +20,7 @@ use Rattle.models.specs.Reach.{extend, reach-positions, reach-key, reach-back, 
 use Rattle.models.specs.Window.{found-in, extend-all, positions-all, key-all, back-all, leading-all, offset-all, offsets-all}
 use Rattle.laws.specs.Search.Reach.{reach-key-apart, reach-offsets-stop}
 use Rattle.laws.specs.Search.ReachExact.{found-reach}
-use Rattle.laws.specs.Window.Window.{extended-then, extended-alike, extended-same, extended-one, Within, found-in-extended}
+use Rattle.laws.specs.Window.Window.{extended-then, extended-alike, extended-same, extended-one, found-in-extended}
 
 -- THE STEPS, each applied to every start of the window
 
@@ -38,25 +38,29 @@ module _ (i o l q b : ℕ) (rs : List ℕ) where
       extended-same (λ p r. extend i o l p b r) q rs
       (λ j w. elsewhere j (λ (e : b + i ≡ q + j + o). omega (arith, outside (omega arith))))
 
-  module _ (p : ℕ) (own : p + (q + o) ≡ b + i) (within : p < length rs) where
-    -- at its start
-    here :
-        (v : ℕ) → cond (leb o (getD rs p 0)) (max (getD rs p 0) ((o + l) - i)) (getD rs p 0) ≡ v → extend-all i o l q b rs ≡ set rs p v
-    unfolding extend-all extend
-    here v e =
-        extended-one (λ p r. extend i o l p b r) q rs p v within (rw (eq-eqb (b + i) (q + p + o) (omega arith)) e)
-        (λ j w other. elsewhere j (λ (z : b + i ≡ q + j + o). other (omega arith)))
+-- p is the start, in the window, that the position belongs to
+pub record Own-start (i o q b : ℕ) (rs : List ℕ) (p : ℕ) : Type 0 where
+  pub own : p + (q + o) ≡ b + i
+  pub inside : p < length rs
 
-    pub extend-passed : (o ≤ getD rs p 0 → (o + l) - i ≤ getD rs p 0) → extend-all i o l q b rs ≡ rs
-    extend-passed gained =
-        here (getD rs p 0)
-        (⊎-elim (λ (near : o ≤ getD rs p 0). rw (le-leb o (getD rs p 0) near) (omega (arith, gained near)))
-        (λ (far : getD rs p 0 < o). rw (lt-leb o (getD rs p 0) far)) (le-or-lt o (getD rs p 0)))
-        ∙ set-getD rs p 0
+module _ {i o : ℕ} (l : ℕ) {q b : ℕ} {rs : List ℕ} {p : ℕ} (h : Own-start i o q b rs p) where
+  here :
+      {v : ℕ} → cond (leb o (getD rs p 0)) (max (getD rs p 0) ((o + l) - i)) (getD rs p 0) ≡ v → extend-all i o l q b rs ≡ set rs p v
+  unfolding extend-all extend
+  here {v} e =
+      extended-one (λ p r. extend i o l p b r) q rs p v (h .inside) (rw (eq-eqb (b + i) (q + p + o) (omega arith)) e)
+      (λ j w other. elsewhere i o l q b rs j (λ (z : b + i ≡ q + j + o). other (omega arith)))
 
-    pub extend-here :
-        o ≤ getD rs p 0 → getD rs p 0 ≤ max o ((o + l) - i) → extend-all i o l q b rs ≡ set rs p (max o ((o + l) - i))
-    extend-here near gain = here (max o ((o + l) - i)) (rw (le-leb o (getD rs p 0) near) (omega arith))
+  pub extend-passed : (o ≤ getD rs p 0 → (o + l) - i ≤ getD rs p 0) → extend-all i o l q b rs ≡ rs
+  extend-passed gained =
+      here
+      (⊎-elim (λ (near : o ≤ getD rs p 0). rw (le-leb o (getD rs p 0) near) (omega (arith, gained near)))
+      (λ (far : getD rs p 0 < o). rw (lt-leb o (getD rs p 0) far)) (le-or-lt o (getD rs p 0)))
+      ∙ set-getD rs p 0
+
+  pub extend-here :
+      o ≤ getD rs p 0 → getD rs p 0 ≤ max o ((o + l) - i) → extend-all i o l q b rs ≡ set rs p (max o ((o + l) - i))
+  extend-here near gain = here (rw (le-leb o (getD rs p 0) near) (omega arith))
 
 -- THE POSITIONS OF A KEY, from index j on
 
@@ -74,26 +78,31 @@ module _ (i o l q : ℕ) (bs : List ℕ) (j : ℕ) where
       rw (add-one j, drop-cons bs j 0)
       (sym (extended-then (λ p r. extend i o l p (getD bs j 0) r) (λ p r. reach-positions i o l p (drop (suc j) bs) r) q rs))
 
--- positions that belong to no start of the window are skipped
-module _ (i o l q : ℕ) (bs rs : List ℕ) where
+-- the positions from index j to index k − 1 belong to no start of the window
+pub record Outside-window (i o q : ℕ) (bs rs : List ℕ) (j k : ℕ) : Type 0 where
+  pub order : j ≤ k
+  pub within : k ≤ length bs
+  pub none : (x : ℕ) → j ≤ x → x < k → q + o ≤ getD bs x 0 + i → length rs + (q + o) ≤ getD bs x 0 + i
+
+-- so they are skipped
+module _ {i o : ℕ} (l : ℕ) {q : ℕ} {bs rs : List ℕ} where
   skip :
-      (n j : ℕ) → j + n ≤ length bs →
-      ((x : ℕ) → j ≤ x → x < j + n → q + o ≤ getD bs x 0 + i → length rs + (q + o) ≤ getD bs x 0 + i) →
+      (n j : ℕ) → Outside-window i o q bs rs j (j + n) →
       positions-all i o l q (drop j bs) rs ≡ positions-all i o l q (drop (j + n) bs) rs
-  skip zero j within outside = rw (add-zero j)
-  skip (suc n) j within outside =
+  skip zero j h = rw (add-zero j)
+  skip (suc n) j h =
       let z : j + 1 + n ≡ j + suc n = omega arith in
       positions-next i o l q bs j (omega arith) rs
-      ∙ ap (positions-all i o l q (drop (j + 1) bs)) (extend-outside i o l q (getD bs j 0) rs (outside j (omega arith) (omega arith)))
-      ∙ rw z at (skip n (j + 1) (omega arith) (λ x a b. outside x (omega arith) (omega arith)))
+      ∙ ap (positions-all i o l q (drop (j + 1) bs)) (extend-outside i o l q (getD bs j 0) rs (h .none j (omega arith) (omega arith)))
+      ∙ rw z at
+      (skip n (j + 1)
+      (record { order = omega arith; within = omega arith; none = λ x a b. h .none x (omega arith) (omega arith) }))
 
   pub positions-skip :
-      (j k : ℕ) → j ≤ k → k ≤ length bs →
-      ((x : ℕ) → j ≤ x → x < k → q + o ≤ getD bs x 0 + i → length rs + (q + o) ≤ getD bs x 0 + i) →
-      positions-all i o l q (drop j bs) rs ≡ positions-all i o l q (drop k bs) rs
-  positions-skip j k order within outside =
+      {j k : ℕ} → Outside-window i o q bs rs j k → positions-all i o l q (drop j bs) rs ≡ positions-all i o l q (drop k bs) rs
+  positions-skip {j} {k} h =
       let z : j + (k - j) ≡ k = omega arith in
-      rw z at (skip (k - j) j (omega arith) (λ x a b. outside x a (omega arith)))
+      rw z at (skip (k - j) j (rw z h))
 
 -- ONE KEY AT ONE OFFSET
 
@@ -186,11 +195,11 @@ module _ (lex : Lexicon) (ls : List Line) (s : List ℕ) (q : ℕ) where
       (extended-then (λ p r. reach-offset o lex ls s p r) (λ p r. reach-offsets (length s - suc o) (suc o) lex ls s p r) q rs))
 
   -- if no reach comes to o, the offsets from o on change nothing
-  pub offsets-stop : (n o max-reach : ℕ) (rs : List ℕ) → Within max-reach rs → max-reach < o → offsets-all n o lex ls s q rs ≡ rs
+  pub offsets-stop : (n o : ℕ) (rs : List ℕ) → ((j : ℕ) → j < length rs → getD rs j 0 < o) → offsets-all n o lex ls s q rs ≡ rs
   unfolding offsets-all
-  offsets-stop n o max-reach rs w h =
+  offsets-stop n o rs low =
       extended-same (λ p r. reach-offsets n o lex ls s p r) q rs
-      (λ j b. reach-offsets-stop lex s (q + j) ls n o (getD rs j 0) (omega (arith, w j b)))
+      (λ j b. reach-offsets-stop lex s (q + j) ls n o (getD rs j 0) (low j b))
 
   -- WHAT IS FOUND: the starts whose reach comes to the string's end, once all offsets are done on a window that starts with every reach 0
   pub window-found :

@@ -12,7 +12,6 @@ use Rattle.spec.specs.Dictionary.{Lexicon}
 use Rattle.spec.specs.Words.{spells}
 use Rattle.spec.specs.Index.{header, keys-of, kind-at, value-at, key-at}
 use Rattle.spec.specs.Search.{agrees}
-use Rattle.models.specs.Window.{offset-at}
 use Rattle.models.specs.WordStarts.{lengths-of, lexicon-at}
 use Rattle.laws.specs.Search.Agree.{Agree, agrees-get}
 use Rattle.laws.specs.Search.AgreeWalk.{together}
@@ -20,7 +19,6 @@ use Rattle.laws.specs.Match.PrefixRanges.{prefix-not-before, next-rises}
 use Rattle.laws.specs.Dictionary.WordStarts.{starts-long}
 use Rattle.laws.specs.Directory.Tables.{Can-read, Reads, line-room, line-word, line-end, line-char, key-short, key-some}
 use Rattle.basics.specs.LowerBound.{Rising, Lower-bound, rising-part}
-use Rattle.laws.specs.Window.LineSteps.{Unchanged, offset-apart}
 use Rattle.laws.specs.Window.LineRanges.{Split, word-lines-rise}
 
 -- a key that agrees at an offset within the string has the string's characters on the overlap
@@ -207,10 +205,3 @@ module _
 
       pub apart-back : (i : ℕ) → to ≤ i → i < hi → agrees s 0 (spells (lexicon-at cs ws) (key-at xs i)) o ≡ false
       apart-back i a b = apart i (omega arith) b (λ e. omega (arith, high .above i a b))
-
-      module _ (q : ℕ) where
-        pub unchanged-front : Unchanged (offset-at o (lexicon-at cs ws) xs s q) lo from
-        unchanged-front i a b = offset-apart (lexicon-at cs ws) xs s q o i (apart-front i a b)
-
-        pub unchanged-back : Unchanged (offset-at o (lexicon-at cs ws) xs s q) to hi
-        unchanged-back i a b = offset-apart (lexicon-at cs ws) xs s q o i (apart-back i a b)

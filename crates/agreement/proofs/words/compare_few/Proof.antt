@@ -47,10 +47,8 @@ agreed c =
 
 loop-again : tie.Need-loop-again Inv-loop μ-loop
 loop-again c =
-    let s = start (c .before .before .before .before .before) in
-    let a = s .args in
     let l = c .before .before .before .before .loop in (
-      agreeing-push (a .key-start) (lexicon-at (a .chars .now) (a .word-starts .now)) (a .index .now) (a .string .now) (l .inv .0)
+      agreeing-push (l .inv .0)
           (omega arith) (omega arith) (agreed (c .before) ∙ c .if1 .taken),
       length-set (l .lines) (l .count) (l .low) ∙ l .inv .1,
       omega arith,
@@ -58,10 +56,8 @@ loop-again c =
 
 loop-again-2 : tie.Need-loop-again-2 Inv-loop μ-loop
 loop-again-2 c =
-    let s = start (c .before .before .before .before .before) in
-    let a = s .args in
     let l = c .before .before .before .before .loop in (
-      agreeing-pass (a .key-start) (lexicon-at (a .chars .now) (a .word-starts .now)) (a .index .now) (a .string .now) (l .inv .0)
+      agreeing-pass (l .inv .0)
           (omega arith) (agreed (c .before) ∙ c .if1 .left),
       l .inv .1,
       omega arith,

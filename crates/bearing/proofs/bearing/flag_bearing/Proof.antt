@@ -2,7 +2,7 @@
 use borrow.Author.Needs.{needs}
 use mathlib.Core.Path.{refl}
 use Rattle.models.specs.WordStarts.{lexicon-at}
-use Rattle.laws.specs.Window.LineRanges.{Split, kinds-rise, split-found}
+use Rattle.laws.specs.Window.LineRanges.{kinds-rise, split-found}
 use Rattle.laws.specs.Cut.Flagging.{flags-none, flagged-both}
 use Rattle.laws.specs.Cut.FlagWalks.{Bears-on, Backs, backs-leading, backs-kept, flags-exact-flags}
 use Rattle.bearing.proofs.bearing.flag_bearing.Statement.{statement}
@@ -24,11 +24,7 @@ on c =
 flag-leading-requires : tie.Need-flag-leading-requires
 flag-leading-requires c κs =
     let s = start (c .before .before) in
-    let a = s .args in (
-      on (c .before),
-      flags-none (lexicon-at (a .chars .now) (a .word-starts .now)) (a .index .now) (a .string .now) (a .flags .now)
-          (s .pre .3) (s .pre .2),
-    )
+    (on (c .before), flags-none (s .pre .3) (s .pre .2))
 
 -- after the leading lines
 backs :
@@ -37,10 +33,7 @@ backs :
     (c .flag-leading .last .1 .1 .1 .1 .1 .0) (c .before .before .count-word-lines .result)
 backs c =
     let s = start (c .before .before .before) in
-    let a = s .args in
-    backs-leading (lexicon-at (a .chars .now) (a .word-starts .now)) (a .index .now) (a .string .now) refl
-    (flags-none (lexicon-at (a .chars .now) (a .word-starts .now)) (a .index .now) (a .string .now) (a .flags .now) (s .pre .3)
-    (s .pre .2)) (c .flag-leading .ensures)
+    backs-leading refl (flags-none (s .pre .3) (s .pre .2)) (c .flag-leading .ensures)
 
 flag-lone-requires : tie.Need-flag-lone-requires
 flag-lone-requires c κs =
@@ -51,13 +44,10 @@ flag-offsets-requires : tie.Need-flag-offsets-requires
 flag-offsets-requires c κs =
     let lone = c .before .before .before in
     let leading = lone .before .before .before .before in
-    let counted = leading .before .before in
-    let a = start (counted .before) .args in
-    let both =
-    flagged-both (lexicon-at (a .chars .now) (a .word-starts .now)) (a .index .now) (a .string .now) 0 (counted .count-word-lines .result)
-    (on counted .split .within) (a .flags .now) (leading .flag-leading .last .1 .1 .1 .1 .1 .0)
-    (lone .flag-lone .last .1 .1 .1 .1 .1 .1 .0) (backs leading .way, backs leading .done 0) (lone .flag-lone .ensures) in
-    (on counted, both .0 .flags, both .1)
+    let h = on (leading .before .before) in
+    let led = backs leading in
+    let both = flagged-both (h .split .within) (record { way = led .way; done = led .done 0 }) (lone .flag-lone .ensures) in
+    (h, both .way .flags, both .done)
 
 returns : tie.Need-returns
 returns c =
@@ -66,11 +56,9 @@ returns c =
     let leading = lone .before .before .before .before in
     let counted = leading .before .before in
     let s = start (counted .before) in
-    let a = s .args in
     let split = on counted .split in
     flags-exact-flags (s .pre .0 .can) split (s .pre .1)
-    (backs-kept (lexicon-at (a .chars .now) (a .word-starts .now)) (a .index .now) (a .string .now) (backs leading)
-    (lone .flag-lone .ensures .0) (split .within)) (offsets .flag-offsets .ensures)
+    (backs-kept (backs leading) (lone .flag-lone .ensures .way) (split .within)) (offsets .flag-offsets .ensures)
 
 pub flag-bearing-spec : {M : Type 1} → statement M
 flag-bearing-spec =

@@ -1,10 +1,6 @@
 -- `flag_lone` meets its contract: the character has one line, or none. Assumes nothing.
-use mathlib.Core.Path.{refl}
 use native.Mathlib.Omega.{arith}
-use lib.ListN.{getD}
 use borrow.Author.Needs.{needs}
-use Rattle.spec.specs.Index.{keys-of}
-use Rattle.models.specs.WordStarts.{lexicon-at}
 use Rattle.laws.specs.Window.LineRanges.{lone-rise, lone-agrees, lone-others}
 use Rattle.laws.specs.Cut.Flagging.{flagged-one, flagged-none}
 use Rattle.bearing.proofs.offsets.flag_lone.Statement.{statement}
@@ -23,13 +19,9 @@ returns c =
     let a = s .args in
     let h = s .pre .0 in
     let line = c .before .before .lone-line in
-    let character = getD (a .string .now) (a .key-start) 0 in
-    flagged-one (lexicon-at (a .chars .now) (a .word-starts .now)) (a .index .now) (a .string .now) (a .key-start) (a .word-lines)
-    (keys-of (a .index .now)) (a .flags .now) (s .pre .2) (line .result) (omega arith)
-    (lone-agrees (h .reads .can) (h .split) (a .string .now) (a .key-start) character refl (line .result) (line .ensures .from)
-    (omega arith)
-    (line .ensures .is (omega arith)) (s .pre .1))
-    (lone-others (h .reads .can) (h .split) (a .string .now) (a .key-start) character refl (line .ensures))
+    flagged-one (s .pre .2) (line .result) (omega arith)
+    (lone-agrees (h .reads .can) (h .split) (a .string .now) (a .key-start) (line .ensures) (omega arith) (s .pre .1))
+    (lone-others (h .reads .can) (h .split) (a .string .now) (a .key-start) (line .ensures))
 
 returns-2 : tie.Need-returns-2
 returns-2 c =
@@ -37,11 +29,9 @@ returns-2 c =
     let a = s .args in
     let h = s .pre .0 in
     let line = c .before .before .lone-line in
-    let character = getD (a .string .now) (a .key-start) 0 in
-    flagged-none (lexicon-at (a .chars .now) (a .word-starts .now)) (a .index .now) (a .string .now) (a .key-start) (a .word-lines)
-    (keys-of (a .index .now)) (a .flags .now) (s .pre .2)
+    flagged-none (s .pre .2)
     (λ i from below.
-    lone-others (h .reads .can) (h .split) (a .string .now) (a .key-start) character refl (line .ensures) i from below (λ e. omega arith))
+    lone-others (h .reads .can) (h .split) (a .string .now) (a .key-start) (line .ensures) i from below (λ e. omega arith))
 
 pub flag-lone-spec : {M : Type 1} → statement M
 flag-lone-spec =

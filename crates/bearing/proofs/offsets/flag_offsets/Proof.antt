@@ -23,19 +23,11 @@ start c = c .before .before .before .before .before
 loop-holds : tie.Need-loop-holds Inv-loop μ-loop
 loop-holds c =
     let s = start c in
-    let a = s .args in
-    (omega arith, offsets-start (lexicon-at (a .chars .now) (a .word-starts .now)) (a .index .now) (a .string .now) (s .pre .1) (s .pre .2))
+    (omega arith, offsets-start (s .pre .1) (s .pre .2))
 
 loop-again : tie.Need-loop-again Inv-loop μ-loop
 loop-again c =
-    let at-loop = c .before .before .before .before .before in
-    let a = start (at-loop .before) .args in
-    let l = at-loop .loop in
-    let now = c .before .before .flag-offset in (
-      omega arith,
-      offsets-next (lexicon-at (a .chars .now) (a .word-starts .now)) (a .index .now) (a .string .now) (now .last .1 .1 .1 .1 .1 .1 .0)
-          (l .inv .1) (now .ensures),
-    )
+    (omega arith, offsets-next (c .before .before .before .before .before .loop .inv .1) (c .before .before .flag-offset .ensures))
 
 returns : tie.Need-returns Inv-loop μ-loop
 returns c =

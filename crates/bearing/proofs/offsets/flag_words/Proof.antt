@@ -3,7 +3,6 @@ use mathlib.Core.Path.{sym}
 use native.Mathlib.Omega.{arith}
 use lib.Seq.{length-take-le}
 use borrow.Author.Needs.{needs}
-use Rattle.models.specs.WordStarts.{lexicon-at}
 use Rattle.laws.specs.Cut.Flagging.{agreeing-below, flagged-words}
 use Rattle.bearing.proofs.offsets.flag_words.Statement.{statement}
 use Rattle.bearing.proofs.offsets.flag_words.Tie as tie
@@ -18,11 +17,7 @@ slice-aggregate-flag-list c =
 
 flag-list-requires : tie.Need-flag-list-requires
 flag-list-requires c κs =
-    let found = c .before .before .before in
-    let s = start (found .before .before) in
-    let a = s .args in
-    agreeing-below (lexicon-at (a .chars .now) (a .word-starts .now)) (a .index .now) (a .string .now)
-    (found .agreeing-words .ensures .0) (omega arith)
+    agreeing-below (c .before .before .before .agreeing-words .ensures .0) (omega arith)
 
 returns : tie.Need-returns
 returns c =
@@ -30,10 +25,8 @@ returns c =
     let list = run .before .before .before .before in
     let words = list .before .before .before .before in
     let s = start (words .before .before) in
-    let a = s .args in
     let found = words .agreeing-words .ensures in
-    flagged-words (lexicon-at (a .chars .now) (a .word-starts .now)) (a .index .now) (a .string .now) (found .0) (s .pre .0 .split .within)
-    (found .1) (s .pre .2) (list .flag-list .ensures) (run .flag-run .ensures)
+    flagged-words (found .0) (s .pre .0 .split .within) (found .1) (s .pre .2) (list .flag-list .ensures) (run .flag-run .ensures)
 
 pub flag-words-spec : {M : Type 1} → statement M
 flag-words-spec =

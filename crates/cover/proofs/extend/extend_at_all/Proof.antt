@@ -31,7 +31,7 @@ own c =
     let w = c .before .wrapping-sub-usize in
     omega (
       arith,
-      wrap-below (w .result) (c .before .before .number-at .result + a .string-start) (a .first + a .key-start)
+      wrap-below (w .result) (a .first + a .key-start)
           (length (c .before .before .before .before .loop .reach)) (w .ensures) (omega arith) (c .if1 .taken),
     )
 
@@ -40,14 +40,15 @@ loop-again c =
     let inside = c .before .before .before .before .before in
     let turn = inside .before .before .before in
     let begun = turn .before .before in
-    extending-extended (turn .before .loop .inv) (turn .loop-test .taken) (own inside) (inside .if1 .taken) (begun .before .max .ensures)
+    extending-extended (turn .before .loop .inv) (turn .loop-test .taken) (record { own = own inside; inside = inside .if1 .taken })
+    (begun .before .max .ensures)
     (c .before .before .before .extend-start .ensures) (c .if2 .taken) (begun .max2 .result) (begun .max2 .ensures)
 
 loop-again-2 : tie.Need-loop-again-2 Inv-loop μ-loop
 loop-again-2 c =
     let inside = c .before .before .before .before .before in
     let turn = inside .before .before .before in
-    extending-passed (turn .before .loop .inv) (turn .loop-test .taken) (own inside) (inside .if1 .taken)
+    extending-passed (turn .before .loop .inv) (turn .loop-test .taken) (record { own = own inside; inside = inside .if1 .taken })
     (turn .before .before .before .max .ensures) (c .before .before .before .extend-start .ensures) (c .if2 .left)
 
 loop-again-3 : tie.Need-loop-again-3 Inv-loop μ-loop
@@ -58,7 +59,7 @@ loop-again-3 c =
     extending-outside (turn .before .loop .inv) (turn .loop-test .taken)
     (λ from. omega (
       arith,
-      wrap-above (w .result) (c .before .before .number-at .result + a .string-start) (a .first + a .key-start)
+      wrap-above (w .result) (a .first + a .key-start)
           (length (turn .before .loop .reach)) (w .ensures) (w .ok) (omega arith) (omega arith) (c .if1 .left),
     ))
 

@@ -47,7 +47,8 @@ loop-again c =
     let at = c .before .before .before .before .before in
     let turn = at .before .before in (
       omega arith,
-      extending-extended (turn .loop .inv .1) (omega arith) (own at) (inside at) (turn .before .before .max .ensures)
+      extending-extended (turn .loop .inv .1) (omega arith) (record { own = own at; inside = inside at })
+          (turn .before .before .max .ensures)
           (c .before .before .before .extend-start .ensures) (c .if1 .taken) (turn .before .max2 .result) (turn .before .max2 .ensures),
     )
 
@@ -56,7 +57,7 @@ loop-again-2 c =
     let at = c .before .before .before .before .before in
     let turn = at .before .before in (
       omega arith,
-      extending-passed (turn .loop .inv .1) (omega arith) (own at) (inside at) (turn .before .before .max .ensures)
+      extending-passed (turn .loop .inv .1) (omega arith) (record { own = own at; inside = inside at }) (turn .before .before .max .ensures)
           (c .before .before .before .extend-start .ensures) (c .if1 .left),
     )
 

@@ -4,7 +4,8 @@ use native.Mathlib.Omega.{arith}
 use Rattle.spec.specs.Search.{agrees, agrees-at}
 use Rattle.laws.specs.Search.Offset.{agrees-offset}
 use Rattle.laws.specs.Search.Offset32.{offset-fits32, offset-held}
-use Rattle.laws.specs.Window.Extending.{extends-none, extends-all}
+use Rattle.laws.specs.Window.Window.{reaches-same, reaches-by}
+use Rattle.laws.specs.Window.WindowSearch.{key-apart, key-agrees}
 use borrow.Author.Needs.{needs}
 use Rattle.cover.proofs.extend.extend_key.Statement.{statement}
 use Rattle.cover.proofs.extend.extend_key.Tie as tie
@@ -28,16 +29,20 @@ returns : tie.Need-returns
 returns c =
     let known = c .before .before .before .before .before in
     let a = known .before .before .before .before .before .args in
-    extends-all (a .string-start) (a .key-start) (a .string .now) (a .key .now) (a .first) (a .positions .now) (a .reach .now)
-    (agreed known ∙ c .before .before .before .before .if1 .taken) (c .before .before .extend-at-positions .ensures)
+    reaches-by
+    (key-agrees (a .string-start) (a .key-start) (a .string .now) (a .key .now) (a .first) (a .positions .now) (a .reach .now)
+    (agreed known ∙ c .before .before .before .before .if1 .taken))
+    (c .before .before .extend-at-positions .ensures)
 
 returns-2 : tie.Need-returns-2
 returns-2 c =
     let tested = c .before in
     let s = tested .before .before .before .before .before in
     let a = s .args in
-    extends-none (a .string-start) (a .key-start) (a .string .now) (a .key .now) (a .first) (a .positions .now) (a .reach .now)
-    (agreed tested ∙ c .if1 .left) (a .max-reach) (s .pre .1)
+    reaches-same
+    (key-apart (a .string-start) (a .key-start) (a .string .now) (a .key .now) (a .first) (a .positions .now) (a .reach .now)
+    (agreed tested ∙ c .if1 .left))
+    (s .pre .1)
 
 pub extend-key-spec : {M : Type 1} → statement M
 extend-key-spec =

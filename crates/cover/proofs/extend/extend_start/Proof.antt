@@ -11,19 +11,17 @@ returns : tie.Need-returns
 returns c =
     let a = c .before .before .before .before .before .args in
     let w = c .before .wrapping-sub-usize in
-    let reached = c .before .before .number-at .result in
-    let above = wrap-below (w .result) reached (a .key-start) (a .end - a .key-start) (w .ensures) (omega arith) (omega arith) in
+    let above = wrap-below (w .result) (a .key-start) (a .end - a .key-start) (w .ensures) (omega arith) (omega arith) in
     extends-here (omega (arith, above)) (omega (arith, above))
 
 returns-2 : tie.Need-returns-2
 returns-2 c =
     let a = c .before .before .before .before .before .args in
     let w = c .before .wrapping-sub-usize in
-    let reached = c .before .before .number-at .result in
     extends-none
     (λ near. omega (
       arith,
-      wrap-above (w .result) reached (a .key-start) (a .end - a .key-start) (w .ensures) (w .ok) (omega arith) (omega arith) (omega arith),
+      wrap-above (w .result) (a .key-start) (a .end - a .key-start) (w .ensures) (w .ok) (omega arith) (omega arith) (omega arith),
     ))
 
 pub extend-start-spec : {M : Type 1} → statement M

@@ -7,10 +7,8 @@ use borrow.Author.Needs.{needs}
 use lib.ListN.{length, getD}
 use Rattle.models.specs.Window.{leading-at}
 use Rattle.models.specs.WordStarts.{lexicon-at}
-use Rattle.laws.specs.Window.LineSteps.{leading-both}
-use Rattle.laws.specs.Window.LineRanges.{lone-single}
 use Rattle.laws.specs.Window.LeadingLines.{Listed, listed-start, listed-step, listed-end, leading-below, leading-reaches}
-use Rattle.laws.specs.Window.Searches.{word-line, word-list, word-short, word-list-rises, word-leading}
+use Rattle.laws.specs.Window.Searches.{word-line, word-list, word-short, word-list-rises, word-leading, leading-both}
 use Rattle.cover.proofs.leading.extend_leading.Statement.{statement}
 use Rattle.cover.proofs.leading.extend_leading.Tie as tie
 
@@ -73,10 +71,8 @@ returns c =
     let s = start (ended .before .before .before .before) in
     let a = s .args in
     let lexicon = lexicon-at (a .chars .now) (a .word-starts .now) in
-    let h = s .pre .0 in
-    leading-both lexicon (a .index .now) (a .string .now) (a .first) (a .word-lines) (h .split .within)
-    (lone-single (h .opened .reads .can) (h .split)) (a .reach .now)
-    (leading-reaches lexicon (a .index .now) (a .string .now) (a .first) (a .word-lines) (a .lines .now) (a .reach .now) (s .pre .1)
+    leading-both (s .pre .0) (a .reach .now)
+    (leading-reaches lexicon (a .index .now) (a .string .now) (a .first) (a .word-lines) (a .reach .now) (s .pre .1)
     (listed-end (ended .before .loop .inv) (ended .loop-test .left)))
     (c .before .before .extend-lone .ensures)
 

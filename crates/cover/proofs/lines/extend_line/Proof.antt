@@ -4,7 +4,8 @@ use mathlib.Core.List.{List}
 use Prim.Native.Nat.{ℕ}
 use borrow.Author.Needs.{needs}
 use Rattle.spec.specs.Search.{agrees}
-use Rattle.laws.specs.Window.Extending.{extends-all}
+use Rattle.laws.specs.Window.Window.{reaches-by}
+use Rattle.laws.specs.Window.WindowSearch.{key-agrees}
 use Rattle.laws.specs.Window.Searches.{word-line, word-fits, word-list-rises, word-offset}
 use Rattle.cover.proofs.lines.extend_line.Statement.{statement}
 use Rattle.cover.proofs.lines.extend_line.Tie as tie
@@ -31,8 +32,9 @@ returns c =
     let a = s .args in
     let key = listed .before .word-at .ensures in
     word-offset (s .pre .0) (s .pre .2) key (listed .positions-of .ensures) (a .reach .now) (a .key-start)
-    (extends-all 0 (a .key-start) (a .string .now) (listed .before .word-at .result .now) (a .first) (listed .positions-of .result .now)
-    (a .reach .now) (ap (λ (k : List ℕ). agrees (a .string .now) 0 k (a .key-start)) key ∙ s .pre .3)
+    (reaches-by
+    (key-agrees 0 (a .key-start) (a .string .now) (listed .before .word-at .result .now) (a .first) (listed .positions-of .result .now)
+    (a .reach .now) (ap (λ (k : List ℕ). agrees (a .string .now) 0 k (a .key-start)) key ∙ s .pre .3))
     (c .before .before .extend-at-positions .ensures))
 
 pub extend-line-spec : {M : Type 1} → statement M

@@ -1,11 +1,10 @@
 -- `extend_lone` meets its contract: the character has one line, or none. Assumes nothing.
-use mathlib.Core.Path.{refl}
 use Prim.Native.Nat.{_<_}
 use native.Mathlib.Omega.{arith}
-use lib.ListN.{getD}
 use Rattle.spec.specs.Index.{keys-of}
 use borrow.Author.Needs.{needs}
-use Rattle.laws.specs.Window.LineRanges.{lone-rise, lone-done, lone-found, lone-none}
+use Rattle.laws.specs.Window.LineRanges.{lone-rise}
+use Rattle.laws.specs.Window.Searches.{lone-found, lone-none}
 use Rattle.laws.specs.Window.ListRange.{listed-rise}
 use Rattle.laws.specs.Window.ExtendAtPositions.{offset-fits}
 use Rattle.cover.proofs.lines.extend_lone.Statement.{statement}
@@ -23,10 +22,7 @@ returns : tie.Need-returns
 returns c =
     let line = c .before .before in
     let s = start (line .before .before .before) in
-    let a = s .args in
-    let h = s .pre .0 in
-    lone-none (h .opened .reads .can) (h .split) (a .string .now) (a .key-start) (getD (a .string .now) (a .key-start) 0) refl
-    (line .lone-line .ensures) (a .first) (omega arith) (a .reach .now) (a .max-reach) (s .pre .2)
+    lone-none (s .pre .0) (s .args .key-start) (line .lone-line .ensures) (s .args .reach .now) (omega arith) (s .pre .2)
 
 extend-at-positions-requires : tie.Need-extend-at-positions-requires
 extend-at-positions-requires c κs =
@@ -46,16 +42,11 @@ returns-2 c =
     let found = told .before .before in
     let s = start (found .before .before .before) in
     let a = s .args in
-    let can = s .pre .0 .opened .reads .can in
-    let split = s .pre .0 .split in
     let line = found .lone-line in
     let positions = c .before .before .before .before .positions-of in
     let below : line .result < keys-of (a .index .now) = omega (arith, told .if1 .left, told .before .key-count .ensures .0) in
-    let character = getD (a .string .now) (a .key-start) 0 in
-    lone-found can split (a .string .now) (a .key-start) character refl (line .ensures) (a .first) below (a .reach .now)
-    (lone-done can split (a .string .now) (a .key-start) character refl (line .result) (line .ensures .from) below
-    (line .ensures .is below) (s .pre .1) (a .first) (positions .result .now) (positions .ensures) (a .reach .now)
-    (c .before .before .extend-at-positions .ensures))
+    lone-found (s .pre .0) (a .key-start) (line .ensures) (a .reach .now) below (s .pre .1) (positions .ensures)
+    (c .before .before .extend-at-positions .ensures)
 
 pub extend-lone-spec : {M : Type 1} → statement M
 extend-lone-spec =

@@ -21,41 +21,28 @@ start c = c .before .before .before .before .before
 
 loop-holds : tie.Need-loop-holds Inv-loop μ-loop
 loop-holds c =
-    let s = start (c .before) in
-    let a = s .args in (
-      left-start (offset-at (a .key-start) (lexicon-at (a .chars .now) (a .word-starts .now)) (a .index .now) (a .string .now) (a .first))
-          (a .from) (a .to) (a .reach .now) (a .max-reach) (s .pre .4),
-      omega arith,
-    )
+    (left-start (start (c .before) .pre .4), omega arith)
 
 extend-line-requires : tie.Need-extend-line-requires Inv-loop μ-loop
 extend-line-requires c κs =
     let s = start (c .before .before .before .before) in
     let l = c .before .before .loop in
-    (s .pre .0, s .pre .1, omega arith, s .pre .3 (l .line) (l .inv .1) (omega arith), l .inv .0 .bounded)
+    (s .pre .0, s .pre .1, omega arith, s .pre .3 (l .line) (l .inv .1) (omega arith), l .inv .0 .way .bounded)
 
 loop-again : tie.Need-loop-again Inv-loop μ-loop
 loop-again c =
     let turn = c .before .before .before .before in
-    let a = start (turn .before .before .before) .args in
-    let l = turn .before .loop in
     let done = c .before .before .extend-line in (
-      left-step (offset-at (a .key-start) (lexicon-at (a .chars .now) (a .word-starts .now)) (a .index .now) (a .string .now) (a .first))
-          (a .from) (a .to) (a .reach .now) (l .reach) (l .highest) (l .line) (a .to) (l .inv .0) (turn .loop-test .taken)
-          (done .kept .1 .1 .1 .1 .1 .1 .1 .1 .1 .0) (done .ensures),
+      left-step (turn .before .loop .inv .0) (turn .loop-test .taken) (done .kept .1 .1 .1 .1 .1 .1 .1 .1 .1 .0) (done .ensures),
       omega arith,
     )
 
 returns : tie.Need-returns Inv-loop μ-loop
-returns c =
-    let a = start (c .before .before .before) .args in
-    let l = c .before .loop in
-    left-end (offset-at (a .key-start) (lexicon-at (a .chars .now) (a .word-starts .now)) (a .index .now) (a .string .now) (a .first))
-    (a .from) (a .to) (a .reach .now) (l .reach) (l .highest) (l .line) (a .to) (l .inv .0) (c .loop-test .left)
+returns c = left-end (c .before .loop .inv .0) (c .loop-test .left)
 
 pub extend-range-spec : {M : Type 1} → statement M
 extend-range-spec =
     tie.close
     (tie.spec
-    Inv-loop μ-loop loop-holds extend-line-requires (λ c. omega arith) (λ c. omega arith) loop-again (λ c. c .before .loop .inv .0 .len)
-    returns)
+    Inv-loop μ-loop loop-holds extend-line-requires (λ c. omega arith) (λ c. omega arith) loop-again
+    (λ c. c .before .loop .inv .0 .way .len) returns)

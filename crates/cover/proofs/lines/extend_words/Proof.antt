@@ -2,7 +2,6 @@
 use mathlib.Core.Path.{sym}
 use lib.Seq.{length-take-le}
 use borrow.Author.Needs.{needs}
-use Rattle.models.specs.WordStarts.{lexicon-at}
 use Rattle.laws.specs.Window.AgreeingLines.{listed-agrees}
 use Rattle.laws.specs.Window.AgreeingRun.{agreeing-reaches}
 use Rattle.cover.proofs.lines.extend_words.Statement.{statement}
@@ -23,7 +22,7 @@ extend-listed-requires c κs =
     let a = s .args in (
       s .pre .0,
       s .pre .1,
-      listed-agrees (a .key-start) (lexicon-at (a .chars .now) (a .word-starts .now)) (a .index .now) (a .string .now)
+      listed-agrees
           (found .agreeing-words .ensures .0),
       s .pre .2,
     )
@@ -34,8 +33,8 @@ returns c =
     let listed = run .before .before .before .before in
     let found = listed .before .before .before .before in
     let a = start (found .before .before .before) .args in
-    agreeing-reaches (a .key-start) (lexicon-at (a .chars .now) (a .word-starts .now)) (a .index .now) (a .string .now) (a .first)
-    (found .agreeing-words .ensures .0) (a .reach .now) (listed .extend-listed .ensures) (run .extend-range .ensures)
+    agreeing-reaches (found .agreeing-words .ensures .0) (a .first) (a .reach .now) (listed .extend-listed .ensures)
+    (run .extend-range .ensures)
 
 pub extend-words-spec : {M : Type 1} → statement M
 extend-words-spec =

@@ -1,6 +1,4 @@
 -- `extend_window` meets its contract: the leading keys, then the offsets above 0. Assumes nothing.
-use Rattle.spec.specs.Index.{lines-in}
-use Rattle.models.specs.WordStarts.{lexicon-at}
 use Rattle.laws.specs.Window.Extending.{offsets-after}
 use borrow.Author.Needs.{needs}
 use Rattle.cover.proofs.window.extend_window.Statement.{statement}
@@ -10,10 +8,7 @@ returns : tie.Need-returns
 returns c =
     let ended = c .before .before in
     let begun = ended .before .before .before .before in
-    let known = begun .before .before .before .before in
-    let a = known .before .before .before .before .before .args in
-    offsets-after (lexicon-at (a .chars .now) (a .word-starts .now)) (lines-in (a .index .now)) (a .string .now) (a .first) (a .reach .now)
-    (begun .extend-leading .ensures) (ended .extend-offsets .ensures)
+    offsets-after (begun .extend-leading .ensures) (ended .extend-offsets .ensures)
 
 pub extend-window-spec : {M : Type 1} → statement M
 extend-window-spec = tie.close (tie.spec (λ c κs. search needs) (λ c κs. search needs) (λ c. search needs) returns)

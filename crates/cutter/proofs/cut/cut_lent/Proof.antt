@@ -8,7 +8,7 @@ use Rattle.cutter.proofs.cut.cut_lent.Statement.{statement}
 use Rattle.cutter.proofs.cut.cut_lent.Tie as tie
 
 returns : tie.Need-returns
-returns c = sized-short _ _ _ (omega (arith, cut-long (c .before .before .before .size-flagged .ensures))) refl refl
+returns c = sized-short (omega (arith, cut-long (c .before .before .before .size-flagged .ensures))) refl refl
 
 write-cut-requires : tie.Need-write-cut-requires
 write-cut-requires c κs =
@@ -20,7 +20,7 @@ returns-2 c =
     let written = c .before .before in
     let fits = written .before .before .before in
     let long = cut-long (fits .before .before .before .size-flagged .ensures) in
-    sized-written _ _ _ _ (omega arith) refl (omega arith) (written .write-cut .ensures)
+    sized-written (omega arith) refl (omega arith) (written .write-cut .ensures)
 
 pub cut-lent-spec : {M : Type 1} → statement M
 cut-lent-spec =

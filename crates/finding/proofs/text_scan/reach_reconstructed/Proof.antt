@@ -1,14 +1,10 @@
 -- `reach_reconstructed` meets its contract: it answers whether every entry stands in the reconstructed text, and fills the
 -- window if so. Assumes nothing.
 use mathlib.Core.Path.{refl}
-use mathlib.Core.Bool.{true, false}
 use native.Mathlib.Omega.{arith}
 use borrow.Author.Needs.{needs}
 use borrow.Author.Tests.{not-true, not-false}
 use Rattle.basics.specs.Bools.{clash}
-use Rattle.basics.specs.Absent.{absent-at}
-use Rattle.models.specs.WordStarts.{lexicon-at}
-use Rattle.spec.specs.Index.{n-of, lines-in}
 use Rattle.laws.specs.TextScan.ReconstructedSearch.{reconstructed-finds, reconstructed-once}
 use Rattle.finding.proofs.text_scan.reach_reconstructed.Statement.{statement}
 use Rattle.finding.proofs.text_scan.reach_reconstructed.Tie as tie
@@ -26,10 +22,7 @@ returns c =
       (
         λ f. refl,
         (
-          reconstructed-once (lexicon-at (a .chars .now) (a .word-starts .now)) (lines-in (a .index .now)) (n-of (a .index .now))
-              (a .string .now)
-              (shown .last .1 .1 .1 .1 .0) (sentinel .result) (shown .result) false (sentinel .ensures .0) (shown .ensures .0)
-              (shown .ensures .1) (not-true (shown .result) (c .if1 .taken)),
+          reconstructed-once (sentinel .ensures .0) (shown .ensures) (not-true (shown .result) (c .if1 .taken)),
           λ t. clash t refl,
         ),
       ),
@@ -47,17 +40,12 @@ returns-2 c =
     let yes-all = not-false (shown .result) (on .if1 .left) in
     let told = c .before .before .reach-prefixes in (
       λ t.
-          reconstructed-finds (lexicon-at (a .chars .now) (a .word-starts .now)) (a .index .now) (n-of (a .index .now)) (sentinel .result)
-          (shown .last .1 .1 .1 .1 .0) (a .string .now) (told .last .1 .1 .0)
-          (record { is = shown .ensures .0; all = shown .ensures .1 .holds yes-all })
-          (absent-at (a .string .now) (sentinel .result) (sentinel .ensures .0 .absent)) (omega arith) (told .ensures),
+          reconstructed-finds (shown .ensures) yes-all (a .string .now) (sentinel .ensures .0 .absent) (told .last .1 .1 .0) (omega arith)
+          (told .ensures),
       (
         λ f. clash refl f,
         (
-          reconstructed-once (lexicon-at (a .chars .now) (a .word-starts .now)) (lines-in (a .index .now)) (n-of (a .index .now))
-              (a .string .now)
-              (shown .last .1 .1 .1 .1 .0) (sentinel .result) (shown .result) true (sentinel .ensures .0) (shown .ensures .0)
-              (shown .ensures .1) yes-all,
+          reconstructed-once (sentinel .ensures .0) (shown .ensures) yes-all,
           λ t. told .ensures,
         ),
       ),

@@ -8,15 +8,13 @@ use Rattle.finding.proofs.window.answer_window.Tie as tie
 returns : tie.Need-returns
 returns c =
     let a = c .before .before .before .before .args in
-    answer-short (a .len) (a .first) (a .reach .now) (a .output .now) (c .before .count-found .result) (c .before .count-found .ensures)
-    (c .if1 .taken) (record { refusal = 8; count = 0 }) refl refl
+    answer-short (a .len) (a .first) (a .reach .now) (c .before .count-found .ensures) (c .if1 .taken) refl refl
 
 write-found-requires : tie.Need-write-found-requires
 write-found-requires c κs =
     let s = c .before .before .before .before .before in
     let a = s .args in (
-      count-is (a .len) (a .first) (a .reach .now) (a .output .now) (c .before .before .count-found .result)
-          (c .before .before .count-found .ensures),
+      count-is (a .len) (a .first) (a .reach .now) (c .before .before .count-found .ensures),
       c .before .if1 .left,
       s .pre,
     )
@@ -25,10 +23,8 @@ returns-2 : tie.Need-returns-2
 returns-2 c =
     let fits = c .before .before .before .before in
     let a = fits .before .before .before .before .args in
-    let counted = fits .before .count-found in
-    let written = c .before .before .write-found in
-    answer-found (a .len) (a .first) (a .reach .now) (a .output .now) (counted .result) (counted .ensures)
-    (fits .if1 .left) (written .last .1 .1 .1 .1 .0) (written .ensures) (record { refusal = 0; count = counted .result }) refl refl
+    answer-found (a .len) (a .first) (a .reach .now) (fits .before .count-found .ensures) (fits .if1 .left)
+    (c .before .before .write-found .ensures) refl refl
 
 pub answer-window-spec : {M : Type 1} → statement M
 answer-window-spec =

@@ -1,8 +1,6 @@
 -- `first_in_window` meets its contract: none is found where no start reaches the string's end, else the first
 -- that does is. Assumes nothing.
-use native.Mathlib.Omega.{arith}
 use lib.ListN.{length}
-use Rattle.models.specs.WordStarts.{lexicon-at}
 use Rattle.laws.specs.Window.Searching.{cleared-within}
 use Rattle.laws.specs.First.Found as laws
 use borrow.Author.Needs.{needs}
@@ -21,17 +19,13 @@ returns : tie.Need-returns
 returns c =
     let window = c .before .before .before in
     let s = start (window .before .before .before .before) in
-    let a = s .args in
-    laws.first-in-none (lexicon-at (a .chars .now) (a .word-starts .now)) (a .index .now) (a .string .now) (length (a .reach .now))
-    (a .first) (a .reach .now) (s .pre .3) (window .extend-window .ensures) (c .if1 .taken)
+    laws.first-in-none (length (s .args .reach .now)) (s .pre .3) (window .extend-window .ensures) (c .if1 .taken)
 
 returns-2 : tie.Need-returns-2
 returns-2 c =
     let window = c .before .before .before .before .before in
     let s = start (window .before .before .before .before) in
-    let a = s .args in
-    laws.first-in-window (lexicon-at (a .chars .now) (a .word-starts .now)) (a .index .now) (a .string .now) (length (a .reach .now))
-    (a .first) (a .reach .now) (s .pre .3) (window .extend-window .ensures) (c .first-found .result) (c .first-found .ensures)
+    laws.first-in-window (length (s .args .reach .now)) (s .pre .3) (window .extend-window .ensures) (c .first-found .ensures)
 
 pub first-in-window-spec : {M : Type 1} → statement M
 first-in-window-spec =

@@ -3,7 +3,6 @@
 use mathlib.Core.Path.{refl}
 use native.Mathlib.Omega.{arith}
 use lib.ListN.{length}
-use Rattle.models.specs.WordStarts.{lexicon-at}
 use Rattle.laws.specs.Window.Searching.{cleared-within, says-none, says-answered}
 use borrow.Author.Needs.{needs}
 use Rattle.finding.proofs.window.search_window.Statement.{statement}
@@ -21,10 +20,7 @@ returns : tie.Need-returns
 returns c =
     let window = c .before .before .before .before in
     let s = start (window .before .before .before .before .before) in
-    let a = s .args in
-    says-none (lexicon-at (a .chars .now) (a .word-starts .now)) (a .index .now) (a .string .now) (length (a .reach .now)) (a .first)
-    (a .output .now) (a .reach .now) (s .pre .3) (window .extend-listing .ensures)
-    (c .if1 .taken) (record { refusal = 0; count = 0 }) refl refl
+    says-none (length (s .args .reach .now)) (s .pre .3) (window .extend-listing .ensures) (c .if1 .taken) refl refl
 
 returns-2 : tie.Need-returns-2
 returns-2 c =
@@ -32,10 +28,7 @@ returns-2 c =
     let some = answered .before .before .before in
     let window = some .before .before .before .before in
     let s = start (window .before .before .before .before .before) in
-    let a = s .args in
-    says-answered (lexicon-at (a .chars .now) (a .word-starts .now)) (a .index .now) (a .string .now) (length (a .reach .now)) (a .first)
-    (a .output .now) (a .reach .now) (s .pre .3) (window .extend-listing .ensures) (answered .answer-window .result)
-    (answered .answer-window .last .1 .1 .1 .0) (answered .answer-window .ensures)
+    says-answered (length (s .args .reach .now)) (s .pre .3) (window .extend-listing .ensures) (answered .answer-window .ensures)
 
 pub search-window-spec : {M : Type 1} → statement M
 search-window-spec =

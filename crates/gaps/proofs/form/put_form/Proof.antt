@@ -40,8 +40,7 @@ returns-2 c =
     let o = s .args .output .now in
     let none = sym (c .before .before .refusal-as .ensures) ∙ c .before .if1 .left in
     let short : length o < length (form s) = omega (arith, form-length (s .args .restore) (s .args .index .now)) in
-    sized-after (form s) _ o none _
-    (sized-short (form s) _ o short refl refl)
+    sized-after none (sized-short {ys = form s} {o = o} short refl refl)
 
 slice-aggregate-write-form : tie.Need-slice-aggregate-write-form
 slice-aggregate-write-form c =
@@ -65,8 +64,8 @@ returns-3 c =
     let o = s .args .output .now in
     let none = sym (room .before .before .refusal-as .ensures) ∙ room .before .if1 .left in
     let len = form-length (s .args .restore) (s .args .index .now) in
-    sized-after (form s) _ o none _
-    (sized-written (form s) _ o _ (omega (arith, len)) refl (sym len)
+    sized-after none
+    (sized-written (omega (arith, len)) refl (sym len)
     (form-front (s .args .restore) (s .args .index .now) o _ (c .before .before .write-form .ensures)))
 
 pub put-form-spec : {M : Type 1} → statement M

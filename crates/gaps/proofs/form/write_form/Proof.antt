@@ -19,7 +19,7 @@ first-is c = omega arith
 front :
     (c : tie.After-line-start) →
     c .line-start .result ≡ length (take (c .line-start .result) (c .before .before .before .before .args .index .now))
-front c = front-long gaps (length-gaps 0) (c .before .before .before .before .pre .0 .fits) (c .line-start .result) (first-is c)
+front c = front-long (c .before .before .before .before .pre .0 .fits) (first-is c)
 
 write-positions-requires : tie.Need-write-positions-requires
 write-positions-requires c κs =
@@ -29,8 +29,8 @@ write-positions-requires c κs =
     let can = subst (λ (b : Bool). Writable b (s .args .index .now)) (c .before .if1 .taken) (s .pre .0) in (
       can,
       first-is l,
-      part-long prefix-sums (length-sums 0) (can .fits) _ (first-is l) (s .args .form .now) _ (s .pre .1)
-          (copy .write-list .ensures),
+      part-long {old = s .args .form .now}
+          (record { fits = can .fits; is = first-is l; even = s .pre .1; copied = copy .write-list .ensures }),
     )
 
 write-gaps-requires : tie.Need-write-gaps-requires
@@ -41,8 +41,8 @@ write-gaps-requires c κs =
     let can = subst (λ (b : Bool). Writable b (s .args .index .now)) (c .before .if1 .left) (s .pre .0) in (
       can,
       first-is l,
-      part-long gaps (length-gaps 0) (can .fits) _ (first-is l) (s .args .form .now) _ (s .pre .1)
-          (copy .write-list .ensures),
+      part-long {old = s .args .form .now}
+          (record { fits = can .fits; is = first-is l; even = s .pre .1; copied = copy .write-list .ensures }),
     )
 
 returns : tie.Need-returns
@@ -51,8 +51,9 @@ returns c =
     let copy = form .before .before .before in
     let l = copy .before .before .before in
     let s = l .before .before .before .before in
-    form-written prefix-sums (length-sums 0) (s .pre .0 .fits) _ (first-is l) (s .args .form .now) _ (s .pre .1)
-    (copy .write-list .ensures) _ (c .before .before .write-positions .ensures)
+    form-written {old = s .args .form .now}
+    (record { fits = s .pre .0 .fits; is = first-is l; even = s .pre .1; copied = copy .write-list .ensures }) prefix-sums
+    (length-sums 0) (c .before .before .write-positions .ensures)
     ∙ ap (λ (b : Bool). with-lists (write-as b) (s .args .index .now)) (sym (form .if1 .taken))
 
 returns-2 : tie.Need-returns-2
@@ -61,8 +62,9 @@ returns-2 c =
     let copy = form .before .before .before in
     let l = copy .before .before .before in
     let s = l .before .before .before .before in
-    form-written gaps (length-gaps 0) (s .pre .0 .fits) _ (first-is l) (s .args .form .now) _ (s .pre .1)
-    (copy .write-list .ensures) _ (c .before .before .write-gaps .ensures)
+    form-written {old = s .args .form .now}
+    (record { fits = s .pre .0 .fits; is = first-is l; even = s .pre .1; copied = copy .write-list .ensures }) gaps
+    (length-gaps 0) (c .before .before .write-gaps .ensures)
     ∙ ap (λ (b : Bool). with-lists (write-as b) (s .args .index .now)) (sym (form .if1 .left))
 
 pub write-form-spec : {M : Type 1} → statement M

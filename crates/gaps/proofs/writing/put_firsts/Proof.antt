@@ -32,9 +32,7 @@ there c = line-there (c .before .before .before .before .before .pre .0) (c .bef
 loop-holds : tie.Need-loop-holds Inv-loop μ-loop
 loop-holds c =
     let s = c .before .before .before in
-    let xs = s .args .index .now in
-    firsts-start (first-as (s .args .restore)) (pair-as (s .args .restore)) xs (drop (header + 3 * keys-of xs) xs)
-    (s .pre .2 .0) (s .args .part .now) (s .pre .2 .1) (counts-all xs (s .pre .0 .fits))
+    firsts-start (s .pre .2 .0) (s .pre .2 .1) (counts-all (s .args .index .now) (s .pre .0 .fits))
 
 loop-again : tie.Need-loop-again Inv-loop μ-loop
 loop-again c =
@@ -48,18 +46,13 @@ loop-again c =
     let first : c .before .first-number .result ≡ f (getD (drop start xs) (walk .at) 0) =
     c .before .first-number .ensures ∙ ap f (rw (s .pre .1) (sym (getD-drop start xs (walk .at) 0))) in
     rw (first, c .count-at .ensures .0)
-    (firsts-step f (pair-as (s .args .restore)) xs (drop start xs) (walk .part) (walk .i) (walk .at) (walk .inv) line
-    (s .pre .0 .some (walk .i) line))
+    (firsts-step (walk .inv) line (s .pre .0 .some (walk .i) line))
 
 same-length : tie.Need-same-length Inv-loop μ-loop
 same-length c = c .before .loop .inv .len ∙ sym (loop-holds (c .before .before) .len)
 
 returns : tie.Need-returns Inv-loop μ-loop
-returns c =
-    let a = c .before .before .before .before .before .args in
-    let walk = c .before .loop in
-    firsts-end (first-as (a .restore)) (pair-as (a .restore)) (a .index .now) (drop (header + 3 * keys-of (a .index .now)) (a .index .now))
-    (walk .part) (walk .i) (walk .at) (walk .inv) (omega arith)
+returns c = firsts-end (c .before .loop .inv) (omega arith)
 
 pub put-firsts-spec : {M : Type 1} → statement M
 put-firsts-spec =

@@ -9,7 +9,7 @@ use Rattle.jobsheet.proofs.answer.hand_over.Tie as tie
 
 returns : tie.Need-returns
 returns c =
-    let a = c .before .before .before .args in sized-short (a .bytes .now) (record { refusal = 8; count = 0 }) (a .output .now)
+    let a = c .before .before .before .args in sized-short
     (c .if1 .taken) refl refl
 
 returns-2 : tie.Need-returns-2

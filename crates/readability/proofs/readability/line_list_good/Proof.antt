@@ -12,19 +12,19 @@ use Rattle.readability.proofs.readability.line_list_good.Tie as tie
 returns : tie.Need-returns
 returns c =
     let a = c .before .before .args in
-    positions-missing (read-as (a .as-gaps)) (a .index .now) (a .at) (a .n) (a .len) (a .count) (c .if1 .taken)
+    positions-missing (read-as (a .as-gaps)) (a .index .now) (a .at) (a .n) (a .len) (c .if1 .taken)
 
 returns-2 : tie.Need-returns-2
 returns-2 c =
     let a = c .before .before .before .args in
-    positions-none (read-as (a .as-gaps)) (a .index .now) (a .at) (a .n) (a .len) (a .count) (c .if2 .taken)
+    positions-none (read-as (a .as-gaps)) (a .index .now) (a .at) (a .n) (a .len) (c .if2 .taken)
 
 returns-3 : tie.Need-returns-3
 returns-3 c =
     let start = c .before .before .before .before .before in
     let a = start .args in
     rw (c .number-at .ensures .0)
-    (positions-only (a .as-gaps) (a .index .now) (a .at) (a .n) (a .len) (a .count) (start .pre .0) (c .before .before .before .if1 .left)
+    (positions-only (a .as-gaps) (a .index .now) (a .at) (a .n) (a .len) (start .pre .0) (c .before .before .before .if1 .left)
     (c .before .if3 .taken))
 
 returns-4 : tie.Need-returns-4
@@ -35,7 +35,7 @@ returns-4 c =
     c .gaps-good .ensures
     ∙ good-gaps (a .as-gaps) (a .n) (a .len) (take (a .at + a .count - a .at) (drop (a .at) (a .index .now)))
     (c .before .before .if4 .taken)
-    ∙ positions-there (read-as (a .as-gaps)) (a .index .now) (a .at) (a .n) (a .len) (a .count) (start .pre .0)
+    ∙ positions-there (read-as (a .as-gaps)) (a .index .now) (a .at) (a .n) (a .len) (start .pre .0)
     (some .before .if1 .left) (some .if2 .left)
 
 returns-5 : tie.Need-returns-5
@@ -46,7 +46,7 @@ returns-5 c =
     c .positions-good .ensures
     ∙ good-positions (a .as-gaps) (a .n) (a .len) (take (a .at + a .count - a .at) (drop (a .at) (a .index .now)))
     (c .before .before .if4 .left)
-    ∙ positions-there (read-as (a .as-gaps)) (a .index .now) (a .at) (a .n) (a .len) (a .count) (start .pre .0)
+    ∙ positions-there (read-as (a .as-gaps)) (a .index .now) (a .at) (a .n) (a .len) (start .pre .0)
     (some .before .if1 .left) (some .if2 .left)
 
 pub line-list-good-spec : {M : Type 1} → statement M

@@ -30,7 +30,7 @@ returns-3 c =
     let args = known .before .before .before .args in
     c .lines-good .ensures
     ∙ walk-tells (read-as (args .as-gaps)) (read-keeps (args .as-gaps)) longest-text (lexicon (args .chars .now) (args .lengths .now))
-    (args .index .now) (omega arith) (omega arith) (omega (arith, known .shared-slice-known3 .given 0))
+    (args .index .now) (omega arith) (omega (arith, known .shared-slice-known3 .given 0))
     (λ (j : ℕ) below. omega (arith, known .shared-slice-known3 .given (header + 3 * j + 1)))
 
 pub readable-spec : {M : Type 1} → statement M

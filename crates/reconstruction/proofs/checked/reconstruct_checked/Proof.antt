@@ -16,11 +16,13 @@ returns c =
     let made = c .before .before .before .before in
     let filled = made .before .before .before .before in
     let s = start (filled .before) in
-    let a = s .args in (
-      reconstructed-sentinel (lexicon-at (a .chars .now) (a .word-starts .now)) (lines-in (a .index .now)) (a .sentinel)
-          (filled .fill .ensures) (s .pre .1) (made .reconstruct-entries .ensures),
-      c .entries-match .ensures,
-    )
+    let a = s .args in
+    record {
+      is =
+          reconstructed-sentinel (lexicon-at (a .chars .now) (a .word-starts .now)) (lines-in (a .index .now)) (a .sentinel)
+          (filled .fill .ensures) (s .pre .1) (made .reconstruct-entries .ensures);
+      shown = c .entries-match .ensures;
+    }
 
 pub reconstruct-checked-spec : {M : Type 1} → statement M
 reconstruct-checked-spec =

@@ -7,7 +7,6 @@ use lib.ListN.{length}
 use lib.Seq.{length-take-le}
 use borrow.Author.Needs.{needs}
 use Rattle.spec.specs.Index.{greatest-number}
-use Rattle.models.specs.WordStarts.{lexicon-at}
 use Rattle.laws.specs.Window.AgreeingLines.{listed-few}
 use Rattle.laws.specs.Cut.Flagging.{agreeing-below}
 use Rattle.searcher.proofs.estimate.estimate_words.Statement.{statement}
@@ -32,9 +31,7 @@ start c = c .before .before .before .before .before
 
 loop-holds : tie.Need-loop-holds Inv-loop μ-loop Inv-loop2 μ-loop2
 loop-holds c =
-    let a = start (c .before .before .before) .args in
-    let few = listed-few (a .key-start) (lexicon-at (a .chars .now) (a .word-starts .now)) (a .index .now) (a .string .now)
-    (c .before .before .agreeing-words .ensures .0) in
+    let few = listed-few (c .before .before .agreeing-words .ensures .0) in
     (omega arith, omega (arith, few), omega arith)
 
 estimate-line-requires : tie.Need-estimate-line-requires Inv-loop μ-loop Inv-loop2 μ-loop2
@@ -47,7 +44,7 @@ estimate-line-requires c κs =
     let found = words .agreeing-words .ensures .0 in
     let below : c .number-at .result < a .word-lines = omega (
       arith,
-      agreeing-below (lexicon-at (a .chars .now) (a .word-starts .now)) (a .index .now) (a .string .now) found
+      agreeing-below found
           {n = a .word-lines} (omega arith) (l .i) (c .before .loop-test .taken),
     ) in
     (h .reads, omega arith, h .split .words (c .number-at .result) below)

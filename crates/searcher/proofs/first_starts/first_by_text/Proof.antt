@@ -7,7 +7,7 @@ use Rattle.searcher.proofs.first_starts.first_by_text.Tie as tie
 returns : tie.Need-returns
 returns c =
     let told = c .before .before .before .before .before .reach-by-text in
-    first-in-told _ _ _ _ _ (told .ensures .0 (c .before .before .if1 .taken)) (told .kept .1 .1 .1 .1 .0) _ (c .first-found .ensures)
+    first-in-told _ (told .ensures .0 (c .before .before .if1 .taken)) (told .kept .1 .1 .1 .1 .0) (c .first-found .ensures)
 
 pub first-by-text-spec : {M : Type 1} → statement M
 first-by-text-spec =

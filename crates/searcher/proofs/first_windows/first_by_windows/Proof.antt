@@ -10,15 +10,15 @@ returns-3 : tie.Need-returns-3
 returns-3 c =
     let known = c .before .before .before .before .before in
     let starts = known .before .before .before .before .before .args .starts in
-    first-in-first _ _ _ _ 8192 (starts - 8192) 1 (omega arith) _ (c .before .first-in-middle2 .ensures) (c .if3 .taken)
+    first-in-first (starts - 8192) (omega arith) (c .before .first-in-middle2 .ensures) (c .if3 .taken)
 
 returns-4 : tie.Need-returns-4
 returns-4 c =
     let middle = c .before .before in
     let known = middle .before .before .before .before in
     let starts = known .before .before .before .before .before .args .starts in
-    first-in-second _ _ _ _ 8192 (starts - 8192) 1 (omega arith) _ (middle .first-in-middle2 .ensures) (omega arith)
-    (c .before .if3 .left) _ (c .first-in-long .ensures)
+    first-in-second (starts - 8192) (omega arith) (middle .first-in-middle2 .ensures) (omega arith)
+    (c .before .if3 .left) (c .first-in-long .ensures)
 
 pub first-by-windows-spec : {M : Type 1} → statement M
 first-by-windows-spec =

@@ -11,7 +11,7 @@ returns c =
     let answered = c .before .before in
     let cheaper = answered .before .before .before in
     let told = cheaper .before .before .before .reach-if-cheaper in
-    says-told _ _ _ _ _ _ _ _ (told .ensures .0 (cheaper .if1 .taken)) (told .kept .1 .1 .1 .1 .0) (answered .answer-window .ensures)
+    says-told _ (told .ensures .0 (cheaper .if1 .taken)) (told .kept .1 .1 .1 .1 .0) (answered .answer-window .ensures)
 
 search-window-requires : tie.Need-search-window-requires
 search-window-requires c κs =

@@ -26,10 +26,9 @@ loop-holds c =
 
 known-from-requires : tie.Need-known-from-requires Inv-loop μ-loop
 known-from-requires c κs =
-    let s = start (c .before) in
     let l = c .before .loop in
     λ b.
-    let short = zbox-short 0 (s .args .string .now) (s .args .text .now) (l .at) (l .inv .zbox) b in
+    let short = zbox-short (l .inv .zbox) b in
     (omega (arith, l .inv .zbox .begun b .1), omega (arith, short))
 
 extend-requires : tie.Need-extend-requires Inv-loop μ-loop
@@ -39,9 +38,9 @@ extend-requires c κs =
     let fits : l .at + length (s .args .string .now) ≤ length (s .args .text .now) =
     omega arith in
     let lies : Prefix-at (s .args .string .now) (s .args .text .now) (l .at) (c .known-from .result) =
-    known-lies 0 (s .args .string .now) (s .args .text .now) (l .at) (l .inv .zbox)
+    known-lies (l .inv .zbox)
     (length (s .args .string .now)) (s .pre .0)
-    (zbox-short 0 (s .args .string .now) (s .args .text .now) (l .at) (l .inv .zbox)) (omega (arith, fits))
+    (zbox-short (l .inv .zbox)) (omega (arith, fits))
     (c .known-from .ensures) in
     (lies, lies .short, omega arith, fits)
 

@@ -29,10 +29,9 @@ loop-holds c =
 
 known-from-requires : tie.Need-known-from-requires Inv-loop μ-loop
 known-from-requires c κs =
-    let s = start (c .before .before) in
     let l = c .before .before .loop in
     λ b.
-    let short = zbox-short 1 (s .args .string .now) (s .args .string .now) (l .at) (l .inv .0 .zbox) b in
+    let short = zbox-short (l .inv .0 .zbox) b in
     (omega (arith, l .inv .0 .zbox .begun b .1), omega (arith, short))
 
 extend-own-requires : tie.Need-extend-own-requires Inv-loop μ-loop
@@ -41,7 +40,7 @@ extend-own-requires c κs =
     let l = c .before .before .before .loop in
     let below = c .before .before .loop-test .taken in
     let lies : Prefix-at (s .args .string .now) (s .args .string .now) (l .at) (c .known-from .result) =
-    known-lies 1 (s .args .string .now) (s .args .string .now) (l .at) (l .inv .0 .zbox) (l .at)
+    known-lies (l .inv .0 .zbox) (l .at)
     (l .inv .0 .told) (λ b. omega (arith, l .inv .0 .zbox .begun b .0, l .inv .0 .zbox .begun b .1))
     (omega (arith, below)) (c .known-from .ensures) in
     (lies, omega arith, omega (arith, below))
