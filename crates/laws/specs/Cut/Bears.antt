@@ -3,7 +3,7 @@ use mathlib.Core.Path.{_≡_}
 use mathlib.Core.Bool.{true, _||_}
 use mathlib.Core.Logic.{⊎-elim}
 use mathlib.Core.List.{List}
-use Prim.Native.Nat.{ℕ, suc, _+_, _-_, _≤_, _<_}
+use Prim.Native.Nat.{ℕ, _+_, _≤_, _<_}
 use native.Mathlib.Omega.{arith}
 use lib.ListN.{length}
 use Rattle.basics.specs.Bools.{or-left, or-right, or-get, le-or-lt}
@@ -17,15 +17,13 @@ module _ (k s : List ℕ) where
   bears-get k-some s-some t =
       ⊎-elim
       (λ (u : (lies-in s k || lies-in k s) ≡ true).
-      ⊎-elim
-      (λ (v : lies-in s k ≡ true). let h = lies-in-get s k v in (h .0, 1, stand-agree s k s-some (h .1)))
+      ⊎-elim (λ (v : lies-in s k ≡ true). let h = lies-in-get s k v in (h .0, 1, stand-agree s-some (h .1)))
       (λ (v : lies-in k s ≡ true).
-      let h = lies-in-get k s v in (1, h .0, agree-sym k (h .0) s 1 (stand-agree k s k-some (h .1))))
+      let h = lies-in-get k s v in (1, h .0, agree-sym k (h .0) s 1 (stand-agree k-some (h .1))))
       (or-get (lies-in s k) (lies-in k s) u))
       (λ (u : (joins k s || joins s k) ≡ true).
-      ⊎-elim
-      (λ (v : joins k s ≡ true). let h = joins-get k s v in (h .0, 0, agree-sym k 0 s (h .0) (join-agree k s (h .0) (h .1))))
-      (λ (v : joins s k ≡ true). let h = joins-get s k v in (0, h .0, join-agree s k (h .0) (h .1)))
+      ⊎-elim (λ (v : joins k s ≡ true). let h = joins-get k s v in (h .0, 0, agree-sym k 0 s (h .0) (join-agree (h .1))))
+      (λ (v : joins s k ≡ true). let h = joins-get s k v in (0, h .0, join-agree (h .1)))
       (or-get (joins k s) (joins s k) u))
       (or-get (lies-in s k || lies-in k s) (joins k s || joins s k) t)
 
@@ -38,18 +36,18 @@ module _ (k s : List ℕ) where
       ⊎-elim
       (λ (end : b + length k ≤ a + length s).
       or-left (joins k s || joins s k)
-      (or-right (lies-in s k) (lies-in-put k s (suc (b - a)) (agree-stand k s (agree-sym s a k b h) start end))))
+      (or-right (lies-in s k) (lies-in-put k s (agree-stand (agree-sym s a k b h) start end))))
       (λ (end : a + length s < b + length k).
       or-right (lies-in s k || lies-in k s)
-      (or-right (joins k s) (joins-put s k (b - a) (agree-join s k h start (omega arith)))))
+      (or-right (joins k s) (joins-put s k (agree-join h start (omega arith)))))
       (le-or-lt (b + length k) (a + length s)))
       (λ (start : b < a).
       ⊎-elim
       (λ (end : a + length s ≤ b + length k).
       or-left (joins k s || joins s k)
-      (or-left (lies-in k s) (lies-in-put s k (suc (a - b)) (agree-stand s k h (omega arith) end))))
+      (or-left (lies-in k s) (lies-in-put s k (agree-stand h (omega arith) end))))
       (λ (end : b + length k < a + length s).
       or-right (lies-in s k || lies-in k s)
-      (or-left (joins s k) (joins-put k s (a - b) (agree-join k s (agree-sym s a k b h) (omega arith) (omega arith)))))
+      (or-left (joins s k) (joins-put k s (agree-join (agree-sym s a k b h) (omega arith) (omega arith)))))
       (le-or-lt (a + length s) (b + length k)))
       (le-or-lt a b)

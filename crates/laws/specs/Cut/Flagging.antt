@@ -236,8 +236,7 @@ module _ {lex : Lexicon} {xs s : List ℕ} where
     flagged-one r below agree others =
         record {
           way =
-              flagging-ones h one
-              (λ i x y. let e : i ≡ r = omega arith in ap (bears-at lex xs s) e ∙ agrees-bears-at lex xs s 0 o r agree);
+              flagging-ones h one (λ i x y. let e : i ≡ r = omega arith in ap (bears-at lex xs s) e ∙ agrees-bears-at lex xs s 0 o r agree);
           done = λ i x y t. at i x y t (eqb i r) refl;
         }
       where

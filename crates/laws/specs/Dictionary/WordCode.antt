@@ -57,18 +57,19 @@ Equal-front w v i = (i ≤ length w) × (i ≤ length v) × (word-before (drop i
 
 -- one more equal character, and four more
 equal-one :
-    (w v : List ℕ) (i j : ℕ) → j ≡ i + 1 → i < length w → i < length v → getD w i 0 ≡ getD v i 0 → Equal-front w v i → Equal-front w v j
-equal-one w v i j next a b same h =
+    (w v : List ℕ) (i : ℕ) {j : ℕ} → j ≡ i + 1 → i < length w → i < length v → getD w i 0 ≡ getD v i 0 → Equal-front w v i →
+    Equal-front w v j
+equal-one w v i next a b same h =
     rw next (omega arith, omega arith, sym (before-same w v i a b same) ∙ h .2)
 
 pub equal-four :
     (w v : List ℕ) (i : ℕ) → i + 3 < length w → i + 3 < length v → getD w i 0 ≡ getD v i 0 → getD w (i + 1) 0 ≡ getD v (i + 1) 0 →
     getD w (i + 2) 0 ≡ getD v (i + 2) 0 → getD w (i + 3) 0 ≡ getD v (i + 3) 0 → Equal-front w v i → Equal-front w v (i + 4)
 equal-four w v i a b first second third fourth h =
-    equal-one w v (i + 3) (i + 4) (omega arith) a b fourth
-    (equal-one w v (i + 2) (i + 3) (omega arith) (omega arith) (omega arith) third
-    (equal-one w v (i + 1) (i + 2) (omega arith) (omega arith) (omega arith) second
-    (equal-one w v i (i + 1) (omega arith) (omega arith) (omega arith) first h)))
+    equal-one w v (i + 3) (omega arith) a b fourth
+    (equal-one w v (i + 2) (omega arith) (omega arith) (omega arith) third
+    (equal-one w v (i + 1) (omega arith) (omega arith) (omega arith) second
+    (equal-one w v i (omega arith) (omega arith) (omega arith) first h)))
 
 -- THE PACKED START OF A WORD
 
@@ -145,8 +146,7 @@ differ :
     (first-digit (drop 2 w) < first-digit (drop 2 v))))
 unfolding code
 differ w v hw hv h =
-    lower
-    (later 1 w hw) (later 2 w hw) (later 1 v hv) (later 2 v hv) h
+    lower (later 1 w hw) (later 2 w hw) (later 1 v hv) (later 2 v hv) h
   where
     later : (i : ℕ) (u : List ℕ) → Small u → first-digit (drop i u) ≤ 65536
     later i u hu = digit-small (drop i u) (small-drop i u hu)

@@ -98,8 +98,7 @@ module _ (lex : Lexicon) (xs ys s : List ℕ) (p : ℕ) (some : 1 ≤ p) (same :
   -- what is found first in one slice is found first in the other
   pub first-there : p ≡ first-position lex xs s → first-position lex ys s ≡ p
   first-there is =
-      first-only p (first-heads-find lex ys s)
-      (found-there lex s same p (omega arith) here) least
+      first-only p (first-heads-find lex ys s) (found-there lex s same p (omega arith) here) least
     where
       back : Same-to (p + length s - 1) ys xs
       back = record { n-is = sym (same .n-is); there = same .back; back = same .there }

@@ -29,9 +29,9 @@ pub record Writable (restore : Bool) (xs : List ℕ) : Type 0 where
   pub sums : restore ≡ true → (j : ℕ) → getD (lists-from prefix-sums (keys-of xs) 0 xs (drop (header + 3 * keys-of xs) xs)) j 0 ≤ carry
 
 -- the counts add up to the number of positions
-pub counts-all : (xs : List ℕ) → Fits xs → counts-from (keys-of xs) 0 xs ≡ length (drop (header + 3 * keys-of xs) xs)
+pub counts-all : {xs : List ℕ} → Fits xs → counts-from (keys-of xs) 0 xs ≡ length (drop (header + 3 * keys-of xs) xs)
 unfolding entries-of
-counts-all xs fits = omega (arith, length-drop (header + 3 * keys-of xs) xs)
+counts-all {xs} fits = omega (arith, length-drop (header + 3 * keys-of xs) xs)
 
 length-apart : (y : ℕ → ℕ) (x : ℕ → ℕ → ℕ) (ps : List ℕ) → length (first-apart y x ps) ≡ length ps
 unfolding first-apart
@@ -84,7 +84,7 @@ module _ {xs : List ℕ} (fits : Fits xs) (first : ℕ) (is : first ≡ header +
     sums-written =
         ap (λ (l : List ℕ). masked-sums 0 l (lent-tail first xs)) masked
         ∙ ap (masked-sums 0 (lists-from masks (keys-of xs) 0 xs positions)) positions-lent
-        ∙ masked-lists 0 (keys-of xs) 0 xs positions (counts-all xs fits) totals
+        ∙ masked-lists 0 (keys-of xs) 0 xs positions (counts-all fits) totals
 
     pub masks-long : length ms ≡ length (lent-tail first xs)
     masks-long =

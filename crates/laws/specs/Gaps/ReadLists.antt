@@ -29,11 +29,11 @@ module _ (read : List ℕ → List ℕ) (keeps : Keeps-length read) where
   line-read lex n a l k i xs ps = rw (length-lists read keeps (suc k) i xs ps, front-list read keeps k i xs ps)
 
   rest-read :
-      (lex : Lexicon) (n k i a : ℕ) (xs ys ps : List ℕ) → Same-lines xs ys (i + k) →
+      (lex : Lexicon) (n k i a : ℕ) {xs ys : List ℕ} (ps : List ℕ) → Same-lines xs ys (i + k) →
       rest-good read lex n k i a xs ps ≡ rest-good as-is lex n k i a ys (lists-from read k i xs ps)
   unfolding rest-good
-  rest-read lex n zero i a xs ys ps same = rw (length-lists read keeps zero i xs ps)
-  rest-read lex n (suc k) i a xs ys ps same =
+  rest-read lex n zero i a {xs} ps same = rw (length-lists read keeps zero i xs ps)
+  rest-read lex n (suc k) i a {xs} {ys} ps same =
       let next : i + suc k ≡ suc i + k = omega arith in
       rw (
         same .kinds i (omega arith),
@@ -41,7 +41,7 @@ module _ (read : List ℕ → List ℕ) (keeps : Keeps-length read) where
         same .counts i (omega arith),
         line-read lex n a (key-at xs i) k i xs ps,
         later-lists read keeps k i xs ps,
-        rest-read lex n k (suc i) (suc (key-code (key-at xs i))) xs ys (drop (count-at xs i) ps) (rw next at same),
+        rest-read lex n k (suc i) (suc (key-code (key-at xs i))) (drop (count-at xs i) ps) (rw next at same),
       )
 
   module _ (g : ℕ) (lex : Lexicon) (xs : List ℕ) where
@@ -72,7 +72,8 @@ module _ (read : List ℕ → List ℕ) (keeps : Keeps-length read) where
         whole : walk-good read lex xs ≡ walk-good as-is lex ys
         whole =
             let z : 0 + keys-of xs ≡ keys-of xs = omega arith in
-            rest-read lex (n-of xs) (keys-of xs) 0 0 xs ys (drop (header + 3 * keys-of xs) xs) (rw z same)
+            let all : Same-lines xs ys (0 + keys-of xs) = rw z same in
+            rest-read lex (n-of xs) (keys-of xs) 0 0 (drop (header + 3 * keys-of xs) xs) all
             ∙ rw (n-with read keeps xs, keys-with read keeps xs, positions-with read keeps xs dir)
 
 -- POSITIONS, OR THEIR GAPS

@@ -163,8 +163,8 @@ flat-lines-of lex es p len = lines-of-made lex es p len .flat-is
 pub good-flat-ascends : (lex : Lexicon) (n : ℕ) (ls : List Line) → Good-lines lex n ls → Ascend entry-before (flat lex ls)
 good-flat-ascends lex n ls good = flat-ascends lex ls (λ l m. good .each l m .rise) (good .order)
 
-pub good-lines-of-flat : (lex : Lexicon) (n : ℕ) (ls : List Line) → Good-lines lex n ls → lines-of (flat lex ls) ≡ ls
-good-lines-of-flat lex n ls good = lines-of-flat lex ls (λ l m. good .each l m .some) (good .order)
+pub good-lines-of-flat : {lex : Lexicon} {n : ℕ} {ls : List Line} → Good-lines lex n ls → lines-of (flat lex ls) ≡ ls
+good-lines-of-flat {lex} {ls} good = lines-of-flat lex ls (λ l m. good .each l m .some) (good .order)
 
 pub lines-of-good :
     (lex : Lexicon) (n : ℕ) (es : List Entry) → Ascend entry-before es → Sound lex n es → Good-lines lex n (lines-of es)
@@ -209,4 +209,4 @@ lines-unique {lex} {n} {ks} {ls} p q f g =
     let equal : flat lex ks ≡ flat lex ls =
     ascend-unique entry-before-strict (flat lex ks) (flat lex ls) (good-flat-ascends lex n ks p)
     (good-flat-ascends lex n ls q) f g in
-    sym (good-lines-of-flat lex n ks p) ∙ ap lines-of equal ∙ good-lines-of-flat lex n ls q
+    sym (good-lines-of-flat p) ∙ ap lines-of equal ∙ good-lines-of-flat q

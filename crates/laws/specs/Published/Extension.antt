@@ -26,9 +26,9 @@ item-path i j p q = λ x. record { word = p x; position = q x }
 
 -- WORDS AND KEYS
 
-pub key-word : (lex : Lexicon) (k : Key) → Is-key lex k → Is-word lex (spells lex k)
+pub key-word : {lex : Lexicon} {k : Key} → Is-key lex k → Is-word lex (spells lex k)
 unfolding Is-word is-char
-key-word lex k h =
+key-word {lex} {k} h =
     ⊎-elim (λ (w : Is-word-key lex k). inl (is-word-put lex (spells lex k) (spells-in lex k w)))
     (λ (c : Is-lone-key lex k). inr (k .value, lt-ltb (k .value) 65536 (c .char), spells-lone lex k (c .kind-is)))
     (key-kinds lex k h)
@@ -40,22 +40,22 @@ word-key lex w (inr c) =
     let (k, h, s) = char-key lex (c .0) (ltb-true (c .0) 65536 (c .1)) in
     (k, h, s ∙ sym (c .2))
 
-pub word-some : (lex : Lexicon) → Good-lexicon lex → (w : List ℕ) → Is-word lex w → 1 ≤ length w
-word-some lex good w h =
+pub word-some : {lex : Lexicon} → Good-lexicon lex → (w : List ℕ) → Is-word lex w → 1 ≤ length w
+word-some {lex} good w h =
     let (k, hk, s) = word-key lex w h in
     rw s at (spells-some good k hk)
 
 -- ITEMS AND ENTRIES
 
-pub entry-item : (lex : Lexicon) (ts : List ℕ) (e : Entry) → Is-entry lex ts e → Is-item lex ts (item-of lex e)
+pub entry-item : {lex : Lexicon} {ts : List ℕ} {e : Entry} → Is-entry lex ts e → Is-item lex ts (item-of lex e)
 unfolding item-of item
-entry-item lex ts e h =
-    record { is-word = key-word lex (e .key-of) (h .is-key); stand = stands-put (spells lex (e .key-of)) ts (e .at) (h .stand) }
+entry-item {lex} {ts} {e} h =
+    record { is-word = key-word (h .is-key); stand = stands-put (spells lex (e .key-of)) ts (e .at) (h .stand) }
 
 pub item-entry :
-    (lex : Lexicon) (ts : List ℕ) (i : Item) → Is-item lex ts i → (e : Entry) × Is-entry lex ts e × (item-of lex e ≡ i)
+    {lex : Lexicon} {ts : List ℕ} {i : Item} → Is-item lex ts i → (e : Entry) × Is-entry lex ts e × (item-of lex e ≡ i)
 unfolding item-of item entry
-item-entry lex ts i h =
+item-entry {lex} {ts} {i} h =
     let (k, hk, s) = word-key lex (i .word) (h .is-word) in (
       entry k (i .position) (length (spells lex k)),
       record { is-key = hk; len-is = refl; stand = rw s (stands-get (i .word) ts (i .position) (h .stand)) },
@@ -83,8 +83,7 @@ pub contains-extends :
     Extends (item-of lex e) (item-of lex f)
 unfolding item-of item
 contains-extends {lex} {ts} {e} {f} he hf c =
-    nested-extends (entry-item lex ts e he) (entry-item lex ts f hf) (c .starts)
-    (omega arith)
+    nested-extends (entry-item he) (entry-item hf) (c .starts) (omega arith)
 
 pub extends-contains :
     {lex : Lexicon} {ts : List ℕ} {e f : Entry} → Is-entry lex ts e → Is-entry lex ts f →
@@ -104,13 +103,13 @@ item-of-unique {lex} good {e} {f} he hf p =
 
 -- DEFINITION 7
 
-module _ (lex : Lexicon) (good : Good-lexicon lex) (ts : List ℕ) where
+module _ {lex : Lexicon} (good : Good-lexicon lex) {ts : List ℕ} where
   pub maximal-item : {e : Entry} → Is-maximal lex ts e → maximal-items lex ts (item-of lex e)
-  maximal-item {e} h = record { member = entry-item lex ts e (h .is-entry); alone = alone }
+  maximal-item {e} h = record { member = entry-item (h .is-entry); alone = alone }
     where
       alone : (j : Item) → Is-item lex ts j → Extends j (item-of lex e) → j ≡ item-of lex e
       alone j hj x =
-          let (f, hf, s) = item-entry lex ts j hj in
+          let (f, hf, s) = item-entry hj in
           let same : f ≡ e = h .alone f hf (extends-contains hf (h .is-entry) (rw s x)) in
           sym s ∙ ap (item-of lex) same
 
@@ -120,8 +119,7 @@ module _ (lex : Lexicon) (good : Good-lexicon lex) (ts : List ℕ) where
         is-entry = he;
         alone =
             λ f hf c.
-            item-of-unique good hf he
-            (h .alone (item-of lex f) (entry-item lex ts f hf) (contains-extends hf he c));
+            item-of-unique good hf he (h .alone (item-of lex f) (entry-item hf) (contains-extends hf he c));
       }
 
 pub same-index : (g : ℕ) → Same-index g
@@ -138,11 +136,11 @@ same-index g cs ls ts a t = (from, to)
         (i : Item) → maximal-items (lexicon cs ls) ts i →
         (e : Entry) × In e (entries (lexicon cs ls) ts) × (item-of (lexicon cs ls) e ≡ i)
     from i h =
-        let (e, he, s) = item-entry (lexicon cs ls) ts i (h .member) in
-        (e, entries-put (lexicon cs ls) good ts chars (item-maximal (lexicon cs ls) good ts he (rw s h)), s)
+        let (e, he, s) = item-entry (h .member) in
+        (e, entries-put (lexicon cs ls) good ts chars (item-maximal good he (rw s h)), s)
 
     to : (e : Entry) → In e (entries (lexicon cs ls) ts) → maximal-items (lexicon cs ls) ts (item-of (lexicon cs ls) e)
-    to e m = maximal-item (lexicon cs ls) good ts (entries-get (lexicon cs ls) good ts chars e m)
+    to e m = maximal-item good (entries-get (lexicon cs ls) good ts chars e m)
 
 -- THE CLAIMS
 
@@ -159,39 +157,38 @@ partial-order lex ts i j k hi hj hk = (
       position,
 )
 
-module _ {lex : Lexicon} (good : Good-lexicon lex) (ts : List ℕ) (chars : Chars ts) where
+module _ {lex : Lexicon} (good : Good-lexicon lex) {ts : List ℕ} (chars : Chars ts) where
   -- every item has an extension among the maximal ones
   pub item-extended : {i : Item} → Is-item lex ts i → (j : Item) × maximal-items lex ts j × Extends j i
   item-extended {i} h =
-      let (e, he, s) = item-entry lex ts i h in
+      let (e, he, s) = item-entry h in
       let (f, hf, c) = in-maximal lex good ts chars he in
-      (item-of lex f, maximal-item lex good ts hf, rw s at (contains-extends (hf .is-entry) he c))
+      (item-of lex f, maximal-item good hf, rw s at (contains-extends (hf .is-entry) he c))
 
   -- an item is maximal itself, or has an extension among the maximal ones
   pub maximal-or-extended :
       {i : Item} → Is-item lex ts i → maximal-items lex ts i ⊎ ((j : Item) × maximal-items lex ts j × Extends j i)
   maximal-or-extended {i} h =
-      let (e, he, s) = item-entry lex ts i h in
-      ⊎-elim (λ (m : Is-maximal lex ts e). inl (rw s at (maximal-item lex good ts m)))
+      let (e, he, s) = item-entry h in
+      ⊎-elim (λ (m : Is-maximal lex ts e). inl (rw s at (maximal-item good m)))
       (λ (l : (f : Entry) × Is-entry lex ts f × Contains f e × (e .len < f .len)). inr (item-extended h))
       (maximal-or-longer lex good ts chars he)
 
 pub claim-1 : (g : ℕ) → Claim-1 g
 unfolding Claim-1 item
 claim-1 g cs ls ts a t w n hw hn =
-    maximal-or-extended (admitted-lexicon cs ls a) ts (is-text-get g ts t .0)
-    (record { is-word = hw; stand = hn })
+    maximal-or-extended (admitted-lexicon cs ls a) (is-text-get g ts t .0) (record { is-word = hw; stand = hn })
 
 pub claim-2 : (g : ℕ) → Claim-2 g
 unfolding Claim-2 item
 claim-2 g cs ls ts a t w hw p hp =
-    let (j, hj, x) = item-extended good ts (is-text-get g ts t .0) (record { is-word = hw; stand = hp }) in
+    let (j, hj, x) = item-extended good (is-text-get g ts t .0) (record { is-word = hw; stand = hp }) in
     record {
       of = j;
       member = hj;
       word-in = record { is-word = hj .member .is-word; extends-word = x .extends-word };
       starts = x .starts;
-      ends = omega (arith, word-some (lexicon cs ls) good w hw);
+      ends = omega (arith, word-some good w hw);
     }
   where
     good : Good-lexicon (lexicon cs ls)

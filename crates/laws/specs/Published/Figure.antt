@@ -21,18 +21,18 @@ use Rattle.laws.specs.Published.Extension.{entry-item, item-entry, maxim
 use Rattle.laws.specs.Entries.Scan.{Longest-at}
 use Rattle.laws.specs.Entries.Longest.{longest-at-is, make-index-exact}
 
-module _ (lex : Lexicon) (ts : List ℕ) where
+module _ {lex : Lexicon} {ts : List ℕ} where
   -- what the longest entry at a position spells is the longest prefix word there
   pub longest-prefix-put : {p : ℕ} {e : Entry} → Longest-at lex ts p e → Longest-prefix lex ts p (spells lex (e .key-of))
   unfolding item item-of
-  longest-prefix-put {p} {e} l = record { is-item = rw (← l .here) (entry-item lex ts e he); longest = longest }
+  longest-prefix-put {p} {e} l = record { is-item = rw (← l .here) (entry-item he); longest = longest }
     where
       he : Is-entry lex ts e
       he = l .is-longest .is-entry
 
       longest : (v : List ℕ) → Is-item lex ts (item v p) → length v ≤ length (spells lex (e .key-of))
       longest v hv =
-          let (f, hf, s) = item-entry lex ts (item v p) hv in
+          let (f, hf, s) = item-entry hv in
           let spelt : spells lex (f .key-of) ≡ v = ap (λ (i : Item). i .word) s in
           let position : f .at ≡ p = ap (λ (i : Item). i .position) s in
           omega
@@ -84,14 +84,14 @@ module _ {lex : Lexicon} (good : Good-lexicon lex) (ts : List ℕ) (chars : Char
   pub make-items-get : (i : Item) → In i (map (item-of lex) (make-index lex ts)) → maximal-items lex ts i
   make-items-get i m =
       let (e, n, s) = in-map-get (item-of lex) i (make-index lex ts) m in
-      rw s at (maximal-item lex good ts (make-index-exact lex good ts chars .get e n))
+      rw s at (maximal-item good (make-index-exact lex good ts chars .get e n))
 
   pub make-items-put : (i : Item) → maximal-items lex ts i → In i (map (item-of lex) (make-index lex ts))
   make-items-put i h =
-      let (e, he, s) = item-entry lex ts i (h .member) in
+      let (e, he, s) = item-entry (h .member) in
       let found : In (item-of lex e) (map (item-of lex) (make-index lex ts)) =
       in-map-put (item-of lex) e (make-index lex ts)
-      (make-index-exact lex good ts chars .put e (item-maximal lex good ts he (rw s h)) (he .stand .from)) in
+      (make-index-exact lex good ts chars .put e (item-maximal good he (rw s h)) (he .stand .from)) in
       rw s at found
 
 pub figure-1-holds : (g : ℕ) → Figure-1 g
@@ -114,6 +114,6 @@ figure-1-holds g cs ls ts a t l-prefix is i =
         (record {
           is = longest-at-is lex good ts chars;
           spelt =
-              λ p lo hi. longest-prefix-unique lex ts (is p lo hi) (longest-prefix-put lex ts (longest-at-is lex good ts chars p lo hi));
+              λ p lo hi. longest-prefix-unique (is p lo hi) (longest-prefix-put (longest-at-is lex good ts chars p lo hi));
         })
         (length ts) 1 1 (omega arith) (omega arith)

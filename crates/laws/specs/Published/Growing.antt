@@ -155,7 +155,7 @@ growing-figure-1 lex ts chars l-prefix is = scan-from (length ts) 1 1 (grown-sta
     scan-from (suc n) p last {dict} g lo fits =
         let next : Grown lex (grown dict ts p) = grown-step lex ts chars p lo (omega arith) g in
         let same : longest-word (grown dict ts p) ts p ≡ l-prefix p =
-        longest-prefix-unique lex ts (grown-longest lex ts chars p lo (omega arith) g) (is p lo (omega arith)) in
+        longest-prefix-unique (grown-longest lex ts chars p lo (omega arith) g) (is p lo (omega arith)) in
         rw (
           same,
           scan-from n (suc p) (p + length (l-prefix p)) next (omega arith) (omega arith),
@@ -174,8 +174,7 @@ growing-same g cs ls ts a t i = rw same (figure-1-holds g cs ls ts a t l-prefix 
 
     is : (p : ℕ) → 1 ≤ p → p ≤ length ts → Longest-prefix (lexicon cs ls) ts p (l-prefix p)
     is p lo hi =
-        longest-prefix-put (lexicon cs ls) ts
-        (longest-at-is (lexicon cs ls) (admitted-lexicon cs ls a) ts chars p lo hi)
+        longest-prefix-put (longest-at-is (lexicon cs ls) (admitted-lexicon cs ls a) ts chars p lo hi)
 
     same : growing-scan (length ts) 1 1 (lexicon cs ls .words) ts ≡ figure-1 l-prefix (length ts) 1 1
     same = growing-figure-1 (lexicon cs ls) ts chars l-prefix is

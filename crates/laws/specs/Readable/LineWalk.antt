@@ -154,12 +154,11 @@ rest-get lex n (suc k) i a xs ps t =
           good = and-put (fits-line f) (r .good);
         }
 
-rest-put : (lex : Lexicon) (n k i a : ℕ) (xs ps : List ℕ) → Rest lex n k i a xs ps → rest-good as-is lex n k i a xs ps ≡ true
+rest-put : {lex : Lexicon} {n : ℕ} (k : ℕ) {i a : ℕ} {xs ps : List ℕ} → Rest lex n k i a xs ps → rest-good as-is lex n k i a xs ps ≡ true
 unfolding rest-good counts-from kinds-good lines-from codes-ascend lines-good key line
-rest-put lex n zero i a xs ps h = eq-eqb (length ps) 0 (sym (h .counts))
-rest-put lex n (suc k) i a xs ps h =
-    and-put (fits-put as-is lex n a (key-at xs i) (count-at xs i) ps fit)
-    (rest-put lex n k (suc i) (suc (key-code (key-at xs i))) xs (drop (count-at xs i) ps) next)
+rest-put zero {ps} h = eq-eqb (length ps) 0 (sym (h .counts))
+rest-put {lex} {n} (suc k) {i} {a} {xs} {ps} h =
+    and-put (fits-put as-is lex n a (key-at xs i) (count-at xs i) ps fit) (rest-put k next)
   where
     small : Bool
     small = leb (kind-at xs i) 1
@@ -175,8 +174,7 @@ rest-put lex n (suc k) i a xs ps h =
 
     fit : Line-fits as-is lex n a (key-at xs i) (count-at xs i) ps
     fit =
-        line-fit
-        (leb-true (kind-at xs i) 1 (and-left small (kinds-good k (suc i) xs) (h .kinds)))
+        line-fit (leb-true (kind-at xs i) 1 (and-left small (kinds-good k (suc i) xs) (h .kinds)))
         (leb-true a (key-code (key-at xs i)) (and-left least (codes-ascend (suc (key-code (key-at xs i))) rest) (h .order)))
         (omega arith)
         (and-left good (lines-good lex n rest) (h .good))
@@ -248,7 +246,7 @@ module _ (g : ℕ) (lex : Lexicon) (xs : List ℕ) where
       from : readable g lex xs ≡ true → walk-good as-is lex xs ≡ true
       from t =
           let rest = and-right (fit && small) (kinds && (order && good)) t in
-          rest-put lex (n-of xs) (keys-of xs) 0 0 xs positions
+          rest-put (keys-of xs)
           (record {
             counts = omega (arith, readable-fits t .is-long, length-drop (header + 3 * keys-of xs) xs);
             kinds = and-left kinds (order && good) rest;

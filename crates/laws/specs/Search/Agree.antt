@@ -99,8 +99,8 @@ module _ (s : List ℕ) (a : ℕ) (e : List ℕ) (b : ℕ) where
       }
 
 -- a key that starts inside the string starts with the string's character there
-pub agree-first : (s k : List ℕ) (o : ℕ) → Agree s 0 k o → getD s o 0 ≡ getD k 0 0
-agree-first s k o h =
+pub agree-first : {s k : List ℕ} {o : ℕ} → Agree s 0 k o → getD s o 0 ≡ getD k 0 0
+agree-first {o} h =
     let y : o - 0 ≡ o = omega arith in
     let w : o - o ≡ 0 = omega arith in
     rw (y, w) at (h .equal o (omega arith) (omega arith) (omega arith) (omega arith))

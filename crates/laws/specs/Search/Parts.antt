@@ -37,9 +37,9 @@ module _ (a b : List ℕ) where
             (rw back (at .3))),
       )
 
-  pub lies-in-put : (p : ℕ) → Stand a b p → lies-in a b ≡ true
+  pub lies-in-put : {p : ℕ} → Stand a b p → lies-in a b ≡ true
   unfolding lies-in lies-at stands
-  lies-in-put p st =
+  lies-in-put {p} st =
       lies-from-any (suc (length b) - length a) 0
       ∙ any-from-put (suc (length b) - length a) 0 lies-at (p - 1) (omega arith) (omega arith)
       (and-right (leb 1 p && leb (p + length a) (suc (length b))) (same (take (length a) (drop (p - 1) b)) a) (stands-put a b p st))
@@ -97,9 +97,9 @@ module _ (a b : List ℕ) where
               ∙ ap (λ (l : List ℕ). getD l (x - (length a - i)) 0) part
               ∙ getD-take i b (x - (length a - i)) 0 here
 
-  pub joins-put : (d : ℕ) → Join a b d → joins a b ≡ true
+  pub joins-put : {d : ℕ} → Join a b d → joins a b ≡ true
   unfolding joins joins-at
-  joins-put d h =
+  joins-put {d} h =
       joins-from-any (length a) 1
       ∙ any-from-put (length a) 1 joins-at (length a - d) (omega arith) (omega arith)
       (and-put (le-leb (length a - d) (length a) (omega arith))
@@ -126,7 +126,7 @@ module _ (a b : List ℕ) where
 
 -- AGREEMENT
 
-module _ (a b : List ℕ) where
+module _ {a b : List ℕ} where
   pub stand-agree : {p : ℕ} → 1 ≤ length a → Stand a b p → Agree a p b 1
   stand-agree {p} some st =
       record {
@@ -148,8 +148,8 @@ module _ (a b : List ℕ) where
         equal = λ x l u. moved .equal x l u (omega arith) (omega arith);
       }
 
-  pub join-agree : (d : ℕ) → Join a b d → Agree a 0 b d
-  join-agree d h =
+  pub join-agree : {d : ℕ} → Join a b d → Agree a 0 b d
+  join-agree {d} h =
       record {
         shared = d;
         string-from = omega arith;

@@ -20,8 +20,7 @@ module _ (lex : Lexicon) (ls : List Line) (s : List ℕ) (p : ℕ) where
   unfolding reach-offsets
   reach-offsets-at-offsets zero o r = at-offsets-none lex ls s p o r
   reach-offsets-at-offsets (suc n) o r =
-      at-offsets-then lex ls s p o (reach-offset-extends ls o r (λ e m. m))
-      (reach-offsets-at-offsets n (suc o) t) stop
+      at-offsets-then lex ls s p o (reach-offset-extends ls o r (λ e m. m)) (reach-offsets-at-offsets n (suc o) t) stop
     where
       t : ℕ
       t = reach-offset o lex ls s p r
@@ -33,8 +32,7 @@ module _ (lex : Lexicon) (ls : List Line) (s : List ℕ) (p : ℕ) where
   unfolding reach
   reach-reached =
       let t = reach-leading lex ls s p 0 in
-      at-offsets-reached lex ls s p (reach-leading-extends ls 0 (λ e m. m))
-      (reach-offsets-at-offsets (length s - 1) 1 t)
+      at-offsets-reached lex ls s p (reach-leading-extends ls 0 (λ e m. m)) (reach-offsets-at-offsets (length s - 1) 1 t)
 
   -- The reach comes to the string's end exactly if every position under it is covered by an entry that agrees.
   pub reach-exact : leb (length s) (reach lex ls s p) ≡ all-covered (length s) p lex ls s p
@@ -46,8 +44,7 @@ pub found-reached :
     ((p : ℕ) → q ≤ p → p < q + n → Reached lex ls s p (f p)) → found-from n q lex ls s ≡ those-from n q (λ p. leb (length s) (f p))
 found-reached lex ls s n q f reached =
     found-from-those lex ls s n q
-    ∙ those-from-alike n q (found-at lex ls s) (λ p. leb (length s) (f p))
-    (λ p lo hi. sym (reached-exact (reached p lo hi)))
+    ∙ those-from-alike n q (found-at lex ls s) (λ p. leb (length s) (f p)) (λ p lo hi. sym (reached-exact (reached p lo hi)))
 
 pub found-reach :
     (lex : Lexicon) (ls : List Line) (s : List ℕ) (n q : ℕ) →

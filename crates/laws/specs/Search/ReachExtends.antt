@@ -68,8 +68,7 @@ module _ {lex : Lexicon} {ls : List Line} {s : List ℕ} {p : ℕ} where
   reach-positions-extends {i} {o} k (b ∷ bs) r one agree kept =
       let len = length (spells lex k) in
       let t = extend i o len p b r in
-      extends-then (At-offset lex p i o k (b ∷ bs))
-      (λ e taken. split e (taken .0) (taken .1))
+      extends-then (At-offset lex p i o k (b ∷ bs)) (λ e taken. split e (taken .0) (taken .1))
       (extend-extends k b r one agree (kept (posting lex k b) (inl refl)))
       (reach-positions-extends k bs t one agree (λ e m. kept e (inr m)))
     where
@@ -106,8 +105,7 @@ module _ {lex : Lexicon} {ls : List Line} {s : List ℕ} {p : ℕ} where
       (reach-back n i s (spells lex k) p bs r)
   unfolding reach-back
   reach-back-extends zero i k bs r kept =
-      extends-fewer (λ e. In e (entries-at lex k bs) × (e .at + i ≤ p) × (p < e .at + i + 0))
-      (λ e taken a. omega arith) (extends-none r)
+      extends-fewer (λ e. In e (entries-at lex k bs) × (e .at + i ≤ p) × (p < e .at + i + 0)) (λ e taken a. omega arith) (extends-none r)
   reach-back-extends (suc n) i k bs r kept =
       let t = reach-key i 0 s (spells lex k) p bs r in
       extends-then (λ e. In e (entries-at lex k bs) × (e .at + i ≤ p) × (p < e .at + i + suc n))

@@ -193,7 +193,7 @@ module _ {lex : Lexicon} {ls : List Line} {ts s : List ℕ} (o : Occurrences-cov
 
 -- LINES THAT MATCH A TEXT
 
-module _ (lex : Lexicon) (ls : List Line) (ts : List ℕ) (show : Lines-match lex ls ts) (s : List ℕ) where
+module _ {lex : Lexicon} {ls : List Line} {ts : List ℕ} (show : Lines-match lex ls ts) (s : List ℕ) where
   occurrences : Occurrences-covered lex ls ts s
   occurrences = record { all = show .stand; cover = λ p st x lo hi. show .cover x (omega arith) (omega arith) }
 
@@ -221,4 +221,4 @@ pub find-positions :
     {lex : Lexicon} (xs : List ℕ) {ts : List ℕ} (s : List ℕ) → Lines-match lex (lines-in xs) ts → n-of xs ≡ length ts → 1 ≤ length s →
     find lex xs s ≡ positions s ts
 unfolding find
-find-positions {lex} xs {ts} s show len some = rw len (found-positions lex (lines-in xs) ts show s some)
+find-positions {lex} xs {ts} s show len some = rw len (found-positions show s some)

@@ -89,8 +89,7 @@ module _ {lex : Lexicon} {ls : List Line} {s : List ℕ} {q : ℕ} {old : List �
 
     pub offsets-early : highest < o → Reaches (offsets-all (length s - 1) 1 lex ls s q old) rs highest
     offsets-early early =
-        progress-end (h .way)
-        (offsets-stop lex ls s q (length s - o) o rs (λ j b. omega (arith, h .way .bounded j b)))
+        progress-end (h .way) (offsets-stop lex ls s q (length s - o) o rs (λ j b. omega (arith, h .way .bounded j b)))
 
 -- ALL OFFSETS
 

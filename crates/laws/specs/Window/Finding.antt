@@ -39,7 +39,7 @@ module _ (m : ℕ) (rs : List ℕ) where
   pub counting-start : Counting m rs 0 0
   counting-start = record { within = omega arith; counted = zero-add (count-in m rs); few = omega arith }
 
-  module _ (count i : ℕ) (h : Counting m rs count i) where
+  module _ {count i : ℕ} (h : Counting m rs count i) where
     pub counting-step : i < length rs → Counting m rs (count + cond (leb m (getD rs i 0)) 1 0) (i + 1)
     unfolding count-in
     counting-step below =

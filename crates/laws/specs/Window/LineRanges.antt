@@ -200,12 +200,11 @@ module _ {cs ls xs : List ℕ} (can : Can-read cs ls xs) where
       lone-others i a b other =
           rw (lone-is i a b)
           (false-put (agrees s 0 (value-at xs i ∷ []) o)
-          (λ t. h .others i a b other (sym (agree-first s (value-at xs i ∷ []) o (agrees-get s 0 (value-at xs i ∷ []) o t)))))
+          (λ t. h .others i a b other (sym (agree-first (agrees-get s 0 (value-at xs i ∷ []) o t)))))
 
       pub lone-agrees : r < keys-of xs → o < length s → agrees s 0 (spells (lexicon cs ls) (key-at xs r)) o ≡ true
       lone-agrees some below =
-          rw (lone-is r (h .from) some)
-          (sym (together s (value-at xs r ∷ []) o 1 below (λ z. omega arith) (omega arith) (λ j l. same j l)))
+          rw (lone-is r (h .from) some) (sym (together s (value-at xs r ∷ []) o 1 below (λ z. omega arith) (omega arith) (λ j l. same j l)))
         where
           same : (j : ℕ) → j < 1 → getD s (o + j) 0 ≡ getD (value-at xs r ∷ []) j 0
           same j l =

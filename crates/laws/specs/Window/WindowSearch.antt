@@ -198,8 +198,7 @@ module _ (lex : Lexicon) (ls : List Line) (s : List ℕ) (q : ℕ) where
   pub offsets-stop : (n o : ℕ) (rs : List ℕ) → ((j : ℕ) → j < length rs → getD rs j 0 < o) → offsets-all n o lex ls s q rs ≡ rs
   unfolding offsets-all
   offsets-stop n o rs low =
-      extended-same (λ p r. reach-offsets n o lex ls s p r) q rs
-      (λ j b. reach-offsets-stop lex s (q + j) ls n o (getD rs j 0) (low j b))
+      extended-same (λ p r. reach-offsets n o lex ls s p r) q rs (λ j b. reach-offsets-stop lex s (q + j) ls n o (getD rs j 0) (low j b))
 
   -- WHAT IS FOUND: the starts whose reach comes to the string's end, once all offsets are done on a window that starts with every reach 0
   pub window-found :

@@ -41,13 +41,13 @@ loop-again c =
     let a = c .before .before .before .args in
     let l = c .before .before .loop in
     rw (bit-of (leb (a .len) (getD (a .reach .now) (l .i) 0)))
-    (counting-step (a .len) (a .reach .now) (l .total) (l .i) (l .inv) (c .before .loop-test .taken))
+    (counting-step (a .len) (a .reach .now) (l .inv) (c .before .loop-test .taken))
 
 returns : tie.Need-returns Inv-loop μ-loop
 returns c =
     let a = c .before .before .args in
     let l = c .before .loop in
-    counting-end (a .len) (a .reach .now) (l .total) (l .i) (l .inv) (c .loop-test .left)
+    counting-end (a .len) (a .reach .now) (l .inv) (c .loop-test .left)
 
 pub count-found-spec : {M : Type 1} → statement M
 count-found-spec =

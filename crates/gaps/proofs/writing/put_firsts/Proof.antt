@@ -32,7 +32,7 @@ there c = line-there (c .before .before .before .before .before .pre .0) (c .bef
 loop-holds : tie.Need-loop-holds Inv-loop μ-loop
 loop-holds c =
     let s = c .before .before .before in
-    firsts-start (s .pre .2 .0) (s .pre .2 .1) (counts-all (s .args .index .now) (s .pre .0 .fits))
+    firsts-start (s .pre .2 .0) (s .pre .2 .1) (counts-all (s .pre .0 .fits))
 
 loop-again : tie.Need-loop-again Inv-loop μ-loop
 loop-again c =
@@ -45,8 +45,7 @@ loop-again c =
     let line = below (c .before .before .before) in
     let first : c .before .first-number .result ≡ f (getD (drop start xs) (walk .at) 0) =
     c .before .first-number .ensures ∙ ap f (rw (s .pre .1) (sym (getD-drop start xs (walk .at) 0))) in
-    rw (first, c .count-at .ensures .0)
-    (firsts-step (walk .inv) line (s .pre .0 .some (walk .i) line))
+    rw (first, c .count-at .ensures .0) (firsts-step (walk .inv) line (s .pre .0 .some (walk .i) line))
 
 same-length : tie.Need-same-length Inv-loop μ-loop
 same-length c = c .before .loop .inv .len ∙ sym (loop-holds (c .before .before) .len)

@@ -38,9 +38,7 @@ extend-requires c κs =
     let fits : l .at + length (s .args .string .now) ≤ length (s .args .text .now) =
     omega arith in
     let lies : Prefix-at (s .args .string .now) (s .args .text .now) (l .at) (c .known-from .result) =
-    known-lies (l .inv .zbox)
-    (length (s .args .string .now)) (s .pre .0)
-    (zbox-short (l .inv .zbox)) (omega (arith, fits))
+    known-lies (l .inv .zbox) (length (s .args .string .now)) (s .pre .0) (zbox-short (l .inv .zbox)) (omega (arith, fits))
     (c .known-from .ensures) in
     (lies, lies .short, omega arith, fits)
 

@@ -40,8 +40,7 @@ extend-own-requires c κs =
     let l = c .before .before .before .loop in
     let below = c .before .before .loop-test .taken in
     let lies : Prefix-at (s .args .string .now) (s .args .string .now) (l .at) (c .known-from .result) =
-    known-lies (l .inv .0 .zbox) (l .at)
-    (l .inv .0 .told) (λ b. omega (arith, l .inv .0 .zbox .begun b .0, l .inv .0 .zbox .begun b .1))
+    known-lies (l .inv .0 .zbox) (l .at) (l .inv .0 .told) (λ b. omega (arith, l .inv .0 .zbox .begun b .0, l .inv .0 .zbox .begun b .1))
     (omega (arith, below)) (c .known-from .ensures) in
     (lies, omega arith, omega (arith, below))
 
