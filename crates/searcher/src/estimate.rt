@@ -21,7 +21,6 @@ use layout::fields::count_at;
 use layout::fields::key_count;
 use layout::fields::text_len;
 use width::Number;
-use width::number_at;
 
 // How many visits the word of a line costs: one for each position, times the word's length if `whole`.
 fn estimate_line(
@@ -70,7 +69,7 @@ fn estimate_words(
     let mut sum = 0;
     let mut i = 0;
     while i < listed.len() {
-        sum += estimate_line(chars, word_starts, index, number_at(listed, i), whole);
+        sum += estimate_line(chars, word_starts, index, listed[i] as usize, whole);
         i += 1;
     }
     let mut line = agreeing.from;

@@ -38,16 +38,11 @@ estimate-line-requires : tie.Need-estimate-line-requires Inv-loop μ-loop Inv-lo
 estimate-line-requires c κs =
     let words = c .before .before .before .before .before in
     let s = start (words .before) in
-    let a = s .args in
     let h = s .pre .0 in
     let l = c .before .before .loop in
-    let found = words .agreeing-words .ensures .0 in
-    let below : c .number-at .result < a .word-lines = omega (
-      arith,
-      agreeing-below found
-          {n = a .word-lines} (omega arith) (l .i) (c .before .loop-test .taken),
-    ) in
-    (h .reads, omega arith, h .split .words (c .number-at .result) below)
+    let below = agreeing-below (words .agreeing-words .ensures .0) {n = s .args .word-lines} (omega arith) (l .i)
+    (c .before .loop-test .taken) in
+    (h .reads, omega (arith, below), h .split .words _ below)
 
 estimate-line-requires-2 : tie.Need-estimate-line-requires-2 Inv-loop μ-loop Inv-loop2 μ-loop2
 estimate-line-requires-2 c κs =
@@ -63,6 +58,7 @@ estimate-words-spec =
     Inv-loop μ-loop Inv-loop2 μ-loop2 (λ c. search needs) (λ c κs. search needs) (λ c. search needs)
     (λ c. let found = c .before .before .agreeing-words in
     sym (length-take-le (found .result .count) (found .last .1 .1 .1 .1 .1 .1 .0) (found .ensures .0 .room)))
-    loop-holds (λ c κs. search needs) estimate-line-requires (λ c. omega arith) (λ c. omega arith) (λ c. omega arith)
+    loop-holds (λ c. search needs) (λ c. search needs)
+    (λ c. omega (arith, c .shared-slice-known5 .given (c .before .before .loop .i))) estimate-line-requires (λ c. omega arith) (λ c. omega arith) (λ c. omega arith)
     (λ c. (omega arith, omega arith, omega arith)) (λ c. (omega arith, omega arith)) estimate-line-requires-2 (λ c. omega arith)
     (λ c. omega arith) (λ c. omega arith) (λ c. (omega arith, omega arith)) (λ c. omega arith))
