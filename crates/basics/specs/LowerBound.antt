@@ -22,6 +22,11 @@ pub record Bisected (f : ℕ → ℕ) (lo hi c a b : ℕ) : Type 0 where
   pub below : (i : ℕ) → lo ≤ i → i < a → f i < c
   pub above : (i : ℕ) → b ≤ i → i < hi → c ≤ f i
 
+-- there is no index
+pub bound-none : {f : ℕ → ℕ} (hi c : ℕ) → Lower-bound f hi hi c hi
+bound-none hi c =
+    record { from = omega arith; to = omega arith; below = λ i a b. absurd (omega arith); above = λ i a b. absurd (omega arith) }
+
 module _ {f : ℕ → ℕ} {lo hi : ℕ} (h : Rising f lo hi) where
   pub rising-part : {a : ℕ} → lo ≤ a → a ≤ hi → Rising f a hi
   rising-part l r = record { order = r; rises = λ i j p q s. h .rises i j (omega arith) q s }

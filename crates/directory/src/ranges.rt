@@ -1,8 +1,8 @@
 // Binary search over the directory: lower bounds, and the equal range of words that have a character at a depth.
 //
 // The lines of words come first and their words ascend, so words that share their first characters are neighbours, sorted by the next one.
-// The lines of lone characters follow, sorted by value. Where the first or the last word of a range already has the character, that end is
-// not searched.
+// The lines of lone characters follow, sorted by value. Where the first and the last word of a range have the character, or it lies before
+// the first or after the last, nothing is searched.
 ghost use mathlib.Core.Path.{_≡_};
 ghost use Prim.Native.Nat.{_+_, _*_, _≤_, _<_};
 ghost use lib.ListN.{length, getD};
@@ -109,13 +109,22 @@ pub fn equal_range(
         (r .to) ⌝ }
 {
     if low < high {
-        if char_at(chars, index, word_starts, low, depth) == character {
-            if char_at(chars, index, word_starts, high - 1, depth) == character {
-                return Range {
-                    from: low,
-                    to: high,
-                };
-            }
+        let first = char_at(chars, index, word_starts, low, depth);
+        if character < first {
+            return Range { from: low, to: low };
+        }
+        let last = char_at(chars, index, word_starts, high - 1, depth);
+        if last < character {
+            return Range {
+                from: high,
+                to: high,
+            };
+        }
+        if first == last {
+            return Range {
+                from: low,
+                to: high,
+            };
         }
     }
     let least = character as usize;

@@ -59,6 +59,7 @@ estimate-words-spec =
     (λ c. let found = c .before .before .agreeing-words in
     sym (length-take-le (found .result .count) (found .last .1 .1 .1 .1 .1 .1 .0) (found .ensures .0 .room)))
     loop-holds (λ c. search needs) (λ c. search needs)
-    (λ c. omega (arith, c .shared-slice-known5 .given (c .before .before .loop .i))) estimate-line-requires (λ c. omega arith) (λ c. omega arith) (λ c. omega arith)
+    (λ c. omega (arith, c .shared-slice-known5 .given (c .before .before .loop .i))) estimate-line-requires
+    (λ c. omega arith) (λ c. omega arith) (λ c. omega arith)
     (λ c. (omega arith, omega arith, omega arith)) (λ c. (omega arith, omega arith)) estimate-line-requires-2 (λ c. omega arith)
     (λ c. omega arith) (λ c. omega arith) (λ c. (omega arith, omega arith)) (λ c. omega arith))
