@@ -14,6 +14,9 @@ Inv-loop chars word-starts low high depth least a₀ b₀ a b = Bisected (column
 abbrev μ-loop : tie.MeasureT-loop
 μ-loop chars word-starts low high depth least a₀ b₀ a b = b - a
 
+abbrev start : tie.Else2 Inv-loop μ-loop → tie.Start Inv-loop μ-loop
+start c = c .before .before .before .before .before
+
 abbrev middle : tie.At-loop Inv-loop μ-loop → ℕ
 middle turn = turn .loop .a + (turn .loop .b - turn .loop .a) / 2
 
@@ -34,35 +37,35 @@ char-at-requires-2 c κs =
 
 returns-3 : tie.Need-returns-3 Inv-loop μ-loop
 returns-3 c =
-    let start = c .before .before .before .before .before .before .before in
-    bound-last (start .pre .rising) (start .args .least) (omega arith) (omega arith)
+    let s = start (c .before .before) in
+    bound-last (s .pre .rising) (s .args .least) (omega arith) (omega arith)
 
 loop-holds : tie.Need-loop-holds Inv-loop μ-loop
 loop-holds c =
-    let start = c .before .before .before .before .before .before .before in
-    bisected-start (start .pre .rising) (start .args .least)
+    let s = start (c .before .before) in
+    bisected-start (s .pre .rising) (s .args .least)
 
 char-at-requires-3 : tie.Need-char-at-requires-3 Inv-loop μ-loop
 char-at-requires-3 c κs =
-    let start = c .before .before .before .before .before .before .before .before .before in
-    (omega arith, start .pre .room (middle (c .before)) (omega arith) (omega arith))
+    let s = start (c .before .before .before .before) in
+    (omega arith, s .pre .room (middle (c .before)) (omega arith) (omega arith))
 
 loop-again : tie.Need-loop-again Inv-loop μ-loop
 loop-again c =
     let turn = c .before .before .before in
-    let start = turn .before .before .before .before .before .before .before .before in
-    bisected-up (start .pre .rising) (start .args .least) (turn .loop .inv) (middle turn) (omega arith) (omega arith) (omega arith)
+    let s = start (turn .before .before .before) in
+    bisected-up (s .pre .rising) (s .args .least) (turn .loop .inv) (middle turn) (omega arith) (omega arith) (omega arith)
 
 loop-again-2 : tie.Need-loop-again-2 Inv-loop μ-loop
 loop-again-2 c =
     let turn = c .before .before .before in
-    let start = turn .before .before .before .before .before .before .before .before in
-    bisected-down (start .pre .rising) (start .args .least) (turn .loop .inv) (middle turn) (omega arith) (omega arith) (omega arith)
+    let s = start (turn .before .before .before) in
+    bisected-down (s .pre .rising) (s .args .least) (turn .loop .inv) (middle turn) (omega arith) (omega arith) (omega arith)
 
 returns-4 : tie.Need-returns-4 Inv-loop μ-loop
 returns-4 c =
-    let start = c .before .before .before .before .before .before .before .before .before in
-    bisected-end (start .pre .rising) (start .args .least) (c .before .loop .inv) (c .loop-test .left)
+    let s = start (c .before .before .before .before) in
+    bisected-end (s .pre .rising) (s .args .least) (c .before .loop .inv) (c .loop-test .left)
 
 pub lower-bound-spec : {M : Type 1} → statement M
 lower-bound-spec =
