@@ -5,17 +5,25 @@ use Rattle.laws.specs.Build.Building.{linked-listable, linked-keys, few-keys, l
 use Rattle.builder.proofs.build.index_by.Statement.{statement}
 use Rattle.builder.proofs.build.index_by.Tie as tie
 
+abbrev chained : tie.After-pages → tie.After-chain-positions
+chained c = c .before .before .before .before .before
+
+abbrev start : tie.After-chain-positions → tie.Start
+start c =
+    let asked = c .before .before .before .before in
+    asked .before .before .before .before .before
+
 returns : tie.Need-returns
 returns c =
-    let k = c .before .before .before .before .before .before .before .before .before in
-    let s = k .before .before .before .before .before .before .before .before .before in
+    let k = chained (c .before .before .before .before) in
+    let s = start k in
     token-entry-refused (s .pre .0) (k .chain-positions .ensures) (s .args .output .now) (omega arith)
 
 write-index-requires : tie.Need-write-index-requires
 write-index-requires c κs =
     let at = c .before .before .before .before in
-    let k = at .before .before .before .before .before .before .before .before .before in
-    let s = k .before .before .before .before .before .before .before .before .before in
+    let k = chained (at .before .before .before .before) in
+    let s = start k in
     let can = s .pre .0 in
     let links = k .chain-positions .ensures in (
       linked-listable can links,
@@ -27,12 +35,13 @@ write-index-requires c κs =
 
 returns-2 : tie.Need-returns-2
 returns-2 c =
-    let at = c .before .before .before .before .before .before .before in
-    let k = at .before .before .before .before .before .before .before .before .before in
-    let s = k .before .before .before .before .before .before .before .before .before in
+    let written = c .before .before in
+    let at = written .before .before .before .before .before in
+    let k = chained (at .before .before .before .before) in
+    let s = start k in
     rw (at .before .before .line-start .ensures)
-    (token-entry-put (s .pre .0) (k .chain-positions .ensures) (s .args .output .now) (c .before .before .write-index .last .1 .1 .1 .1 .0)
-    (omega (arith, at)) (c .before .before .write-index .ensures))
+    (token-entry-put (s .pre .0) (k .chain-positions .ensures) (s .args .output .now) (written .write-index .last .1 .1 .1 .1 .0)
+    (omega (arith, at)) (written .write-index .ensures))
 
 pub index-by-spec : {M : Type 1} → statement M
 index-by-spec =

@@ -6,7 +6,9 @@ use Rattle.builder.proofs.build.index_tokens.Statement.{statement}
 use Rattle.builder.proofs.build.index_tokens.Tie as tie
 
 index-by-requires : tie.Need-index-by-requires
-index-by-requires c κs = (c .before .before .before .before .before .before .before .pre, fresh 69632 1088 refl refl)
+index-by-requires c κs =
+    let lent = c .before .before in
+    (lent .before .before .before .before .before .pre, fresh 69632 1088 refl refl)
 
 pub index-tokens-spec : {M : Type 1} → statement M
 index-tokens-spec =
