@@ -16,25 +16,31 @@ Inv-loop chars word-starts index text₀ keys at₀ number₀ text at number =
 abbrev μ-loop : tie.MeasureT-loop
 μ-loop chars word-starts index text₀ keys at₀ number₀ text at number = keys - number
 
+abbrev start : tie.After-key-count Inv-loop μ-loop → tie.Start Inv-loop μ-loop
+start c = c .before .before .before .before .before
+
 loop-holds : tie.Need-loop-holds Inv-loop μ-loop
 loop-holds c =
-    let a = c .before .before .before .before .before .before .args in
+    let a = start (c .before) .args in
     reconstructing-start (lexicon-at (a .chars .now) (a .word-starts .now)) (omega arith)
 
 reconstruct-line-requires : tie.Need-reconstruct-line-requires Inv-loop μ-loop
 reconstruct-line-requires c κs =
-    let s = c .before .before .before .before .before .before .before .before .before .before in
-    (s .pre .0, c .before .next-line .ensures, c .before .before .before .loop .inv .len ∙ s .pre .1)
+    let turn = c .before .before .before in
+    let s = start (turn .before .before) in
+    (s .pre .0, c .before .next-line .ensures, turn .loop .inv .len ∙ s .pre .1)
 
 loop-again : tie.Need-loop-again Inv-loop μ-loop
 loop-again c =
-    let a = c .before .before .before .before .before .before .before .before .before .before .before .before .before .args in
-    reconstructing-step (lexicon-at (a .chars .now) (a .word-starts .now)) (c .before .before .before .before .before .before .loop .inv)
-    (c .before .before .before .before .next-line .ensures) (c .before .before .reconstruct-line .ensures)
+    let read = c .before .before .before .before in
+    let turn = read .before .before in
+    let a = start (turn .before .before) .args in
+    reconstructing-step (lexicon-at (a .chars .now) (a .word-starts .now)) (turn .loop .inv)
+    (read .next-line .ensures) (c .before .before .reconstruct-line .ensures)
 
 returns : tie.Need-returns Inv-loop μ-loop
 returns c =
-    let a = c .before .before .before .before .before .before .before .before .args in
+    let a = start (c .before .before .before) .args in
     reconstructing-end (lexicon-at (a .chars .now) (a .word-starts .now)) (c .before .loop .inv) (omega arith)
 
 pub reconstruct-entries-spec : {M : Type 1} → statement M

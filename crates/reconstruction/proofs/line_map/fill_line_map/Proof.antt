@@ -15,13 +15,14 @@ abbrev μ-loop : tie.MeasureT-loop
 
 fill-at-requires : tie.Need-fill-at-requires Inv-loop μ-loop
 fill-at-requires c κs =
-    let s = c .before .before .before .before .before .before .before .before .before in
-    (mapping-room (c .before .before .before .before .loop .inv) (c .before .before .next-line .ensures) (s .pre), omega arith)
+    let turn = c .before .before .before .before in
+    let s = turn .before .before .before .before .before in
+    (mapping-room (turn .loop .inv) (c .before .before .next-line .ensures) (s .pre), omega arith)
 
 loop-again : tie.Need-loop-again Inv-loop μ-loop
 loop-again c =
-    mapping-step (c .before .before .before .before .before .before .before .loop .inv)
-    (c .before .before .before .before .before .next-line .ensures) (c .before .before .fill-at .ensures)
+    let read = c .before .before .before .before .before in
+    mapping-step (read .before .before .loop .inv) (read .next-line .ensures) (c .before .before .fill-at .ensures)
 
 pub fill-line-map-spec : {M : Type 1} → statement M
 fill-line-map-spec =

@@ -18,7 +18,9 @@ abbrev μ-loop : tie.MeasureT-loop
 
 returns : tie.Need-returns Inv-loop μ-loop
 returns c =
-    let a = c .before .before .before .before .before .before .before .before .before .before .before .args in
+    let turn = c .before .before .before .before in
+    let counted = turn .before .before in
+    let a = counted .before .before .before .before .before .args in
     reflects-no
     (λ all.
     c .before .line-stands .ensures .fails (not-true (c .before .line-stands .result) (c .if1 .taken))

@@ -34,20 +34,22 @@ number-at-requires-2 c κs =
 
 returns : tie.Need-returns Inv-loop μ-loop
 returns c =
-    let a = c .before .before .before .before .before .before .before .args in
+    let turn = c .before .before .before .before in
+    let a = turn .before .before .before .args in
     let position = c .before .before .number-at in
     reflects-no
     (λ each.
     c .if1 .taken
     (c .before .number-at2 .ensures .0
     ∙ character-stands (a .character) (a .text .now) (position .result)
-    (rw (position .ensures .0) (each (c .before .before .before .before .loop .i) (c .before .before .before .loop-test .taken)))))
+    (rw (position .ensures .0) (each (turn .loop .i) (c .before .before .before .loop-test .taken)))))
 
 loop-again : tie.Need-loop-again Inv-loop μ-loop
 loop-again c =
-    let s = c .before .before .before .before .before .before .before in
+    let turn = c .before .before .before .before in
+    let s = turn .before .before .before in
     let a = s .args in
-    let l = c .before .before .before .before .loop in
+    let l = turn .loop in
     let below = c .before .before .before .loop-test .taken in
     let position = c .before .before .number-at in
     stand-first-next (a .positions .now) (l .i) (l .inv) (position .ensures .0)

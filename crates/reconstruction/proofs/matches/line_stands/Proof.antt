@@ -6,24 +6,27 @@ use Rattle.laws.specs.Receive.ReconstructionWalk.{lone-reconstructs, lone-stood
 use Rattle.reconstruction.proofs.matches.line_stands.Statement.{statement}
 use Rattle.reconstruction.proofs.matches.line_stands.Tie as tie
 
+abbrev start : tie.After-positions → tie.Start
+start c = c .before .before .before .before .before
+
 holds-at-each-requires : tie.Need-holds-at-each-requires
 holds-at-each-requires c κs =
-    let s = c .before .before .before .before .before .before .before in
+    let s = start (c .before .before) in
     lone-reconstructs (s .pre .0) (s .pre .1) (c .if1 .taken) (s .pre .2)
 
 returns : tie.Need-returns
 returns c =
-    let s = c .before .before .before .before .before .before .before .before in
+    let s = start (c .before .before .before) in
     lone-stood (s .pre .0) (s .pre .1) (c .before .if1 .taken) (c .holds-at-each .ensures)
 
 word-of-requires : tie.Need-word-of-requires
 word-of-requires c κs =
-    let s = c .before .before .before .before .before .before .before in
+    let s = start (c .before .before) in
     (s .pre .0 .words, word-there (s .pre .0) (s .pre .1) (c .if1 .left))
 
 stands-at-each-requires : tie.Need-stands-at-each-requires
 stands-at-each-requires c κs =
-    let s = c .before .before .before .before .before .before .before .before in (
+    let s = start (c .before .before .before) in (
       word-reconstructs (s .pre .0) (s .pre .1) (c .before .if1 .left) (c .word-of .ensures) (s .pre .2),
       positions-some (s .pre .0) (s .pre .1),
       positions-rise (s .pre .0) (s .pre .1),
@@ -31,7 +34,7 @@ stands-at-each-requires c κs =
 
 returns-2 : tie.Need-returns-2
 returns-2 c =
-    let s = c .before .before .before .before .before .before .before .before .before in
+    let s = start (c .before .before .before .before) in
     word-stood (s .pre .0) (s .pre .1) (c .before .before .if1 .left) (c .before .word-of .ensures) (c .stands-at-each .ensures)
 
 pub line-stands-spec : {M : Type 1} → statement M

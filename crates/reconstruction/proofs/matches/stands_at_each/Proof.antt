@@ -17,6 +17,9 @@ Inv-loop string positions text period₀ i₀ period i = (1 ≤ i) × Period str
 abbrev μ-loop : tie.MeasureT-loop
 μ-loop string positions text period₀ i₀ period i = length positions - i
 
+abbrev start : tie.After-equal-from Inv-loop μ-loop → tie.Start Inv-loop μ-loop
+start c = c .before .before .before .before .before
+
 sub-equal-from : tie.Need-sub-equal-from Inv-loop μ-loop
 sub-equal-from c =
     omega (arith, c .before .before .before .before .pre .0 .from 0 (c .before .before .before .before .pre .1))
@@ -28,7 +31,7 @@ equal-from-requires c κs =
 
 returns : tie.Need-returns Inv-loop μ-loop
 returns c =
-    let s = c .before .before .before .before .before .before in
+    let s = start (c .before) in
     let a = s .args in
     reflects-no
     (λ (each : Stand-each (a .string .now) (a .text .now) (a .positions .now)).
@@ -37,7 +40,7 @@ returns c =
 
 loop-holds : tie.Need-loop-holds Inv-loop μ-loop
 loop-holds c =
-    let s = c .before .before .before .before .before .before in
+    let s = start (c .before) in
     let a = s .args in
     let position = c .before .before .number-at in (
       omega arith,
@@ -50,15 +53,17 @@ loop-holds c =
 
 sub-step : tie.Need-sub-step Inv-loop μ-loop
 sub-step c =
-    let s = c .before .before .before .before .before .before .before .before .before .before in
-    let l = c .before .before .before .loop in
+    let turn = c .before .before .before in
+    let s = start (turn .before .before) in
+    let l = turn .loop in
     omega (arith, rise-after 1 (s .args .positions .now) (s .pre .2) (l .i) (l .inv .0) (c .before .before .loop-test .taken))
 
 stands-again-requires : tie.Need-stands-again-requires Inv-loop μ-loop
 stands-again-requires c κs =
-    let s = c .before .before .before .before .before .before .before .before .before .before .before in
+    let turn = c .before .before .before .before in
+    let s = start (turn .before .before) in
     let a = s .args in
-    let l = c .before .before .before .before .loop in
+    let l = turn .loop in
     let below = c .before .before .before .loop-test .taken in
     let position = c .before .before .number-at2 in
     let before-it = c .before .number-at3 in (
@@ -71,25 +76,27 @@ stands-again-requires c κs =
 
 returns-2 : tie.Need-returns-2 Inv-loop μ-loop
 returns-2 c =
+    let read = c .before .before .before .before in
     reflects-no
     (λ each.
     c .before .stands-again .ensures .fails (not-true (c .before .stands-again .result) (c .if2 .taken))
-    (rw (c .before .before .before .before .number-at2 .ensures .0)
-    (each (c .before .before .before .before .before .before .loop .i) (c .before .before .before .before .before .loop-test .taken))))
+    (rw (read .number-at2 .ensures .0) (each (read .before .before .loop .i) (read .before .loop-test .taken))))
 
 loop-again : tie.Need-loop-again Inv-loop μ-loop
 loop-again c =
-    let a = c .before .before .before .before .before .before .before .before .before .before .before .before .before .args in
-    let l = c .before .before .before .before .before .before .loop in (
+    let read = c .before .before .before .before in
+    let turn = read .before .before in
+    let a = start (turn .before .before) .args in
+    let l = turn .loop in (
       omega arith,
       c .before .before .period-of .ensures,
-      stand-first-next (a .positions .now) (l .i) (l .inv .2) (c .before .before .before .before .number-at2 .ensures .0)
+      stand-first-next (a .positions .now) (l .i) (l .inv .2) (read .number-at2 .ensures .0)
           (c .before .stands-again .ensures .holds (not-false (c .before .stands-again .result) (c .if2 .left))),
     )
 
 returns-3 : tie.Need-returns-3 Inv-loop μ-loop
 returns-3 c =
-    let a = c .before .before .before .before .before .before .before .before .args in
+    let a = start (c .before .before .before) .args in
     reflects-yes (stand-first-end (a .positions .now) (c .before .loop .i) (c .loop-test .left) (c .before .loop .inv .2))
 
 pub stands-at-each-spec : {M : Type 1} → statement M
