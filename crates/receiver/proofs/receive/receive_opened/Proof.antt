@@ -10,24 +10,27 @@ use Rattle.laws.specs.Receive.Receiving.{receive-refused, receive-unreceived, r
 use Rattle.receiver.proofs.receive.receive_opened.Statement.{statement}
 use Rattle.receiver.proofs.receive.receive_opened.Tie as tie
 
+abbrev start : tie.After-delivery-refusal → tie.Start
+start c = c .before .before .before .before .before
+
 -- the refusal that needs no reconstruction
 abbrev due : tie.Start → ℕ
 due s = delivery-refusal longest-text (s .args .chars .now) (s .args .lengths .now) (s .args .index .now) (length (s .args .work .now))
 
-early : (c : tie.After-delivery-refusal) → c .delivery-refusal .result ≡ due (c .before .before .before .before .before)
+early : (c : tie.After-delivery-refusal) → c .delivery-refusal .result ≡ due (start c)
 early c =
-    let s = c .before .before .before .before .before in
+    let s = start c in
     let a = s .args in
     opened-delivery longest-text (a .chars .now) (a .lengths .now) (a .index .now) (length (a .work .now)) (a .refusal)
     (c .delivery-refusal .result) (s .pre) (c .delivery-refusal .ensures)
 
-none : (c : tie.Else1) → due (c .before .before .before .before .before .before) ≡ 0
+none : (c : tie.Else1) → due (start (c .before)) ≡ 0
 none c = sym (early (c .before)) ∙ c .if1 .left
 
 returns : tie.Need-returns
 returns c =
     let asked = c .before .before .before .before .before in
-    let a = asked .before .before .before .before .before .args in
+    let a = start asked .args in
     let answer = c .before .before .refuse in
     receive-refused longest-text (a .chars .now) (a .lengths .now) (a .index .now) (answer .result) (a .work .now) (a .work .now)
     (answer .last .0)
@@ -35,21 +38,27 @@ returns c =
 
 returns-2 : tie.Need-returns-2
 returns-2 c =
-    let tried = c .before .before .before .before .before .before .before in
+    let failed = c .before .before .before .before in
+    let tried = failed .before .before .before in
     let on = tried .before .before in
-    let a = on .before .before .before .before .before .before .args in
+    let a = start (on .before) .args in
     let answer = c .before .before .no-text in
     receive-unreceived longest-text (a .chars .now) (a .lengths .now) (a .index .now) (answer .result) (a .work .now)
     (tried .text-of .last .1 .1 .1 .0) (answer .last .0) (tried .text-of .kept .1 .1 .1 .0) (none on)
-    (sym (tried .text-of .ensures .exact) ∙ not-true (tried .text-of .result) (c .before .before .before .before .if2 .taken))
+    (sym (tried .text-of .ensures .exact) ∙ not-true (tried .text-of .result) (failed .if2 .taken))
     (answer .ensures)
+
+text-len-requires : tie.Need-text-len-requires
+text-len-requires c κs =
+    let rebuilt = c .before .before .before .before in
+    delivered _ _ _ _ _ (none (rebuilt .before .before .before .before .before)) .fits .has-header
 
 returns-3 : tie.Need-returns-3
 returns-3 c =
     let cleared = c .before .before .before in
     let tried = cleared .before .before .before .before .before in
     let on = tried .before .before in
-    let a = on .before .before .before .before .before .before .args in
+    let a = start (on .before) .args in
     receive-received longest-text (a .chars .now) (a .lengths .now) (a .index .now) (record { refusal = 0; count = c .text-len .result })
     (a .work .now) (tried .text-of .last .1 .1 .1 .0) (cleared .clear .last .0) (tried .text-of .kept .1 .1 .1 .0) (none on)
     (sym (tried .text-of .ensures .exact) ∙ not-false (tried .text-of .result) (cleared .before .before .if2 .left)) refl
@@ -61,5 +70,4 @@ receive-opened-spec =
     (tie.spec
     (λ c κs zero. delivery-header _ _ _ _ (sym (c .before .before .before .before .pre) ∙ zero)) (λ c κs. search needs) (λ c. search needs)
     returns (λ c κs. none (c .before)) (λ c κs. search needs) (λ c. search needs) returns-2 (λ c κs. search needs)
-    (λ c κs. delivered _ _ _ _ _ (none (c .before .before .before .before .before .before .before .before .before)) .fits .has-header)
-    (λ c. search needs) returns-3)
+    text-len-requires (λ c. search needs) returns-3)

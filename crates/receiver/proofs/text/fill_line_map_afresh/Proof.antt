@@ -7,13 +7,16 @@ use Rattle.receiver.proofs.text.fill_line_map_afresh.Statement.{stateme
 use Rattle.receiver.proofs.text.fill_line_map_afresh.Tie as tie
 
 fill-line-map-requires : tie.Need-fill-line-map-requires
-fill-line-map-requires c κs = rw (c .before .before .before .clear .kept .0)
-    (c .before .before .before .before .before .before .before .pre)
+fill-line-map-requires c κs =
+    let cleared = c .before .before .before in
+    rw (cleared .clear .kept .0) (cleared .before .before .before .before .pre)
 
 returns : tie.Need-returns
-returns c = c .before .before .fill-line-map .ensures ∙ ap (fill-line-map 0
-    (lines-in (c .before .before .before .before .before .before .before .before .before .before .args .index .now)))
-    (c .before .before .before .before .before .before .clear .ensures)
+returns c =
+    let filled = c .before .before in
+    let cleared = filled .before .before .before .before in
+    let start = cleared .before .before .before .before in
+    filled .fill-line-map .ensures ∙ ap (fill-line-map 0 (lines-in (start .args .index .now))) (cleared .clear .ensures)
 
 pub fill-line-map-afresh-spec : {M : Type 1} → statement M
 fill-line-map-afresh-spec =

@@ -16,13 +16,14 @@ fill-line-map-afresh-requires c κs =
 
 returns : tie.Need-returns
 returns c =
-    let start = c .before .before .before .before .before .before in
-    let part = c .before .before .fill-line-map-afresh .last .1 .0 in
-    let len : length part ≡ start .args .n = c .before .before .fill-line-map-afresh .kept .1 .0 ∙
+    let filled = c .before .before in
+    let start = filled .before .before .before .before in
+    let part = filled .fill-line-map-afresh .last .1 .0 in
+    let len : length part ≡ start .args .n = filled .fill-line-map-afresh .kept .1 .0 ∙
     behind-long (start .args .n) (start .args .work .now) (start .pre .1) in (
       behind-front (start .args .n) (start .args .work .now) (start .pre .1) part len,
       behind-put (start .args .n) (start .args .work .now) (start .pre .1) part len
-          ∙ c .before .before .fill-line-map-afresh .ensures
+          ∙ filled .fill-line-map-afresh .ensures
           ∙ ap (fill-line-map 0 (lines-in (start .args .index .now)))
           (zeros-are (start .args .n) (take (2 * start .args .n - start .args .n) (drop (start .args .n) (start .args .work .now)))
           (behind-long (start .args .n) (start .args .work .now) (start .pre .1))),
