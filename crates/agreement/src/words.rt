@@ -2,8 +2,7 @@
 //
 // Words are sorted, so those that share the string's next characters are one range of lines. Each further character takes the equal range
 // within the last one, by binary search. A word that ends on the way agrees, and where the string ends all words left do. Where at most
-// four
-// lines are left they are compared. Search, estimate and cut-down index each walk what is found here.
+// four lines are left they are compared. Search, estimate and cut-down index each walk what is found here.
 ghost use mathlib.Core.Path.{_≡_};
 ghost use Prim.Native.Nat.{_+_, _≤_, _<_};
 ghost use lib.ListN.{length};

@@ -1,8 +1,7 @@
 // Flags the directory lines whose keys bear on a string: those that agree with it at some offset.
 //
 // At offsets of 0 and below each word is compared with the string. At offsets above 0 binary search over the sorted directory gives the
-// lines
-// that agree.
+// lines that agree.
 ghost use mathlib.Core.Path.{_≡_};
 ghost use Prim.Native.Nat.{_≤_};
 ghost use lib.ListN.{length, replicate};
