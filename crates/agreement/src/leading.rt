@@ -1,7 +1,8 @@
-// Lists the lines of words whose keys agree with the string at an offset of 0 or below: the leading lines.
+// The lines of words whose keys agree with the string at an offset of 0 or below: the leading lines.
 //
-// The list does not depend on the window, so a search of several windows for one string makes it once. A word is compared with the string
-// only at its indices that have the string's first character, and most words are passed over at once because they lack it.
+// The list of them does not depend on the window, so a search of several windows for one string makes it once. A word is compared with the
+// string only at its indices that have the string's first character, and most words are passed over at once because they lack it. The
+// cut-down index asks only for offsets below 0.
 ghost use mathlib.Core.Path.{_≡_};
 ghost use Prim.Native.Nat.{_≤_, _<_};
 ghost use lib.ListN.{length, take};
@@ -18,13 +19,13 @@ use directory::ranges::count_word_lines;
 use layout::fields::value_at;
 use width::Number;
 
-// Whether a key agrees with the string at an offset of 0 or below.
-fn agrees_leading(key: &[u16], string: &[u16]) -> bool
+// Whether a key agrees with the string at an offset of -`least` or below.
+fn agrees_leading(key: &[u16], string: &[u16], least: usize) -> bool
     requires { ⌜ (length (now key) ≤ 32) × (1 ≤ length (now string)) ⌝ }
-    ensures { λ r. ⌜ r ≡ agrees-leading (now (string .entry)) (now (key .entry)) ⌝ }
+    ensures { λ r. ⌜ r ≡ agrees-leading least (now (string .entry)) (now (key .entry)) ⌝ }
 {
     let character = string[0];
-    let mut i = 0;
+    let mut i = least;
     while i < key.len() {
         let at = i;
         i += 1;
@@ -37,26 +38,27 @@ fn agrees_leading(key: &[u16], string: &[u16]) -> bool
     false
 }
 
-// Whether the word of a line agrees with the string at an offset of 0 or below.
+// Whether the word of a line agrees with the string at an offset of -`least` or below: of 0 or below, or below 0.
 pub fn line_leads(
     chars: &[u16],
     word_starts: &[u16],
     index: &[Number],
     string: &[u16],
     line: usize,
+    least: usize,
 ) -> bool
     requires { ⌜
         Reads (now chars) (now «word_starts») (now index) × (line < keys-of (now index)) × (kind-at (now index) line ≡ 0) ×
-        (1 ≤ length (now string)) ⌝ }
+        (1 ≤ length (now string)) × (least ≤ 1) ⌝ }
     ensures { λ r. ⌜
-        r ≡ is-leading (lexicon-at (now (chars .entry)) (now («word_starts» .entry))) (now (index .entry)) (now (string .entry)) line ⌝ }
+        r ≡ is-leading least (lexicon-at (now (chars .entry)) (now («word_starts» .entry))) (now (index .entry)) (now (string .entry)) line ⌝ }
 {
     let start = word_starts[value_at(index, line)] as usize;
     let word = word_at(chars, word_starts, index, line);
-    if seen_to_lack(chars, start, word.len(), string[0]) {
+    if seen_to_lack(chars, start + least, word.len() - least, string[0]) {
         return false;
     }
-    agrees_leading(word, string)
+    agrees_leading(word, string, least)
 }
 
 // Lists those of the first `word_lines` lines whose keys agree at an offset of 0 or below, from the start of `lines`. Answers how many.
@@ -72,9 +74,9 @@ fn fill_leading(
         Reads (now chars) (now «word_starts») (now index) × Split (now index) «word_lines» × (1 ≤ length (now string)) ×
         («word_lines» ≤ length (now lines)) ⌝ }
     ensures { λ r. ⌜
-        (r ≡ length (leading-lines (lexicon-at (now (chars .entry)) (now («word_starts» .entry))) (now (index .entry))
+        (r ≡ length (leading-lines 0 (lexicon-at (now (chars .entry)) (now («word_starts» .entry))) (now (index .entry))
         (now (string .entry)) «word_lines»)) ×
-        (now (lines .exit) ≡ in-front (leading-lines (lexicon-at (now (chars .entry)) (now («word_starts» .entry))) (now (index .entry))
+        (now (lines .exit) ≡ in-front (leading-lines 0 (lexicon-at (now (chars .entry)) (now («word_starts» .entry))) (now (index .entry))
         (now (string .entry)) «word_lines») (now (lines .entry))) ⌝ }
 {
     let mut count = 0;
@@ -82,7 +84,7 @@ fn fill_leading(
     while line < word_lines {
         let at = line;
         line += 1;
-        if line_leads(chars, word_starts, index, string, at) {
+        if line_leads(chars, word_starts, index, string, at, 0) {
             lines[count] = at as u16;
             count += 1;
         }
@@ -108,7 +110,7 @@ pub fn list_leading(
         Reads (now chars) (now «word_starts») (now index) × (1 ≤ length (now string)) × (4096 ≤ length (now lines)) ⌝ }
     ensures { λ r. ⌜
         Split (now (index .entry)) (r .words) × (r .count ≤ length (now (lines .exit))) ×
-        (take (r .count) (now (lines .exit)) ≡ leading-lines (lexicon-at (now (chars .entry)) (now («word_starts» .entry)))
+        (take (r .count) (now (lines .exit)) ≡ leading-lines 0 (lexicon-at (now (chars .entry)) (now («word_starts» .entry)))
         (now (index .entry)) (now (string .entry)) (r .words)) ⌝ }
 {
     let word_lines = count_word_lines(index);

@@ -1,7 +1,6 @@
 // Flags the directory lines whose keys bear on a string: those that agree with it at some offset.
 //
-// At offsets of 0 and below each word is compared with the string. At offsets above 0 binary search over the sorted directory gives the
-// lines that agree.
+// At offsets below 0 each word is compared with the string. From 0 up binary search over the sorted directory gives the lines that agree.
 ghost use mathlib.Core.Path.{_≡_};
 ghost use Prim.Native.Nat.{_≤_};
 ghost use lib.ListN.{length, replicate};
@@ -11,7 +10,6 @@ ghost use Rattle.laws.specs.Directory.Tables.{Reads};
 ghost use Rattle.laws.specs.Search.Sizing.{Is-string};
 ghost use Rattle.laws.specs.Cut.ExactFlags.{Exact-flags};
 use crate::leading::flag_leading;
-use crate::offsets::flag_lone;
 use crate::offsets::flag_offsets;
 use directory::ranges::count_word_lines;
 use width::Number;
@@ -33,6 +31,5 @@ pub fn flag_bearing(
 {
     let word_lines = count_word_lines(index);
     flag_leading(chars, word_starts, index, string, word_lines, flags);
-    flag_lone(chars, word_starts, index, string, 0, word_lines, flags);
     flag_offsets(chars, word_starts, index, string, word_lines, flags);
 }

@@ -1,5 +1,4 @@
-// Keys that start where the string starts or before it: the offsets of 0 and below. A lone character has no such offset but 0, so only the
-// lines of words are walked.
+// Keys that start before the string: the offsets below 0. A lone character has no such offset, so only the lines of words are walked.
 ghost use Rattle.models.specs.Window.{leading-lines};
 ghost use Rattle.models.specs.WordStarts.{lexicon-at};
 ghost use Rattle.laws.specs.Cut.Flagging.{Flags, Ones-at};
@@ -7,7 +6,7 @@ ghost use Rattle.laws.specs.Cut.FlagWalks.{Bears-on};
 use agreement::leading::line_leads;
 use width::Number;
 
-// Flags those of the first `word_lines` lines whose words agree with the string at an offset of 0 or below.
+// Flags those of the first `word_lines` lines whose words agree with the string at an offset below 0.
 pub(crate) fn flag_leading(
     chars: &[u16],
     word_starts: &[u16],
@@ -20,14 +19,14 @@ pub(crate) fn flag_leading(
         Bears-on (now chars) (now «word_starts») (now index) (now string) «word_lines» ×
         Flags (lexicon-at (now chars) (now «word_starts»)) (now index) (now string) (now flags) ⌝ }
     ensures { λ r. ⌜
-        Ones-at (leading-lines (lexicon-at (now (chars .entry)) (now («word_starts» .entry))) (now (index .entry)) (now (string .entry))
+        Ones-at (leading-lines 1 (lexicon-at (now (chars .entry)) (now («word_starts» .entry))) (now (index .entry)) (now (string .entry))
         «word_lines») (now (flags .entry)) (now (flags .exit)) ⌝ }
 {
     let mut line = 0;
     while line < word_lines {
         let at = line;
         line += 1;
-        if line_leads(chars, word_starts, index, string, at) {
+        if line_leads(chars, word_starts, index, string, at, 1) {
             flags[at] = 1;
         }
     }

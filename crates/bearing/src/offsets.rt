@@ -1,12 +1,12 @@
 // Keys that start within the string: the offsets from 0 up.
 //
 // At each offset the lines that agree are found by binary search over the sorted directory; of the keys only those of the last few lines of
-// a range are compared with the string.
-ghost use Prim.Native.Nat.{_<_};
+// a range are compared with the string. The list that some of the lines go into is made once for all offsets.
+ghost use Prim.Native.Nat.{_≤_, _<_};
 ghost use lib.ListN.{length};
 ghost use Rattle.spec.specs.Index.{keys-of};
 ghost use Rattle.models.specs.WordStarts.{lexicon-at};
-ghost use Rattle.laws.specs.Cut.Flagging.{Flags, Flagged, Offset-flagged};
+ghost use Rattle.laws.specs.Cut.Flagging.{Flags, Offset-flagged};
 ghost use Rattle.laws.specs.Cut.FlagWalks.{Bears-on, Offsets};
 use crate::flags::flag_list;
 use crate::flags::flag_run;
@@ -23,16 +23,16 @@ fn flag_words(
     string: &[u16],
     key_start: usize,
     word_lines: usize,
+    lines: &mut [u16],
     flags: &mut [u8],
 )
     requires { ⌜
         Bears-on (now chars) (now «word_starts») (now index) (now string) «word_lines» × («key_start» < length (now string)) ×
-        Flags (lexicon-at (now chars) (now «word_starts»)) (now index) (now string) (now flags) ⌝ }
+        (36 ≤ length (now lines)) × Flags (lexicon-at (now chars) (now «word_starts»)) (now index) (now string) (now flags) ⌝ }
     ensures { λ r. ⌜
         Offset-flagged (lexicon-at (now (chars .entry)) (now («word_starts» .entry))) (now (index .entry)) (now (string .entry)) «key_start»
         0 «word_lines» (now (flags .entry)) (now (flags .exit)) ⌝ }
 {
-    let mut lines = [0u16; 36];
     let agreeing = agreeing_words(
         chars,
         word_starts,
@@ -40,7 +40,7 @@ fn flag_words(
         string,
         key_start,
         word_lines,
-        &mut lines,
+        lines,
     );
     flag_list(&lines[..agreeing.count], flags);
     flag_run(agreeing.from, agreeing.to, flags);
@@ -48,7 +48,7 @@ fn flag_words(
 
 // Flags the line of the lone character that agrees with the string at the offset `key_start`, if there is one. The lines of lone characters
 // follow the first `word_lines`.
-pub(crate) fn flag_lone(
+fn flag_lone(
     chars: &[u16],
     word_starts: &[u16],
     index: &[Number],
@@ -78,11 +78,12 @@ fn flag_offset(
     string: &[u16],
     key_start: usize,
     word_lines: usize,
+    lines: &mut [u16],
     flags: &mut [u8],
 )
     requires { ⌜
         Bears-on (now chars) (now «word_starts») (now index) (now string) «word_lines» × («key_start» < length (now string)) ×
-        Flags (lexicon-at (now chars) (now «word_starts»)) (now index) (now string) (now flags) ⌝ }
+        (36 ≤ length (now lines)) × Flags (lexicon-at (now chars) (now «word_starts»)) (now index) (now string) (now flags) ⌝ }
     ensures { λ r. ⌜
         Offset-flagged (lexicon-at (now (chars .entry)) (now («word_starts» .entry))) (now (index .entry)) (now (string .entry)) «key_start»
         0 (keys-of (now (index .entry))) (now (flags .entry)) (now (flags .exit)) ⌝ }
@@ -94,6 +95,7 @@ fn flag_offset(
         string,
         key_start,
         word_lines,
+        lines,
         flags,
     );
     flag_lone(
@@ -107,7 +109,7 @@ fn flag_offset(
     );
 }
 
-// Flags the lines whose keys agree with the string at an offset from 1 to its length less 1. Those that agree at 0 are flagged before.
+// Flags the lines whose keys agree with the string at an offset from 0 to its length less 1.
 pub(crate) fn flag_offsets(
     chars: &[u16],
     word_starts: &[u16],
@@ -118,15 +120,14 @@ pub(crate) fn flag_offsets(
 )
     requires { ⌜
         Bears-on (now chars) (now «word_starts») (now index) (now string) «word_lines» ×
-        Flags (lexicon-at (now chars) (now «word_starts»)) (now index) (now string) (now flags) ×
-        Flagged (lexicon-at (now chars) (now «word_starts»)) (now index) (now string) 0 0 0 (keys-of (now index))
-        (now flags) ⌝ }
+        Flags (lexicon-at (now chars) (now «word_starts»)) (now index) (now string) (now flags) ⌝ }
     ensures { λ r. ⌜
         Offsets (lexicon-at (now (chars .entry)) (now («word_starts» .entry))) (now (index .entry)) (now (string .entry))
         (now (flags .entry)) (now (flags .exit)) (length (now (string .entry))) ⌝ }
 {
+    let mut lines = [0u16; 36];
     let last = string.len() - 1;
-    let mut key_start = 1;
+    let mut key_start = 0;
     while key_start <= last {
         flag_offset(
             chars,
@@ -135,6 +136,7 @@ pub(crate) fn flag_offsets(
             string,
             key_start,
             word_lines,
+            &mut lines,
             flags,
         );
         key_start += 1;

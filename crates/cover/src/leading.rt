@@ -62,7 +62,7 @@ pub(crate) fn extend_leading(
 ) -> usize
     requires { ⌜
         Searches (now chars) (now «word_starts») (now index) (now «list_starts») (now string) «word_lines» first ×
-        (now lines ≡ leading-lines (lexicon-at (now chars) (now «word_starts»)) (now index) (now string) «word_lines») ×
+        (now lines ≡ leading-lines 0 (lexicon-at (now chars) (now «word_starts»)) (now index) (now string) «word_lines») ×
         Within «max_reach» (now reach) ⌝ }
     ensures { λ r. ⌜
         Reaches (leading-all (lexicon-at (now (chars .entry)) (now («word_starts» .entry))) (lines-in (now (index .entry)))

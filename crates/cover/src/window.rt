@@ -26,7 +26,7 @@ pub fn extend_window(
 ) -> usize
     requires { ⌜
         Searches (now chars) (now «word_starts») (now index) (now «list_starts») (now string) «word_lines» first ×
-        (now lines ≡ leading-lines (lexicon-at (now chars) (now «word_starts»)) (now index) (now string) «word_lines») ×
+        (now lines ≡ leading-lines 0 (lexicon-at (now chars) (now «word_starts»)) (now index) (now string) «word_lines») ×
         Within 0 (now reach) ⌝ }
     ensures { λ r. ⌜
         Window-done (lexicon-at (now (chars .entry)) (now («word_starts» .entry))) (now (index .entry)) (now (string .entry)) first

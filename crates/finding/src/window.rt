@@ -124,7 +124,7 @@ pub fn first_in_window(
 ) -> usize
     requires { ⌜
         Searches (now chars) (now «word_starts») (now index) (now «list_starts») (now string) «word_lines» first ×
-        (now lines ≡ leading-lines (lexicon-at (now chars) (now «word_starts»)) (now index) (now string) «word_lines») ×
+        (now lines ≡ leading-lines 0 (lexicon-at (now chars) (now «word_starts»)) (now index) (now string) «word_lines») ×
         (first + length (now reach) ≤ 2 ^ 32) × (now reach ≡ replicate (length (now reach)) 0) ⌝ }
     ensures { λ r. ⌜
         First-in (lexicon-at (now (chars .entry)) (now («word_starts» .entry))) (now (index .entry)) (now (string .entry))

@@ -85,17 +85,17 @@ agrees-line o lex xs s i = agrees s 0 (spells lex (key-at xs i)) o
 unfoldable pub agreeing-lines : (o : ℕ) → Lexicon → (numbers string : List ℕ) → (a b : ℕ) → List ℕ
 agreeing-lines o lex xs s a b = those-from (b - a) a (agrees-line o lex xs s)
 
--- whether a key agrees with the string at some offset of 0 or below
-unfoldable pub agrees-leading : (string key : List ℕ) → Bool
-agrees-leading s k = any-from (length k) 0 (λ i. agrees s i k 0)
+-- whether a key agrees with the string at some offset of −m or below
+unfoldable pub agrees-leading : (m : ℕ) → (string key : List ℕ) → Bool
+agrees-leading m s k = any-from (length k - m) m (λ i. agrees s i k 0)
 
--- whether the key of line i is leading
-abbrev pub is-leading : Lexicon → (numbers string : List ℕ) → (i : ℕ) → Bool
-is-leading lex xs s i = agrees-leading s (spells lex (key-at xs i))
+-- whether the key of line i does
+abbrev pub is-leading : (m : ℕ) → Lexicon → (numbers string : List ℕ) → (i : ℕ) → Bool
+is-leading m lex xs s i = agrees-leading m s (spells lex (key-at xs i))
 
--- the leading ones of the first w lines, ascending
-unfoldable pub leading-lines : Lexicon → (numbers string : List ℕ) → (w : ℕ) → List ℕ
-leading-lines lex xs s w = those-from w 0 (is-leading lex xs s)
+-- those of the first w lines that do, ascending
+unfoldable pub leading-lines : (m : ℕ) → Lexicon → (numbers string : List ℕ) → (w : ℕ) → List ℕ
+leading-lines m lex xs s w = those-from w 0 (is-leading m lex xs s)
 
 -- the steps of the listed numbers, one after another
 unfoldable pub run-list : (step : ℕ → List ℕ → List ℕ) → (numbers reaches : List ℕ) → List ℕ

@@ -31,35 +31,33 @@ module _ (lex : Lexicon) (xs s : List ℕ) where
     pub way : Flagging lex xs s old fs
     pub done : (q : ℕ) → q < o → Flagged lex xs s 0 q 0 (keys-of xs) fs
 
-  -- the first n lines are done at every offset of 0 or below
+  -- the first n lines are done at every offset below 0
   pub record Backs (old fs : List ℕ) (n : ℕ) : Type 0 where
     pub way : Flagging lex xs s old fs
-    pub done : (p : ℕ) → Flagged lex xs s p 0 0 n fs
+    pub done : (p : ℕ) → 1 ≤ p → Flagged lex xs s p 0 0 n fs
 
-  -- the leading ones of no lines, and of one line more
-  pub leading-none : leading-lines lex xs s 0 ≡ []
+  -- the lines that agree below 0: of no lines, and of one line more
+  pub leading-none : leading-lines 1 lex xs s 0 ≡ []
   unfolding leading-lines those-from
   leading-none = refl
 
-  pub leading-more : (i : ℕ) → is-leading lex xs s i ≡ true → leading-lines lex xs s (i + 1) ≡ leading-lines lex xs s i ++ i ∷ []
+  pub leading-more : (i : ℕ) → is-leading 1 lex xs s i ≡ true → leading-lines 1 lex xs s (i + 1) ≡ leading-lines 1 lex xs s i ++ i ∷ []
   unfolding leading-lines those-from
   leading-more i t =
       let z : 0 + i ≡ i = omega arith in
-      those-from-append i 1 0 (is-leading lex xs s) ∙ rw (z, t)
+      those-from-append i 1 0 (is-leading 1 lex xs s) ∙ rw (z, t)
 
-  pub leading-same : (i : ℕ) → is-leading lex xs s i ≡ false → leading-lines lex xs s (i + 1) ≡ leading-lines lex xs s i
+  pub leading-same : (i : ℕ) → is-leading 1 lex xs s i ≡ false → leading-lines 1 lex xs s (i + 1) ≡ leading-lines 1 lex xs s i
   unfolding leading-lines those-from
   leading-same i f =
       let z : 0 + i ≡ i = omega arith in
-      those-from-append i 1 0 (is-leading lex xs s) ∙ rw (z, f, append-nil (those-from i 0 (is-leading lex xs s)))
+      those-from-append i 1 0 (is-leading 1 lex xs s) ∙ rw (z, f, append-nil (those-from i 0 (is-leading 1 lex xs s)))
 
 module _ {lex : Lexicon} {xs s : List ℕ} where
   -- ALL OFFSETS FROM 0 UP
 
-  -- the offset 0 is done
-  pub offsets-start : {fs : List ℕ} → Flags lex xs s fs → Flagged lex xs s 0 0 0 (keys-of xs) fs → Offsets lex xs s fs fs 1
-  offsets-start h zero-done =
-      record { way = flagging-start h; done = λ q b. let e : q ≡ 0 = omega arith in rw e zero-done }
+  pub offsets-start : {fs : List ℕ} → Flags lex xs s fs → Offsets lex xs s fs fs 0
+  offsets-start h = record { way = flagging-start h; done = λ q b. absurd (omega arith) }
 
   pub offsets-next :
       {old fs now : List ℕ} {o : ℕ} → Offsets lex xs s old fs o → Offset-flagged lex xs s o 0 (keys-of xs) fs now →
@@ -73,34 +71,29 @@ module _ {lex : Lexicon} {xs s : List ℕ} where
             (λ (p : q < o). flagged-kept 0 q 0 (keys-of xs) (next .way) (omega arith) (h .done q p)) (le-or-lt o q);
       }
 
-  -- ALL OFFSETS OF 0 AND BELOW
+  -- ALL OFFSETS BELOW 0
 
-  pub backs-kept :
-      {old mid fs : List ℕ} {n : ℕ} → Backs lex xs s old mid n → Flagging lex xs s mid fs → n ≤ keys-of xs → Backs lex xs s old fs n
-  backs-kept {n} h on within =
-      record { way = flagging-on (h .way) on; done = λ p. flagged-kept p 0 0 n on within (h .done p) }
-
-  -- the leading lines have all of these
+  -- the listed lines have all of these
   pub backs-leading :
-      {w : ℕ} {is fs now : List ℕ} → is ≡ leading-lines lex xs s w → Flags lex xs s fs → Ones-at is fs now → Backs lex xs s fs now w
+      {w : ℕ} {is fs now : List ℕ} → is ≡ leading-lines 1 lex xs s w → Flags lex xs s fs → Ones-at is fs now → Backs lex xs s fs now w
   unfolding leading-lines agrees-leading
   backs-leading {w} {is} {fs} {now} e h ones =
-      record { way = flagging-list h ones bear; done = λ p i a b t. omega (arith, ones .listed i (there p i b t)) }
+      record { way = flagging-list h ones bear; done = λ p l i a b t. omega (arith, ones .listed i (there p l i b t)) }
     where
       bear : (i : ℕ) → In i is → bears-at lex xs s i ≡ true
       bear i m =
-          let leading = those-from-get w 0 (is-leading lex xs s) i (rw e at m) in
+          let leading = those-from-get w 0 (is-leading 1 lex xs s) i (rw e at m) in
           let k = spells lex (key-at xs i) in
-          let some = any-from-get (length k) 0 (λ (p : ℕ). agrees s p k 0) (leading .2) in
+          let some = any-from-get (length k - 1) 1 (λ (p : ℕ). agrees s p k 0) (leading .2) in
           agrees-bears-at lex xs s (some .0) 0 i (some .3)
 
-      there : (p i : ℕ) → i < w → agrees s p (spells lex (key-at xs i)) 0 ≡ true → In i is
-      there p i b t =
+      there : (p : ℕ) → 1 ≤ p → (i : ℕ) → i < w → agrees s p (spells lex (key-at xs i)) 0 ≡ true → In i is
+      there p l i b t =
           let k = spells lex (key-at xs i) in
           let overlap = agrees-get s p k 0 t in
           rw e
-          (those-from-put w 0 (is-leading lex xs s) i (omega arith) (omega arith)
-          (any-from-put (length k) 0 (λ (q : ℕ). agrees s q k 0) p (omega arith) (omega arith) t))
+          (those-from-put w 0 (is-leading 1 lex xs s) i (omega arith) (omega arith)
+          (any-from-put (length k - 1) 1 (λ (q : ℕ). agrees s q k 0) p l (omega arith) t))
 
 -- the index is read by the table of word starts, its first w lines are those of words, and the string may be searched for
 pub record Bears-on (cs ws xs s : List ℕ) (w : ℕ) : Type 0 where
@@ -127,7 +120,7 @@ module _
         (λ (p : i < w).
         omega (
           arith,
-          backs .done (a - b) i (omega arith) p (agrees-put s (a - b) (key i) 0 (agree-move (a - b) 0 (omega arith) h)),
+          backs .done (a - b) (omega arith) i (omega arith) p (agrees-put s (a - b) (key i) 0 (agree-move (a - b) 0 (omega arith) h)),
           offsets .way .kept i below,
         ))
         (le-or-lt w i)

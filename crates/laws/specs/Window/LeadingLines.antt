@@ -31,70 +31,73 @@ use Rattle.laws.specs.Window.Window.{Within, Reaches, extended-same, Pro
 
 -- ONE KEY
 
--- the key agrees at none of the first n such offsets
-abbrev pub Apart-to : (string key : List ℕ) → (n : ℕ) → Type 0
-Apart-to s k n = (i : ℕ) → i < n → agrees s i k 0 ≡ false
+-- of the offsets −m and below, the key agrees at none above −n
+abbrev pub Apart-to : (m : ℕ) → (string key : List ℕ) → (n : ℕ) → Type 0
+Apart-to m s k n = (i : ℕ) → i < n → m ≤ i → agrees s i k 0 ≡ false
 
-module _ (s k : List ℕ) where
-  pub apart-start : Apart-to s k 0
-  apart-start i b = absurd (omega arith)
+module _ (m : ℕ) (s k : List ℕ) where
+  pub apart-start : Apart-to m s k m
+  apart-start i b l = absurd (omega arith)
 
-  module _ (n : ℕ) (h : Apart-to s k n) where
-    pub apart-next : agrees s n k 0 ≡ false → Apart-to s k (n + 1)
-    apart-next f = below-more (λ (i : ℕ). agrees s i k 0 ≡ false) n h f
+  module _ (n : ℕ) (h : Apart-to m s k n) where
+    pub apart-next : agrees s n k 0 ≡ false → Apart-to m s k (n + 1)
+    apart-next f = below-more (λ (i : ℕ). m ≤ i → agrees s i k 0 ≡ false) n h (λ l. f)
 
     -- if the key does not have the string's first character there
-    pub apart-pass : n < length k → (getD k n 0 ≡ getD s 0 0 → ⊥) → Apart-to s k (n + 1)
+    pub apart-pass : n < length k → (getD k n 0 ≡ getD s 0 0 → ⊥) → Apart-to m s k (n + 1)
     apart-pass some other = apart-next (key-starts-apart n s k some other)
 
-    pub apart-end : length k ≤ n → false ≡ agrees-leading s k
+    pub apart-end : length k ≤ n → false ≡ agrees-leading m s k
     unfolding agrees-leading
     apart-end past =
         sym
-        (false-put (any-from (length k) 0 (λ i. agrees s i k 0))
+        (false-put (any-from (length k - m) m (λ i. agrees s i k 0))
         (λ t.
-        let some = any-from-get (length k) 0 (λ i. agrees s i k 0) t in
-        clash (some .3) (h (some .0) (omega arith))))
+        let some = any-from-get (length k - m) m (λ i. agrees s i k 0) t in
+        clash (some .3) (h (some .0) (omega arith) (some .1))))
 
-  pub leading-found : (i : ℕ) → i < length k → agrees s i k 0 ≡ true → true ≡ agrees-leading s k
+  pub leading-found : (i : ℕ) → m ≤ i → i < length k → agrees s i k 0 ≡ true → true ≡ agrees-leading m s k
   unfolding agrees-leading
-  leading-found i b t = sym (any-from-put (length k) 0 (λ i. agrees s i k 0) i (omega arith) (omega arith) t)
+  leading-found i l b t = sym (any-from-put (length k - m) m (λ i. agrees s i k 0) i l (omega arith) t)
 
-  -- a key without the string's first character agrees at none of them
-  pub leading-lacks : ((i : ℕ) → i < length k → getD k i 0 ≡ getD s 0 0 → ⊥) → false ≡ agrees-leading s k
-  leading-lacks other = apart-end (length k) (λ i b. key-starts-apart i s k b (other i b)) (omega arith)
+  -- a key without the string's first character from index m on agrees at none of them
+  pub leading-lacks : ((i : ℕ) → m ≤ i → i < length k → getD k i 0 ≡ getD s 0 0 → ⊥) → false ≡ agrees-leading m s k
+  leading-lacks other = apart-end (length k) (λ i b l. key-starts-apart i s k b (other i l b)) (omega arith)
 
-  -- a key that agrees at none of them extends nothing
-  back-apart : (p : ℕ) (bs : List ℕ) (n i r : ℕ) → Apart-to s k (i + n) → reach-back n i s k p bs r ≡ r
+  pub leading-none : agrees-leading m s k ≡ false → Apart-to m s k (length k)
+  unfolding agrees-leading
+  leading-none f i b l =
+      false-put (agrees s i k 0)
+      (λ t. clash (any-from-put (length k - m) m (λ i. agrees s i k 0) i l (omega arith) t) f)
+
+module _ (s k : List ℕ) where
+  -- a key that agrees at no offset of 0 or below extends nothing
+  back-apart : (p : ℕ) (bs : List ℕ) (n i r : ℕ) → Apart-to 0 s k (i + n) → reach-back n i s k p bs r ≡ r
   unfolding reach-back
   back-apart p bs zero i r h = refl
   back-apart p bs (suc n) i r h =
-      rw (reach-key-apart i 0 s k p bs r (h i (omega arith)))
+      rw (reach-key-apart i 0 s k p bs r (h i (omega arith) (omega arith)))
       (back-apart p bs n (suc i) r (λ j b. h j (omega arith)))
 
-  pub leading-none : agrees-leading s k ≡ false → Apart-to s k (length k)
-  unfolding agrees-leading
-  leading-none f i b =
-      false-put (agrees s i k 0)
-      (λ t. clash (any-from-put (length k) 0 (λ i. agrees s i k 0) i (omega arith) (omega arith) t) f)
-
   pub leading-all-apart :
-      (q : ℕ) (bs rs : List ℕ) → agrees-leading s k ≡ false → back-all (length k) 0 s k q bs rs ≡ rs
+      (q : ℕ) (bs rs : List ℕ) → agrees-leading 0 s k ≡ false → back-all (length k) 0 s k q bs rs ≡ rs
   unfolding back-all
   leading-all-apart q bs rs f =
       extended-same (λ p r. reach-back (length k) 0 s k p bs r) q rs
-      (λ j w. back-apart (q + j) bs (length k) 0 (getD rs j 0) (λ i b. leading-none f i (omega arith)))
+      (λ j w. back-apart (q + j) bs (length k) 0 (getD rs j 0) (λ i b. leading-none 0 s k f i (omega arith)))
 
 -- THE LINES OF LEADING KEYS
 
--- a word that is seen to lack the string's first character
+-- a word that is seen to lack the string's first character from index m on
 pub line-lacks :
-    {cs ws xs : List ℕ} (reads : Reads cs ws xs) (i : ℕ) (below : i < keys-of xs) (kind : kind-at xs i ≡ 0) (s : List ℕ) {v : ℕ}
-    {k : List ℕ} → v ≡ value-at xs i → k ≡ spells (lexicon-at cs ws) (key-at xs i) → Lacks cs (getD ws v 0) (length k) (getD s 0 0) →
-    false ≡ is-leading (lexicon-at cs ws) xs s i
-line-lacks {cs} {ws} {xs} reads i below kind s e f lacks =
-    leading-lacks s (spells (lexicon-at cs ws) (key-at xs i))
-    (λ j b c. (rw (e, f) at lacks) j b (line-char reads i below kind j b ∙ c))
+    {cs ws xs : List ℕ} (reads : Reads cs ws xs) (i : ℕ) (below : i < keys-of xs) (kind : kind-at xs i ≡ 0) (s : List ℕ) (m : ℕ)
+    {v : ℕ} {k : List ℕ} → v ≡ value-at xs i → k ≡ spells (lexicon-at cs ws) (key-at xs i) →
+    Lacks cs (getD ws v 0 + m) (length k - m) (getD s 0 0) → false ≡ is-leading m (lexicon-at cs ws) xs s i
+line-lacks {cs} {ws} {xs} reads i below kind s m {v} e f lacks =
+    leading-lacks m s (spells (lexicon-at cs ws) (key-at xs i))
+    (λ j l b c.
+    let at : getD ws v 0 + m + (j - m) ≡ getD ws (value-at xs i) 0 + j = omega (arith, ap (λ (u : ℕ). getD ws u 0) e) in
+    lacks (j - m) (omega (arith, ap length f)) (ap (λ (u : ℕ). getD cs u 0) at ∙ line-char reads i below kind j b ∙ c))
 
 -- a walk may skip steps that change nothing
 pub run-those :
@@ -112,18 +115,18 @@ run-those f test still (suc n) i rs = by-test (test i) refl (λ old. run-those f
 
 module _ (lex : Lexicon) (xs s : List ℕ) where
   -- a line whose key is not leading changes nothing
-  pub leading-apart : (q i : ℕ) → is-leading lex xs s i ≡ false → (rs : List ℕ) → leading-at lex xs s q i rs ≡ rs
+  pub leading-apart : (q i : ℕ) → is-leading 0 lex xs s i ≡ false → (rs : List ℕ) → leading-at lex xs s q i rs ≡ rs
   unfolding leading-at
   leading-apart q i f rs = leading-all-apart s (spells lex (key-at xs i)) q (positions-at xs i) rs f
 
   -- so walking the listed lines does what walking all does
-  pub leading-run : (q w : ℕ) (rs : List ℕ) → run-list (leading-at lex xs s q) (leading-lines lex xs s w) rs ≡ run
-      (leading-at lex xs s q) 0 w rs
+  pub leading-run :
+      (q w : ℕ) (rs : List ℕ) → run-list (leading-at lex xs s q) (leading-lines 0 lex xs s w) rs ≡ run (leading-at lex xs s q) 0 w rs
   unfolding leading-lines
-  leading-run q w rs = rw (sub-zero w) (run-those (leading-at lex xs s q) (is-leading lex xs s) (leading-apart q) w 0 rs)
+  leading-run q w rs = rw (sub-zero w) (run-those (leading-at lex xs s q) (is-leading 0 lex xs s) (leading-apart q) w 0 rs)
 
   pub leading-reaches :
-      (q w : ℕ) {is : List ℕ} (old : List ℕ) {now : List ℕ} {max-reach : ℕ} → is ≡ leading-lines lex xs s w →
+      (q w : ℕ) {is : List ℕ} (old : List ℕ) {now : List ℕ} {max-reach : ℕ} → is ≡ leading-lines 0 lex xs s w →
       Reaches (run-list (leading-at lex xs s q) is old) now max-reach →
       Reaches (run (leading-at lex xs s q) 0 w old) now max-reach
   leading-reaches q w {is} old e r =
@@ -133,16 +136,16 @@ module _ (lex : Lexicon) (xs s : List ℕ) where
       }
 
   -- and each of them is a line of a word
-  pub leading-below : (w : ℕ) (is : List ℕ) → is ≡ leading-lines lex xs s w → (j : ℕ) → j < length is → getD is j 0 < w
+  pub leading-below : (w : ℕ) (is : List ℕ) → is ≡ leading-lines 0 lex xs s w → (j : ℕ) → j < length is → getD is j 0 < w
   unfolding leading-lines
   leading-below w is e j b =
-      let listed : List ℕ = those-from w 0 (is-leading lex xs s) in
-      let m = those-from-get w 0 (is-leading lex xs s) (getD listed j 0) (in-getD listed j 0 (omega (arith, ap length e))) in
+      let listed : List ℕ = those-from w 0 (is-leading 0 lex xs s) in
+      let m = those-from-get w 0 (is-leading 0 lex xs s) (getD listed j 0) (in-getD listed j 0 (omega (arith, ap length e))) in
       rw e (omega arith)
 
-  pub leading-short : (w : ℕ) → length (leading-lines lex xs s w) ≤ w
+  pub leading-short : (w : ℕ) → length (leading-lines 0 lex xs s w) ≤ w
   unfolding leading-lines
-  leading-short w = those-short w 0 (is-leading lex xs s)
+  leading-short w = those-short w 0 (is-leading 0 lex xs s)
 
 -- WALKING A LIST OF LINES
 
@@ -170,29 +173,29 @@ module _ {f : ℕ → List ℕ → List ℕ} {is old : List ℕ} where
 
 -- of the first w lines those from i on are still to be tested, and `count` are listed
 pub record Leading (lex : Lexicon) (xs s : List ℕ) (w : ℕ) (old now : List ℕ) (count i : ℕ) : Type 0 where
-  pub writing : Writing (leading-lines lex xs s w) old now (those-from (w - i) i (is-leading lex xs s)) count
+  pub writing : Writing (leading-lines 0 lex xs s w) old now (those-from (w - i) i (is-leading 0 lex xs s)) count
 
 module _ {lex : Lexicon} {xs s : List ℕ} {w : ℕ} {old : List ℕ} where
   pub leading-start : w ≤ length old → Leading lex xs s w old old 0 0
   unfolding leading-lines
   leading-start room =
-      record { writing = rw (sub-zero w) (starts old (leading-lines lex xs s w) 0 (omega (arith, leading-short lex xs s w))) }
+      record { writing = rw (sub-zero w) (starts old (leading-lines 0 lex xs s w) 0 (omega (arith, leading-short lex xs s w))) }
 
   module _ {now : List ℕ} {count i : ℕ} (h : Leading lex xs s w old now count i) where
     module _ (some : i < w) where
       rest : List ℕ
-      rest = those-from (w - (i + 1)) (i + 1) (is-leading lex xs s)
+      rest = those-from (w - (i + 1)) (i + 1) (is-leading 0 lex xs s)
 
-      cut : those-from (w - i) i (is-leading lex xs s) ≡ cond (is-leading lex xs s i) (i ∷ rest) rest
+      cut : those-from (w - i) i (is-leading 0 lex xs s) ≡ cond (is-leading 0 lex xs s i) (i ∷ rest) rest
       unfolding those-from rest
       cut = let z : w - i ≡ suc (w - suc i) = omega arith in rw (add-one i, z)
 
-      pub leading-passed : false ≡ is-leading lex xs s i → Leading lex xs s w old now count (i + 1)
+      pub leading-passed : false ≡ is-leading 0 lex xs s i → Leading lex xs s w old now count (i + 1)
       unfolding rest
       leading-passed f = record { writing = rw (cut, ← f) at (h .writing) }
 
-      module _ (t : true ≡ is-leading lex xs s i) where
-        here : Writing (leading-lines lex xs s w) old now (i ∷ rest) count
+      module _ (t : true ≡ is-leading 0 lex xs s i) where
+        here : Writing (leading-lines 0 lex xs s w) old now (i ∷ rest) count
         here = rw (cut, ← t) at (h .writing)
 
         pub leading-room : count < length now
@@ -203,16 +206,16 @@ module _ {lex : Lexicon} {xs s : List ℕ} {w : ℕ} {old : List ℕ} where
         leading-listed = record { writing = writes i rest here }
 
     module _ (past : w ≤ i) where
-      last : Writing (leading-lines lex xs s w) old now [] count
+      last : Writing (leading-lines 0 lex xs s w) old now [] count
       unfolding those-from
       last = let z : w - i ≡ 0 = omega arith in rw z at (h .writing)
 
-      pub leading-count : count ≡ length (leading-lines lex xs s w)
-      leading-count = sym (written-length (leading-lines lex xs s w) old now count last)
+      pub leading-count : count ≡ length (leading-lines 0 lex xs s w)
+      leading-count = sym (written-length (leading-lines 0 lex xs s w) old now count last)
 
-      pub leading-written : now ≡ in-front (leading-lines lex xs s w) old
+      pub leading-written : now ≡ in-front (leading-lines 0 lex xs s w) old
       unfolding in-front
-      leading-written = written (leading-lines lex xs s w) old now count last
+      leading-written = written (leading-lines 0 lex xs s w) old now count last
 
 -- the start of the filled list
 pub leading-taken : {count : ℕ} {new now : List ℕ} (old : List ℕ) → count ≡ length new → now ≡ in-front new old → take count now ≡ new

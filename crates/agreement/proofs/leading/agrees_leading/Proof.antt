@@ -1,7 +1,7 @@
--- `agrees_leading` meets its contract. The invariant: the key agrees at none of the first i offsets. The measure is how
+-- `agrees_leading` meets its contract. The invariant: the key agrees at no offset from -`least` down to above -i. The measure is how
 -- many are left. Assumes nothing.
 use mathlib.Core.Path.{_≡_, sym, ap, _∙_}
-use Prim.Native.Nat.{_-_, _<_, _^_}
+use Prim.Native.Nat.{_-_, _≤_, _<_, _^_}
 use native.Mathlib.Omega.{arith}
 use borrow.Author.Needs.{needs}
 use lib.ListN.{length}
@@ -13,10 +13,10 @@ use Rattle.agreement.proofs.leading.agrees_leading.Statement.{statement
 use Rattle.agreement.proofs.leading.agrees_leading.Tie as tie
 
 abbrev Inv-loop : tie.InvT-loop
-Inv-loop key string character i₀ i = Apart-to string key i
+Inv-loop key string least character i₀ i = Apart-to least string key i × (least ≤ i)
 
 abbrev μ-loop : tie.MeasureT-loop
-μ-loop key string character i₀ i = length key - i
+μ-loop key string least character i₀ i = length key - i
 
 abbrev start : tie.In-loop Inv-loop μ-loop → tie.Start Inv-loop μ-loop
 start c = c .before .before .before .before .before
@@ -35,7 +35,8 @@ agreed c =
     ∙ sym (c .agrees-at .ensures)
 
 loop-holds : tie.Need-loop-holds Inv-loop μ-loop
-loop-holds c = apart-start (c .before .before .before .args .string .now) (c .before .before .before .args .key .now)
+loop-holds c =
+    let a = c .before .before .before .args in (apart-start (a .least) (a .string .now) (a .key .now), omega arith)
 
 sub-agrees-at : tie.Need-sub-agrees-at Inv-loop μ-loop
 sub-agrees-at c = offset-fits32 0 (c .before .before .before .loop .i) (omega arith) (small (c .before .before))
@@ -43,26 +44,29 @@ sub-agrees-at c = offset-fits32 0 (c .before .before .before .loop .i) (omega ar
 returns : tie.Need-returns Inv-loop μ-loop
 returns c =
     let a = start (c .before .before .before .before) .args in
-    leading-found (a .string .now) (a .key .now) (c .before .before .before .before .before .loop .i)
+    let l = c .before .before .before .before .before .loop in
+    leading-found (a .least) (a .string .now) (a .key .now) (l .i) (l .inv .1)
     (c .before .before .before .before .loop-test .taken) (agreed (c .before) ∙ c .if2 .taken)
 
 loop-again : tie.Need-loop-again Inv-loop μ-loop
 loop-again c =
     let a = start (c .before .before .before .before) .args in
     let l = c .before .before .before .before .before .loop in
-    apart-next (a .string .now) (a .key .now) (l .i) (l .inv) (agreed (c .before) ∙ c .if2 .left)
+    (apart-next (a .least) (a .string .now) (a .key .now) (l .i) (l .inv .0) (agreed (c .before) ∙ c .if2 .left), omega arith)
 
 loop-again-2 : tie.Need-loop-again-2 Inv-loop μ-loop
 loop-again-2 c =
     let a = start (c .before .before) .args in
-    let l = c .before .before .before .loop in
-    apart-pass (a .string .now) (a .key .now) (l .i) (l .inv) (c .before .before .loop-test .taken) (c .if1 .left)
+    let l = c .before .before .before .loop in (
+      apart-pass (a .least) (a .string .now) (a .key .now) (l .i) (l .inv .0) (c .before .before .loop-test .taken) (c .if1 .left),
+      omega arith,
+    )
 
 returns-2 : tie.Need-returns-2 Inv-loop μ-loop
 returns-2 c =
     let a = c .before .before .before .before .before .args in
     let l = c .before .loop in
-    apart-end (a .string .now) (a .key .now) (l .i) (l .inv) (c .loop-test .left)
+    apart-end (a .least) (a .string .now) (a .key .now) (l .i) (l .inv .0) (c .loop-test .left)
 
 pub agrees-leading-spec : {M : Type 1} → statement M
 agrees-leading-spec =

@@ -31,7 +31,7 @@ room c =
 line-leads-requires : tie.Need-line-leads-requires Inv-loop μ-loop
 line-leads-requires c κs =
     let s = start (c .before .before) in
-    (s .pre .0, omega arith, s .pre .1 .words (c .before .loop .line) (c .loop-test .taken), s .pre .2)
+    (s .pre .0, omega arith, s .pre .1 .words (c .before .loop .line) (c .loop-test .taken), s .pre .2, omega arith)
 
 loop-again : tie.Need-loop-again Inv-loop μ-loop
 loop-again c =

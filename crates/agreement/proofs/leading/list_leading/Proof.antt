@@ -35,7 +35,7 @@ returns c =
     let words = ended .count-word-lines .result in (
       split ended,
       omega (arith, leading-short lexicon (a .index .now) (a .string .now) words, word-lines-few (s .pre .0 .can) (split ended)),
-      leading-taken {new = leading-lines lexicon (a .index .now) (a .string .now) words} (a .lines .now) (filled .ensures .0)
+      leading-taken {new = leading-lines 0 lexicon (a .index .now) (a .string .now) words} (a .lines .now) (filled .ensures .0)
           (filled .ensures .1),
     )
 

@@ -1,10 +1,10 @@
--- `flag_bearing` meets its contract: the offsets of 0 and below, then those above 0. Assumes nothing.
+-- `flag_bearing` meets its contract: the offsets below 0, then those from 0 up. Assumes nothing.
 use borrow.Author.Needs.{needs}
 use mathlib.Core.Path.{refl}
 use Rattle.models.specs.WordStarts.{lexicon-at}
 use Rattle.laws.specs.Window.LineRanges.{kinds-rise, split-found}
-use Rattle.laws.specs.Cut.Flagging.{flags-none, flagged-both}
-use Rattle.laws.specs.Cut.FlagWalks.{Bears-on, Backs, backs-leading, backs-kept, flags-exact-flags}
+use Rattle.laws.specs.Cut.Flagging.{flags-none}
+use Rattle.laws.specs.Cut.FlagWalks.{Bears-on, Backs, backs-leading, flags-exact-flags}
 use Rattle.bearing.proofs.bearing.flag_bearing.Statement.{statement}
 use Rattle.bearing.proofs.bearing.flag_bearing.Tie as tie
 
@@ -35,32 +35,20 @@ backs c =
     let s = start (c .before .before .before) in
     backs-leading refl (flags-none (s .pre .3) (s .pre .2)) (c .flag-leading .ensures)
 
-flag-lone-requires : tie.Need-flag-lone-requires
-flag-lone-requires c κs =
-    let counted = c .before .before .before .before .before in
-    (on counted, start (counted .before) .pre .1 .some, backs (c .before .before .before) .way .flags)
-
 flag-offsets-requires : tie.Need-flag-offsets-requires
 flag-offsets-requires c κs =
-    let lone = c .before .before .before in
-    let leading = lone .before .before .before .before in
-    let h = on (leading .before .before) in
-    let led = backs leading in
-    let both = flagged-both (h .split .within) (record { way = led .way; done = led .done 0 }) (lone .flag-lone .ensures) in
-    (h, both .way .flags, both .done)
+    let leading = c .before .before .before in
+    (on (leading .before .before), backs leading .way .flags)
 
 returns : tie.Need-returns
 returns c =
     let offsets = c .before .before in
-    let lone = offsets .before .before .before .before in
-    let leading = lone .before .before .before .before in
+    let leading = offsets .before .before .before .before in
     let counted = leading .before .before in
     let s = start (counted .before) in
-    let split = on counted .split in
-    flags-exact-flags (s .pre .0 .can) split (s .pre .1)
-    (backs-kept (backs leading) (lone .flag-lone .ensures .way) (split .within)) (offsets .flag-offsets .ensures)
+    flags-exact-flags (s .pre .0 .can) (on counted .split) (s .pre .1) (backs leading) (offsets .flag-offsets .ensures)
 
 pub flag-bearing-spec : {M : Type 1} → statement M
 flag-bearing-spec =
     tie.close
-    (tie.spec count-word-lines-requires flag-leading-requires flag-lone-requires flag-offsets-requires (λ c. search needs) returns)
+    (tie.spec count-word-lines-requires flag-leading-requires flag-offsets-requires (λ c. search needs) returns)

@@ -12,7 +12,7 @@ use Rattle.bearing.proofs.leading.flag_leading.Tie as tie
 
 abbrev Inv-loop : tie.InvT-loop
 Inv-loop chars word-starts index string word-lines flags₀ line₀ flags line =
-    Ones-at (leading-lines (lexicon-at chars word-starts) index string line) flags₀ flags × (line ≤ word-lines)
+    Ones-at (leading-lines 1 (lexicon-at chars word-starts) index string line) flags₀ flags × (line ≤ word-lines)
 
 abbrev μ-loop : tie.MeasureT-loop
 μ-loop chars word-starts index string word-lines flags₀ line₀ flags line = word-lines - line
@@ -31,7 +31,7 @@ loop-holds c =
 line-leads-requires : tie.Need-line-leads-requires Inv-loop μ-loop
 line-leads-requires c κs =
     let h = start (c .before .before) .pre .0 in
-    (h .reads, omega arith, h .split .words (c .before .loop .line) (c .loop-test .taken), h .string .some)
+    (h .reads, omega arith, h .split .words (c .before .loop .line) (c .loop-test .taken), h .string .some, omega arith)
 
 loop-again : tie.Need-loop-again Inv-loop μ-loop
 loop-again c =
