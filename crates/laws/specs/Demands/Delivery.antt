@@ -7,10 +7,9 @@ use mathlib.Core.List.{List, [], _∷_, _++_}
 use Prim.Native.Nat.{ℕ, _*_, _≤_, _<_}
 use native.Mathlib.Omega.{arith}
 use lib.Dec.{eqb}
-use lib.ListN.{length, take}
+use lib.ListN.{length}
 use borrow.Author.Tests.{eq-eqb, eqb-true}
 use Rattle.basics.specs.Bools.{clash, and-put, and-left, and-right}
-use Rattle.spec.specs.declared.Answer.{Answer}
 use Rattle.spec.specs.Replaced.{replaced}
 use Rattle.spec.specs.Dictionary.{lexicon, all-chars, dictionary-refusal, admitted}
 use Rattle.spec.specs.Index.{n-of, readable}
@@ -20,14 +19,12 @@ use Rattle.spec.specs.First.{first-position}
 use Rattle.spec.specs.Cut.{cut-down}
 use Rattle.spec.specs.Theorems.{Query}
 use Rattle.spec.specs.FurtherTheorems.{Text-of, Exactly-positions, First-stands, Serves, Demand-three}
-use Rattle.spec.specs.Calls.{Cut-says}
-use Rattle.spec.specs.RefusalTable.{Written, Untouched, Unreadable, String-wrong, Work-short, Output-short, Recovery-short, No-text, Row}
-use Rattle.spec.specs.RefusalTable.{row, Meets, Accepts, Refuses, Decides, dictionary-rows, index-rows, reception-rows, recovery-rows}
-use Rattle.spec.specs.RefusalTable.{string-rows, find-rows}
+use Rattle.spec.specs.RefusalTable.{Written, Unreadable, String-wrong, Work-short, Output-short, Recovery-short, No-text, Row, row, Accepts}
+use Rattle.spec.specs.RefusalTable.{Decides, dictionary-rows, index-rows, reception-rows, string-rows}
 use Rattle.spec.specs.Demands.{Received-for, Recovered-for, Found-for, First-for, Cut-for, Delivered}
 use Rattle.laws.specs.Receive.Received.{received-reads}
 use Rattle.laws.specs.Demands.Theorems.{demand-three}
-use Rattle.laws.specs.Demands.RefusalRows.{first-decides, first-meets, dictionary-first, dictionary-numbered}
+use Rattle.laws.specs.Demands.RefusalRows.{None-met, first-meets, dictionary-first}
 use Rattle.laws.specs.Demands.DemandOne.{first-demand}
 
 -- ROWS THAT ARE NOT MET
@@ -37,15 +34,14 @@ pub true-put : (b : Bool) → (b ≡ false → ⊥) → b ≡ true
 true-put true h = refl
 true-put false h = absurd (h refl)
 
-abbrev pub None-met : List Row → Type 0
-None-met rows = (k : ℕ) → Meets rows k → ⊥
+module _ {rows : List Row} {n : ℕ} {A B : Type 0} where
+  pub accepts-zero : Decides rows n A B → n ≡ 0 → Accepts rows n A
+  accepts-zero (inl h) z = h
+  accepts-zero (inr h) z = absurd (h .number z)
 
-module _ (rows : List Row) (n : ℕ) (A B : Type 0) (d : Decides rows n A B) where
-  pub accepts-zero : n ≡ 0 → Accepts rows n A
-  accepts-zero z = ⊎-elim (λ (h : Accepts rows n A). h) (λ (h : Refuses rows n B). absurd (h .number z)) d
-
-  pub accepts-none : None-met rows → Accepts rows n A
-  accepts-none none = ⊎-elim (λ (h : Accepts rows n A). h) (λ (h : Refuses rows n B). absurd (none n (first-meets rows n (h .first)))) d
+  pub accepts-none : Decides rows n A B → None-met rows → Accepts rows n A
+  accepts-none (inl h) none = h
+  accepts-none (inr h) none = absurd (none n (first-meets rows n (h .first)))
 
 pub none-nil : None-met []
 none-nil k m = m
@@ -64,39 +60,41 @@ none-both [] more a b k m = b k m
 none-both (l ∷ rows) more a b k (inl m) = a k (inl m)
 none-both (l ∷ rows) more a b k (inr m) = none-both rows more (λ j h. a j (inr h)) b k m
 
-module _ (cs ls : List ℕ) where
-  dictionary-decides : Decides (dictionary-rows cs ls) (dictionary-refusal cs ls) Unit Unit
-  dictionary-decides =
-      first-decides (dictionary-rows cs ls) (dictionary-numbered cs ls) (dictionary-refusal cs ls) (dictionary-first cs ls)
+-- the line of a too short output
+abbrev pub output-row : (result out : List ℕ) → List Row
+output-row ys o = row 8 (Output-short ys o) ∷ []
 
+pub output-none : (ys o : List ℕ) → length ys ≤ length o → None-met (output-row ys o)
+output-none ys o room = none-row 8 (Output-short ys o) [] (λ short. omega arith) none-nil
+
+module _ (cs ls : List ℕ) where
   pub none-admitted : all-chars cs ≡ true → None-met (dictionary-rows cs ls) → admitted cs ls ≡ true
   unfolding admitted
   none-admitted chars none =
-      and-put chars
-      (eq-eqb (dictionary-refusal cs ls) 0
-      (accepts-none (dictionary-rows cs ls) (dictionary-refusal cs ls) Unit Unit dictionary-decides none .number))
+      and-put chars (eq-eqb (dictionary-refusal cs ls) 0 (accepts-none (dictionary-first cs ls) none .number))
 
   pub admitted-none : admitted cs ls ≡ true → None-met (dictionary-rows cs ls)
   unfolding admitted
   admitted-none a =
-      accepts-zero (dictionary-rows cs ls) (dictionary-refusal cs ls) Unit Unit dictionary-decides
+      accepts-zero (dictionary-first cs ls)
       (eqb-true (dictionary-refusal cs ls) 0 (and-right (all-chars cs) (eqb (dictionary-refusal cs ls) 0) a)) .none-met
 
--- an accepted call on an index, whatever lines follow those of the index
-module _ (g : ℕ) (cs ls xs : List ℕ) (rows : List Row) (none : None-met (index-rows g cs ls xs ++ rows)) where
-  -- the index is readable
-  pub none-readable : readable g (lexicon cs ls) xs ≡ true
-  none-readable = true-put (readable g (lexicon cs ls) xs) (λ f. none 5 (inr (inr (inr (inr (inl (refl, f)))))))
+-- calls on an index, whatever lines follow those of the index
+module _ (g : ℕ) (cs ls xs : List ℕ) (rows : List Row) where
+  -- if none is met the index is readable and the dictionary accepted
+  pub none-readable : None-met (index-rows g cs ls xs ++ rows) → readable g (lexicon cs ls) xs ≡ true
+  none-readable none = true-put (readable g (lexicon cs ls) xs) (λ f. none 5 (inr (inr (inr (inr (inl (refl, f)))))))
 
-  -- the dictionary is accepted with any readable index
-  pub none-other :
-      (ys : List ℕ) (more : List Row) → readable g (lexicon cs ls) ys ≡ true → None-met more →
-      None-met (index-rows g cs ls ys ++ more)
-  none-other ys more can later =
-      none-both (index-rows g cs ls ys) more
-      (none-both (dictionary-rows cs ls) (row 5 (Unreadable g (lexicon cs ls) ys) ∷ [])
-      (none-left (dictionary-rows cs ls) (row 5 (Unreadable g (lexicon cs ls) xs) ∷ rows) none)
-      (none-row 5 (Unreadable g (lexicon cs ls) ys) [] (λ f. clash can f) none-nil))
+  pub none-dictionary : None-met (index-rows g cs ls xs ++ rows) → None-met (dictionary-rows cs ls)
+  none-dictionary none = none-left (dictionary-rows cs ls) (row 5 (Unreadable g (lexicon cs ls) xs) ∷ rows) none
+
+  -- and the other way
+  pub none-index :
+      None-met (dictionary-rows cs ls) → readable g (lexicon cs ls) xs ≡ true → None-met rows → None-met (index-rows g cs ls xs ++ rows)
+  none-index none can later =
+      none-both (index-rows g cs ls xs) rows
+      (none-both (dictionary-rows cs ls) (row 5 (Unreadable g (lexicon cs ls) xs) ∷ []) none
+      (none-row 5 (Unreadable g (lexicon cs ls) xs) [] (λ f. clash can f) none-nil))
       later
 
 -- NUMBERS OF A TEXT
@@ -106,26 +104,12 @@ module _ (g : ℕ) (cs ls : List ℕ) (adm : admitted cs ls ≡ true) where
   unfolding admitted
   chars = and-left (all-chars cs) (eqb (dictionary-refusal cs ls) 0) adm
 
-  none-index : (xs : List ℕ) → readable g (lexicon cs ls) xs ≡ true → None-met (index-rows g cs ls xs)
-  none-index xs can =
-      none-both (dictionary-rows cs ls) (row 5 (Unreadable g (lexicon cs ls) xs) ∷ []) (admitted-none cs ls adm)
-      (none-row 5 (Unreadable g (lexicon cs ls) xs) [] (λ f. clash can f) none-nil)
-
   -- readable numbers and a query meet no line of first
   none-string : (xs : List ℕ) {s : List ℕ} → readable g (lexicon cs ls) xs ≡ true → Query s → None-met (string-rows g cs ls xs s)
   none-string xs {s} can q =
-      none-both (index-rows g cs ls xs) (row 6 (String-wrong s) ∷ []) (none-index xs can)
+      none-index g cs ls xs (row 6 (String-wrong s) ∷ []) (admitted-none cs ls adm) can
       (none-row 6 (String-wrong s) []
       (⊎-elim (λ (e : length s ≡ 0). omega arith) (λ (l : 256 < length s). omega arith)) none-nil)
-
-  -- with enough output they meet no line of search or cut
-  none-find :
-      (xs : List ℕ) {s : List ℕ} (result o : List ℕ) → readable g (lexicon cs ls) xs ≡ true → Query s →
-      length result ≤ length o →
-      None-met (find-rows g cs ls xs s result o)
-  none-find xs {s} result o can q room =
-      none-both (string-rows g cs ls xs s) (row 8 (Output-short result o) ∷ []) (none-string xs can q)
-      (none-row 8 (Output-short result o) [] (λ l. omega (arith, room)) none-nil)
 
   -- any readable numbers whose search gives the string's positions in a text
   found-for :
@@ -134,9 +118,9 @@ module _ (g : ℕ) (cs ls : List ℕ) (adm : admitted cs ls ≡ true) where
   found-for xs {ts} {s} can q exactly r o z room says =
       let found = find (lexicon cs ls) xs (replaced s) in
       let h =
-      accepts-none (find-rows g cs ls xs s found o) (r .refusal) (Written found r o z) (Untouched r o z)
-      (first-demand g .searches cs ls xs s r o z says)
-      (none-find xs found o can q (omega (arith, room, ap length (exactly .are-positions)))) in (
+      accepts-none (first-demand g .searches cs ls xs s r o z says)
+      (none-both (string-rows g cs ls xs s) (output-row found o) (none-string xs can q)
+      (output-none found o (omega (arith, room, ap length (exactly .are-positions))))) in (
         h .number,
         subst (λ (ps : List ℕ). Written ps r o z) (exactly .are-positions) (h .result),
         subst (Exactly-positions (replaced s) ts) (sym (h .result .front)) exactly,
@@ -147,12 +131,10 @@ module _ (g : ℕ) (cs ls : List ℕ) (adm : admitted cs ls ≡ true) where
       (xs : List ℕ) {ts s : List ℕ} → readable g (lexicon cs ls) xs ≡ true → Query s →
       First-stands (replaced s) ts (first-position (lexicon cs ls) xs (replaced s)) → First-for g cs ls xs ts s
   first-for xs {ts} {s} can q stands r says =
-      let h =
-      accepts-none (string-rows g cs ls xs s) (r .refusal) (r .position ≡ first-position (lexicon cs ls) xs (replaced s)) (r .position ≡ 0)
-      (first-demand g .firsts cs ls xs s r says) (none-string xs can q) in
+      let h = accepts-none (first-demand g .firsts cs ls xs s r says) (none-string xs can q) in
       (h .number, subst (First-stands (replaced s) ts) (sym (h .result)) stands)
 
-  module _ (xs ts : List ℕ) (text : Text-of g (lexicon cs ls) xs ts) where
+  module _ {xs ts : List ℕ} (text : Text-of g (lexicon cs ls) xs ts) where
     is-received : received g (lexicon cs ls) xs ≡ true
     unfolding Demand-three
     is-received = demand-three g cs ls xs adm .1 ts text
@@ -174,31 +156,27 @@ module _ (g : ℕ) (cs ls : List ℕ) (adm : admitted cs ls ≡ true) where
 
     none-reception : (w : List ℕ) → 8 * length ts ≤ length w → None-met (reception-rows g cs ls xs w)
     none-reception w room =
-        none-both (index-rows g cs ls xs) (row 7 (Work-short (n-of xs) w) ∷ row 9 (No-text g (lexicon cs ls) xs) ∷ []) (none-index xs can)
-        (none-row 7 (Work-short (n-of xs) w) (row 9 (No-text g (lexicon cs ls) xs) ∷ []) (λ l. omega (arith, room))
-        none-nine)
+        none-index g cs ls xs (row 7 (Work-short (n-of xs) w) ∷ row 9 (No-text g (lexicon cs ls) xs) ∷ []) (admitted-none cs ls adm) can
+        (none-row 7 (Work-short (n-of xs) w) (row 9 (No-text g (lexicon cs ls) xs) ∷ []) (λ l. omega (arith, room)) none-nine)
 
     pub received-for : Received-for g cs ls xs ts
     received-for r w v room says =
-        let h =
-        accepts-none (reception-rows g cs ls xs w) (r .refusal) (r .count ≡ n-of xs) (r .count ≡ 0)
-        (first-demand g .receives cs ls xs r w v chars says .0) (none-reception w room) in
+        let h = accepts-none (first-demand g .receives cs ls xs r w v chars says .0) (none-reception w room) in
         (h .number, h .result ∙ sym (text .length-is))
 
     pub recovered-for : Recovered-for g cs ls xs ts
     recovered-for r o z w v room fits says =
         let h =
-        accepts-none (recovery-rows g cs ls xs o w) (r .refusal) (Written (recovered (lexicon cs ls) xs) r o z) (Untouched r o z)
-        (first-demand g .recovers cs ls xs r o z w v chars says .0)
+        accepts-none (first-demand g .recovers cs ls xs r o z w v chars says .0)
         (none-both (reception-rows g cs ls xs w) (row 8 (Recovery-short g (lexicon cs ls) xs o) ∷ []) (none-reception w room)
         (none-row 8 (Recovery-short g (lexicon cs ls) xs o) [] (λ l. omega (arith, fits)) none-nil)) in
         (h .number, subst (λ (us : List ℕ). Written us r o z) is-recovered (h .result))
 
     -- numbers equal to the cut-down index give its answers
     cut-found :
-        {s : List ℕ} (ys : List ℕ) → Query s → ys ≡ cut-down (lexicon cs ls) xs (replaced s) → Found-for g cs ls ys ts s ×
-        First-for g cs ls ys ts s
-    cut-found {s} ys q e =
+        {s ys : List ℕ} → Query s → ys ≡ cut-down (lexicon cs ls) xs (replaced s) →
+        Found-for g cs ls ys ts s × First-for g cs ls ys ts s
+    cut-found {s} q e =
         let cut = cut-down (lexicon cs ls) xs (replaced s) in
         subst (λ (zs : List ℕ). Found-for g cs ls zs ts s × First-for g cs ls zs ts s) (sym e) (
           found-for cut (serves .cut-readable s q) q (serves .cut-exact s q),
@@ -209,18 +187,9 @@ module _ (g : ℕ) (cs ls : List ℕ) (adm : admitted cs ls ≡ true) where
     cut-for s q r o z room says =
         let cut = cut-down (lexicon cs ls) xs (replaced s) in
         let h =
-        accepts-none (find-rows g cs ls xs s cut o) (r .refusal) (Written cut r o z) (Untouched r o z)
-        (first-demand g .cuts cs ls xs s r o z says) (none-find xs cut o can q room) in
-        let found = cut-found (take (r .count) z) q (h .result .front) in (h .number, h .result, found .0, found .1)
-
-    -- what an accepted call of cut wrote is the cut-down index
-    cut-written :
-        (s : List ℕ) (r : Answer) (o z : List ℕ) → Cut-says g cs ls xs s r o z → r .refusal ≡ 0 →
-        take (r .count) z ≡ cut-down (lexicon cs ls) xs (replaced s)
-    cut-written s r o z says zero =
-        let cut = cut-down (lexicon cs ls) xs (replaced s) in
-        accepts-zero (find-rows g cs ls xs s cut o) (r .refusal) (Written cut r o z) (Untouched r o z)
-        (first-demand g .cuts cs ls xs s r o z says) zero .result .front
+        accepts-none (first-demand g .cuts cs ls xs s r o z says)
+        (none-both (string-rows g cs ls xs s) (output-row cut o) (none-string xs can q) (output-none cut o room)) in
+        let found = cut-found q (h .result .front) in (h .number, h .result, found .0, found .1)
 
     pub delivered : Delivered g cs ls xs ts
     delivered =
@@ -231,5 +200,6 @@ module _ (g : ℕ) (cs ls : List ℕ) (adm : admitted cs ls ≡ true) where
           searched = λ s q. found-for xs can q (serves .search-exact s q);
           first = λ s q. first-for xs can q (serves .first-exact s q);
           cut = cut-for;
-          accepted-cut = λ s q r o z says zero. cut-found (take (r .count) z) q (cut-written s r o z says zero);
+          accepted-cut =
+              λ s q r o z says zero. cut-found q (accepts-zero (first-demand g .cuts cs ls xs s r o z says) zero .result .front);
         }

@@ -42,15 +42,13 @@ module _ (g : ℕ) (cs ls xs : List ℕ) (w : List ℕ) (chars : all-chars cs �
   unfolding Demand-three
   accepted-text =
       let ts = recovered (lexicon cs ls) xs in
-      (ts, delivered g cs ls is-admitted xs ts (demand-three g cs ls xs is-admitted .0 is-received .text))
+      (ts, delivered g cs ls is-admitted (demand-three g cs ls xs is-admitted .0 is-received .text))
 
 pub third-demand : (g : ℕ) → Third-demand g
 unfolding Third-demand
 third-demand g cs ls xs r w v chars room says = (
-  λ adm text. received-for g cs ls adm xs (text .0) (text .1) r w v (omega (arith, room)) says .0,
+  λ adm text. received-for g cs ls adm (text .1) r w v (omega (arith, room)) says .0,
   λ zero.
-      let h =
-      accepts-zero (reception-rows g cs ls xs w) (r .refusal) (r .count ≡ n-of xs) (r .count ≡ 0)
-      (first-demand g .receives cs ls xs r w v chars says .0) zero in
+      let h = accepts-zero (first-demand g .receives cs ls xs r w v chars says .0) zero in
       (is-admitted g cs ls xs w chars r h, can-read g cs ls xs w chars r h, accepted-text g cs ls xs w chars r h),
 )

@@ -11,7 +11,7 @@ use Rattle.spec.specs.Replaced.{replaced}
 use Rattle.spec.specs.Dictionary.{lexicon, is-text, admitted}
 use Rattle.spec.specs.Numbers.{index-of}
 use Rattle.spec.specs.FurtherTheorems.{Text-of}
-use Rattle.spec.specs.RefusalTable.{Written, Untouched, Text-too-long, Work-short, Output-short, row, Accepts, dictionary-rows, build-rows}
+use Rattle.spec.specs.RefusalTable.{Written, Text-too-long, Work-short, Output-short, row, Accepts, dictionary-rows, build-rows}
 use Rattle.spec.specs.Demands.{Built, Second-demand}
 use Rattle.laws.specs.Text.Chars.{all-chars-get, replaced-is-text}
 use Rattle.laws.specs.Readable.IndexOf.{n-of-index}
@@ -28,8 +28,8 @@ module _ (g : ℕ) (cs ls ts : List ℕ) (adm : admitted cs ls ≡ true) (text :
       record {
         published = index-published g cs ls ts adm text;
         only-one = published-only g cs ls ts adm text;
-        is-received = received-for g cs ls adm (index-of (lexicon cs ls) ts) ts index-text;
-        is-recovered = recovered-for g cs ls adm (index-of (lexicon cs ls) ts) ts index-text;
+        is-received = received-for g cs ls adm index-text;
+        is-recovered = recovered-for g cs ls adm index-text;
       }
 
 pub second-demand : (g : ℕ) → Second-demand g
@@ -41,9 +41,7 @@ second-demand g cs ls ts r o z w v chars text says zero =
     xs = index-of (lexicon cs ls) (replaced ts)
 
     h : Accepts (build-rows g cs ls ts o w) (r .refusal) (Written xs r o z)
-    h =
-        accepts-zero (build-rows g cs ls ts o w) (r .refusal) (Written xs r o z) (Untouched r o z)
-        (first-demand g .builds cs ls ts r o z w v says .0) zero
+    h = accepts-zero (first-demand g .builds cs ls ts r o z w v says .0) zero
 
     is-admitted : admitted cs ls ≡ true
     is-admitted =

@@ -1,22 +1,22 @@
 -- The calls of to_gaps and from_gaps: from the tests to the contract, one call after the other, and what meets 5. Assumes nothing.
-use mathlib.Core.Path.{_≡_, refl, sym, ap, _∙_}
-use mathlib.Core.Bool.{Bool, true, false, cond}
-use mathlib.Core.Logic.{⊎-elim}
-use mathlib.Core.List.{List, [], _∷_, _++_}
+use mathlib.Core.Path.{_≡_, refl, sym, ap, _∙_, subst}
+use mathlib.Core.Bool.{Bool, true, false}
+use mathlib.Core.Logic.{_⊎_, inl, inr}
+use mathlib.Core.List.{List, _++_}
 use Prim.Native.Nat.{ℕ, _≤_}
 use native.Mathlib.Omega.{arith}
 use lib.ListN.{length, take, drop}
-use Rattle.basics.specs.Bools.{clash, true-or-false}
+use Rattle.basics.specs.Bools.{clash, false-put}
 use Rattle.spec.specs.declared.Answer.{Answer}
 use Rattle.spec.specs.Dictionary.{lexicon, dictionary-refusal}
 use Rattle.spec.specs.Index.{greatest-number, readable}
 use Rattle.spec.specs.Gaps.{gaps, prefix-sums, with-lists, gap-form, restored}
 use Rattle.spec.specs.GapsTheorems.{Gap-calls}
-use Rattle.spec.specs.Calls.{output-short, or-else, index-refusal, gaps-refusal, Answers, in-front, Puts, To-gaps-says, From-gaps-says}
-use Rattle.spec.specs.RefusalTable.{Row, Written, Untouched, Output-short, row, gaps-rows}
+use Rattle.spec.specs.Calls.{output-short, index-refusal, gaps-refusal, Answers, in-front, Puts, To-gaps-says, From-gaps-says}
+use Rattle.spec.specs.RefusalTable.{dictionary-rows}
 use Rattle.models.specs.Readability.{read-as}
 use Rattle.models.specs.Gaps.{write-as}
-use Rattle.laws.specs.Dictionary.Answering.{or-else-some, or-else-none}
+use Rattle.laws.specs.Dictionary.Answering.{or-eight}
 use Rattle.laws.specs.Dictionary.WordCode.{Small}
 use Rattle.laws.specs.Readable.LineWalk.{readable-fits}
 use Rattle.laws.specs.Readable.KeyTests.{no-refusal}
@@ -28,7 +28,9 @@ use Rattle.laws.specs.Readable.IndexRefusal.{refuses-unreadable, accepts
 use Rattle.laws.specs.Search.Sizing.{Sized-after}
 use Rattle.laws.specs.Gaps.GapForms.{gaps-restored, restored-gaps, count-some, restored-fits, restored-some, totals-small, sums-small}
 use Rattle.laws.specs.Demands.DemandOne.{first-demand}
-use Rattle.laws.specs.Demands.Delivery.{None-met, accepts-zero, accepts-none, none-nil, none-row, none-readable, none-other}
+use Rattle.laws.specs.Demands.RefusalRows.{None-met}
+use Rattle.laws.specs.Demands.Delivery.{accepts-zero, accepts-none, output-row, output-none, none-readable, none-dictionary}
+use Rattle.laws.specs.Demands.Delivery.{none-index}
 
 -- FROM THE TESTS TO THE CONTRACT
 
@@ -84,89 +86,71 @@ module _ (g : ℕ) (cs ls xs : List ℕ) (r : Answer) (o z : List ℕ) where
 
 -- ONE CALL AFTER THE OTHER
 
--- the line of a too short output
-abbrev output-row : (result out : List ℕ) → List Row
-output-row ys o = row 8 (Output-short ys o) ∷ []
+-- the call is accepted and writes these numbers
+abbrev Writes : (result : List ℕ) → Answer → (out-now : List ℕ) → Type 0
+Writes xs r z = (r .refusal ≡ 0) × (r .count ≡ length xs) × (take (r .count) z ≡ xs)
 
-output-none : (ys o : List ℕ) → length ys ≤ length o → None-met (output-row ys o)
-output-none ys o room = none-row 8 (Output-short ys o) [] (λ short. omega arith) none-nil
+-- every call of from_gaps on ds with enough output writes xs
+abbrev Restored-for : (g : ℕ) → (chars lengths gaps index : List ℕ) → Type 0
+Restored-for g cs ls ds xs = (r : Answer) (o z : List ℕ) → length xs ≤ length o → From-gaps-says g cs ls ds r o z → Writes xs r z
 
-restores :
-    (g : ℕ) (cs ls xs : List ℕ) (r s : Answer) (o z p q : List ℕ) → To-gaps-says g cs ls xs r o z → r .refusal ≡ 0 → length xs ≤ length p →
-    From-gaps-says g cs ls (take (r .count) z) s p q → (s .refusal ≡ 0) × (s .count ≡ length xs) × (take (s .count) q ≡ xs)
-restores g cs ls xs r s o z p q to zero room from =
-    let form = gap-form xs in
-    let index = restored (take (r .count) z) in
-    let h =
-    accepts-zero (gaps-rows g cs ls xs form o) (r .refusal) (Written form r o z) (Untouched r o z)
-    (first-demand g .rearranges cs ls xs r o z to) zero in
-    let can = none-readable g cs ls xs (output-row form o) (h .none-met) in
-    let back : index ≡ xs = ap restored (h .result .front) ∙ gaps-restored g (lexicon cs ls) xs can in
-    let a =
-    accepts-none (gaps-rows g cs ls index index p) (s .refusal) (Written index s p q) (Untouched s p q)
-    (first-demand g .restores cs ls (take (r .count) z) s p q from)
-    (none-other g cs ls xs (output-row form o) (h .none-met) index (output-row index p) (rw back can)
-    (output-none index p (omega (arith, ap length back)))) in
-    (a .number, a .result .count ∙ ap length back, a .result .front ∙ back)
+-- every call of to_gaps on xs with enough output writes ds
+abbrev Rearranged-for : (g : ℕ) → (chars lengths index gaps : List ℕ) → Type 0
+Rearranged-for g cs ls xs ds = (r : Answer) (o z : List ℕ) → length ds ≤ length o → To-gaps-says g cs ls xs r o z → Writes ds r z
 
-comes-back :
-    (g : ℕ) (cs ls ds : List ℕ) (r s : Answer) (o z p q : List ℕ) → From-gaps-says g cs ls ds r o z → r .refusal ≡ 0 →
-    length ds ≤ length p → To-gaps-says g cs ls (take (r .count) z) s p q →
-    (s .refusal ≡ 0) × (s .count ≡ length ds) × (take (s .count) q ≡ ds)
-comes-back g cs ls ds r s o z p q from zero room to =
-    let index = restored ds in
-    let ys = take (r .count) z in
-    let form = gap-form ys in
-    let h =
-    accepts-zero (gaps-rows g cs ls index index o) (r .refusal) (Written index r o z) (Untouched r o z)
-    (first-demand g .restores cs ls ds r o z from) zero in
-    let can = none-readable g cs ls index (output-row index o) (h .none-met) in
-    let back : form ≡ ds = ap gap-form (h .result .front) ∙ restored-gaps ds in
-    let a =
-    accepts-none (gaps-rows g cs ls ys form p) (s .refusal) (Written form s p q) (Untouched s p q)
-    (first-demand g .rearranges cs ls ys s p q to)
-    (none-other g cs ls index (output-row index o) (h .none-met) ys (output-row form p) (rw (h .result .front) can)
-    (output-none form p (omega (arith, ap length back)))) in
-    (a .number, a .result .count ∙ ap length back, a .result .front ∙ back)
+module _ (g : ℕ) (cs ls : List ℕ) (none : None-met (dictionary-rows cs ls)) where
+  restores : (xs : List ℕ) → readable g (lexicon cs ls) xs ≡ true → Restored-for g cs ls (gap-form xs) xs
+  restores xs can r o z room says =
+      let index = restored (gap-form xs) in
+      let back : index ≡ xs = gaps-restored g (lexicon cs ls) xs can in
+      let a =
+      accepts-none (first-demand g .restores cs ls (gap-form xs) r o z says)
+      (none-index g cs ls index (output-row index o) none (rw back can) (output-none index o (omega (arith, ap length back)))) in
+      (a .number, a .result .count ∙ ap length back, a .result .front ∙ back)
+
+  comes-back : (ds : List ℕ) → readable g (lexicon cs ls) (restored ds) ≡ true → Rearranged-for g cs ls (restored ds) ds
+  comes-back ds can r o z room says =
+      let form = gap-form (restored ds) in
+      let back : form ≡ ds = restored-gaps ds in
+      let a =
+      accepts-none (first-demand g .rearranges cs ls (restored ds) r o z says)
+      (none-index g cs ls (restored ds) (output-row form o) none can (output-none form o (omega (arith, ap length back)))) in
+      (a .number, a .result .count ∙ ap length back, a .result .front ∙ back)
 
 -- WHAT MEETS 5
 
-module _ (g : ℕ) (cs ls ds : List ℕ) (r : Answer) (o z : List ℕ) (none : dictionary-refusal cs ls ≡ 0)
-    (says : From-gaps-says g cs ls ds r o z) where
-  abbrev index : List ℕ
-  index = restored ds
+-- n is the refusal on the index, or 8 where that is 0
+module _ (g : ℕ) (cs ls xs : List ℕ) (none : dictionary-refusal cs ls ≡ 0) {n : ℕ} where
+  five-met :
+      (index-refusal g cs ls xs ≡ n) ⊎ ((index-refusal g cs ls xs ≡ 0) × (n ≡ 8)) → readable g (lexicon cs ls) xs ≡ false → n ≡ 5
+  five-met (inl e) f = sym e ∙ sym (refuses-unreadable g cs ls xs none f)
+  five-met (inr (z, e)) f = absurd (omega (arith, z, refuses-unreadable g cs ls xs none f))
 
-  abbrev eight : ℕ
-  eight = cond (output-short (length index) (length o)) 8 0
-
-  number : r .refusal ≡ or-else (index-refusal g cs ls index) eight
-  unfolding From-gaps-says Puts Answers gaps-refusal
-  number = says .0 .0
-
-  five-met : readable g (lexicon cs ls) index ≡ false → r .refusal ≡ 5
-  five-met f =
-      let five : index-refusal g cs ls index ≡ 5 = sym (refuses-unreadable g cs ls index none f) in
-      number ∙ or-else-some (index-refusal g cs ls index) eight (λ (e : index-refusal g cs ls index ≡ 0). omega (arith, five)) ∙ five
-
-  five-only : r .refusal ≡ 5 → readable g (lexicon cs ls) index ≡ false
-  five-only five =
-      ⊎-elim
-      (λ (can : readable g (lexicon cs ls) index ≡ true).
-      let zero : index-refusal g cs ls index ≡ 0 = sym (accepts-index g cs ls index none can) in
-      absurd
-      (by-test (output-short (length index) (length o))
-      (sym (or-else-none (index-refusal g cs ls index) eight zero) ∙ sym number ∙ five)))
-      (λ (f : readable g (lexicon cs ls) index ≡ false). f)
-      (true-or-false (readable g (lexicon cs ls) index))
-    where
-      by-test : (b : Bool) → _≡_ {A = ℕ} (cond b 8 0) 5 → ⊥
-      by-test true e = omega arith
-      by-test false e = omega arith
+  five-only :
+      (index-refusal g cs ls xs ≡ n) ⊎ ((index-refusal g cs ls xs ≡ 0) × (n ≡ 8)) → n ≡ 5 → readable g (lexicon cs ls) xs ≡ false
+  five-only (inl e) five = false-put (readable g (lexicon cs ls) xs) (λ can. omega (arith, e, accepts-index g cs ls xs none can))
+  five-only (inr (z, e)) five = absurd (omega arith)
 
 pub gap-calls : (g : ℕ) → Gap-calls g
+unfolding From-gaps-says Puts Answers gaps-refusal
 gap-calls g =
     record {
-      restores = restores g;
-      comes-back = comes-back g;
-      five = λ cs ls ds r o z none says. (five-met g cs ls ds r o z none says, five-only g cs ls ds r o z none says);
+      restores =
+          λ cs ls xs r s o z p q to zero room from.
+          let h = accepts-zero (first-demand g .rearranges cs ls xs r o z to) zero in
+          let rows = output-row (gap-form xs) o in
+          restores g cs ls (none-dictionary g cs ls xs rows (h .none-met)) xs (none-readable g cs ls xs rows (h .none-met)) s p q room
+          (subst (λ (ds : List ℕ). From-gaps-says g cs ls ds s p q) (h .result .front) from);
+      comes-back =
+          λ cs ls ds r s o z p q from zero room to.
+          let h = accepts-zero (first-demand g .restores cs ls ds r o z from) zero in
+          let index = restored ds in
+          let rows = output-row index o in
+          comes-back g cs ls (none-dictionary g cs ls index rows (h .none-met)) ds (none-readable g cs ls index rows (h .none-met)) s p q
+          room (subst (λ (xs : List ℕ). To-gaps-says g cs ls xs s p q) (h .result .front) to);
+      five =
+          λ cs ls ds r o z none says.
+          let index = restored ds in
+          let late = or-eight (index-refusal g cs ls index) (output-short (length index) (length o)) in
+          rw (says .0 .0) (five-met g cs ls index none late, five-only g cs ls index none late);
     }

@@ -16,11 +16,11 @@ use Rattle.spec.specs.Dictionary.{Lexicon, all-chars, lexicon, dictionary-refus
 use Rattle.spec.specs.Words.{key, is-word, spells}
 use Rattle.spec.specs.Numbers.{Line}
 use Rattle.spec.specs.Index.{n-of, entries-of, lines-in, key-good, readable}
-use Rattle.spec.specs.Reception.{recovered, is-index, received}
+use Rattle.spec.specs.Reception.{recovered, received}
 use Rattle.spec.specs.Search.{agrees, find}
 use Rattle.spec.specs.Cut.{bears, cut-down}
 use Rattle.spec.specs.FurtherTheorems.{Cut-any}
-use Rattle.spec.specs.Calls.{index-refusal, reception-refusal, recovery-refusal, Answers, Puts, Receive-says, Recover-says, Tally-says}
+use Rattle.spec.specs.Calls.{index-refusal, reception-refusal, Answers, Puts, Receive-says, Recover-says, Tally-says}
 use Rattle.spec.specs.ReplacedTheorems.{Lone-form, Form-as-key, Form-calls}
 use Rattle.laws.specs.Text.Strings.{Stand}
 use Rattle.laws.specs.Text.Facts.{Good-lexicon}
@@ -36,7 +36,7 @@ use Rattle.laws.specs.Search.Agree.{Agree, agrees-get}
 use Rattle.laws.specs.Cut.Bears.{bears-get}
 use Rattle.laws.specs.Cut.Same.{bearing-get}
 use Rattle.laws.specs.Cut.Readable.{lines-in-cut}
-use Rattle.laws.specs.Receive.Received.{Received, received-get, readable-chars}
+use Rattle.laws.specs.Receive.Received.{is-index-get, Received, received-get, readable-chars}
 use Rattle.laws.specs.Receive.ReceptionTest.{is-index-only}
 use Rattle.laws.specs.Demands.Theorems.{cut-any}
 use Rattle.laws.specs.Readable.IndexRefusal.{accepts-index}
@@ -91,25 +91,26 @@ cut-out lex xs s c some (form, (l, m, e)) =
 
 -- NO TEXT HAS IT
 
-module _ {lex : Lexicon} (good : Good-lexicon lex) (g : ℕ) (xs : List ℕ) (can : readable g lex xs ≡ true) where
-  -- if the numbers are the index of the text recovered from them, their entries stand in it
+module _ {lex : Lexicon} (good : Good-lexicon lex) where
+  -- the entries of a received index stand in the text recovered from it
   line-stands :
-      is-index g lex xs ≡ true → (l : Line) → In l (lines-in xs) → (p : ℕ) → In p (l .positions) →
+      {g : ℕ} {xs : List ℕ} → Received g lex xs → (l : Line) → In l (lines-in xs) → (p : ℕ) → In p (l .positions) →
       Stand (spells lex (l .key-of)) (recovered lex xs) p
-  line-stands own l m p n =
-      entries-get lex good (recovered lex xs) (readable-chars good g xs can) (posting lex (l .key-of) p)
-      (is-index-only good g xs own (posting lex (l .key-of) p) (flat-put lex (lines-in xs) l p m n)) .is-entry .stand
+  line-stands {g} {xs} h l m p n =
+      entries-get lex good (recovered lex xs) (readable-chars good g xs (is-index-get g lex xs (h .is-own) .can-read))
+      (posting lex (l .key-of) p)
+      (is-index-only good g xs (h .is-own) (posting lex (l .key-of) p) (flat-put lex (lines-in xs) l p m n)) .is-entry .stand
 
   -- so the form stands at the first of its positions, in a text that has no full-width form
-  unreceived : (c : ℕ) → Lone-form xs c → received g lex xs ≡ false
-  unreceived c (form, (l, m, e)) = false-put (received g lex xs) (λ t. shown (received-get g lex xs t))
+  unreceived : (g : ℕ) (xs : List ℕ) → readable g lex xs ≡ true → (c : ℕ) → Lone-form xs c → received g lex xs ≡ false
+  unreceived g xs can c (form, (l, m, e)) = false-put (received g lex xs) (λ t. shown (received-get g lex xs t))
     where
       shown : Received g lex xs → ⊥
       shown h =
           let p = getD (l .positions) 0 0 in
           let stand : Stand (c ∷ []) (recovered lex xs) p =
           rw (spells-form lex l c e) at
-          (line-stands (h .is-own) l m p (in-getD (l .positions) 0 0 (readable-get g lex xs can .lines .each l m .some))) in
+          (line-stands h l m p (in-getD (l .positions) 0 0 (readable-get g lex xs can .lines .each l m .some))) in
           clash form
           (ap is-full-width (stand-at 0 stand (omega arith))
           ∙ h .plain (p + 0 - 1) (omega arith))
@@ -147,22 +148,22 @@ module _ (g : ℕ) (cs ls xs : List ℕ) (adm : admitted cs ls ≡ true) (can : 
   tallied r says =
       (says .0 ∙ no-refusal, says .1 ∙ accepted-yes (index-refusal g cs ls xs) (entries-of xs) 0 no-refusal)
 
-  module _ (c : ℕ) (lone : Lone-form xs c) (w : ℕ) (room : 8 * n-of xs ≤ w) where
-    nine : reception-refusal g cs ls xs w ≡ 9
-    nine =
-        reception-unreceived g cs ls xs w (sym (short-none (index-refusal g cs ls xs) xs w no-refusal room))
-        (unreceived (admitted-lexicon cs ls adm) g xs can c lone)
-
-    nine-recovery : (o : ℕ) → recovery-refusal g cs ls xs o w ≡ 9
-    nine-recovery o = recovery-early g cs ls xs w o (λ (z : reception-refusal g cs ls xs w ≡ 0). omega (arith, nine)) ∙ nine
+  nine : received g (lexicon cs ls) xs ≡ false → (w : ℕ) → 8 * n-of xs ≤ w → reception-refusal g cs ls xs w ≡ 9
+  nine none w room =
+      reception-unreceived g cs ls xs w (sym (short-none (index-refusal g cs ls xs) xs w no-refusal room)) none
 
 pub form-calls : (g : ℕ) → Form-calls g
 unfolding Receive-says Recover-says Puts Answers
 form-calls g =
     record {
       tallied = λ cs ls xs r adm can. tallied g cs ls xs adm can r;
-      not-received = λ cs ls xs c r w v adm can lone room says. says .0 .0 ∙ nine g cs ls xs adm can c lone (length w) room;
+      not-received =
+          λ cs ls xs c r w v adm can lone room says.
+          says .0 .0 ∙ nine g cs ls xs adm can (form-as-key g .unreceived cs ls xs c adm can lone) (length w) room;
       not-recovered =
           λ cs ls xs c r o z w v adm can lone room says.
-          says .0 .0 .0 ∙ nine-recovery g cs ls xs adm can c lone (length w) room (length o);
+          let n = nine g cs ls xs adm can (form-as-key g .unreceived cs ls xs c adm can lone) (length w) room in
+          says .0 .0 .0
+          ∙ recovery-early g cs ls xs (length w) (length o) (λ (e : reception-refusal g cs ls xs (length w) ≡ 0). omega (arith, n))
+          ∙ n;
     }

@@ -2,7 +2,7 @@
 -- nothing.
 use mathlib.Core.Path.{_≡_, refl, _∙_}
 use mathlib.Core.List.{List}
-use Prim.Native.Nat.{ℕ, zero, suc, _+_, _≤_}
+use Prim.Native.Nat.{ℕ, zero, suc, _+_, _≤_, _<_}
 use native.Mathlib.Omega.{arith}
 use lib.ListN.{length}
 use Rattle.spec.specs.Dictionary.{Lexicon, lexicon}
@@ -21,15 +21,14 @@ use Rattle.laws.specs.Search.ReachExact.{reach-exact}
 
 -- two scans whose longest entries are equal at each position are equal
 scan-alike :
-    (f g : ℕ → Entry) (n p last m : ℕ) → 1 ≤ p → p + n ≡ suc m → ((q : ℕ) → 1 ≤ q → q ≤ m → f q ≡ g q) →
-    scan f n p last ≡ scan g n p last
+    (f g : ℕ → Entry) (n p last : ℕ) → ((q : ℕ) → p ≤ q → q < p + n → f q ≡ g q) → scan f n p last ≡ scan g n p last
 unfolding scan
-scan-alike f g zero p last m lo fits h = refl
-scan-alike f g (suc n) p last m lo fits h =
+scan-alike f g zero p last h = refl
+scan-alike f g (suc n) p last h =
     rw (
-      h p lo (omega arith),
-      scan-alike f g n (suc p) (p + g p .len) m (omega arith) (omega arith) h,
-      scan-alike f g n (suc p) last m (omega arith) (omega arith) h,
+      h p (omega arith) (omega arith),
+      scan-alike f g n (suc p) (p + g p .len) (λ q lo hi. h q (omega arith) (omega arith)),
+      scan-alike f g n (suc p) last (λ q lo hi. h q (omega arith) (omega arith)),
     )
 
 module _ {lex : Lexicon} (good : Good-lexicon lex) (ts : List ℕ) (chars : Chars ts) where
@@ -49,8 +48,8 @@ module _ {lex : Lexicon} (good : Good-lexicon lex) (ts : List ℕ) (chars : Char
       scan longest (length ts) 1 1 ≡ make-index lex ts
   unfolding make-index
   scan-is longest h =
-      scan-alike longest (longest-at lex ts) (length ts) 1 1 (length ts) (omega arith) (omega arith)
-      (λ q lo hi. longest-at-unique lex good ts chars lo hi (longest-entry-at (h q lo hi)))
+      scan-alike longest (longest-at lex ts) (length ts) 1 1
+      (λ q lo hi. longest-at-unique lex good ts chars lo (omega arith) (longest-entry-at (h q lo (omega arith))))
 
 pub scan-builds : (g : ℕ) → Scan-builds g
 unfolding Scan-builds

@@ -18,7 +18,7 @@ use Rattle.spec.specs.RefusalTable.{Too-large, Accepts, Refuses}
 use Rattle.spec.specs.ProgramDemand.{Sheet-too-long, Sheet-broken, parts-rows, Refused-long, Refused-broken, Tested-parts, Prints}
 use Rattle.laws.specs.Dictionary.Answering.{accepted-yes}
 use Rattle.laws.specs.Demands.Reflects.{reflects-put, reflects-not, reflects-lt}
-use Rattle.laws.specs.Demands.RefusalRows.{first-decides, decides, decided-number, parts-first, parts-numbered}
+use Rattle.laws.specs.Demands.RefusalRows.{decides, decided-number, parts-first}
 use Rattle.laws.specs.JobSheet.LineReading.{size-lines, forms-size}
 use Rattle.laws.specs.JobSheet.WholeSheet.{length-lengths}
 use Rattle.laws.specs.JobSheet.JobReading.{sheet-long}
@@ -125,8 +125,7 @@ module _ (s : List ℕ) where
         counts = counts-get (and-right (in-form s) (in-counts s) both);
         number = n;
         printed =
-            decides (parts-rows (words-on s) (finds-on s)) n n (parts-first (words-on s) (finds-on s))
-            (parts-numbered (words-on s) (finds-on s)) refl (job-answer s ≡ printed s) (job-answer s ≡ refused-line n)
+            decides (parts-first (words-on s) (finds-on s)) refl
             (λ none e. answer-accepted n (number-parts f g) e) (answer-refused n (number-parts f g));
       }
 
@@ -151,14 +150,11 @@ module _ (s : List ℕ) where
 
     number-is : sheet-refusal s ≡ h .number
     number-is =
-        let rows = parts-rows (h .words) (h .finds) in
-        let n : ℕ = contents-refusal (h .words) (h .finds) in
         number-parts (reflects-not (sheet-too-long s) (Sheet-too-long s) reflects-long (h .short))
         (reflects-not (sheet-wrong s) (Sheet-broken s) reflects-broken
         (λ broken. broken (h .words, h .text, h .finds, h .parts, h .counts)))
         ∙ rw (words-are, finds-are)
-        (decided-number rows n (h .number) Unit Unit _ _
-        (first-decides rows (parts-numbered (h .words) (h .finds)) n (parts-first (h .words) (h .finds))) (h .printed))
+        (decided-number (parts-first (h .words) (h .finds)) (h .printed))
 
     lines-are : printed s ≡ answer-lines (lexicon (run-together (h .words)) (lengths-of (h .words))) (h .text) (h .finds)
     unfolding printed lexicon-on

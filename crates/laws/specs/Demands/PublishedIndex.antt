@@ -20,6 +20,10 @@ use Rattle.laws.specs.Published.Extension.{same-index}
 use Rattle.laws.specs.Readable.Readable.{readable-get}
 use Rattle.laws.specs.Demands.Theorems.{only-readable}
 
+key-under : {g : ℕ} {lex : Lexicon} {ts ys : List ℕ} → Published-index g lex ts ys → (k : Key) (p : ℕ) → Under k p ys → Is-key lex k
+unfolding Under
+key-under {g} {lex} {ys} h k p (l, m, e, i) = subst (Is-key lex) e (readable-get g lex ys (h .can-read) .lines .each l m .is-key)
+
 module _ (g : ℕ) (cs ls ts : List ℕ) (adm : admitted cs ls ≡ true) (text : is-text g ts ≡ true) where
   abbrev lex : Lexicon
   lex = lexicon cs ls
@@ -54,15 +58,11 @@ module _ (g : ℕ) (cs ls ts : List ℕ) (adm : admitted cs ls ≡ true) (text :
           let (e, m, s) = from i h in
           (e .key-of, e .at, tells .all (e .key-of) (e .at) (e, m, refl, refl), s)
 
+  key-among : (e : Entry) → In e (entries lex ts) → Is-key lex (e .key-of)
+  key-among e m = entries-get lex good ts (is-text-get g ts text .0) e m .is-entry .is-key
+
   -- a readable slice that is the published index has the keys of the text's entries: keys that spell the same are the same
   module _ (ys : List ℕ) (h : Published-index g lex ts ys) where
-    key-under : (k : Key) (p : ℕ) → Under k p ys → Is-key lex k
-    unfolding Under
-    key-under k p (l, m, e, i) = subst (Is-key lex) e (readable-get g lex ys (h .can-read) .lines .each l m .is-key)
-
-    key-among : (e : Entry) → In e (entries lex ts) → Is-key lex (e .key-of)
-    key-among e m = entries-get lex good ts (is-text-get g ts text .0) e m .is-entry .is-key
-
     published-tells : Tells g lex ts ys
     unfolding Among item-of item
     published-tells = record { can-read = h .can-read; n-is = h .n-is; only = only; all = all }
@@ -72,7 +72,7 @@ module _ (g : ℕ) (cs ls ts : List ℕ) (adm : admitted cs ls ≡ true) (text :
             let (e, m, s) = from (item (spells lex k) p) (h .only (item (spells lex k) p) (k, p, u, refl)) in (
               e,
               m,
-              keys-distinct good (key-among e m) (key-under k p u) (ap (λ (i : Item). i .word) s),
+              keys-distinct good (key-among e m) (key-under h k p u) (ap (λ (i : Item). i .word) s),
               ap (λ (i : Item). i .position) s,
             )
 
@@ -80,7 +80,7 @@ module _ (g : ℕ) (cs ls ts : List ℕ) (adm : admitted cs ls ≡ true) (text :
         all k p (e, m, a, b) =
             let (j, q, u, s) = h .all (item-of lex e) (to e m) in
             let same : j ≡ k =
-            keys-distinct good (key-under j q u) (key-among e m) (ap (λ (i : Item). i .word) s) ∙ a in
+            keys-distinct good (key-under h j q u) (key-among e m) (ap (λ (i : Item). i .word) s) ∙ a in
             let position : q ≡ p = ap (λ (i : Item). i .position) s ∙ b in
             subst (λ (x : Key). Under x p ys) same (subst (λ (x : ℕ). Under j x ys) position u)
 

@@ -1,7 +1,10 @@
 -- From the refusal number to the contract of a call: one law for an accepted call, one for a refusal. Assumes nothing.
-use mathlib.Core.Path.{_≡_, sym, _∙_}
+use mathlib.Core.Path.{_≡_, refl, sym, _∙_}
+use mathlib.Core.Bool.{Bool, true, false, cond}
+use mathlib.Core.Logic.{_⊎_, inl, inr}
 use mathlib.Core.List.{List}
-use Prim.Native.Nat.{ℕ}
+use Prim.Native.Nat.{ℕ, zero, suc}
+use native.Mathlib.Omega.{arith}
 use borrow.Author.Tests.{eq-eqb, ne-eqb}
 use Rattle.spec.specs.declared.Answer.{Answer}
 use Rattle.spec.specs.Calls.{or-else, accepted, Answers, zeros}
@@ -14,6 +17,13 @@ or-else-some a b some = rw (ne-eqb a 0 some)
 pub or-else-none : (a b : ℕ) → a ≡ 0 → or-else a b ≡ b
 unfolding or-else
 or-else-none a b none = rw (eq-eqb a 0 none)
+
+-- 8 after a refusal: the refusal, or 8 where it is 0
+pub or-eight : (n : ℕ) (b : Bool) → (n ≡ or-else n (cond b 8 0)) ⊎ ((n ≡ 0) × (or-else n (cond b 8 0) ≡ 8))
+unfolding or-else
+or-eight zero true = inr (refl, refl)
+or-eight zero false = inl refl
+or-eight (suc n) b = inl (sym (or-else-some (suc n) (cond b 8 0) (λ (e : suc n ≡ 0). omega arith)))
 
 module _ {ℓ} {A : Type ℓ} (n : ℕ) (x y : A) where
   pub accepted-yes : n ≡ 0 → accepted n x y ≡ x
