@@ -10,14 +10,15 @@ use lib.ListN.{length, getD}
 use Rattle.basics.specs.Bools.{le-or-lt}
 use Rattle.basics.specs.Member.{In}
 use Rattle.basics.specs.Steps.{any-from-get, any-from-put, those-from, those-from-get, those-from-put, those-from-append}
-use Rattle.spec.specs.Dictionary.{Lexicon, lexicon}
+use Rattle.spec.specs.Dictionary.{Lexicon}
 use Rattle.spec.specs.Words.{spells}
 use Rattle.spec.specs.Index.{keys-of, key-at}
 use Rattle.spec.specs.Search.{agrees}
+use Rattle.models.specs.WordStarts.{lexicon-at}
 use Rattle.models.specs.Window.{agrees-leading, is-leading, leading-lines}
 use Rattle.laws.specs.Search.Agree.{Agree, agrees-get, agrees-put, agree-move}
 use Rattle.laws.specs.Cut.Bears.{bears-get}
-use Rattle.laws.specs.Directory.Tables.{Can-read, Reads, key-some}
+use Rattle.laws.specs.Directory.Tables.{Reads, key-some}
 use Rattle.laws.specs.Window.LineRanges.{Split, lone-single}
 use Rattle.laws.specs.Search.Sizing.{Is-string}
 use Rattle.laws.specs.Cut.ExactFlags.{bears-at, Exact-flags}
@@ -101,11 +102,10 @@ pub record Bears-on (cs ws xs s : List ℕ) (w : ℕ) : Type 0 where
   pub split : Split xs w
   pub string : Is-string s
 
-module _
-    {cs ls xs : List ℕ} (can : Can-read cs ls xs) {w : ℕ} (split : Split xs w) {s : List ℕ} (is : Is-string s) {old mid fs : List ℕ}
-    (backs : Backs (lexicon cs ls) xs s old mid w) (offsets : Offsets (lexicon cs ls) xs s mid fs (length s)) where
+module _ {cs ws xs s : List ℕ} {w : ℕ} (on : Bears-on cs ws xs s w) {old mid fs : List ℕ} (backs : Backs (lexicon-at cs ws) xs s old mid w)
+    (offsets : Offsets (lexicon-at cs ws) xs s mid fs (length s)) where
   abbrev key : ℕ → List ℕ
-  key i = spells (lexicon cs ls) (key-at xs i)
+  key i = spells (lexicon-at cs ws) (key-at xs i)
 
   module _ (i : ℕ) (below : i < keys-of xs) where
     ahead : {a b : ℕ} → a ≤ b → Agree s a (key i) b → 1 ≤ getD fs i 0
@@ -116,7 +116,7 @@ module _
     -- a lone character does not start before the string
     back : {a b : ℕ} → b < a → Agree s a (key i) b → 1 ≤ getD fs i 0
     back {a} {b} l h =
-        ⊎-elim (λ (p : w ≤ i). absurd (omega (arith, lone-single can split i p below)))
+        ⊎-elim (λ (p : w ≤ i). absurd (omega (arith, lone-single (on .reads .can) (on .split) i p below)))
         (λ (p : i < w).
         omega (
           arith,
@@ -125,17 +125,17 @@ module _
         ))
         (le-or-lt w i)
 
-    found : bears-at (lexicon cs ls) xs s i ≡ true → 1 ≤ getD fs i 0
+    found : bears-at (lexicon-at cs ws) xs s i ≡ true → 1 ≤ getD fs i 0
     found t =
-        let h = bears-get (key i) s (key-some can i below) (is .some) t in
+        let h = bears-get (key i) s (key-some (on .reads .can) i below) (on .string .some) t in
         ⊎-elim (λ (l : h .0 ≤ h .1). ahead l (h .2)) (λ (l : h .1 < h .0). back l (h .2))
         (le-or-lt (h .0) (h .1))
 
-    by-test : (t : Bool) → bears-at (lexicon cs ls) xs s i ≡ t → getD fs i 0 ≡ cond t 1 0
+    by-test : (t : Bool) → bears-at (lexicon-at cs ws) xs s i ≡ t → getD fs i 0 ≡ cond t 1 0
     by-test true t = omega (arith, found t, rw t at (offsets .way .flags .sound i below))
     by-test false t = omega (arith, rw t at (offsets .way .flags .sound i below))
 
   -- the flags are exact
-  pub flags-exact-flags : Exact-flags (lexicon cs ls) xs s (keys-of xs) fs
+  pub flags-exact-flags : Exact-flags (lexicon-at cs ws) xs s (keys-of xs) fs
   flags-exact-flags =
-      record { room = offsets .way .flags .room; at = λ i b. by-test i b (bears-at (lexicon cs ls) xs s i) refl }
+      record { room = offsets .way .flags .room; at = λ i b. by-test i b (bears-at (lexicon-at cs ws) xs s i) refl }

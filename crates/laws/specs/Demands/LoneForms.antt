@@ -135,6 +135,11 @@ form-as-key g =
 
 -- OVER THE CALLS
 
+nine :
+    (g : ℕ) (cs ls xs : List ℕ) → index-refusal g cs ls xs ≡ 0 → received g (lexicon cs ls) xs ≡ false →
+    (w : ℕ) → 8 * n-of xs ≤ w → reception-refusal g cs ls xs w ≡ 9
+nine g cs ls xs none un w room = reception-unreceived g cs ls xs w (sym (short-none (index-refusal g cs ls xs) xs w none room)) un
+
 module _ (g : ℕ) (cs ls xs : List ℕ) (adm : admitted cs ls ≡ true) (can : readable g (lexicon cs ls) xs ≡ true) where
   no-refusal : index-refusal g cs ls xs ≡ 0
   unfolding admitted
@@ -148,10 +153,6 @@ module _ (g : ℕ) (cs ls xs : List ℕ) (adm : admitted cs ls ≡ true) (can : 
   tallied r says =
       (says .0 ∙ no-refusal, says .1 ∙ accepted-yes (index-refusal g cs ls xs) (entries-of xs) 0 no-refusal)
 
-  nine : received g (lexicon cs ls) xs ≡ false → (w : ℕ) → 8 * n-of xs ≤ w → reception-refusal g cs ls xs w ≡ 9
-  nine none w room =
-      reception-unreceived g cs ls xs w (sym (short-none (index-refusal g cs ls xs) xs w no-refusal room)) none
-
 pub form-calls : (g : ℕ) → Form-calls g
 unfolding Receive-says Recover-says Puts Answers
 form-calls g =
@@ -159,10 +160,12 @@ form-calls g =
       tallied = λ cs ls xs r adm can. tallied g cs ls xs adm can r;
       not-received =
           λ cs ls xs c r w v adm can lone room says.
-          says .0 .0 ∙ nine g cs ls xs adm can (form-as-key g .unreceived cs ls xs c adm can lone) (length w) room;
+          says .0 .0
+          ∙ nine g cs ls xs (no-refusal g cs ls xs adm can) (form-as-key g .unreceived cs ls xs c adm can lone) (length w) room;
       not-recovered =
           λ cs ls xs c r o z w v adm can lone room says.
-          let n = nine g cs ls xs adm can (form-as-key g .unreceived cs ls xs c adm can lone) (length w) room in
+          let un = form-as-key g .unreceived cs ls xs c adm can lone in
+          let n = nine g cs ls xs (no-refusal g cs ls xs adm can) un (length w) room in
           says .0 .0 .0
           ∙ recovery-early g cs ls xs (length w) (length o) (λ (e : reception-refusal g cs ls xs (length w) ≡ 0). omega (arith, n))
           ∙ n;

@@ -62,11 +62,11 @@ not-both {rows} {n} h k = h .none-met n (first-meets rows n (k .first))
 
 -- the decision, with what holds after an accepted call (A) and after a refused one (B)
 pub decides :
-    {rows : List Row} {n m : ℕ} {A B : Type 0} → Decides rows n Unit Unit → m ≡ n →
-    (None-met rows → n ≡ 0 → A) → ((n ≡ 0 → ⊥) → B) → Decides rows m A B
-decides {rows} {n} {A} {B} decided e accepts refuses = subst (λ (k : ℕ). Decides rows k A B) (sym e) (ends decided)
+    {rows : List Row} {n m : ℕ} {A B : Type 0} → First rows n → m ≡ n → (None-met rows → n ≡ 0 → A) → ((n ≡ 0 → ⊥) → B) →
+    Decides rows m A B
+decides {rows} {n} {A} {B} first e accepts refuses = subst (λ (k : ℕ). Decides rows k A B) (sym e) (ends first)
   where
-    ends : Decides rows n Unit Unit → Decides rows n A B
+    ends : First rows n → Decides rows n A B
     ends (inl h) = inl (record { none-met = h .none-met; number = h .number; result = accepts (h .none-met) (h .number) })
     ends (inr h) = inr (record { first = h .first; number = h .number; result = refuses (h .number) })
 

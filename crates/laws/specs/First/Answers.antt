@@ -9,15 +9,21 @@ use Rattle.spec.specs.First.{first-position}
 use Rattle.spec.specs.Calls.{string-refusal, First-says}
 use Rattle.laws.specs.Dictionary.Answering.{accepted-yes, accepted-no}
 
-module _ (g : ℕ) (cs ls xs s : List ℕ) (r : FirstAnswer) (number : r .refusal ≡ string-refusal g cs ls xs s) where
+-- the answer has this refusal and this position
+pub record Answered (r : FirstAnswer) (refusal position : ℕ) : Type 0 where
+  pub number : r .refusal ≡ refusal
+  pub at : r .position ≡ position
+
+module _ (g : ℕ) (cs ls xs s : List ℕ) where
   abbrev first : ℕ
   first = first-position (lexicon cs ls) xs (replaced s)
 
-  pub first-refused : (string-refusal g cs ls xs s ≡ 0 → ⊥) → r .position ≡ 0 → First-says g cs ls xs s r
+  pub first-refused :
+      {r : FirstAnswer} → (string-refusal g cs ls xs s ≡ 0 → ⊥) → Answered r (string-refusal g cs ls xs s) 0 → First-says g cs ls xs s r
   unfolding First-says
-  first-refused some none = (number, none ∙ sym (accepted-no (string-refusal g cs ls xs s) first 0 some))
+  first-refused some h = (h .number, h .at ∙ sym (accepted-no (string-refusal g cs ls xs s) first 0 some))
 
   pub first-says :
-      string-refusal g cs ls xs s ≡ 0 → r .position ≡ first-position (lexicon cs ls) xs (replaced s) → First-says g cs ls xs s r
+      {r : FirstAnswer} → string-refusal g cs ls xs s ≡ 0 → Answered r (string-refusal g cs ls xs s) first → First-says g cs ls xs s r
   unfolding First-says
-  first-says none position = (number, position ∙ sym (accepted-yes (string-refusal g cs ls xs s) first 0 none))
+  first-says none h = (h .number, h .at ∙ sym (accepted-yes (string-refusal g cs ls xs s) first 0 none))

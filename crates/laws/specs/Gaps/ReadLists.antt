@@ -10,7 +10,6 @@ use lib.Dec.{ltb, leb}
 use lib.ListN.{length, getD, take, drop, length-drop, take-append-drop}
 use lib.Seq.{getD-take, getD-drop, length-take-le}
 use Rattle.spec.specs.Dictionary.{Lexicon}
-use Rattle.spec.specs.Words.{Key}
 use Rattle.spec.specs.Index.{header, n-of, keys-of, value-at, count-at, key-at, rise-from, last-of, readable}
 use Rattle.spec.specs.Gaps.{sums-after, prefix-sums, lists-from, with-lists, restored}
 use Rattle.models.specs.Readability.{key-code, as-is, list-good, line-list-good, line-fits, rest-good, walk-good, read-as}
@@ -21,17 +20,11 @@ use Rattle.laws.specs.Readable.LineWalk.{unreadable-header, unreadable-d
 use Rattle.laws.specs.Readable.LineSteps.{positions-there}
 
 module _ (read : List ℕ → List ℕ) (keeps : Keeps-length read) where
-  -- a line's numbers, and the list that they are read as
-  line-read :
-      (lex : Lexicon) (n a : ℕ) (l : Key) (k i : ℕ) (xs ps : List ℕ) →
-      line-fits read lex n a l (count-at xs i) ps ≡ line-fits as-is lex n a l (count-at xs i) (lists-from read (suc k) i xs ps)
-  unfolding line-fits line-list-good list-good
-  line-read lex n a l k i xs ps = rw (length-lists read keeps (suc k) i xs ps, front-list read keeps k i xs ps)
-
+  -- the walk over the numbers, and over the lists that they are read as
   rest-read :
       (lex : Lexicon) (n k i a : ℕ) {xs ys : List ℕ} (ps : List ℕ) → Same-lines xs ys (i + k) →
       rest-good read lex n k i a xs ps ≡ rest-good as-is lex n k i a ys (lists-from read k i xs ps)
-  unfolding rest-good
+  unfolding rest-good line-fits line-list-good list-good
   rest-read lex n zero i a {xs} ps same = rw (length-lists read keeps zero i xs ps)
   rest-read lex n (suc k) i a {xs} {ys} ps same =
       let next : i + suc k ≡ suc i + k = omega arith in
@@ -39,7 +32,8 @@ module _ (read : List ℕ → List ℕ) (keeps : Keeps-length read) where
         same .kinds i (omega arith),
         same .values i (omega arith),
         same .counts i (omega arith),
-        line-read lex n a (key-at xs i) k i xs ps,
+        length-lists read keeps (suc k) i xs ps,
+        front-list read keeps k i xs ps,
         later-lists read keeps k i xs ps,
         rest-read lex n k (suc i) (suc (key-code (key-at xs i))) (drop (count-at xs i) ps) (rw next at same),
       )

@@ -205,7 +205,7 @@ in-lines-with f l (k ∷ ls) (inr m) = inr (in-lines-with f l ls m)
 
 -- THERE AND BACK
 
-module _ (f g : List ℕ → List ℕ) (keeps : Keeps-length f) (keeps-too : Keeps-length g) where
+module _ (f g : List ℕ → List ℕ) (keeps : Keeps-length f) where
   lists-back :
       (k i : ℕ) {xs ys : List ℕ} (ps : List ℕ) → Same-lines xs ys (i + k) →
       ((l : Line) → In l (lines-from k i xs ps) → g (f (l .positions)) ≡ l .positions) → lists-from g k i ys (lists-from f k i xs ps) ≡ ps
@@ -225,9 +225,10 @@ module _ (f g : List ℕ → List ℕ) (keeps : Keeps-length f) (keeps-too : Kee
 
   -- if g undoes f on each list, it undoes it on the whole
   pub with-back :
-      (xs : List ℕ) → ((l : Line) → In l (lines-in xs) → g (f (l .positions)) ≡ l .positions) → with-lists g (with-lists f xs) ≡ xs
+      Keeps-length g → (xs : List ℕ) → ((l : Line) → In l (lines-in xs) → g (f (l .positions)) ≡ l .positions) →
+      with-lists g (with-lists f xs) ≡ xs
   unfolding with-lists lines-in
-  with-back xs each = ⊎-elim there missing (le-or-lt first (length xs))
+  with-back keeps-too xs each = ⊎-elim there missing (le-or-lt first (length xs))
     where
       first : ℕ
       first = header + 3 * keys-of xs

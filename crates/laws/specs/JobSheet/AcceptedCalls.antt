@@ -70,30 +70,39 @@ usable-whole {cs} {ls} {xs} u =
     let fits : Fits xs = readable-fits longest-text (lexicon cs ls) xs (index-accepted longest-text cs ls xs (u .accepts) .is-readable) in
     record { headed = fits .has-header; exact = fits .is-long }
 
-module _ (cs ls ts : List ℕ) (chars : Chars cs) (text : Chars ts) (none : dictionary-refusal cs ls ≡ 0) (short : length ts ≤ 2000) where
+-- an admitted dictionary and a text as short as one of a job sheet
+pub record Buildable (cs ls ts : List ℕ) : Type 0 where
+  pub chars : Chars cs
+  pub text : Chars ts
+  pub admits : dictionary-refusal cs ls ≡ 0
+  pub short : length ts ≤ 2000
+
+module _ {cs ls ts : List ℕ} (h : Buildable cs ls ts) where
   good : Good-lexicon (lexicon cs ls)
-  good = reached-lexicon cs ls chars none
+  good = reached-lexicon cs ls (h .chars) (h .admits)
 
   chars-replaced : Chars (replaced ts)
-  chars-replaced = replaced-chars ts text
+  chars-replaced = replaced-chars ts (h .text)
 
   pub index-usable : Usable cs ls (index-of (lexicon cs ls) (replaced ts))
   index-usable =
       record {
         accepts =
             sym
-            (accepts-index longest-text cs ls (index-of (lexicon cs ls) (replaced ts)) none
+            (accepts-index longest-text cs ls (index-of (lexicon cs ls) (replaced ts)) (h .admits)
             (index-readable (lexicon cs ls) good (replaced ts) chars-replaced longest-text (omega (arith, length-replaced ts))));
         short = omega (arith, n-of-index (lexicon cs ls) (replaced ts), length-replaced ts);
         few = omega (arith, index-short (lexicon cs ls) (replaced ts) good chars-replaced, length-replaced ts);
       }
 
   pub build-accepted :
-      (r : Answer) (o z w v : List ℕ) → 8002 ≤ length o → 16000 ≤ length w → Build-says longest-text cs ls ts r o z w v →
+      (r : Answer) (o : List ℕ) {z : List ℕ} (w v : List ℕ) → 8002 ≤ length o → 16000 ≤ length w →
+      Build-says longest-text cs ls ts r o z w v →
       In-hand (index-of (lexicon cs ls) (replaced ts)) (r .count) z
   unfolding Build-says
-  build-accepted r o z w v room work says =
+  build-accepted r o {z} w v room work says =
       puts-get (build-refusal longest-text cs ls ts (length o) (length w)) (index-of (lexicon cs ls) (replaced ts)) r o z
-      (build-late longest-text cs ls ts (length w) (length o) (early-none longest-text cs ls ts (length w) none (omega arith) (omega arith))
+      (build-late longest-text cs ls ts (length w) (length o)
+      (early-none longest-text cs ls ts (length w) (h .admits) (omega arith) (omega arith))
       ∙ output-fits (length (index-of (lexicon cs ls) (replaced ts))) (length o) (omega (arith, index-usable .few)))
       (says .0)

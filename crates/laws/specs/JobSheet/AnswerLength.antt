@@ -43,7 +43,8 @@ module _ (s : List ℕ) where
       let ts = text-on s in
       rw (accepted-yes (sheet-refusal s) (printed s) (refused-line (sheet-refusal s)) none)
       (shown-short (finds-on s)
-      (index-usable cs ls ts (words-on-chars s) (text-on-chars s) (good .admits) (good .text-short))
+      (index-usable
+      (record { chars = words-on-chars s; text = text-on-chars s; admits = good .admits; short = good .text-short }))
       (chars-small (index-of (lexicon cs ls) (replaced ts))
       (index-chars (replaced ts) (reached-lexicon cs ls (words-on-chars s) (good .admits))
       (replaced-chars ts (text-on-chars s))

@@ -43,15 +43,18 @@ spaced-put {x} s =
 
 -- ONE DIGIT, by its value
 
-module _ (b : ℕ) {v : ℕ} where
-  digit-not : v ≡ digit b → v ≡ no-digit → is-digit b ≡ false
-  unfolding is-digit
-  digit-not is none = rw (sym is ∙ none) refl
+digit-not : (b : ℕ) {v : ℕ} → v ≡ digit b → v ≡ no-digit → is-digit b ≡ false
+unfolding is-digit
+digit-not b is none = rw (sym is ∙ none) refl
 
-  -- the value that `value_of` answers, and the test that it is a digit's
-  digit-put : (v ≡ digit b) × (v ≤ no-digit) → (v ≡ no-digit → ⊥) → is-digit b ≡ true
-  unfolding is-digit
-  digit-put (is, small) some = rw (sym is) (lt-ltb v no-digit (omega arith))
+-- the value that `value_of` answers, and the test that it is a digit's
+pub record Digit-read (b v : ℕ) : Type 0 where
+  pub answered : (v ≡ digit b) × (v ≤ no-digit)
+  pub some : v ≡ no-digit → ⊥
+
+digit-put : {b v : ℕ} → Digit-read b v → is-digit b ≡ true
+unfolding is-digit
+digit-put {v} h = rw (sym (h .answered .0)) (lt-ltb v no-digit (omega (arith, h .answered .1, h .some)))
 
 -- THE CHARACTER AT AN INDEX
 
@@ -114,19 +117,10 @@ module _ (l : List ℕ) (at : ℕ) where
 
   pub character-read :
       {a b c d : ℕ} → getD l at 0 ≡ space →
-      (a ≡ digit (byte 1)) × (a ≤ no-digit) → (a ≡ no-digit → ⊥) →
-      (b ≡ digit (byte 2)) × (b ≤ no-digit) → (b ≡ no-digit → ⊥) →
-      (c ≡ digit (byte 3)) × (c ≤ no-digit) → (c ≡ no-digit → ⊥) →
-      (d ≡ digit (byte 4)) × (d ≤ no-digit) → (d ≡ no-digit → ⊥) →
+      Digit-read (byte 1) a → Digit-read (byte 2) b → Digit-read (byte 3) c → Digit-read (byte 4) d →
       ((a * 16 + b) * 16 + c) * 16 + d ≡ spaced-character l at
   unfolding spaced-at character-at character
-  character-read gap p na q nb r nc s nd =
+  character-read gap p q r s =
       let all : Spaced-there =
-      record {
-        gap = gap;
-        first = digit-put (byte 1) p na;
-        second = digit-put (byte 2) q nb;
-        third = digit-put (byte 3) r nc;
-        fourth = digit-put (byte 4) s nd;
-      } in
-      rw (p .0, q .0, r .0, s .0) (sym (character-there (spaced-put all)))
+      record { gap = gap; first = digit-put p; second = digit-put q; third = digit-put r; fourth = digit-put s } in
+      rw (p .answered .0, q .answered .0, r .answered .0, s .answered .0) (sym (character-there (spaced-put all)))

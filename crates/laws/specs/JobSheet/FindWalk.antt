@@ -31,9 +31,9 @@ abbrev pub string-at : (fs ls : List ℕ) → (from i : ℕ) → List ℕ
 string-at fs ls from i = take (from + getD ls i 0 - from) (drop from fs)
 
 pub finds-start :
-    (lex : Lexicon) (xs fs ls : List ℕ) (start : ℕ) (old : List ℕ) → some-length-wrong ls ≡ false → total ls ≤ length fs →
+    {lex : Lexicon} {xs fs ls : List ℕ} {start : ℕ} {old : List ℕ} → some-length-wrong ls ≡ false → total ls ≤ length fs →
     start + length (found-lines lex xs (words-from ls fs)) ≤ length old → Finds-printed lex xs fs ls start old 0 start 0 old
-finds-start lex xs fs ls start old tested fits room =
+finds-start {lex} {xs} {fs} {ls} {start} {old} tested fits room =
     record {
       within = omega arith;
       tested = tested;

@@ -70,11 +70,11 @@ digit-no-feed v e =
 
 -- FOUR DIGITS
 
-module _ (a b c d : ℕ) (ta : is-digit a ≡ true) (tb : is-digit b ≡ true) (tc : is-digit c ≡ true) (td : is-digit d ≡ true) where
-  below : (x : ℕ) → is-digit x ≡ true → digit x < 16
-  unfolding is-digit
-  below x t = ltb-true (digit x) 16 t
+below : (x : ℕ) → is-digit x ≡ true → digit x < 16
+unfolding is-digit
+below x t = ltb-true (digit x) 16 t
 
+module _ (a b c d : ℕ) (ta : is-digit a ≡ true) (tb : is-digit b ≡ true) (tc : is-digit c ≡ true) (td : is-digit d ≡ true) where
   pub character-small : character a b c d < 65536
   unfolding character
   character-small = omega (arith, below a ta, below b tb, below c tc, below d td)

@@ -50,10 +50,10 @@ digit-byte-letter v h = rw (le-ltb v 10 h)
 
 -- four digits, the highest first
 pub four-digits :
-    (c x y z w : ℕ) → x ≡ digit-byte (c / 4096 % 16) → y ≡ digit-byte (c / 256 % 16) → z ≡ digit-byte (c / 16 % 16) →
+    (c : ℕ) {x y z w : ℕ} → x ≡ digit-byte (c / 4096 % 16) → y ≡ digit-byte (c / 256 % 16) → z ≡ digit-byte (c / 16 % 16) →
     w ≡ digit-byte (c % 16) → x ∷ y ∷ z ∷ w ∷ [] ≡ hexadecimal c
 unfolding hexadecimal
-four-digits c x y z w ex ey ez ew = rw (ex, ey, ez, ew)
+four-digits c ex ey ez ew = rw (ex, ey, ez, ew)
 
 pub length-hexadecimal : (c : ℕ) → length (hexadecimal c) ≡ 4
 unfolding hexadecimal

@@ -148,17 +148,18 @@ one-text (t ∷ []) e = append-nil t
 one-text (t ∷ u ∷ us) e = absurd (omega arith)
 
 sheet-tested :
-    (s : List ℕ) (at words texts text finds : ℕ) → at ≤ length s → lines (drop at s) ≡ left-on s → words ≡ length (words-on s) →
-    texts ≡ length (texts-on s) → text ≡ length (run-together (texts-on s)) → finds ≡ length (finds-on s) →
-    ((((eqb texts 1 && eqb at (length s)) && leb words 200) && leb text 2000) && leb finds 50) ≡ (in-form s && in-counts s)
+    (s : List ℕ) (at : ℕ) → at ≤ length s → lines (drop at s) ≡ left-on s →
+    ((((eqb (length (texts-on s)) 1 && eqb at (length s)) && leb (length (words-on s)) 200)
+    && leb (length (run-together (texts-on s))) 2000)
+    && leb (length (finds-on s)) 50)
+    ≡ (in-form s && in-counts s)
 unfolding in-form in-counts text-on
-sheet-tested s at words texts text finds within left ew et ex ef =
+sheet-tested s at within left =
     let ended : nothing-left (left-on s) ≡ eqb at (length s) = ap nothing-left (sym left) ∙ nothing-at s at within in
-    rw (ew, et, ef, ended)
+    rw ended
     (⊎-elim
     (λ (t : eqb (length (texts-on s)) 1 ≡ true).
-    let len : text ≡ length (getD (texts-on s) 0 []) = ex ∙ ap length (one-text (texts-on s) (eqb-true (length (texts-on s)) 1 t)) in
-    rw len
+    rw (one-text (texts-on s) (eqb-true (length (texts-on s)) 1 t))
     (regroup (eqb (length (texts-on s)) 1) (eqb at (length s)) (leb (length (words-on s)) 200) (leb (length (getD (texts-on s) 0 [])) 2000)
     (leb (length (finds-on s)) 50)))
     (λ (f : eqb (length (texts-on s)) 1 ≡ false). rw f)
@@ -269,7 +270,7 @@ module _ {s chars₀ lengths₀ : List ℕ} {at₁ used₁ count₁ at₂ used�
       let ex : used₂ - used₁ ≡ length (run-together (texts-on s)) = omega (arith, ed, texts-used t) in
       let ef : count - count₂ ≡ length (finds-on s) = omega (arith, texts-count t, finds-count f) in
       record {
-        tested = sheet-tested s at count₁ (count₂ - count₁) (used₂ - used₁) (count - count₂) (f .within) (f .left) ew et ex ef;
+        tested = rw (et, ex, ef, ew) (sheet-tested s at (f .within) (f .left));
         words-counted = ew;
         dictionary-counted = ed;
         text-counted = ex;

@@ -44,9 +44,7 @@ returns : tie.Need-returns
 returns c =
     let offsets = c .before .before in
     let leading = offsets .before .before .before .before in
-    let counted = leading .before .before in
-    let s = start (counted .before) in
-    flags-exact-flags (s .pre .0 .can) (on counted .split) (s .pre .1) (backs leading) (offsets .flag-offsets .ensures)
+    flags-exact-flags (on (leading .before .before)) (backs leading) (offsets .flag-offsets .ensures)
 
 pub flag-bearing-spec : {M : Type 1} → statement M
 flag-bearing-spec =

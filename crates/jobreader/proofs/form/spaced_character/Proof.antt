@@ -47,10 +47,10 @@ returns-6 c =
     let at-space = at-first .before .before .before in
     let entry = at-space .before .before .before in
     character-read (entry .args .line .now) (entry .args .at) (at-space .if1 .left)
-    (at-first .before .value-of .ensures) (at-first .if2 .left)
-    (at-second .before .value-of2 .ensures) (at-second .if3 .left)
-    (at-third .before .value-of3 .ensures) (at-third .if4 .left)
-    (c .before .value-of4 .ensures) (c .if5 .left)
+    (record { answered = at-first .before .value-of .ensures; some = at-first .if2 .left })
+    (record { answered = at-second .before .value-of2 .ensures; some = at-second .if3 .left })
+    (record { answered = at-third .before .value-of3 .ensures; some = at-third .if4 .left })
+    (record { answered = c .before .value-of4 .ensures; some = c .if5 .left })
 
 pub spaced-character-spec : {M : Type 1} → statement M
 spaced-character-spec =

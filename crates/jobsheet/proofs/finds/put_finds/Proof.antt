@@ -28,13 +28,7 @@ next-fits c = string-fits (c .before .loop .inv .1) (c .loop-test .taken)
 loop-holds : tie.Need-loop-holds Inv-loop μ-loop
 loop-holds c =
     let s = start (c .before .before .before) in
-    let a = s .args in (
-      refl,
-      finds-start (lexicon-at (a .chars .now) (a .word-starts .now)) (a .index .now) (a .strings .now) (a .counts .now) (a .at)
-          (a .out .now)
-          (s .pre .0 .1 .tested)
-          (s .pre .0 .1 .fits) (s .pre .1),
-    )
+    (refl, finds-start (s .pre .0 .1 .tested) (s .pre .0 .1 .fits) (s .pre .1))
 
 cast-next : tie.Need-cast-next Inv-loop μ-loop
 cast-next c = omega (arith, c .shared-slice-known7 .given (c .before .before .loop .i))

@@ -10,8 +10,7 @@ use Rattle.basics.specs.Placed.{Wrote}
 use Rattle.spec.specs.Replaced.{replaced}
 use Rattle.spec.specs.Dictionary.{lexicon}
 use Rattle.spec.specs.Numbers.{index-of}
-use Rattle.laws.specs.Text.Facts.{Chars}
-use Rattle.laws.specs.JobSheet.AcceptedCalls.{In-hand, Usable, index-usable, build-accepted}
+use Rattle.laws.specs.JobSheet.AcceptedCalls.{In-hand, Usable, Buildable, index-usable, build-accepted}
 use Rattle.laws.specs.JobSheet.JobAnswering.{index-shown}
 use Rattle.jobsheet.proofs.lines.put_built.Statement.{statement}
 use Rattle.jobsheet.proofs.lines.put_built.Tie as tie
@@ -25,11 +24,16 @@ built c = c .before .before .before .before
 abbrev start : tie.After-build → tie.Start
 start c = known (c .before .before .before .before) .before .before .before
 
-chars-are : (c : tie.After-shared-slice-known3) → Chars (c .before .before .before .args .chars .now)
-chars-are c = λ i h. omega (arith, c .before .before .shared-slice-known .given i)
-
-text-is : (c : tie.After-shared-slice-known3) → Chars (c .before .before .before .args .text .now)
-text-is c = λ i h. omega (arith, c .shared-slice-known3 .given i)
+buildable :
+    (c : tie.After-shared-slice-known3) → let a = c .before .before .before .args in
+    Buildable (a .chars .now) (a .lengths .now) (a .text .now)
+buildable c =
+    record {
+      chars = λ i h. omega (arith, c .before .before .shared-slice-known .given i);
+      text = λ i h. omega (arith, c .shared-slice-known3 .given i);
+      admits = c .before .before .before .pre .0 .admits;
+      short = c .before .before .before .pre .0 .short;
+    }
 
 -- the index is the first numbers of the slice lent for it
 index-in-hand :
@@ -37,22 +41,14 @@ index-in-hand :
     In-hand (index-of (lexicon (a .chars .now) (a .lengths .now)) (replaced (a .text .now))) (c .build .result .count)
     (c .build .last .1 .1 .1 .0)
 index-in-hand c =
-    let k = known (c .before .before .before .before) in
     let s = start c in
-    let a = s .args in
-    build-accepted (a .chars .now) (a .lengths .now) (a .text .now) (chars-are k) (text-is k) (s .pre .0 .admits) (s .pre .0 .short)
-    (c .build .result) (a .index .now) (c .build .last .1 .1 .1 .0) (a .work .now) (c .build .last .1 .1 .1 .1 .0) (s .pre .1 .0)
-    (s .pre .1 .1) (c .build .ensures)
+    build-accepted (buildable (known (c .before .before .before .before))) (c .build .result) (s .args .index .now)
+    (s .args .work .now) (c .build .last .1 .1 .1 .1 .0) (s .pre .1 .0) (s .pre .1 .1) (c .build .ensures)
 
 in-hand-usable :
     (c : tie.After-build) → let a = start c .args in
     Usable (a .chars .now) (a .lengths .now) (take (c .build .result .count) (c .build .last .1 .1 .1 .0))
-in-hand-usable c =
-    let k = known (c .before .before .before .before) in
-    let s = start c in
-    rw (index-in-hand c .is)
-    (index-usable (s .args .chars .now) (s .args .lengths .now) (s .args .text .now) (chars-are k) (text-is k) (s .pre .0 .admits)
-    (s .pre .0 .short))
+in-hand-usable c = rw (index-in-hand c .is) (index-usable (buildable (known (c .before .before .before .before))))
 
 slice-aggregate-put-lines : tie.Need-slice-aggregate-put-lines
 slice-aggregate-put-lines c =

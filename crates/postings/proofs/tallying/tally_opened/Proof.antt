@@ -1,10 +1,8 @@
 -- `tally_opened` meets its contract: the refusal decides what is answered. Assumes nothing.
-use mathlib.Core.Path.{_≡_, refl, _∙_}
-use Prim.Native.Nat.{ℕ, _-_}
+use mathlib.Core.Path.{refl, _∙_}
+use Prim.Native.Nat.{ℕ}
 use native.Mathlib.Omega.{arith}
-use lib.ListN.{length, replicate}
 use Rattle.spec.specs.Dictionary.{longest-text, lexicon}
-use Rattle.spec.specs.Calls.{index-refusal}
 use Rattle.laws.specs.Readable.IndexRefusal.{index-read}
 use Rattle.laws.specs.Readable.Opening.{opened-accepted, opened-keys, opened-first}
 use Rattle.laws.specs.Tally.Walk.{entries-left, small-zeros, tally-afresh}
@@ -15,11 +13,8 @@ use Rattle.postings.proofs.tallying.tally_opened.Tie as tie
 returns : tie.Need-returns
 returns c =
     let start = c .before .before .before .before in
-    let a = start .args in
-    tally-refused longest-text (a .chars .now) (a .lengths .now) (a .index .now)
-    (record { refusal = a .refusal; count = 0; «by_length» = replicate 32 0 }) (start .pre .number)
-    (λ (none : index-refusal longest-text (a .chars .now) (a .lengths .now) (a .index .now) ≡ 0).
-    c .if1 .taken (start .pre .number ∙ none)) refl refl
+    tally-refused _ _ _ _ (λ none. c .if1 .taken (start .pre .number ∙ none))
+    (record { number = start .pre .number; total = refl; by-length = refl })
 
 raised-requires : tie.Need-raised-requires
 raised-requires c κs =
@@ -48,10 +43,12 @@ returns-2 c =
     (λ (i : ℕ). omega (arith, c .before .before .before .before .shared-slice-known .given i)) none in
     let positions = opened-first (start .pre) (c .before .if1 .left) in
     let left = entries-left longest-text (lexicon (a .chars .now) (a .lengths .now)) (a .index .now) (read .is-readable) in
-    tally-accepted longest-text (a .chars .now) (a .lengths .now) (a .index .now)
-    (record { refusal = a .refusal; count = length (a .index .now) - a .first; «by_length» = c .raised .result })
-    (start .pre .number) none
-    (omega (arith, positions, left)) (c .raised .ensures ∙ tally-afresh (lexicon (a .chars .now) (a .lengths .now)) (a .index .now))
+    tally-accepted _ _ _ _ none
+    (record {
+      number = start .pre .number;
+      total = omega (arith, positions, left);
+      by-length = c .raised .ensures ∙ tally-afresh (lexicon (a .chars .now) (a .lengths .now)) (a .index .now);
+    })
 
 pub tally-opened-spec : {M : Type 1} → statement M
 tally-opened-spec = tie.close (tie.spec returns raised-requires sub-t12 returns-2)

@@ -7,10 +7,9 @@ use Rattle.printer.proofs.print.put_hexadecimal.Tie as tie
 returns : tie.Need-returns
 returns c =
     let d = c .before .before .before .before .before in
-    rw (← four-digits (d .before .before .before .before .before .args .character) (d .before .before .before .digit-byte .result)
-    (d .before .before .digit-byte2 .result) (d .before .digit-byte3 .result) (d .digit-byte4 .result)
-    (d .before .before .before .digit-byte .ensures) (d .before .before .digit-byte2 .ensures) (d .before .digit-byte3 .ensures)
-    (d .digit-byte4 .ensures)) (c .before .before .put-bytes .ensures)
+    rw (← four-digits (d .before .before .before .before .before .args .character) (d .before .before .before .digit-byte .ensures)
+    (d .before .before .digit-byte2 .ensures) (d .before .digit-byte3 .ensures) (d .digit-byte4 .ensures))
+    (c .before .before .put-bytes .ensures)
 
 pub put-hexadecimal-spec : {M : Type 1} → statement M
 put-hexadecimal-spec =

@@ -41,11 +41,14 @@ cast-position c =
 returns-2 : tie.Need-returns-2
 returns-2 c =
     let is = number (c .before .before) in
-    first-says _ _ _ _ _ _ is (sym is ∙ c .before .if1 .left) (c .first-words .ensures)
+    first-says _ _ _ _ _ (sym is ∙ c .before .if1 .left) (record { number = is; at = c .first-words .ensures })
 
 pub first-opened-spec : {M : Type 1} → statement M
 first-opened-spec =
     tie.close
     (tie.spec
-    (λ c κs. search needs) (λ c. first-refused _ _ _ _ _ _ (number (c .before)) (λ e. c .if1 .taken (number (c .before) ∙ e)) refl)
+    (λ c κs. search needs)
+    (λ c.
+    let is = number (c .before) in
+    first-refused _ _ _ _ _ (λ e. c .if1 .taken (is ∙ e)) (record { number = is; at = refl }))
     first-words-requires cast-position returns-2)
