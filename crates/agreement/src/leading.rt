@@ -2,7 +2,7 @@
 //
 // The list of them does not depend on the window, so a search of several windows for one string makes it once. A word is compared with the
 // string only at its indices that have the string's first character, and most words are passed over at once because they lack it. The
-// cut-down index asks only for offsets below 0.
+// cut-down index asks only for offsets below 0. A key's length is held in 8 bits, so that a compiler knows that an offset is not above 0.
 ghost use mathlib.Core.Path.{_≡_};
 ghost use Prim.Native.Nat.{_≤_, _<_};
 ghost use lib.ListN.{length, take};
@@ -25,8 +25,9 @@ fn agrees_leading(key: &[u16], string: &[u16], least: usize) -> bool
     ensures { λ r. ⌜ r ≡ agrees-leading least (now (string .entry)) (now (key .entry)) ⌝ }
 {
     let character = string[0];
+    let len = key.len() as u8;
     let mut i = least;
-    while i < key.len() {
+    while i < len as usize {
         let at = i;
         i += 1;
         if key[at] == character {
@@ -39,7 +40,7 @@ fn agrees_leading(key: &[u16], string: &[u16], least: usize) -> bool
 }
 
 // Whether the word of a line agrees with the string at an offset of -`least` or below: of 0 or below, or below 0.
-pub fn line_leads(
+fn line_leads(
     chars: &[u16],
     word_starts: &[u16],
     index: &[Number],
@@ -61,22 +62,24 @@ pub fn line_leads(
     agrees_leading(word, string, least)
 }
 
-// Lists those of the first `word_lines` lines whose keys agree at an offset of 0 or below, from the start of `lines`. Answers how many.
+// Lists those of the first `word_lines` lines whose keys agree at an offset of -`least` or below, from the start of `lines`. Answers how
+// many.
 fn fill_leading(
     chars: &[u16],
     word_starts: &[u16],
     index: &[Number],
     string: &[u16],
     word_lines: usize,
+    least: usize,
     lines: &mut [u16],
 ) -> usize
     requires { ⌜
         Reads (now chars) (now «word_starts») (now index) × Split (now index) «word_lines» × (1 ≤ length (now string)) ×
-        («word_lines» ≤ length (now lines)) ⌝ }
+        («word_lines» ≤ length (now lines)) × (least ≤ 1) ⌝ }
     ensures { λ r. ⌜
-        (r ≡ length (leading-lines 0 (lexicon-at (now (chars .entry)) (now («word_starts» .entry))) (now (index .entry))
+        (r ≡ length (leading-lines least (lexicon-at (now (chars .entry)) (now («word_starts» .entry))) (now (index .entry))
         (now (string .entry)) «word_lines»)) ×
-        (now (lines .exit) ≡ in-front (leading-lines 0 (lexicon-at (now (chars .entry)) (now («word_starts» .entry))) (now (index .entry))
+        (now (lines .exit) ≡ in-front (leading-lines least (lexicon-at (now (chars .entry)) (now («word_starts» .entry))) (now (index .entry))
         (now (string .entry)) «word_lines») (now (lines .entry))) ⌝ }
 {
     let mut count = 0;
@@ -84,7 +87,7 @@ fn fill_leading(
     while line < word_lines {
         let at = line;
         line += 1;
-        if line_leads(chars, word_starts, index, string, at, 0) {
+        if line_leads(chars, word_starts, index, string, at, least) {
             lines[count] = at as u16;
             count += 1;
         }
@@ -98,23 +101,25 @@ pub struct Leading {
     pub count: usize,
 }
 
-// Lists all leading lines from the start of `lines`. There is room: there are no more lines of words than words.
+// Lists the lines whose words agree at an offset of -`least` or below, from the start of `lines`: all leading lines for 0, and for 1 those
+// whose words start before the string. There is room: there are no more lines of words than words.
 pub fn list_leading(
     chars: &[u16],
     word_starts: &[u16],
     index: &[Number],
     string: &[u16],
+    least: usize,
     lines: &mut [u16],
 ) -> Leading
     requires { ⌜
-        Reads (now chars) (now «word_starts») (now index) × (1 ≤ length (now string)) × (4096 ≤ length (now lines)) ⌝ }
+        Reads (now chars) (now «word_starts») (now index) × (1 ≤ length (now string)) × (4096 ≤ length (now lines)) × (least ≤ 1) ⌝ }
     ensures { λ r. ⌜
         Split (now (index .entry)) (r .words) × (r .count ≤ length (now (lines .exit))) ×
-        (take (r .count) (now (lines .exit)) ≡ leading-lines 0 (lexicon-at (now (chars .entry)) (now («word_starts» .entry)))
+        (take (r .count) (now (lines .exit)) ≡ leading-lines least (lexicon-at (now (chars .entry)) (now («word_starts» .entry)))
         (now (index .entry)) (now (string .entry)) (r .words)) ⌝ }
 {
     let word_lines = count_word_lines(index);
-    let count = fill_leading(chars, word_starts, index, string, word_lines, lines);
+    let count = fill_leading(chars, word_starts, index, string, word_lines, least, lines);
     Leading {
         words: word_lines,
         count,

@@ -1,6 +1,7 @@
 // Flags the directory lines whose keys bear on a string: those that agree with it at some offset.
 //
-// At offsets below 0 each word is compared with the string. From 0 up binary search over the sorted directory gives the lines that agree.
+// The lines that agree below 0 are listed by comparing each word with the string. From 0 up binary search over the sorted directory gives
+// the lines that agree. The list is lent on for those.
 ghost use mathlib.Core.Path.{_≡_};
 ghost use Prim.Native.Nat.{_≤_};
 ghost use lib.ListN.{length, replicate};
@@ -9,9 +10,9 @@ ghost use Rattle.models.specs.WordStarts.{lexicon-at};
 ghost use Rattle.laws.specs.Directory.Tables.{Reads};
 ghost use Rattle.laws.specs.Search.Sizing.{Is-string};
 ghost use Rattle.laws.specs.Cut.ExactFlags.{Exact-flags};
-use crate::leading::flag_leading;
+use crate::flags::flag_list;
 use crate::offsets::flag_offsets;
-use directory::ranges::count_word_lines;
+use agreement::leading::list_leading;
 use width::Number;
 
 // Sets the flag of each line whose key bears on the string. All flags are 0 on entry.
@@ -29,7 +30,16 @@ pub fn flag_bearing(
         Exact-flags (lexicon-at (now (chars .entry)) (now («word_starts» .entry))) (now (index .entry)) (now (string .entry))
         (keys-of (now (index .entry))) (now (flags .exit)) ⌝ }
 {
-    let word_lines = count_word_lines(index);
-    flag_leading(chars, word_starts, index, string, word_lines, flags);
-    flag_offsets(chars, word_starts, index, string, word_lines, flags);
+    let mut lines = [0u16; 4096];
+    let leading = list_leading(chars, word_starts, index, string, 1, &mut lines);
+    flag_list(&lines[..leading.count], flags);
+    flag_offsets(
+        chars,
+        word_starts,
+        index,
+        string,
+        leading.words,
+        &mut lines,
+        flags,
+    );
 }

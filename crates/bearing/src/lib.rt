@@ -1,5 +1,4 @@
 // Which directory lines have keys that bear on a string.
 pub mod bearing;
 mod flags;
-mod leading;
 mod offsets;

@@ -1,7 +1,7 @@
 // Keys that start within the string: the offsets from 0 up.
 //
 // At each offset the lines that agree are found by binary search over the sorted directory; of the keys only those of the last few lines of
-// a range are compared with the string. The list that some of the lines go into is made once for all offsets.
+// a range are compared with the string. Some of the lines go into a list that is lent for this.
 ghost use Prim.Native.Nat.{_≤_, _<_};
 ghost use lib.ListN.{length};
 ghost use Rattle.spec.specs.Index.{keys-of};
@@ -116,16 +116,16 @@ pub(crate) fn flag_offsets(
     index: &[Number],
     string: &[u16],
     word_lines: usize,
+    lines: &mut [u16],
     flags: &mut [u8],
 )
     requires { ⌜
-        Bears-on (now chars) (now «word_starts») (now index) (now string) «word_lines» ×
+        Bears-on (now chars) (now «word_starts») (now index) (now string) «word_lines» × (36 ≤ length (now lines)) ×
         Flags (lexicon-at (now chars) (now «word_starts»)) (now index) (now string) (now flags) ⌝ }
     ensures { λ r. ⌜
         Offsets (lexicon-at (now (chars .entry)) (now («word_starts» .entry))) (now (index .entry)) (now (string .entry))
         (now (flags .entry)) (now (flags .exit)) (length (now (string .entry))) ⌝ }
 {
-    let mut lines = [0u16; 36];
     let last = string.len() - 1;
     let mut key_start = 0;
     while key_start <= last {
@@ -136,7 +136,7 @@ pub(crate) fn flag_offsets(
             string,
             key_start,
             word_lines,
-            &mut lines,
+            lines,
             flags,
         );
         key_start += 1;

@@ -56,7 +56,7 @@ fn extend_listing(
         Window-done (lexicon-at (now (chars .entry)) (now («word_starts» .entry))) (now (index .entry)) (now (string .entry)) first
         (now (reach .entry)) (now (reach .exit)) r ⌝ }
 {
-    let leading = list_leading(chars, word_starts, index, string, lines);
+    let leading = list_leading(chars, word_starts, index, string, 0, lines);
     let count = leading.count;
     extend_window(
         chars,

@@ -244,7 +244,7 @@ fn first_listing(
     ensures { λ r. ⌜
         First-in (lexicon-at (now (chars .entry)) (now («word_starts» .entry))) (now (index .entry)) (now (string .entry)) starts 1 r ⌝ }
 {
-    let leading = list_leading(chars, word_starts, index, string, lines);
+    let leading = list_leading(chars, word_starts, index, string, 0, lines);
     let count = leading.count;
     first_by_windows(
         chars,

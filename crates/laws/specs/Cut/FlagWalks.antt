@@ -37,23 +37,6 @@ module _ (lex : Lexicon) (xs s : List ℕ) where
     pub way : Flagging lex xs s old fs
     pub done : (p : ℕ) → 1 ≤ p → Flagged lex xs s p 0 0 n fs
 
-  -- the lines that agree below 0: of no lines, and of one line more
-  pub leading-none : leading-lines 1 lex xs s 0 ≡ []
-  unfolding leading-lines those-from
-  leading-none = refl
-
-  pub leading-more : (i : ℕ) → is-leading 1 lex xs s i ≡ true → leading-lines 1 lex xs s (i + 1) ≡ leading-lines 1 lex xs s i ++ i ∷ []
-  unfolding leading-lines those-from
-  leading-more i t =
-      let z : 0 + i ≡ i = omega arith in
-      those-from-append i 1 0 (is-leading 1 lex xs s) ∙ rw (z, t)
-
-  pub leading-same : (i : ℕ) → is-leading 1 lex xs s i ≡ false → leading-lines 1 lex xs s (i + 1) ≡ leading-lines 1 lex xs s i
-  unfolding leading-lines those-from
-  leading-same i f =
-      let z : 0 + i ≡ i = omega arith in
-      those-from-append i 1 0 (is-leading 1 lex xs s) ∙ rw (z, f, append-nil (those-from i 0 (is-leading 1 lex xs s)))
-
 module _ {lex : Lexicon} {xs s : List ℕ} where
   -- ALL OFFSETS FROM 0 UP
 

@@ -135,17 +135,18 @@ module _ (lex : Lexicon) (xs s : List ℕ) where
         bounded = r .bounded;
       }
 
-  -- and each of them is a line of a word
-  pub leading-below : (w : ℕ) (is : List ℕ) → is ≡ leading-lines 0 lex xs s w → (j : ℕ) → j < length is → getD is j 0 < w
+module _ (m : ℕ) (lex : Lexicon) (xs s : List ℕ) (w : ℕ) where
+  -- each of them is a line of a word
+  pub leading-below : {is : List ℕ} → is ≡ leading-lines m lex xs s w → (j : ℕ) → j < length is → getD is j 0 < w
   unfolding leading-lines
-  leading-below w is e j b =
-      let listed : List ℕ = those-from w 0 (is-leading 0 lex xs s) in
-      let m = those-from-get w 0 (is-leading 0 lex xs s) (getD listed j 0) (in-getD listed j 0 (omega (arith, ap length e))) in
+  leading-below e j b =
+      let listed : List ℕ = those-from w 0 (is-leading m lex xs s) in
+      let l = those-from-get w 0 (is-leading m lex xs s) (getD listed j 0) (in-getD listed j 0 (omega (arith, ap length e))) in
       rw e (omega arith)
 
-  pub leading-short : (w : ℕ) → length (leading-lines 0 lex xs s w) ≤ w
+  pub leading-short : length (leading-lines m lex xs s w) ≤ w
   unfolding leading-lines
-  leading-short w = those-short w 0 (is-leading 0 lex xs s)
+  leading-short = those-short w 0 (is-leading m lex xs s)
 
 -- WALKING A LIST OF LINES
 
@@ -172,50 +173,50 @@ module _ {f : ℕ → List ℕ → List ℕ} {is old : List ℕ} where
 -- FILLING THE LIST
 
 -- of the first w lines those from i on are still to be tested, and `count` are listed
-pub record Leading (lex : Lexicon) (xs s : List ℕ) (w : ℕ) (old now : List ℕ) (count i : ℕ) : Type 0 where
-  pub writing : Writing (leading-lines 0 lex xs s w) old now (those-from (w - i) i (is-leading 0 lex xs s)) count
+pub record Leading (m : ℕ) (lex : Lexicon) (xs s : List ℕ) (w : ℕ) (old now : List ℕ) (count i : ℕ) : Type 0 where
+  pub writing : Writing (leading-lines m lex xs s w) old now (those-from (w - i) i (is-leading m lex xs s)) count
 
-module _ {lex : Lexicon} {xs s : List ℕ} {w : ℕ} {old : List ℕ} where
-  pub leading-start : w ≤ length old → Leading lex xs s w old old 0 0
+module _ {m : ℕ} {lex : Lexicon} {xs s : List ℕ} {w : ℕ} {old : List ℕ} where
+  pub leading-start : w ≤ length old → Leading m lex xs s w old old 0 0
   unfolding leading-lines
   leading-start room =
-      record { writing = rw (sub-zero w) (starts old (leading-lines 0 lex xs s w) 0 (omega (arith, leading-short lex xs s w))) }
+      record { writing = rw (sub-zero w) (starts old (leading-lines m lex xs s w) 0 (omega (arith, leading-short m lex xs s w))) }
 
-  module _ {now : List ℕ} {count i : ℕ} (h : Leading lex xs s w old now count i) where
+  module _ {now : List ℕ} {count i : ℕ} (h : Leading m lex xs s w old now count i) where
     module _ (some : i < w) where
       rest : List ℕ
-      rest = those-from (w - (i + 1)) (i + 1) (is-leading 0 lex xs s)
+      rest = those-from (w - (i + 1)) (i + 1) (is-leading m lex xs s)
 
-      cut : those-from (w - i) i (is-leading 0 lex xs s) ≡ cond (is-leading 0 lex xs s i) (i ∷ rest) rest
+      cut : those-from (w - i) i (is-leading m lex xs s) ≡ cond (is-leading m lex xs s i) (i ∷ rest) rest
       unfolding those-from rest
       cut = let z : w - i ≡ suc (w - suc i) = omega arith in rw (add-one i, z)
 
-      pub leading-passed : false ≡ is-leading 0 lex xs s i → Leading lex xs s w old now count (i + 1)
+      pub leading-passed : false ≡ is-leading m lex xs s i → Leading m lex xs s w old now count (i + 1)
       unfolding rest
       leading-passed f = record { writing = rw (cut, ← f) at (h .writing) }
 
-      module _ (t : true ≡ is-leading 0 lex xs s i) where
-        here : Writing (leading-lines 0 lex xs s w) old now (i ∷ rest) count
+      module _ (t : true ≡ is-leading m lex xs s i) where
+        here : Writing (leading-lines m lex xs s w) old now (i ∷ rest) count
         here = rw (cut, ← t) at (h .writing)
 
         pub leading-room : count < length now
         leading-room = has-room i rest here
 
-        pub leading-listed : Leading lex xs s w old (set now count i) (count + 1) (i + 1)
+        pub leading-listed : Leading m lex xs s w old (set now count i) (count + 1) (i + 1)
         unfolding rest
         leading-listed = record { writing = writes i rest here }
 
     module _ (past : w ≤ i) where
-      last : Writing (leading-lines 0 lex xs s w) old now [] count
+      last : Writing (leading-lines m lex xs s w) old now [] count
       unfolding those-from
       last = let z : w - i ≡ 0 = omega arith in rw z at (h .writing)
 
-      pub leading-count : count ≡ length (leading-lines 0 lex xs s w)
-      leading-count = sym (written-length (leading-lines 0 lex xs s w) old now count last)
+      pub leading-count : count ≡ length (leading-lines m lex xs s w)
+      leading-count = sym (written-length (leading-lines m lex xs s w) old now count last)
 
-      pub leading-written : now ≡ in-front (leading-lines 0 lex xs s w) old
+      pub leading-written : now ≡ in-front (leading-lines m lex xs s w) old
       unfolding in-front
-      leading-written = written (leading-lines 0 lex xs s w) old now count last
+      leading-written = written (leading-lines m lex xs s w) old now count last
 
 -- the start of the filled list
 pub leading-taken : {count : ℕ} {new now : List ℕ} (old : List ℕ) → count ≡ length new → now ≡ in-front new old → take count now ≡ new

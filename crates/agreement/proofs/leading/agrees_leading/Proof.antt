@@ -13,10 +13,10 @@ use Rattle.agreement.proofs.leading.agrees_leading.Statement.{statement
 use Rattle.agreement.proofs.leading.agrees_leading.Tie as tie
 
 abbrev Inv-loop : tie.InvT-loop
-Inv-loop key string least character i₀ i = Apart-to least string key i × (least ≤ i)
+Inv-loop key string least character len i₀ i = Apart-to least string key i × (least ≤ i)
 
 abbrev μ-loop : tie.MeasureT-loop
-μ-loop key string least character i₀ i = length key - i
+μ-loop key string least character len i₀ i = length key - i
 
 abbrev start : tie.In-loop Inv-loop μ-loop → tie.Start Inv-loop μ-loop
 start c = c .before .before .before .before .before
@@ -72,5 +72,5 @@ pub agrees-leading-spec : {M : Type 1} → statement M
 agrees-leading-spec =
     tie.close
     (tie.spec
-    Inv-loop μ-loop (λ c. search needs) loop-holds (λ c. search needs) (λ c. search needs) (λ c. search needs) (λ c. search needs)
-    sub-agrees-at (λ c κs. tt) returns (λ c. search needs) loop-again (λ c. search needs) loop-again-2 returns-2)
+    Inv-loop μ-loop (λ c. search needs) (λ c. omega arith) loop-holds (λ c. omega arith) (λ c. search needs) (λ c. search needs)
+    (λ c. search needs) (λ c. search needs) sub-agrees-at (λ c κs. tt) returns (λ c. search needs) loop-again (λ c. search needs) loop-again-2 returns-2)

@@ -12,11 +12,11 @@ use Rattle.agreement.proofs.leading.fill_leading.Statement.{statement}
 use Rattle.agreement.proofs.leading.fill_leading.Tie as tie
 
 abbrev Inv-loop : tie.InvT-loop
-Inv-loop chars word-starts index string word-lines lines₀ count₀ line₀ lines count line =
-    Leading (lexicon-at chars word-starts) index string word-lines lines₀ lines count line
+Inv-loop chars word-starts index string word-lines least lines₀ count₀ line₀ lines count line =
+    Leading least (lexicon-at chars word-starts) index string word-lines lines₀ lines count line
 
 abbrev μ-loop : tie.MeasureT-loop
-μ-loop chars word-starts index string word-lines lines₀ count₀ line₀ lines count line = word-lines - line
+μ-loop chars word-starts index string word-lines least lines₀ count₀ line₀ lines count line = word-lines - line
 
 abbrev start : tie.After-slice-known Inv-loop μ-loop → tie.Start Inv-loop μ-loop
 start c = c .before .before .before .before .before
@@ -31,7 +31,7 @@ room c =
 line-leads-requires : tie.Need-line-leads-requires Inv-loop μ-loop
 line-leads-requires c κs =
     let s = start (c .before .before) in
-    (s .pre .0, omega arith, s .pre .1 .words (c .before .loop .line) (c .loop-test .taken), s .pre .2, omega arith)
+    (s .pre .0, omega arith, s .pre .1 .words (c .before .loop .line) (c .loop-test .taken), s .pre .2, s .pre .4)
 
 loop-again : tie.Need-loop-again Inv-loop μ-loop
 loop-again c =

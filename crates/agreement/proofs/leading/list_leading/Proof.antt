@@ -23,7 +23,7 @@ fill-leading-requires : tie.Need-fill-leading-requires
 fill-leading-requires c κs =
     let s = start (c .before .before) in
     let lines = split (c .before) in
-    (s .pre .0, lines, s .pre .1, omega (arith, word-lines-few (s .pre .0 .can) lines))
+    (s .pre .0, lines, s .pre .1, omega (arith, word-lines-few (s .pre .0 .can) lines), s .pre .3)
 
 returns : tie.Need-returns
 returns c =
@@ -34,8 +34,8 @@ returns c =
     let lexicon = lexicon-at (a .chars .now) (a .word-starts .now) in
     let words = ended .count-word-lines .result in (
       split ended,
-      omega (arith, leading-short lexicon (a .index .now) (a .string .now) words, word-lines-few (s .pre .0 .can) (split ended)),
-      leading-taken {new = leading-lines 0 lexicon (a .index .now) (a .string .now) words} (a .lines .now) (filled .ensures .0)
+      omega (arith, leading-short (a .least) lexicon (a .index .now) (a .string .now) words, word-lines-few (s .pre .0 .can) (split ended)),
+      leading-taken {new = leading-lines (a .least) lexicon (a .index .now) (a .string .now) words} (a .lines .now) (filled .ensures .0)
           (filled .ensures .1),
     )
 

@@ -1,52 +1,66 @@
 -- `flag_bearing` meets its contract: the offsets below 0, then those from 0 up. Assumes nothing.
+use mathlib.Core.Path.{sym}
+use native.Mathlib.Omega.{arith}
+use lib.Seq.{length-take-le}
 use borrow.Author.Needs.{needs}
-use mathlib.Core.Path.{refl}
 use Rattle.models.specs.WordStarts.{lexicon-at}
-use Rattle.laws.specs.Window.LineRanges.{kinds-rise, split-found}
+use Rattle.laws.specs.Window.LeadingLines.{leading-below}
 use Rattle.laws.specs.Cut.Flagging.{flags-none}
 use Rattle.laws.specs.Cut.FlagWalks.{Bears-on, Backs, backs-leading, flags-exact-flags}
 use Rattle.bearing.proofs.bearing.flag_bearing.Statement.{statement}
 use Rattle.bearing.proofs.bearing.flag_bearing.Tie as tie
 
-abbrev start : tie.After-slice-known → tie.Start
-start c = c .before .before .before .before .before
+abbrev start : tie.After-list-leading → tie.Start
+start c =
+    let known = c .before .before in
+    known .before .before .before .before .before
 
-count-word-lines-requires : tie.Need-count-word-lines-requires
-count-word-lines-requires c κs = let can = start c .pre .0 .can in (can .fits, kinds-rise can)
+abbrev listed : tie.After-flag-list → tie.After-list-leading
+listed c = c .before .before .before .before
+
+slice-aggregate-flag-list : tie.Need-slice-aggregate-flag-list
+slice-aggregate-flag-list c =
+    let found = c .before .before .list-leading in
+    sym (length-take-le (found .result .count) (found .last .1 .1 .1 .1 .1 .0) (found .ensures .1))
 
 on :
-    (c : tie.After-count-word-lines) → let a = start (c .before) .args in
-    Bears-on (a .chars .now) (a .word-starts .now) (a .index .now) (a .string .now) (c .count-word-lines .result)
-on c =
-    let s = start (c .before) in
-    record { reads = s .pre .0; split = split-found (s .pre .0 .can) (c .count-word-lines .ensures); string = s .pre .1 }
+    (c : tie.After-list-leading) → let a = start c .args in
+    Bears-on (a .chars .now) (a .word-starts .now) (a .index .now) (a .string .now) (c .list-leading .result .words)
+on c = record { reads = start c .pre .0; split = c .list-leading .ensures .0; string = start c .pre .1 }
 
-flag-leading-requires : tie.Need-flag-leading-requires
-flag-leading-requires c κs =
-    let s = start (c .before .before) in
-    (on (c .before), flags-none (s .pre .3) (s .pre .2))
+flag-list-requires : tie.Need-flag-list-requires
+flag-list-requires c κs =
+    let l = c .before .before .before in
+    let s = start l in
+    let a = s .args in
+    let below =
+    leading-below 1 (lexicon-at (a .chars .now) (a .word-starts .now)) (a .index .now) (a .string .now) (l .list-leading .result .words)
+    (l .list-leading .ensures .2) in
+    λ j b. omega (arith, below j b, on l .split .within, s .pre .2)
 
--- after the leading lines
+-- after the lines that agree below 0
 backs :
-    (c : tie.After-flag-leading) → let a = start (c .before .before .before) .args in
-    Backs (lexicon-at (a .chars .now) (a .word-starts .now)) (a .index .now) (a .string .now) (a .flags .now)
-    (c .flag-leading .last .1 .1 .1 .1 .1 .0) (c .before .before .count-word-lines .result)
+    (c : tie.After-flag-list) → let a = start (listed c) .args in
+    Backs (lexicon-at (a .chars .now) (a .word-starts .now)) (a .index .now) (a .string .now) (a .flags .now) (c .flag-list .last .1 .0)
+    (listed c .list-leading .result .words)
 backs c =
-    let s = start (c .before .before .before) in
-    backs-leading refl (flags-none (s .pre .3) (s .pre .2)) (c .flag-leading .ensures)
+    let s = start (listed c) in
+    backs-leading (listed c .list-leading .ensures .2) (flags-none (s .pre .3) (s .pre .2)) (c .flag-list .ensures)
 
 flag-offsets-requires : tie.Need-flag-offsets-requires
 flag-offsets-requires c κs =
-    let leading = c .before .before .before in
-    (on (leading .before .before), backs leading .way .flags)
+    let flagged = c .before .before .before .before in
+    (on (listed flagged), omega arith, backs flagged .way .flags)
 
 returns : tie.Need-returns
 returns c =
-    let offsets = c .before .before in
-    let leading = offsets .before .before .before .before in
-    flags-exact-flags (on (leading .before .before)) (backs leading) (offsets .flag-offsets .ensures)
+    let offsets = c .before .before .before in
+    let flagged = offsets .before .before .before .before .before in
+    flags-exact-flags (on (listed flagged)) (backs flagged) (offsets .flag-offsets .ensures)
 
 pub flag-bearing-spec : {M : Type 1} → statement M
 flag-bearing-spec =
     tie.close
-    (tie.spec count-word-lines-requires flag-leading-requires flag-offsets-requires (λ c. search needs) returns)
+    (tie.spec
+    (λ c. search needs) (λ c κs. search needs) (λ c. search needs) slice-aggregate-flag-list flag-list-requires (λ c. search needs)
+    flag-offsets-requires (λ c. search needs) returns)

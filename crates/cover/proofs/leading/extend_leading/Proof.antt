@@ -28,7 +28,7 @@ below : (c : tie.In-loop Inv-loop μ-loop) → let a = start (c .before .before 
 below c =
     let s = start (c .before .before .before .before) in
     let a = s .args in
-    leading-below (lexicon-at (a .chars .now) (a .word-starts .now)) (a .index .now) (a .string .now) (a .word-lines) (a .lines .now)
+    leading-below 0 (lexicon-at (a .chars .now) (a .word-starts .now)) (a .index .now) (a .string .now) (a .word-lines)
     (s .pre .1) (c .before .loop .i) (c .loop-test .taken)
 
 word-at-requires : tie.Need-word-at-requires Inv-loop μ-loop

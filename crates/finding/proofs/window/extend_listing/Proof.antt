@@ -8,7 +8,7 @@ use Rattle.finding.proofs.window.extend_listing.Tie as tie
 slice-aggregate-extend-window : tie.Need-slice-aggregate-extend-window
 slice-aggregate-extend-window c =
     let listed = c .before .before .before .list-leading in
-    sym (length-take-le (listed .result .count) (listed .last .1 .1 .1 .1 .0) (listed .ensures .1))
+    sym (length-take-le (listed .result .count) _ (listed .ensures .1))
 
 pub extend-listing-spec : {M : Type 1} → statement M
 extend-listing-spec =
