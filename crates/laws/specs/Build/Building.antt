@@ -6,7 +6,7 @@ use mathlib.Core.List.{List}
 use Prim.Native.Nat.{ℕ, zero, suc, _+_, _*_, _≤_, _<_}
 use native.Mathlib.Omega.{arith}
 use lib.Dec.{ltb, eqb}
-use lib.ListN.{length, getD, take, replicate, length-replicate, getD-replicate}
+use lib.ListN.{length, getD, replicate, length-replicate, getD-replicate}
 use borrow.Author.Tests.{lt-ltb, le-ltb, eq-eqb, ne-eqb, eqb-true, eqb-false}
 use Rattle.basics.specs.Bools.{and-put, true-or-false, le-or-lt}
 use Rattle.basics.specs.Writing.{over}
@@ -14,14 +14,14 @@ use Rattle.spec.specs.declared.Answer.{Answer}
 use Rattle.spec.specs.Replaced.{replaced}
 use Rattle.spec.specs.Dictionary.{Lexicon, lexicon, dictionary-refusal, admitted}
 use Rattle.spec.specs.Numbers.{numbers, index-of}
-use Rattle.spec.specs.Calls.{text-too-long, work-short, output-short, or-else, build-refusal, in-front, Puts}
+use Rattle.spec.specs.Calls.{text-too-long, work-short, output-short, or-else, build-refusal, in-front, Puts, Build-says}
 use Rattle.spec.specs.Index.{header, greatest-number}
 use Rattle.models.specs.Inversion.{inverted, token-numbers}
 use Rattle.laws.specs.Text.Facts.{Chars, Good-lexicon}
 use Rattle.laws.specs.Text.WidthFolding.{length-replaced, replaced-chars}
 use Rattle.laws.specs.Text.Chars.{all-chars-put}
 use Rattle.laws.specs.Dictionary.Lexicon.{admitted-lexicon}
-use Rattle.laws.specs.Dictionary.Answering.{accepted-yes, accepted-no, answers-accepted, answers-refused}
+use Rattle.laws.specs.Dictionary.Answering.{accepted-yes, accepted-no, answers-accepted, answers-refused, Refuses}
 use Rattle.laws.specs.Numbers.Slices.{length-numbers}
 use Rattle.laws.specs.Build.Tokens.{Tokens}
 use Rattle.laws.specs.Build.TokenLines.{token-index}
@@ -30,7 +30,7 @@ use Rattle.laws.specs.Build.CodeWalk.{Listable}
 
 -- ANSWER AND OUTPUT
 
-module _ (n : ℕ) (xs : List ℕ) (r : Answer) (o z : List ℕ) (number : r .refusal ≡ n) where
+module _ (n : ℕ) (xs : List ℕ) (r : Answer) (o : List ℕ) {z : List ℕ} (number : r .refusal ≡ n) where
   pub puts-accepted : n ≡ 0 → r .count ≡ length xs → z ≡ over xs o → Puts n xs r o z
   unfolding Puts in-front
   puts-accepted none count put =
@@ -121,14 +121,13 @@ module _ (g : ℕ) (cs ls ts : List ℕ) (w : ℕ) where
       go true p false q true r = refl
       go true p false q false r = absurd (some (rw (p, q, r) refl))
 
-  -- without one the refusal is 8 or none
-  pub build-late :
-      (o : ℕ) → early-refusal g cs ls ts w ≡ 0 →
-      build-refusal g cs ls ts o w ≡ output-refusal (length (index-of (lexicon cs ls) (replaced ts))) o
-  unfolding build-refusal or-else text-too-long work-short output-refusal
-  build-late o none =
-      let r : Reached g cs ls ts w = reached none in
-      rw (eq-eqb (dictionary-refusal cs ls) 0 (r .admits), le-ltb g (length ts) (r .short), le-ltb w (8 * length ts) (r .room))
+-- without one the refusal is 8 or none
+pub build-late :
+    {g : ℕ} {cs ls ts : List ℕ} {w : ℕ} → Reached g cs ls ts w → (o : ℕ) →
+    build-refusal g cs ls ts o w ≡ output-refusal (length (index-of (lexicon cs ls) (replaced ts))) o
+unfolding build-refusal or-else text-too-long work-short output-refusal
+build-late {g} {cs} {ls} {ts} {w} met o =
+    rw (eq-eqb (dictionary-refusal cs ls) 0 (met .admits), le-ltb g (length ts) (met .short), le-ltb w (8 * length ts) (met .room))
 
 -- THE RESULT FROM THE TOKENS
 
@@ -192,7 +191,7 @@ module _ {ts ms links heads pages : List ℕ} {keys entries : ℕ} (can : Linkab
         let eight : output-refusal (length (token-numbers ms ts)) (length o) ≡ 8 =
         output-refused (length (token-numbers ms ts)) (length o) (rw (← linked-size) h) in
         puts-refused (output-refusal (length (token-numbers ms ts)) (length o)) (token-numbers ms ts)
-        (record { refusal = 8; count = 0 }) o o (sym eight)
+        (record { refusal = 8; count = 0 }) o (sym eight)
         (λ (z : output-refusal (length (token-numbers ms ts)) (length o) ≡ 0). omega arith) refl refl
 
     pub token-entry-put :
@@ -202,7 +201,7 @@ module _ {ts ms links heads pages : List ℕ} {keys entries : ℕ} (can : Linkab
         let none : output-refusal (length (token-numbers ms ts)) (length o) ≡ 0 =
         output-fits (length (token-numbers ms ts)) (length o) (rw (← linked-size) h) in
         puts-accepted (output-refusal (length (token-numbers ms ts)) (length o)) (token-numbers ms ts)
-        (record { refusal = 0; count = header + 3 * keys + entries }) o z (sym none) none linked-size
+        (record { refusal = 0; count = header + 3 * keys + entries }) o (sym none) none linked-size
         (e ∙ ap (λ (xs : List ℕ). over xs o) linked-numbers)
 
 -- THE WHOLE CALL
@@ -227,33 +226,32 @@ tokens-linkable {lex} good {ms} tokens short = record { len = tokens .len; short
     small : (q : ℕ) → q < length ms → getD ms q 0 ≤ 4097
     small q h = at-most q (getD ms q 0) h refl
 
-module _ (g : ℕ) (cs ls ts : List ℕ) (w : ℕ) (o : List ℕ) where
-  pub build-refused :
-      (early-refusal g cs ls ts w ≡ 0 → ⊥) → (r : Answer) → r .refusal ≡ early-refusal g cs ls ts w → r .count ≡ 0 →
-      Puts (build-refusal g cs ls ts (length o) w) (index-of (lexicon cs ls) (replaced ts)) r o o
-  build-refused some r number count =
-      let same : build-refusal g cs ls ts (length o) w ≡ early-refusal g cs ls ts w = build-early g cs ls ts w (length o) some in
-      puts-refused (build-refusal g cs ls ts (length o) w) (index-of (lexicon cs ls) (replaced ts)) r o o (number ∙ sym same)
-      (λ (z : build-refusal g cs ls ts (length o) w ≡ 0). some (sym same ∙ z)) count refl
+pub build-refused :
+    (g : ℕ) (cs ls ts o : List ℕ) {number : ℕ} {r : Answer} {w v : List ℕ} → number ≡ early-refusal g cs ls ts (length w) →
+    (number ≡ 0 → ⊥) → Refuses number r w v → Build-says g cs ls ts r o o w v
+unfolding Build-says
+build-refused g cs ls ts o {number} {r} {w} e some h =
+    let same : build-refusal g cs ls ts (length o) (length w) ≡ number =
+    build-early g cs ls ts (length w) (length o) (λ (z : early-refusal g cs ls ts (length w) ≡ 0). some (e ∙ z)) ∙ sym e in (
+      puts-refused (build-refusal g cs ls ts (length o) (length w)) (index-of (lexicon cs ls) (replaced ts)) r o (h .is ∙ sym same)
+          (λ (z : build-refusal g cs ls ts (length o) (length w) ≡ 0). some (sym same ∙ z)) (h .nothing) refl,
+      h .cleared,
+    )
 
+module _ {g : ℕ} {cs ls ts : List ℕ} {w : ℕ} (met : Reached g cs ls ts w) (chars : Chars cs) {ms : List ℕ}
+    (tokens : Tokens (lexicon cs ls) (replaced ts) ms) where
   -- what answers for the tokens answers for the call
   pub build-tokens :
-      Chars cs → Chars ts → early-refusal g cs ls ts w ≡ 0 → {ms : List ℕ} → Tokens (lexicon cs ls) (replaced ts) ms →
-      (r : Answer) (z : List ℕ) →
-      Tokens-say ms (replaced ts) r o z →
+      Chars ts → (r : Answer) (o z : List ℕ) → Tokens-say ms (replaced ts) r o z →
       Puts (build-refusal g cs ls ts (length o) w) (index-of (lexicon cs ls) (replaced ts)) r o z
-  build-tokens chars text none {ms} tokens r z puts =
-      let good : Good-lexicon (lexicon cs ls) = reached-lexicon cs ls chars (reached g cs ls ts w none .admits) in
+  build-tokens text r o z puts =
       rw (
-        build-late g cs ls ts w (length o) none,
-        ← token-numbers-index good (replaced-chars ts text) tokens,
+        build-late met (length o),
+        ← token-numbers-index (reached-lexicon cs ls chars (met .admits)) (replaced-chars ts text) tokens,
       )
       puts
 
--- the tokens at the start of the work slice can be chained
-pub front-linkable :
-    (g : ℕ) → g ≤ greatest-number → (cs ls ts : List ℕ) (w : ℕ) (work : List ℕ) → Chars cs → early-refusal g cs ls ts w ≡ 0 →
-    Tokens (lexicon cs ls) (replaced ts) (take (length ts) work) → Linkable (replaced ts) (take (length ts) work)
-front-linkable g fits cs ls ts w work chars none tokens =
-    tokens-linkable (reached-lexicon cs ls chars (reached g cs ls ts w none .admits))
-    tokens (omega (arith, reached g cs ls ts w none .short, length-replaced ts))
+  -- the tokens can be chained
+  pub front-linkable : g ≤ greatest-number → Linkable (replaced ts) ms
+  front-linkable fits =
+      tokens-linkable (reached-lexicon cs ls chars (met .admits)) tokens (omega (arith, met .short, length-replaced ts))

@@ -40,7 +40,7 @@ use Rattle.laws.specs.Receive.Received.{is-index-get, Received, received
 use Rattle.laws.specs.Receive.ReceptionTest.{is-index-only}
 use Rattle.laws.specs.Demands.Theorems.{cut-any}
 use Rattle.laws.specs.Readable.IndexRefusal.{accepts-index}
-use Rattle.laws.specs.Receive.Receiving.{short-none, reception-unreceived, recovery-early}
+use Rattle.laws.specs.Receive.Receiving.{short-none, delivered, reception-unreceived, recovery-early}
 
 -- NO WORD, BUT A KEY
 
@@ -138,7 +138,8 @@ form-as-key g =
 nine :
     (g : ℕ) (cs ls xs : List ℕ) → index-refusal g cs ls xs ≡ 0 → received g (lexicon cs ls) xs ≡ false →
     (w : ℕ) → 8 * n-of xs ≤ w → reception-refusal g cs ls xs w ≡ 9
-nine g cs ls xs none un w room = reception-unreceived g cs ls xs w (sym (short-none (index-refusal g cs ls xs) xs w none room)) un
+nine g cs ls xs none un w room =
+    reception-unreceived (delivered g cs ls xs w (sym (short-none (index-refusal g cs ls xs) xs w none room))) un
 
 module _ (g : ℕ) (cs ls xs : List ℕ) (adm : admitted cs ls ≡ true) (can : readable g (lexicon cs ls) xs ≡ true) where
   no-refusal : index-refusal g cs ls xs ≡ 0

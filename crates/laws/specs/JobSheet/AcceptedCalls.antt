@@ -22,7 +22,7 @@ use Rattle.laws.specs.Readable.IndexOf.{n-of-index, index-readable}
 use Rattle.laws.specs.Readable.IndexRefusal.{accepts-index, index-accepted}
 use Rattle.laws.specs.JobSheet.IndexPrinting.{Whole}
 use Rattle.laws.specs.Search.Sizing.{Is-string, Sized}
-use Rattle.laws.specs.Build.Building.{early-none, output-fits, build-late, reached-lexicon}
+use Rattle.laws.specs.Build.Building.{output-fits, build-late, reached-lexicon}
 use Rattle.laws.specs.Build.Bounds.{index-short}
 use Rattle.laws.specs.JobSheet.PrintedBounds.{find-few}
 
@@ -102,7 +102,6 @@ module _ {cs ls ts : List ℕ} (h : Buildable cs ls ts) where
   unfolding Build-says
   build-accepted r o {z} w v room work says =
       puts-get (build-refusal longest-text cs ls ts (length o) (length w)) (index-of (lexicon cs ls) (replaced ts)) r o z
-      (build-late longest-text cs ls ts (length w) (length o)
-      (early-none longest-text cs ls ts (length w) (h .admits) (omega arith) (omega arith))
+      (build-late (record { admits = h .admits; short = omega arith; room = omega arith }) (length o)
       ∙ output-fits (length (index-of (lexicon cs ls) (replaced ts))) (length o) (omega (arith, index-usable .few)))
       (says .0)

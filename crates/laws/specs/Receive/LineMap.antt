@@ -1,7 +1,7 @@
 -- The reception test by a line map: each entry that the scan of a reconstructed text registers has to have the key of the line mapped to
 -- its position, and there have to be M of them. For every readable slice the test passes exactly if `is-index`. Assumes nothing.
 use mathlib.Core.Path.{_≡_, refl, sym, ap, _∙_, subst}
-use mathlib.Core.Bool.{true, false}
+use mathlib.Core.Bool.{true}
 use mathlib.Core.Logic.{inl, inr}
 use mathlib.Core.List.{List, [], _∷_}
 use Prim.Native.Nat.{ℕ, zero, suc, _+_, _-_, _≤_, _<_}
@@ -23,8 +23,7 @@ use Rattle.laws.specs.Text.Facts.{Chars, Good-lexicon, entry-eq}
 use Rattle.laws.specs.Entries.Entries.{same-key-get, same-key-put}
 use Rattle.laws.specs.Numbers.Flat.{posting, flat-get, flat-put}
 use Rattle.laws.specs.Entries.Sound.{entries-sound}
-use Rattle.laws.specs.Entries.Longest.{longest-at-unique, make-index-get, make-index-put}
-use Rattle.laws.specs.Entries.Scan.{scan-registers, scan-passes, Longest-at}
+use Rattle.laws.specs.Entries.Longest.{make-index-get, make-index-put}
 use Rattle.laws.specs.Build.Inverted.{scan-count}
 use Rattle.laws.specs.Numbers.LineNumbers.{line-of-key, line-of-in, line-number}
 use Rattle.laws.specs.Receive.Received.{readable-chars}
@@ -143,7 +142,7 @@ module _ {lex : Lexicon} (good : Good-lexicon lex) (g : ℕ) {xs : List ℕ} (ca
       iff-eq (verify lex line-for xs us) (is-index g lex xs) (λ t. verify-is-index us chars len t .0)
       (λ r. subst (λ (ys : List ℕ). verify lex line-for xs ys ≡ true) (sym (reconstructed r)) (is-index-verify r))
 
--- THE SCAN STEP BY STEP
+-- THE FIRST AND THE LAST STEP OF THE SCAN
 
 module _ (lex : Lexicon) (line-for : ℕ → ℕ) (xs us : List ℕ) where
   pub verify-starts : verify-from lex line-for xs us (length us) 1 1 0 ≡ verify lex line-for xs us
@@ -155,31 +154,3 @@ module _ (lex : Lexicon) (line-for : ℕ → ℕ) (xs us : List ℕ) where
   pub verify-ends : (p last count : ℕ) → verify-from lex line-for xs us zero p last count ≡ eqb count (entries-of xs)
   unfolding verify-from scan all-mapped
   verify-ends p last count = let z : count + 0 ≡ count = omega arith in rw z
-
-  module _ (good : Good-lexicon lex) (chars : Chars us) (n : ℕ) {p : ℕ} (last count : ℕ) (lo : 1 ≤ p) (hi : p ≤ length us) {e : Entry}
-      (longest : Longest-at lex us p e) where
-    is-longest : longest-at lex us p ≡ e
-    is-longest = sym (longest-at-unique lex good us chars lo hi longest)
-
-    pub verify-passes :
-        p + e .len ≤ last → verify-from lex line-for xs us (suc n) p last count ≡ verify-from lex line-for xs us n (suc p) last count
-    unfolding verify-from
-    verify-passes h = rw (scan-passes (longest-at lex us) n p last (rw is-longest h))
-
-    registers :
-        last < p + e .len →
-        scan (longest-at lex us) (suc n) p last ≡ e ∷ scan (longest-at lex us) n (suc p) (p + e .len)
-    registers h = rw is-longest at (scan-registers (longest-at lex us) n p last (rw is-longest h))
-
-    pub verify-registers :
-        last < p + e .len → mapped-right line-for xs e ≡ true →
-        verify-from lex line-for xs us (suc n) p last count ≡ verify-from lex line-for xs us n (suc p) (p + e .len) (suc count)
-    unfolding verify-from all-mapped
-    verify-registers h t =
-        let rest : List Entry = scan (longest-at lex us) n (suc p) (p + e .len) in
-        let z : count + suc (length rest) ≡ suc count + length rest = omega arith in
-        rw (registers h, t, z)
-
-    pub verify-fails : last < p + e .len → mapped-right line-for xs e ≡ false → verify-from lex line-for xs us (suc n) p last count ≡ false
-    unfolding verify-from all-mapped
-    verify-fails h t = rw (registers h, t)

@@ -77,8 +77,7 @@ module _ {g : ℕ} {lex : Lexicon} {xs : List ℕ} {n : ℕ} {w u v : List ℕ} 
   pub tried-chars : Chars (take n v)
   tried-chars =
       rw reconstructed
-      (reconstructing-chars (h .good) g xs (h .can) (take n w) (replicate n 0)
-      (chars-take n w (h .chars)) text-long line-map-long (λ p lo. cleared-line-map n p))
+      (reconstructing-chars (h .good) g xs (take n w) text-long (h .can) (chars-take n w (h .chars)))
 
   pub read-back : {r : Bool} → r ≡ verify lex (mapped-at (take n (drop n v))) xs (take n v) → Read-back g lex xs r v
   read-back {r} e = record { exact = exact; text = λ t. rw (← h .n-is) (reconstructed ∙ recovers (sym exact ∙ t)) }
@@ -86,14 +85,10 @@ module _ {g : ℕ} {lex : Lexicon} {xs : List ℕ} {n : ℕ} {w u v : List ℕ} 
       exact : r ≡ is-index g lex xs
       exact =
           e
-          ∙ rw (h .mapped, reconstructed)
-          (reception-exact (h .good) g xs (h .can) (take n w) (replicate n 0)
-          (chars-take n w (h .chars)) text-long line-map-long (λ p lo. cleared-line-map n p))
+          ∙ rw reconstructed (reception-exact (h .good) g xs (take n w) text-long (h .can) (chars-take n w (h .chars)) tried-mapped)
 
       recovers : is-index g lex xs ≡ true → reconstruct lex (flat lex (lines-in xs)) (take n w) ≡ recovered lex xs
-      recovers =
-          reception-recovers (h .good) g xs (h .can) (take n w) (replicate n 0)
-          (chars-take n w (h .chars)) text-long line-map-long (λ p lo. cleared-line-map n p)
+      recovers = reception-recovers (h .good) g xs (take n w) text-long
 
 -- the index is received if that text has no full-width form
 module _ {g : ℕ} {lex : Lexicon} {xs v : List ℕ} {shown : Bool} (h : Read-back g lex xs shown v) where

@@ -21,7 +21,7 @@ use Rattle.spec.specs.Calls.{Receive-says, Recover-says}
 use Rattle.laws.specs.Numbers.Slices.{Fits}
 use Rattle.laws.specs.Readable.LineWalk.{readable-fits}
 use Rattle.laws.specs.Dictionary.Answering.{answers-accepted, answers-refused, Refuses}
-use Rattle.laws.specs.Readable.IndexRefusal.{index-accepted}
+use Rattle.laws.specs.Readable.IndexRefusal.{accepts-index, index-accepted}
 use Rattle.laws.specs.Build.Building.{puts-accepted, puts-refused, output-refusal, output-fits, output-refused}
 
 -- THE ORDER OF THE REFUSALS
@@ -61,8 +61,8 @@ delivery-header g cs ls xs none = readable-fits g (lexicon cs ls) xs (index-acce
 module _ (g : ℕ) (cs ls xs : List ℕ) (w : ℕ) where
   -- by the refusal of an opened index
   pub opened-delivery :
-      (refusal early : ℕ) → refusal ≡ index-refusal g cs ls xs → early ≡ or-work-short refusal xs w → early ≡ delivery-refusal g cs ls xs w
-  opened-delivery refusal early number e = rw number at e
+      {refusal early : ℕ} → refusal ≡ index-refusal g cs ls xs → early ≡ or-work-short refusal xs w → early ≡ delivery-refusal g cs ls xs w
+  opened-delivery number e = rw number at e
 
   -- an early refusal is the call's refusal
   pub reception-early :
@@ -99,17 +99,6 @@ module _ (g : ℕ) (cs ls xs : List ℕ) (w : ℕ) where
               (le-or-lt (8 * n-of xs) w);
         }
 
-    -- without one the refusal is 9 or none
-    pub reception-unreceived : received g (lexicon cs ls) xs ≡ false → reception-refusal g cs ls xs w ≡ 9
-    unfolding reception-refusal or-else work-short no-text
-    reception-unreceived f =
-        rw (eq-eqb (index-refusal g cs ls xs) 0 no-index-refusal, le-ltb w (8 * n-of xs) (delivered .room), f)
-
-    pub reception-received : received g (lexicon cs ls) xs ≡ true → reception-refusal g cs ls xs w ≡ 0
-    unfolding reception-refusal or-else work-short no-text
-    reception-received t =
-        rw (eq-eqb (index-refusal g cs ls xs) 0 no-index-refusal, le-ltb w (8 * n-of xs) (delivered .room), t)
-
   -- a refusal of reception is recovery's; else recovery's is 8 or none
   module _ (o : ℕ) where
     pub recovery-early : (reception-refusal g cs ls xs w ≡ 0 → ⊥) → recovery-refusal g cs ls xs o w ≡ reception-refusal g cs ls xs w
@@ -120,6 +109,19 @@ module _ (g : ℕ) (cs ls xs : List ℕ) (w : ℕ) where
     unfolding recovery-refusal or-else output-refusal
     recovery-late none = rw (eq-eqb (reception-refusal g cs ls xs w) 0 none)
 
+-- without an early refusal it is 9 or none
+module _ {g : ℕ} {cs ls xs : List ℕ} {w : ℕ} (met : Delivered g cs ls xs w) where
+  accepted-index : index-refusal g cs ls xs ≡ 0
+  accepted-index = sym (accepts-index g cs ls xs (met .admits) (met .can-read))
+
+  pub reception-unreceived : received g (lexicon cs ls) xs ≡ false → reception-refusal g cs ls xs w ≡ 9
+  unfolding reception-refusal or-else work-short no-text
+  reception-unreceived f = rw (eq-eqb (index-refusal g cs ls xs) 0 accepted-index, le-ltb w (8 * n-of xs) (met .room), f)
+
+  pub reception-received : received g (lexicon cs ls) xs ≡ true → reception-refusal g cs ls xs w ≡ 0
+  unfolding reception-refusal or-else work-short no-text
+  reception-received t = rw (eq-eqb (index-refusal g cs ls xs) 0 accepted-index, le-ltb w (8 * n-of xs) (met .room), t)
+
 -- THE ANSWERS
 
 -- the first n numbers of the work slice written to the output, or 8; and the work slice cleared
@@ -127,26 +129,27 @@ pub record Gives (n : ℕ) (r : Answer) (out out-now work work-now : List ℕ) :
   pub puts : Puts (output-refusal n (length out)) (take n work) r out out-now
   pub cleared : work-now ≡ zeros work
 
-module _ (n : ℕ) (r : Answer) (o w v : List ℕ) where
-  pub gives-short : length o < n → Refuses 8 r w v → Gives n r o o w v
-  gives-short short h =
+module _ (n : ℕ) (o : List ℕ) where
+  pub gives-short : length o < n → {r : Answer} {w v : List ℕ} → Refuses 8 r w v → Gives n r o o w v
+  gives-short short {r} {w} h =
       let eight : output-refusal n (length o) ≡ 8 = output-refused n (length o) short in
       record {
         puts =
-            puts-refused (output-refusal n (length o)) (take n w) r o o (h .is ∙ sym eight)
+            puts-refused (output-refusal n (length o)) (take n w) r o (h .is ∙ sym eight)
             (λ (z : output-refusal n (length o) ≡ 0). omega arith) (h .nothing) refl;
         cleared = h .cleared;
       }
 
   pub gives-text :
-      {z : List ℕ} → n ≤ length o → n ≤ length w → r .refusal ≡ 0 → r .count ≡ n → z ≡ over (take n w) o → v ≡ zeros w →
-      Gives n r o z w v
+      (w : List ℕ) {z v : List ℕ} → n ≤ length o → n ≤ length w → z ≡ over (take n w) o → v ≡ zeros w →
+      Gives n (record { refusal = 0; count = n }) o z w v
   unfolding in-front
-  gives-text {z} room len zero count put cleared =
+  gives-text w room len put cleared =
       let none : output-refusal n (length o) ≡ 0 = output-fits n (length o) room in
       record {
         puts =
-            puts-accepted (output-refusal n (length o)) (take n w) r o z (zero ∙ sym none) none (count ∙ sym (length-take-le n w len)) put;
+            puts-accepted (output-refusal n (length o)) (take n w) (record { refusal = 0; count = n }) o (sym none) none
+            (sym (length-take-le n w len)) put;
         cleared = cleared;
       }
 
@@ -155,76 +158,83 @@ pub text-put : {text old now : List ℕ} {end : ℕ} → Wrote text 0 old end no
 unfolding in-front placed
 text-put {text} h = let same : 0 + length text ≡ length text = omega arith in h .content ∙ rw same
 
--- slices of the same length are the same once cleared
+-- a slice as long is the same once cleared
 pub zeros-alike : (w u : List ℕ) → length u ≡ length w → zeros u ≡ zeros w
 unfolding zeros
 zeros-alike w u e = rw e
 
--- w is the work slice as it was lent, u before it is cleared, and v after that
-module _ (g : ℕ) (cs ls xs : List ℕ) (r : Answer) (w u v : List ℕ) (same : length u ≡ length w) where
-  pub receive-refused :
-      {number : ℕ} → number ≡ delivery-refusal g cs ls xs (length w) → (number ≡ 0 → ⊥) → Refuses number r u v →
+pub refuses-alike :
+    (w : List ℕ) {number : ℕ} {r : Answer} {u v : List ℕ} → length u ≡ length w → Refuses number r u v → Refuses number r w v
+refuses-alike w {u} same h = record { is = h .is; nothing = h .nothing; cleared = h .cleared ∙ zeros-alike w u same }
+
+-- w is the work slice as it was lent, v after it is cleared
+module _ (g : ℕ) (cs ls xs : List ℕ) {r : Answer} {w v : List ℕ} where
+  receive-refusing :
+      {number : ℕ} → reception-refusal g cs ls xs (length w) ≡ number → (number ≡ 0 → ⊥) → Refuses number r w v →
       Receive-says g cs ls xs r w v
   unfolding Receive-says
-  receive-refused {number} e some h =
-      let early : reception-refusal g cs ls xs (length w) ≡ number = reception-early g cs ls xs (length w) number e some in (
-        answers-refused (reception-refusal g cs ls xs (length w)) (n-of xs) r (h .is ∙ sym early)
-            (λ (z : reception-refusal g cs ls xs (length w) ≡ 0). some (sym early ∙ z)) (h .nothing),
-        h .cleared ∙ zeros-alike w u same,
-      )
+  receive-refusing e some h = (
+    answers-refused (reception-refusal g cs ls xs (length w)) (n-of xs) r (h .is ∙ sym e)
+        (λ (z : reception-refusal g cs ls xs (length w) ≡ 0). some (sym e ∙ z)) (h .nothing),
+    h .cleared,
+  )
 
-  module _ (none : delivery-refusal g cs ls xs (length w) ≡ 0) where
-    pub receive-unreceived : received g (lexicon cs ls) xs ≡ false → Refuses 9 r u v → Receive-says g cs ls xs r w v
-    unfolding Receive-says
-    receive-unreceived f h =
-        let nine : reception-refusal g cs ls xs (length w) ≡ 9 = reception-unreceived g cs ls xs (length w) none f in (
-          answers-refused (reception-refusal g cs ls xs (length w)) (n-of xs) r (h .is ∙ sym nine)
-              (λ (z : reception-refusal g cs ls xs (length w) ≡ 0). omega arith) (h .nothing),
-          h .cleared ∙ zeros-alike w u same,
-        )
+  pub receive-refused :
+      {number : ℕ} → number ≡ delivery-refusal g cs ls xs (length w) → (number ≡ 0 → ⊥) → Refuses number r w v →
+      Receive-says g cs ls xs r w v
+  receive-refused {number} e some h = receive-refusing (reception-early g cs ls xs (length w) number e some) some h
 
-    pub receive-received :
-        received g (lexicon cs ls) xs ≡ true → r .refusal ≡ 0 → r .count ≡ n-of xs → v ≡ zeros u → Receive-says g cs ls xs r w v
-    unfolding Receive-says
-    receive-received t zero count cleared =
-        let accepted : reception-refusal g cs ls xs (length w) ≡ 0 = reception-received g cs ls xs (length w) none t in (
-          answers-accepted (reception-refusal g cs ls xs (length w)) (n-of xs) r (zero ∙ sym accepted) accepted count,
-          cleared ∙ zeros-alike w u same,
-        )
-
-module _ (g : ℕ) (cs ls xs : List ℕ) (r : Answer) (o w u v : List ℕ) (same : length u ≡ length w) where
-  refusing :
-      {number : ℕ} → recovery-refusal g cs ls xs (length o) (length w) ≡ number → (number ≡ 0 → ⊥) → Refuses number r u v →
+  recover-refusing :
+      (o : List ℕ) {number : ℕ} → recovery-refusal g cs ls xs (length o) (length w) ≡ number → (number ≡ 0 → ⊥) → Refuses number r w v →
       Recover-says g cs ls xs r o o w v
   unfolding Recover-says
-  refusing e some h = (
-    puts-refused (recovery-refusal g cs ls xs (length o) (length w)) (recovered (lexicon cs ls) xs) r o o (h .is ∙ sym e)
+  recover-refusing o e some h = (
+    puts-refused (recovery-refusal g cs ls xs (length o) (length w)) (recovered (lexicon cs ls) xs) r o (h .is ∙ sym e)
         (λ (z : recovery-refusal g cs ls xs (length o) (length w) ≡ 0). some (sym e ∙ z)) (h .nothing) refl,
-    h .cleared ∙ zeros-alike w u same,
+    h .cleared,
   )
 
   pub recover-refused :
-      {number : ℕ} → number ≡ delivery-refusal g cs ls xs (length w) → (number ≡ 0 → ⊥) → Refuses number r u v →
+      (o : List ℕ) {number : ℕ} → number ≡ delivery-refusal g cs ls xs (length w) → (number ≡ 0 → ⊥) → Refuses number r w v →
       Recover-says g cs ls xs r o o w v
-  recover-refused {number} e some h =
+  recover-refused o {number} e some h =
       let early : reception-refusal g cs ls xs (length w) ≡ number = reception-early g cs ls xs (length w) number e some in
-      refusing
+      recover-refusing o
       (recovery-early g cs ls xs (length w) (length o) (λ (z : reception-refusal g cs ls xs (length w) ≡ 0). some (sym early ∙ z)) ∙
       early) some h
 
-  module _ (none : delivery-refusal g cs ls xs (length w) ≡ 0) where
-    pub recover-unreceived : received g (lexicon cs ls) xs ≡ false → Refuses 9 r u v → Recover-says g cs ls xs r o o w v
-    recover-unreceived f h =
-        let nine : reception-refusal g cs ls xs (length w) ≡ 9 = reception-unreceived g cs ls xs (length w) none f in
-        refusing
-        (recovery-early g cs ls xs (length w) (length o) (λ (z : reception-refusal g cs ls xs (length w) ≡ 0). omega arith) ∙ nine)
-        (λ (z : 9 ≡ 0). omega arith) h
+module _ {g : ℕ} {cs ls xs w : List ℕ} (met : Delivered g cs ls xs (length w)) (f : received g (lexicon cs ls) xs ≡ false)
+    {r : Answer} {v : List ℕ} (h : Refuses 9 r w v) where
+  nine : reception-refusal g cs ls xs (length w) ≡ 9
+  nine = reception-unreceived met f
 
-    pub recover-received :
-        received g (lexicon cs ls) xs ≡ true → take (n-of xs) u ≡ recovered (lexicon cs ls) xs → {z : List ℕ} →
-        Gives (n-of xs) r o z u v → Recover-says g cs ls xs r o z w v
-    unfolding Recover-says
-    recover-received t text h =
-        let late : recovery-refusal g cs ls xs (length o) (length w) ≡ output-refusal (n-of xs) (length o) =
-        recovery-late g cs ls xs (length w) (length o) (reception-received g cs ls xs (length w) none t) in
-        (rw (late, ← text) (h .puts), h .cleared ∙ zeros-alike w u same)
+  pub receive-unreceived : Receive-says g cs ls xs r w v
+  receive-unreceived = receive-refusing g cs ls xs nine (λ (z : 9 ≡ 0). omega arith) h
+
+  pub recover-unreceived : (o : List ℕ) → Recover-says g cs ls xs r o o w v
+  recover-unreceived o =
+      recover-refusing g cs ls xs o
+      (recovery-early g cs ls xs (length w) (length o) (λ (z : reception-refusal g cs ls xs (length w) ≡ 0). omega (arith, nine)) ∙ nine)
+      (λ (z : 9 ≡ 0). omega arith) h
+
+-- u is the work slice before it is cleared, the text in front
+module _ {g : ℕ} {cs ls xs : List ℕ} (w : List ℕ) (met : Delivered g cs ls xs (length w)) (t : received g (lexicon cs ls) xs ≡ true) where
+  pub receive-received :
+      (u : List ℕ) {n : ℕ} {v : List ℕ} → length u ≡ length w → n ≡ n-of xs → v ≡ zeros u →
+      Receive-says g cs ls xs (record { refusal = 0; count = n }) w v
+  unfolding Receive-says
+  receive-received u {n} same count cleared =
+      let accepted : reception-refusal g cs ls xs (length w) ≡ 0 = reception-received met t in (
+        answers-accepted (reception-refusal g cs ls xs (length w)) (n-of xs) (record { refusal = 0; count = n }) (sym accepted) accepted
+            count,
+        cleared ∙ zeros-alike w u same,
+      )
+
+  pub recover-received :
+      {r : Answer} {o z u v : List ℕ} → length u ≡ length w → take (n-of xs) u ≡ recovered (lexicon cs ls) xs →
+      Gives (n-of xs) r o z u v → Recover-says g cs ls xs r o z w v
+  unfolding Recover-says
+  recover-received {o} {u} same text h =
+      let late : recovery-refusal g cs ls xs (length o) (length w) ≡ output-refusal (n-of xs) (length o) =
+      recovery-late g cs ls xs (length w) (length o) (reception-received met t) in
+      (rw (late, ← text) (h .puts), h .cleared ∙ zeros-alike w u same)

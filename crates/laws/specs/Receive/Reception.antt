@@ -4,7 +4,7 @@ use mathlib.Core.Path.{_≡_, refl, _∙_}
 use mathlib.Core.Bool.{true}
 use mathlib.Core.Logic.{inl, inr, ⊎-elim}
 use mathlib.Core.List.{List, [], _∷_}
-use Prim.Native.Nat.{ℕ, suc, _-_, _≤_, _<_}
+use Prim.Native.Nat.{ℕ, suc, _-_, _<_}
 use native.Mathlib.Omega.{arith}
 use lib.ListN.{length, getD, set, length-set}
 use lib.Seq.{sets}
@@ -15,14 +15,13 @@ use Rattle.spec.specs.Words.{spells, Entry}
 use Rattle.spec.specs.Index.{n-of, lines-in, readable}
 use Rattle.spec.specs.Reception.{recovered, is-index}
 use Rattle.models.specs.Entries.{flat}
-use Rattle.models.specs.Reception.{verify, reconstruct, mapped-at, fill-line-map}
+use Rattle.models.specs.Reception.{verify, reconstruct}
 use Rattle.laws.specs.Text.Facts.{Chars, Good-lexicon}
 use Rattle.laws.specs.Dictionary.Keys.{spells-chars}
 use Rattle.laws.specs.Readable.Readable.{readable-get}
 use Rattle.laws.specs.Numbers.Lines.{good-flat-sound}
 use Rattle.laws.specs.Receive.LineMap.{Line-map, verify-exact}
 use Rattle.laws.specs.Receive.Reconstruction.{length-reconstruct, reconstruct-recovered}
-use Rattle.laws.specs.Receive.LineMapFill.{line-map-mapped}
 
 -- A RECONSTRUCTION CONSISTS OF CHARACTERS, if what was there does
 
@@ -49,35 +48,20 @@ reconstruct-chars lex (e ∷ es) us chars spelt =
 
 -- THE WHOLE OF RECEPTION
 
-module _ {lex : Lexicon} (good : Good-lexicon lex) (g : ℕ) (xs : List ℕ) (can : readable g lex xs ≡ true) (us ns : List ℕ)
-    (chars : Chars us) (len : length us ≡ n-of xs) (room : n-of xs ≤ length ns) (clear : (p : ℕ) → 1 ≤ p → mapped-at ns p ≡ 0) where
-  reconstructing : List ℕ
-  reconstructing = reconstruct lex (flat lex (lines-in xs)) us
-
-  line-map : ℕ → ℕ
-  line-map = mapped-at (fill-line-map 0 (lines-in xs) ns)
-
-  mapped : Line-map xs line-map
-  unfolding line-map
-  mapped = line-map-mapped good g xs can ns room clear
-
-  pub reconstructing-chars : Chars (reconstruct lex (flat lex (lines-in xs)) us)
-  reconstructing-chars =
-      reconstruct-chars lex (flat lex (lines-in xs)) us chars
-      (λ e m.
-      spells-chars good (e .key-of)
-      (good-flat-sound lex (n-of xs) (lines-in xs) (readable-get g lex xs can .lines) e m .is-key))
-
-  reconstructing-long : length reconstructing ≡ n-of xs
-  unfolding reconstructing
-  reconstructing-long = length-reconstruct lex (flat lex (lines-in xs)) us ∙ len
-
-  pub reception-exact :
-      verify lex (mapped-at (fill-line-map 0 (lines-in xs) ns)) xs (reconstruct lex (flat lex (lines-in xs)) us) ≡ is-index g lex xs
-  unfolding reconstructing line-map
-  reception-exact =
-      verify-exact good g can mapped reconstructing reconstructing-chars reconstructing-long
-      (λ r. reconstruct-recovered lex good g xs r (flat lex (lines-in xs)) us len (λ e m. m) (λ e m. m))
-
+module _ {lex : Lexicon} (good : Good-lexicon lex) (g : ℕ) (xs us : List ℕ) (len : length us ≡ n-of xs) where
   pub reception-recovers : is-index g lex xs ≡ true → reconstruct lex (flat lex (lines-in xs)) us ≡ recovered lex xs
-  reception-recovers r = reconstruct-recovered lex good g xs r (flat lex (lines-in xs)) us len (λ e m. m) (λ e m. m)
+  reception-recovers r = reconstruct-recovered good g xs r (flat lex (lines-in xs)) us len (λ e. (λ m. m, λ m. m))
+
+  module _ (can : readable g lex xs ≡ true) (chars : Chars us) where
+    pub reconstructing-chars : Chars (reconstruct lex (flat lex (lines-in xs)) us)
+    reconstructing-chars =
+        reconstruct-chars lex (flat lex (lines-in xs)) us chars
+        (λ e m.
+        spells-chars good (e .key-of)
+        (good-flat-sound lex (n-of xs) (lines-in xs) (readable-get g lex xs can .lines) e m .is-key))
+
+    pub reception-exact :
+        {line-for : ℕ → ℕ} → Line-map xs line-for → verify lex line-for xs (reconstruct lex (flat lex (lines-in xs)) us) ≡ is-index g lex xs
+    reception-exact mapped =
+        verify-exact good g can mapped (reconstruct lex (flat lex (lines-in xs)) us) reconstructing-chars
+        (length-reconstruct lex (flat lex (lines-in xs)) us ∙ len) reception-recovers

@@ -77,20 +77,20 @@ module _ (lex : Lexicon) (ts : List ℕ) where
 
   reconstruct-writes :
       (es : List Entry) (us : List ℕ) (i : ℕ) → i < length us → ((e : Entry) → In e es → Stand (spells lex (e .key-of)) ts (e .at)) →
-      (e : Entry) → In e es → e .at ≤ suc i → suc i < e .at + length (spells lex (e .key-of)) →
+      ((e : Entry) × In e es × (e .at ≤ suc i) × (suc i < e .at + length (spells lex (e .key-of)))) →
       getD (reconstruct lex es us) i 0 ≡ getD ts i 0
   unfolding reconstruct
-  reconstruct-writes [] us i b stand e m lo hi = absurd m
-  reconstruct-writes (f ∷ es) us i b stand e (inl q) lo hi =
+  reconstruct-writes [] us i b stand (e, m, lo, hi) = absurd m
+  reconstruct-writes (f ∷ es) us i b stand (e, inl q, lo, hi) =
       let h : Stand (spells lex (f .key-of)) ts (f .at) = stand f (inl refl) in
       let from : f .at ≤ suc i = rw q at lo in
       let to : suc i < f .at + length (spells lex (f .key-of)) = rw q at hi in
       reconstruct-keeps es (sets us (f .at - 1) (spells lex (f .key-of))) i (λ g m. stand g (inr m))
       (sets-writes 0 us (f .at - 1) (spells lex (f .key-of)) i b (omega arith, omega arith)
       (stood f h i (omega arith) (omega arith)))
-  reconstruct-writes (f ∷ es) us i b stand e (inr m) lo hi =
+  reconstruct-writes (f ∷ es) us i b stand (e, inr m, lo, hi) =
       reconstruct-writes es (sets us (f .at - 1) (spells lex (f .key-of))) i
-      (omega (arith, length-sets us (f .at - 1) (spells lex (f .key-of)))) (λ g n. stand g (inr n)) e m lo hi
+      (omega (arith, length-sets us (f .at - 1) (spells lex (f .key-of)))) (λ g n. stand g (inr n)) (e, m, lo, hi)
 
   -- Entries that stand in a text and cover it reconstruct it, in any order.
   pub reconstruct-covers :
@@ -104,18 +104,18 @@ module _ (lex : Lexicon) (ts : List ℕ) where
       each : (i : ℕ) → i < length (reconstruct lex es us) → getD (reconstruct lex es us) i 0 ≡ getD ts i 0
       each i b =
           let within : i < length us = omega (arith, length-reconstruct lex es us) in
-          let (e, m, lo, hi) = cover (suc i) (omega arith) (omega arith) in
-          reconstruct-writes es us i within stand e m lo hi
+          reconstruct-writes es us i within stand (cover (suc i) (omega arith) (omega arith))
 
 -- IF NUMBERS ARE THE INDEX OF THE TEXT RECOVERED FROM THEM
 
-module _ (lex : Lexicon) (good : Good-lexicon lex) (g : ℕ) (xs : List ℕ) (taken : is-index g lex xs ≡ true) where
+module _ {lex : Lexicon} (good : Good-lexicon lex) (g : ℕ) (xs : List ℕ) (taken : is-index g lex xs ≡ true) where
   -- Reconstruction from their entries, in any order, gives the recovered text.
   pub reconstruct-recovered :
-      (es : List Entry) (us : List ℕ) → length us ≡ n-of xs → ((e : Entry) → In e es → In e (flat lex (lines-in xs))) →
-      ((e : Entry) → In e (flat lex (lines-in xs)) → In e es) → reconstruct lex es us ≡ recovered lex xs
-  reconstruct-recovered es us len only all =
-      reconstruct-covers lex (recovered lex xs) es us (len ∙ sym (length-recovered lex xs)) (λ e m. match .stand e (only e m)) cover
+      (es : List Entry) (us : List ℕ) → length us ≡ n-of xs →
+      ((e : Entry) → (In e es → In e (flat lex (lines-in xs))) × (In e (flat lex (lines-in xs)) → In e es)) →
+      reconstruct lex es us ≡ recovered lex xs
+  reconstruct-recovered es us len same =
+      reconstruct-covers lex (recovered lex xs) es us (len ∙ sym (length-recovered lex xs)) (λ e m. match .stand e (same e .0 m)) cover
     where
       match : Lines-match lex (lines-in xs) (recovered lex xs)
       match =
@@ -128,4 +128,4 @@ module _ (lex : Lexicon) (good : Good-lexicon lex) (g : ℕ) (xs : List ℕ) (ta
           (e : Entry) × In e es × (e .at ≤ p) × (p < e .at + length (spells lex (e .key-of)))
       cover p lo hi =
           let (e, m, from, to) = match .cover p lo hi in
-          (e, all e m, from, omega (arith, flat-long lex (lines-in xs) e m))
+          (e, same e .1 m, from, omega (arith, flat-long lex (lines-in xs) e m))

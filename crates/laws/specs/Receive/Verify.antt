@@ -16,13 +16,13 @@ use Rattle.spec.specs.Dictionary.{Lexicon}
 use Rattle.spec.specs.Words.{key, Entry, entry, same-key}
 use Rattle.spec.specs.Index.{header, keys-of, kind-at, value-at, entries-of}
 use Rattle.models.specs.Entries.{longest-at}
+use Rattle.models.specs.Scan.{scan}
 use Rattle.models.specs.Inversion.{token-entry}
-use Rattle.models.specs.Reception.{mapped-at, mapped-right, verify, verify-from, token-key, token-mapped}
+use Rattle.models.specs.Reception.{mapped-at, mapped-right, all-mapped, verify, verify-from, token-key, token-mapped}
 use Rattle.laws.specs.Numbers.Slices.{Fits}
-use Rattle.laws.specs.Entries.Scan.{Longest-at}
-use Rattle.laws.specs.Entries.Longest.{longest-at-is}
+use Rattle.laws.specs.Entries.Scan.{scan-registers, scan-passes}
 use Rattle.laws.specs.Build.ScanTokens.{Stepped, Scannable}
-use Rattle.laws.specs.Receive.LineMap.{Line-map, verify-starts, verify-passes, verify-registers, verify-fails, verify-ends}
+use Rattle.laws.specs.Receive.LineMap.{Line-map, verify-starts, verify-ends}
 
 -- THE KEY OF A TOKEN
 
@@ -113,9 +113,6 @@ module _ {lex : Lexicon} {xs us ns : List ℕ} where
 
   module _ {q e count token : ℕ} (here : Scannable lex us q) (t : Testing lex xs us ns q e count) (next : ℕ)
       (s : Stepped lex us (q + 1) (e + 1) token (next + 1)) where
-    is-longest : Longest-at lex us (q + 1) (longest-at lex us (q + 1))
-    is-longest = longest-at-is lex (here .good) us (here .chars) (q + 1) (omega arith) (omega arith)
-
     more : verify-from lex (mapped-at ns) xs us (suc (length us - (q + 1))) (q + 1) (e + 1) count ≡ verify lex (mapped-at ns) xs us
     more = let left : length us - q ≡ suc (length us - (q + 1)) = omega arith in rw left at (t .exact)
 
@@ -132,6 +129,12 @@ module _ {lex : Lexicon} {xs us ns : List ℕ} where
         ⊎-elim (λ (h : q + 1 + longest-at lex us (q + 1) .len ≤ e + 1). absurd (some (s .passed h .0)))
         (λ (h : e + 1 < q + 1 + longest-at lex us (q + 1) .len). h) (le-or-lt (q + 1 + longest-at lex us (q + 1) .len) (e + 1))
 
+    registers :
+        (token ≡ 0 → ⊥) →
+        scan (longest-at lex us) (suc (length us - (q + 1))) (q + 1) (e + 1)
+        ≡ longest-at lex us (q + 1) ∷ scan (longest-at lex us) (length us - (q + 1)) (suc (q + 1)) (q + 1 + longest-at lex us (q + 1) .len)
+    registers some = scan-registers (longest-at lex us) (length us - (q + 1)) (q + 1) (e + 1) (registered some)
+
     right-line :
         (token ≡ 0 → ⊥) →
         mapped-right (mapped-at ns) xs (longest-at lex us (q + 1)) ≡ token-mapped xs (getD ns q 0) token (getD us q 0)
@@ -143,6 +146,7 @@ module _ {lex : Lexicon} {xs us ns : List ℕ} where
         (s .registered (registered some) .0))
 
     pub testing-passes : token ≡ 0 → Testing lex xs us ns (q + 1) next count
+    unfolding verify-from
     testing-passes none =
         record {
           within = omega arith;
@@ -150,34 +154,28 @@ module _ {lex : Lexicon} {xs us ns : List ℕ} where
           few = omega arith;
           exact =
               rw (s .passed (passed none) .1, add-one (q + 1))
-              (sym
-              (verify-passes lex (mapped-at ns) xs us (here .good) (here .chars) (length us - (q + 1)) (e + 1) count (omega arith)
-              (omega arith) is-longest (passed none))
-              ∙ more);
+              (rw (scan-passes (longest-at lex us) (length us - (q + 1)) (q + 1) (e + 1) (passed none)) at more);
         }
 
     pub testing-registers :
         (token ≡ 0 → ⊥) → token-mapped xs (getD ns q 0) token (getD us q 0) ≡ true → Testing lex xs us ns (q + 1) next (count + 1)
+    unfolding verify-from all-mapped
     testing-registers some right =
+        let rest : List Entry = scan (longest-at lex us) (length us - (q + 1)) (suc (q + 1)) (q + 1 + longest-at lex us (q + 1) .len) in
+        let counted : count + suc (length rest) ≡ suc count + length rest = omega arith in
         record {
           within = omega arith;
           end = omega arith;
           few = omega arith;
           exact =
               rw (s .registered (registered some) .1, add-one (q + 1), add-one count)
-              (sym
-              (verify-registers lex (mapped-at ns) xs us (here .good) (here .chars) (length us - (q + 1)) (e + 1) count (omega arith)
-              (omega arith) is-longest (registered some) (right-line some ∙ right))
-              ∙ more);
+              (rw (registers some, right-line some ∙ right, counted) at more);
         }
 
     pub testing-fails :
         (token ≡ 0 → ⊥) → token-mapped xs (getD ns q 0) token (getD us q 0) ≡ false → false ≡ verify lex (mapped-at ns) xs us
-    testing-fails some wrong =
-        sym
-        (verify-fails lex (mapped-at ns) xs us (here .good) (here .chars) (length us - (q + 1)) (e + 1) count (omega arith) (omega arith)
-        is-longest (registered some) (right-line some ∙ wrong))
-        ∙ more
+    unfolding verify-from all-mapped
+    testing-fails some wrong = rw (registers some, right-line some ∙ wrong) at more
 
   pub testing-ends :
       {q e count : ℕ} → Testing lex xs us ns q e count → length us ≤ q → Fits xs →

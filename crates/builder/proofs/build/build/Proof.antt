@@ -1,32 +1,22 @@
 -- `build` meets its contract: an early refusal, or the answer of `index_text`, and the work slice cleared after either. Assumes nothing.
-use mathlib.Core.Path.{_≡_, _∙_, ap}
+use mathlib.Core.Path.{_∙_, ap}
 use Prim.Native.Nat.{ℕ}
-use lib.ListN.{length, replicate}
+use lib.ListN.{replicate}
 use borrow.Author.Needs.{needs}
 use Rattle.spec.specs.Dictionary.{longest-text}
 use Rattle.spec.specs.Calls.{Build-says, zeros}
-use Rattle.laws.specs.Build.Building.{early-refusal, build-refused}
+use Rattle.laws.specs.Build.Building.{build-refused}
 use Rattle.builder.proofs.build.build.Statement.{statement}
 use Rattle.builder.proofs.build.build.Tie as tie
 
 returns : tie.Need-returns
-unfolding Build-says
 returns c =
     let refused = c .before .before .before .before in
-    let asked = refused .before .before in
-    let start = asked .before .before .before .before .before in
-    let cs = start .args .chars .now in
-    let ls = start .args .lengths .now in
-    let ts = start .args .text .now in
-    let w = length (start .args .work .now) in
-    let said = c .before .before .refuse .ensures in (
-      build-refused longest-text cs ls ts w (start .args .output .now)
-          (λ (none : early-refusal longest-text cs ls ts w ≡ 0). refused .if1 .taken
-          (refused .before .early-refusal .ensures ∙ none))
-          (c .before .before .refuse .result) (said .is ∙ refused .before .early-refusal .ensures)
-          (said .nothing),
-      said .cleared,
-    )
+    let asked = refused .before in
+    let slices = asked .before in
+    let a = slices .before .before .before .before .before .args in
+    build-refused longest-text (a .chars .now) (a .lengths .now) (a .text .now) (a .output .now) (asked .early-refusal .ensures)
+    (refused .if1 .taken) (c .before .before .refuse .ensures)
 
 returns-2 : tie.Need-returns-2
 unfolding Build-says zeros

@@ -40,10 +40,7 @@ finish-requires c κs =
     let s = start known in
     let first = known .before .before .before .before in (
       omega (arith, met s .room, scanned .scan-replaced .kept),
-      front-linkable longest-text (omega arith) (s .args .chars .now) (lengths-of (s .args .word-starts .now)) (s .args .text .now)
-          (length (s .args .work .now)) (scanned .scan-replaced .last .1 .1 .1 .1 .1 .0)
-          (λ i h. omega (arith, first .shared-slice-known .given i)) (s .pre .0)
-          (scanned .scan-replaced .ensures),
+      front-linkable (met s) (λ i h. omega (arith, first .shared-slice-known .given i)) (scanned .scan-replaced .ensures) (omega arith),
     )
 
 returns : tie.Need-returns
@@ -54,10 +51,9 @@ returns c =
     let s = start known in
     let third = known .before .before in
     let first = third .before .before in
-    let a = s .args in
-    build-tokens longest-text (a .chars .now) (lengths-of (a .word-starts .now)) (a .text .now) (length (a .work .now)) (a .output .now)
-    (λ i h. omega (arith, first .shared-slice-known .given i)) (λ i h. omega (arith, third .shared-slice-known3 .given i)) (s .pre .0)
-    (scanned .scan-replaced .ensures) (finished .finish .result) (finished .finish .last .1 .0) (finished .finish .ensures)
+    build-tokens (met s) (λ i h. omega (arith, first .shared-slice-known .given i)) (scanned .scan-replaced .ensures)
+    (λ i h. omega (arith, third .shared-slice-known3 .given i)) (finished .finish .result) (s .args .output .now)
+    (finished .finish .last .1 .0) (finished .finish .ensures)
 
 pub index-with-spec : {M : Type 1} → statement M
 index-with-spec =

@@ -1,5 +1,4 @@
 -- `give_text` meets its contract: one law for each return. Assumes nothing.
-use mathlib.Core.Path.{refl}
 use native.Mathlib.Omega.{arith}
 use borrow.Author.Needs.{needs}
 use lib.ListN.{length-take}
@@ -11,9 +10,7 @@ returns : tie.Need-returns
 returns c =
     let answered = c .before .before in
     let a = answered .before .before .before .before .before .args in
-    let answer = answered .refuse in
-    gives-short (a .n) (answer .result) (a .output .now) (a .work .now) (answer .last .0) (answered .before .before .if1 .taken)
-    (answer .ensures)
+    gives-short (a .n) (a .output .now) (answered .before .before .if1 .taken) (answered .refuse .ensures)
 
 returns-2 : tie.Need-returns-2
 returns-2 c =
@@ -22,8 +19,8 @@ returns-2 c =
     let on = written .before .before .before in
     let s = on .before .before .before in
     let a = s .args in
-    gives-text (a .n) (record { refusal = 0; count = a .n }) (a .output .now) (a .work .now) (cleared .clear .last .0)
-    (on .if1 .left) (s .pre .0) refl refl (written .write-chars .ensures) (cleared .clear .ensures)
+    gives-text (a .n) (a .output .now) (a .work .now) (on .if1 .left) (s .pre .0) (written .write-chars .ensures)
+    (cleared .clear .ensures)
 
 pub give-text-spec : {M : Type 1} → statement M
 give-text-spec =

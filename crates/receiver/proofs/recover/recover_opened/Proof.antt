@@ -1,5 +1,5 @@
 -- `recover_opened` meets its contract: one law for each return. Assumes nothing.
-use mathlib.Core.Path.{_≡_, refl, sym, _∙_}
+use mathlib.Core.Path.{_≡_, sym, _∙_}
 use Prim.Native.Nat.{ℕ}
 use native.Mathlib.Omega.{arith}
 use borrow.Author.Needs.{needs}
@@ -9,7 +9,7 @@ use Rattle.spec.specs.Dictionary.{longest-text}
 use Rattle.laws.specs.Dictionary.Lexicon.{admitted-lexicon}
 use Rattle.laws.specs.Receive.Received.{readable-chars}
 use Rattle.laws.specs.Receive.Receiving.{Delivered, delivery-refusal, delivery-header, opened-delivery, delivered}
-use Rattle.laws.specs.Receive.Receiving.{recover-refused, recover-unreceived, recover-received}
+use Rattle.laws.specs.Receive.Receiving.{refuses-alike, recover-refused, recover-unreceived, recover-received}
 use Rattle.laws.specs.Receive.ReceivedText.{delivered-admitted}
 use Rattle.receiver.proofs.recover.recover_opened.Statement.{statement}
 use Rattle.receiver.proofs.recover.recover_opened.Tie as tie
@@ -31,32 +31,11 @@ early : (c : tie.After-delivery-refusal) → c .delivery-refusal .result ≡ due
 early c =
     let s = start (c .before) in
     let a = s .args in
-    opened-delivery longest-text (a .chars .now) (a .lengths .now) (a .index .now) (length (a .work .now)) (a .refusal)
-    (c .delivery-refusal .result) (s .pre) (c .delivery-refusal .ensures)
+    opened-delivery longest-text (a .chars .now) (a .lengths .now) (a .index .now) (length (a .work .now)) (s .pre)
+    (c .delivery-refusal .ensures)
 
 none : (c : tie.Else1) → due (start (c .before .before)) ≡ 0
 none c = sym (early (c .before)) ∙ c .if1 .left
-
-returns : tie.Need-returns
-returns c =
-    let refused = c .before .before .before .before .before in
-    let a = start (refused .before) .args in
-    let answer = c .before .before .refuse in
-    recover-refused longest-text (a .chars .now) (a .lengths .now) (a .index .now) (answer .result) (a .output .now) (a .work .now)
-    (a .work .now)
-    (answer .last .0) refl (early refused) (c .before .before .before .before .if1 .taken) (answer .ensures)
-
-returns-2 : tie.Need-returns-2
-returns-2 c =
-    let answered = c .before .before in
-    let text = answered .before .before .before .before .before in
-    let on = asked text in
-    let a = start (on .before .before) .args in
-    let answer = answered .no-text in
-    recover-unreceived longest-text (a .chars .now) (a .lengths .now) (a .index .now) (answer .result) (a .output .now) (a .work .now)
-    (text .text-of .last .1 .1 .1 .0) (answer .last .0) (text .text-of .kept .1 .1 .1 .0) (none on)
-    (sym (text .text-of .ensures .exact) ∙ not-true (text .text-of .result) (answered .before .before .if2 .taken))
-    (answer .ensures)
 
 met :
     (c : tie.Else1) →
@@ -65,6 +44,24 @@ met :
 met c =
     let a = start (c .before .before) .args in
     delivered longest-text (a .chars .now) (a .lengths .now) (a .index .now) (length (a .work .now)) (none c)
+
+returns : tie.Need-returns
+returns c =
+    let refused = c .before .before .before .before .before in
+    let a = start (refused .before) .args in
+    let answer = c .before .before .refuse in
+    recover-refused longest-text (a .chars .now) (a .lengths .now) (a .index .now) (a .output .now) (early refused)
+    (c .before .before .before .before .if1 .taken) (answer .ensures)
+
+returns-2 : tie.Need-returns-2
+returns-2 c =
+    let answered = c .before .before in
+    let text = answered .before .before .before .before .before in
+    let on = asked text in
+    let a = start (on .before .before) .args in
+    recover-unreceived (met on)
+    (sym (text .text-of .ensures .exact) ∙ not-true (text .text-of .result) (answered .before .before .if2 .taken))
+    (refuses-alike (a .work .now) (text .text-of .kept .1 .1 .1 .0) (answered .no-text .ensures)) (a .output .now)
 
 -- the text is the recovered one, which consists of characters
 give-text-requires : tie.Need-give-text-requires
@@ -90,13 +87,10 @@ returns-3 c =
     let read = given .before .before .before in
     let text = tried read in
     let on = asked text in
-    let a = start (on .before .before) .args in
-    let answer = given .give-text in
     let taken = not-false (text .text-of .result) (read .before .if2 .left) in
-    recover-received longest-text (a .chars .now) (a .lengths .now) (a .index .now) (answer .result) (a .output .now) (a .work .now)
-    (text .text-of .last .1 .1 .1 .0) (answer .last .1 .1 .0) (text .text-of .kept .1 .1 .1 .0) (none on)
-    (sym (text .text-of .ensures .exact) ∙ taken) (text .text-of .ensures .text taken)
-    (rw (read .text-len .ensures .0) at (answer .ensures))
+    recover-received (start (on .before .before) .args .work .now) (met on) (sym (text .text-of .ensures .exact) ∙ taken)
+    (text .text-of .kept .1 .1 .1 .0) (text .text-of .ensures .text taken)
+    (rw (read .text-len .ensures .0) at (given .give-text .ensures))
 
 pub recover-opened-spec : {M : Type 1} → statement M
 recover-opened-spec =
