@@ -41,9 +41,9 @@ index-short lex ts good chars =
     omega (
       arith,
       length-numbers (length ts) lines,
-      lines-few lex (length ts) lines ((rw lines-in-index at (index-lines-good lex good ts chars)) .each),
+      lines-few lex (length ts) lines ((rw lines-in-index at (index-lines-good good ts chars)) .each),
       entries-few lex ts good chars,
-      entries-of-index lex good ts chars,
+      entries-of-index good ts chars,
       entries-of-numbers (length ts) lines,
     )
 
@@ -104,11 +104,11 @@ pub index-below :
 unfolding index-of
 index-below {lex} ts good chars bound wide short =
     numbers-below good bound (length ts) short wide
-    (rw lines-in-index at (index-lines-good lex good ts chars))
+    (rw lines-in-index at (index-lines-good good ts chars))
     (omega (
       arith,
       entries-few lex ts good chars,
-      entries-of-index lex good ts chars,
+      entries-of-index good ts chars,
       entries-of-numbers (length ts) (lines-of (sorted (entries lex ts))),
     ))
 

@@ -101,11 +101,11 @@ pub record Line-by-line (give : List Line → List ℕ) (each : Line → List �
   pub none : give [] ≡ []
   pub more : (l : Line) (ls : List Line) → give (l ∷ ls) ≡ each l ++ give ls
 
-module _ {give : List Line → List ℕ} {each : Line → List ℕ} (by : Line-by-line give each) (heads links old : List ℕ) where
+module _ {give : List Line → List ℕ} {each : Line → List ℕ} (by : Line-by-line give each) where
   pub listing-start :
-      (at : ℕ) {code : ℕ} → at + length (give (lines-at heads links 0)) ≤ length old → Next heads 0 code →
+      (heads links old : List ℕ) (at : ℕ) {code : ℕ} → at + length (give (lines-at heads links 0)) ≤ length old → Next heads 0 code →
       Listing give heads links (take at old ++ give (lines-at heads links 0)) old old code at
-  listing-start at {code} room next =
+  listing-start heads links old at {code} room next =
       record {
         writing =
             rw (← lines-next heads links (next .passed)) (starts old (give (lines-at heads links 0)) at room);
@@ -113,7 +113,7 @@ module _ {give : List Line → List ℕ} {each : Line → List ℕ} (by : Line-b
         used = next .used;
       }
 
-  module _ {all now : List ℕ} {code at : ℕ} (l : Listing give heads links all old now code at) where
+  module _ {heads links all old now : List ℕ} {code at : ℕ} (l : Listing give heads links all old now code at) where
     pub listing-line :
         Threads heads links → (b : code < length heads) →
         Writing all old now
@@ -139,10 +139,10 @@ module _ {give : List Line → List ℕ} {each : Line → List ℕ} (by : Line-b
         )
 
     pub listing-step :
-        Threads heads links → code < length heads → {next : ℕ} → Next heads (code + 1) next → (xs later : List ℕ) →
+        Threads heads links → code < length heads → {next : ℕ} → Next heads (code + 1) next → {xs later : List ℕ} →
         xs ≡ each (line (code-key code) (chain links (getD heads code 0))) → later ≡ over (take at now ++ xs) now →
         Listing give heads links all old later next (at + length xs)
-    listing-step threads b {next} n xs later e f =
+    listing-step threads b n {xs} e f =
         record {
           writing =
               rw (f, ← lines-next heads links (n .passed))

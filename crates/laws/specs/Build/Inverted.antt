@@ -38,9 +38,9 @@ module _ {lex : Lexicon} (good : Good-lexicon lex) (ts : List ℕ) (chars : Char
   inverted-index {ls} lines only all =
       ap (numbers (length ts))
       (lines-unique lines
-      (rw lines-in-index at (index-lines-good lex good ts chars))
-      (λ e m. rw lines-in-index at (in-index-put lex good ts chars e (only e m)))
-      (λ e m. all e (in-index-get lex good ts chars e (rw lines-in-index m))))
+      (rw lines-in-index at (index-lines-good good ts chars))
+      (λ e m. rw lines-in-index at (in-index-put good ts chars e (only e m)))
+      (λ e m. all e (in-index-get good ts chars e (rw lines-in-index m))))
 
   -- so are lines that have exactly the entries that the scan registers
   pub inverted-scan :

@@ -55,6 +55,9 @@ module _ {ms ts heads links : List ℕ} {q : ℕ} (p : ℕ) (s : q ≡ suc p) (l
             (l .chains k h);
       }
 
+  away : (k x : ℕ) → In x (postings ms ts q k) → x - 1 ≡ p → ⊥
+  away k x m e = omega (arith, postings-range ms ts q k x m .0)
+
   -- the position becomes the head of its code's chain
   module _ (code : ℕ) (here : coded (getD ms p 0) (getD ts p 0) ≡ suc code) (fits : code < length heads) where
     pub postings-grows : postings ms ts p code ≡ (p + 1) ∷ postings ms ts q code
@@ -65,9 +68,6 @@ module _ {ms ts heads links : List ℕ} {q : ℕ} (p : ℕ) (s : q ≡ suc p) (l
     pub postings-stays : (k : ℕ) → (k ≡ code → ⊥) → postings ms ts p k ≡ postings ms ts q k
     postings-stays k other =
         rw s (postings-not-here ms ts p k below (λ (e : coded (getD ms p 0) (getD ts p 0) ≡ suc k). other (omega arith)))
-
-    away : (k x : ℕ) → In x (postings ms ts q k) → x - 1 ≡ p → ⊥
-    away k x m e = omega (arith, postings-range ms ts q k x m .0)
 
     pub linked-chained : Linked ms ts (set heads code (p + 1)) (set links p (getD heads code 0)) p
     linked-chained =

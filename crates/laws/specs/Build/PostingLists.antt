@@ -126,13 +126,18 @@ pub record Grown (had : List ℕ) (ls ms : List Line) : Type 0 where
   pub new-line : had ≡ [] → length ms ≡ suc (length ls)
   pub same-lines : 1 ≤ length had → length ms ≡ length ls
 
-module _ (f g : ℕ → List ℕ) (code p : ℕ) (more : g code ≡ p ∷ f code) (same : (x : ℕ) → (x ≡ code → ⊥) → g x ≡ f x) where
+-- g lists the position p more than f, under a code
+pub record One-more (f g : ℕ → List ℕ) (code p : ℕ) : Type 0 where
+  pub more : g code ≡ p ∷ f code
+  pub same : (x : ℕ) → (x ≡ code → ⊥) → g x ≡ f x
+
+module _ {f g : ℕ → List ℕ} {code p : ℕ} (h : One-more f g code p) where
   grown-here : (n : ℕ) → Grown (f code) (lines-from (suc n) code f) (lines-from (suc n) code g)
   unfolding lines-from with-positions all-positions line
-  grown-here n = rw (more, rest) (go (f code) refl)
+  grown-here n = rw (h .more, rest) (go (f code) refl)
     where
       rest : lines-from n (suc code) g ≡ lines-from n (suc code) f
-      rest = lines-alike n (suc code) g f (λ x lo hi. same x (λ (e : x ≡ code). omega arith))
+      rest = lines-alike n (suc code) g f (λ x lo hi. h .same x (λ (e : x ≡ code). omega arith))
 
       go :
           (had : List ℕ) → f code ≡ had →
@@ -149,7 +154,7 @@ module _ (f g : ℕ → List ℕ) (code p : ℕ) (more : g code ≡ p ∷ f code
       (n k : ℕ) → (k ≡ code → ⊥) → Grown (f code) (lines-from n (suc k) f) (lines-from n (suc k) g) →
       Grown (f code) (lines-from (suc n) k f) (lines-from (suc n) k g)
   unfolding lines-from with-positions all-positions line
-  grown-later n k other ih = rw (same k other) (go (f k))
+  grown-later n k other ih = rw (h .same k other) (go (f k))
     where
       go :
           (ps : List ℕ) →
@@ -168,7 +173,7 @@ module _ (f g : ℕ → List ℕ) (code p : ℕ) (more : g code ≡ p ∷ f code
   pub lines-grow : (n k : ℕ) → k ≤ code → code < k + n → Grown (f code) (lines-from n k f) (lines-from n k g)
   lines-grow zero k lo hi = absurd (omega arith)
   lines-grow (suc n) k lo hi =
-      ⊎-elim (λ (h : code ≤ k). let e : k ≡ code = omega arith in rw e (grown-here n))
-      (λ (h : k < code).
-      grown-later n k (λ (e : k ≡ code). omega arith) (lines-grow n (suc k) h (omega arith)))
+      ⊎-elim (λ (b : code ≤ k). let e : k ≡ code = omega arith in rw e (grown-here n))
+      (λ (b : k < code).
+      grown-later n k (λ (e : k ≡ code). omega arith) (lines-grow n (suc k) b (omega arith)))
       (le-or-lt code k)

@@ -10,7 +10,7 @@ use Rattle.basics.specs.Member.{In}
 use Rattle.basics.specs.Steps.{those-from, those-from-get}
 use Rattle.spec.specs.Numbers.{Line, all-positions}
 use Rattle.models.specs.Inversion.{coded, holds, postings, inverted-after}
-use Rattle.laws.specs.Build.PostingLists.{lines-empty, lines-alike, Grown, lines-grow}
+use Rattle.laws.specs.Build.PostingLists.{lines-empty, lines-alike, Grown, One-more, lines-grow}
 
 -- THE POSITIONS OF A CODE
 
@@ -94,9 +94,14 @@ module _ {codes : ℕ} {ms ts : List ℕ} {q : ℕ} (p : ℕ) (s : q ≡ suc p) 
   module _ (code : ℕ) (here : coded (getD ms p 0) (getD ts p 0) ≡ suc code) (fits : code < codes) where
     grown : Grown (postings ms ts q code) (inverted-after codes ms ts q) (inverted-after codes ms ts p)
     grown =
-        lines-grow (postings ms ts q) (postings ms ts p) code (suc p) (rw s (postings-here ms ts p code below here))
-        (λ x other. rw s (postings-not-here ms ts p x below (λ (e : coded (getD ms p 0) (getD ts p 0) ≡ suc x). other (omega arith))))
-        codes 0 (omega arith) (omega arith)
+        let one : One-more (postings ms ts q) (postings ms ts p) code (suc p) =
+        record {
+          more = rw s (postings-here ms ts p code below here);
+          same =
+              λ x other.
+              rw s (postings-not-here ms ts p x below (λ (e : coded (getD ms p 0) (getD ts p 0) ≡ suc x). other (omega arith)));
+        } in
+        lines-grow one codes 0 (omega arith) (omega arith)
 
     -- the code had no position yet
     pub counted-new : postings ms ts q code ≡ [] → Counted codes ms ts p (keys + 1) (entries + 1)

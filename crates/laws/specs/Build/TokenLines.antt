@@ -37,10 +37,10 @@ pub record Token-at (lex : Lexicon) (ms ts : List ℕ) (p : ℕ) (e : Entry) : T
 module _ (lex : Lexicon) (few : length (lex .words) ≤ 4096) where
   -- the entry of a token is its code's key at that position
   token-entry-is :
-      (p m c i : ℕ) → m ≡ suc i → (i < length (lex .words)) ⊎ (i ≡ 4096) → c < 65536 →
+      (p c : ℕ) {m i : ℕ} → m ≡ suc i → (i < length (lex .words)) ⊎ (i ≡ 4096) → c < 65536 →
       (k : ℕ) × (coded m c ≡ suc k) × (k < 69632) × (token-entry lex p m c ≡ posting lex (code-key k) p ∷ [])
   unfolding token-entry entry key
-  token-entry-is p m c i e (inl word) h =
+  token-entry-is p c {m} {i} e (inl word) h =
       let other : i ≡ 4096 → ⊥ = λ (z : i ≡ 4096). omega arith in
       let back : m - 1 ≡ i = omega arith in
       let lengths : length (spells lex (key 0 i)) ≡ length (getD (lex .words) i []) = ap length (spells-word lex (key 0 i) refl) in (
@@ -49,7 +49,7 @@ module _ (lex : Lexicon) (few : length (lex .words) ≤ 4096) where
         omega arith,
         rw (e, ne-eqb i 4096 other, code-key-word i (omega arith), lengths),
       )
-  token-entry-is p m c i e (inr lone) h =
+  token-entry-is p c {m} {i} e (inr lone) h =
       let back : 4096 + c - 4096 ≡ c = omega arith in
       let one : length (spells lex (key 1 c)) ≡ 1 = ap length (spells-lone lex (key 1 c) refl) in (
         4096 + c,
@@ -74,18 +74,19 @@ entries-of-tokens-get lex p (x ∷ ms) (c ∷ ts) e m =
     (in-append-get e (token-entry lex p x c) (entries-of-tokens lex (suc p) ms ts) m)
 
 entries-of-tokens-put :
-    (lex : Lexicon) (p : ℕ) (ms ts : List ℕ) (e : Entry) (j : ℕ) → j < length ms → j < length ts →
-    In e (token-entry lex (p + j) (getD ms j 0) (getD ts j 0)) → In e (entries-of-tokens lex p ms ts)
+    (lex : Lexicon) (p : ℕ) (ms ts : List ℕ) (e : Entry) →
+    ((j : ℕ) × (j < length ms) × (j < length ts) × In e (token-entry lex (p + j) (getD ms j 0) (getD ts j 0))) →
+    In e (entries-of-tokens lex p ms ts)
 unfolding entries-of-tokens
-entries-of-tokens-put lex p [] ts e j a b m = absurd (omega arith)
-entries-of-tokens-put lex p (x ∷ ms) [] e j a b m = absurd (omega arith)
-entries-of-tokens-put lex p (x ∷ ms) (c ∷ ts) e zero a b m =
+entries-of-tokens-put lex p [] ts e (j, a, b, m) = absurd (omega arith)
+entries-of-tokens-put lex p (x ∷ ms) [] e (j, a, b, m) = absurd (omega arith)
+entries-of-tokens-put lex p (x ∷ ms) (c ∷ ts) e (zero, a, b, m) =
     let z : p + 0 ≡ p = omega arith in
     in-append-left e (token-entry lex p x c) (entries-of-tokens lex (suc p) ms ts) (rw z at m)
-entries-of-tokens-put lex p (x ∷ ms) (c ∷ ts) e (suc j) a b m =
+entries-of-tokens-put lex p (x ∷ ms) (c ∷ ts) e (suc j, a, b, m) =
     let z : p + suc j ≡ suc p + j = omega arith in
     in-append-right e (token-entry lex p x c) (entries-of-tokens lex (suc p) ms ts)
-    (entries-of-tokens-put lex (suc p) ms ts e j (omega arith) (omega arith) (rw z at m))
+    (entries-of-tokens-put lex (suc p) ms ts e (j, omega arith, omega arith, rw z at m))
 
 only : {e f : Entry} → In e (f ∷ []) → e ≡ f
 only (inl h) = h
@@ -115,7 +116,7 @@ module _ {lex : Lexicon} (good : Good-lexicon lex) {ts : List ℕ} (chars : Char
       go j a b zero z i = absurd i
       go j a b (suc x) z i =
           let (k, c, small, is) =
-          token-entry-is lex (good .few) (1 + j) (suc x) (getD ts j 0) x refl (tokens .known j x a z) (chars j b) in
+          token-entry-is lex (good .few) (1 + j) (getD ts j 0) {m = suc x} refl (tokens .known j x a z) (chars j b) in
           let here : e ≡ posting lex (code-key k) (1 + j) = only (subst (λ (es : List Entry). In e es) is i) in
           let position : e .at ≡ 1 + j = ap (λ (f : Entry). f .at) here in
           let back : e .at - 1 ≡ j = omega arith in (
@@ -140,13 +141,13 @@ module _ {lex : Lexicon} (good : Good-lexicon lex) {ts : List ℕ} (chars : Char
       λ (z : getD ms (p - 1) 0 ≡ 0). omega (arith, coded-none (getD ms (p - 1) 0) (getD ts (p - 1) 0) z) in
       let back : getD ms (p - 1) 0 ≡ suc (getD ms (p - 1) 0 - 1) = omega (arith, some) in
       let (c, same, small, is) =
-      token-entry-is lex (good .few) p (getD ms (p - 1) 0) (getD ts (p - 1) 0) (getD ms (p - 1) 0 - 1) back
+      token-entry-is lex (good .few) p (getD ts (p - 1) 0) back
       (tokens .known (p - 1) (getD ms (p - 1) 0 - 1) a back) (chars (p - 1) b) in
       let code : k ≡ c = omega arith in
       let position : 1 + (p - 1) ≡ p = omega arith in
       rw (← tokens .exact, code)
-      (entries-of-tokens-put lex 1 ms ts (posting lex (code-key c) p) (p - 1) a b
-      (rw (position, is) (inl (refl {a = posting lex (code-key c) p}))))
+      (entries-of-tokens-put lex 1 ms ts (posting lex (code-key c) p)
+      (p - 1, a, b, rw (position, is) (inl (refl {a = posting lex (code-key c) p}))))
 
   -- a position in a code's posting list is an entry of the text
   inverted-entry : (k p : ℕ) → In p (postings ms ts 0 k) → In (posting lex (code-key k) p) (make-index lex ts)

@@ -31,8 +31,10 @@ module _ (g : ℕ) (lex : Lexicon) (xs : List ℕ) (q : ℕ) (can : readable g l
   kept-only : (ys : List ℕ) → Kept-to g lex q xs ys → ys ≡ index-to q xs
   kept-only ys kept =
       under-unique g lex ys (index-to q xs) (kept .can-read) (kept-to .can-read) (kept .n-is ∙ sym (kept-to .n-is))
-      (λ k b u. let h = kept .only k b u in kept-to .all k b (h .0) (h .1))
-      (λ k b u. let h = kept-to .only k b u in kept .all k b (h .0) (h .1))
+      (λ k b. (
+        λ u. let h = kept .only k b u in kept-to .all k b (h .0) (h .1),
+        λ u. let h = kept-to .only k b u in kept .all k b (h .0) (h .1),
+      ))
 
 pub index-to-holds : (g : ℕ) → Index-to g
 unfolding Index-to

@@ -48,14 +48,14 @@ unfolding Recovers
 recovers g cs ls ts a t =
     let good = admitted-lexicon cs ls a in
     let text = is-text-get g ts t in
-    (index-readable (lexicon cs ls) good ts (text .0) g (text .1), index-recovered good ts (text .0))
+    (index-readable good ts (text .0) g (text .1), index-recovered good ts (text .0))
 
 pub only-readable : (g : ℕ) → Only-readable g
 unfolding Only-readable
 only-readable g cs ls ts a t =
     let text = is-text-get g ts t in
     let good = admitted-lexicon cs ls a in
-    (index-tells (lexicon cs ls) good ts (text .0) g (text .1), tells-index (lexicon cs ls) good ts (text .0) g (text .1))
+    (index-tells good ts (text .0) g (text .1), tells-index good ts (text .0) g)
 
 -- THE THIRD DEMAND
 
@@ -218,7 +218,7 @@ received-by-count g cs ls xs a can = (taken, accounts)
         (index-taken good g xs can us chars (h .length-is)
         (counted-index good g xs can us chars (h .length-is)
         (λ e m.
-        rw (entry-whole lex good us chars e m) at
+        rw (entry-whole good us chars e m) at
         (under-get lex xs (e .key-of) (e .at) (h .each (e .key-of) (e .at) (e, m, refl, refl))))
         (h .count)))
 
@@ -231,7 +231,7 @@ received-by-count g cs ls xs a can = (taken, accounts)
           each =
               λ k p h.
               under-put lex xs k p
-              (is-index-all good g xs own (posting lex k p) (among-get lex good (recovered lex xs) chars k p h));
+              (is-index-all good g xs own (posting lex k p) (among-get good (recovered lex xs) chars k p h));
           count = is-index-count good g xs own;
         }
 

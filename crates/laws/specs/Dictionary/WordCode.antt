@@ -52,24 +52,25 @@ module _ (w v : List ℕ) (i : ℕ) where
       (le-or-lt (length v) i)
 
 -- the words' rests from i on compare as the words do
-abbrev pub Equal-front : (w v : List ℕ) → (i : ℕ) → Type 0
-Equal-front w v i = (i ≤ length w) × (i ≤ length v) × (word-before (drop i w) (drop i v) ≡ word-before w v)
+pub record Equal-front (w v : List ℕ) (i : ℕ) : Type 0 where
+  pub left : i ≤ length w
+  pub right : i ≤ length v
+  pub same : word-before (drop i w) (drop i v) ≡ word-before w v
 
 -- one more equal character, and four more
-equal-one :
-    (w v : List ℕ) (i : ℕ) {j : ℕ} → j ≡ i + 1 → i < length w → i < length v → getD w i 0 ≡ getD v i 0 → Equal-front w v i →
-    Equal-front w v j
-equal-one w v i next a b same h =
-    rw next (omega arith, omega arith, sym (before-same w v i a b same) ∙ h .2)
+pub equal-one :
+    {w v : List ℕ} {i j : ℕ} → j ≡ i + 1 → i < length w → i < length v → getD w i 0 ≡ getD v i 0 → Equal-front w v i → Equal-front w v j
+equal-one {w} {v} {i} next a b same h =
+    rw next (record { left = omega arith; right = omega arith; same = sym (before-same w v i a b same) ∙ h .same })
 
 pub equal-four :
-    (w v : List ℕ) (i : ℕ) → i + 3 < length w → i + 3 < length v → getD w i 0 ≡ getD v i 0 → getD w (i + 1) 0 ≡ getD v (i + 1) 0 →
+    {w v : List ℕ} {i : ℕ} → i + 3 < length w → i + 3 < length v → getD w i 0 ≡ getD v i 0 → getD w (i + 1) 0 ≡ getD v (i + 1) 0 →
     getD w (i + 2) 0 ≡ getD v (i + 2) 0 → getD w (i + 3) 0 ≡ getD v (i + 3) 0 → Equal-front w v i → Equal-front w v (i + 4)
-equal-four w v i a b first second third fourth h =
-    equal-one w v (i + 3) (omega arith) a b fourth
-    (equal-one w v (i + 2) (omega arith) (omega arith) (omega arith) third
-    (equal-one w v (i + 1) (omega arith) (omega arith) (omega arith) second
-    (equal-one w v i (omega arith) (omega arith) (omega arith) first h)))
+equal-four {w} {v} {i} a b first second third fourth h =
+    let one : Equal-front w v (i + 1) = equal-one refl (omega arith) (omega arith) first h in
+    let two : Equal-front w v (i + 2) = equal-one (omega arith) (omega arith) (omega arith) second one in
+    let three : Equal-front w v (i + 3) = equal-one (omega arith) (omega arith) (omega arith) third two in
+    equal-one (omega arith) a b fourth three
 
 -- THE PACKED START OF A WORD
 

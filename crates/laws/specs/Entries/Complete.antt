@@ -141,16 +141,18 @@ lone-entries-get p lex (c ∷ cs) e m =
         }
 
 lone-entries-put :
-    (p : ℕ) (lex : Lexicon) (cs : List ℕ) (e : Entry) (i : ℕ) → i < length cs → is-word lex (getD cs i 0 ∷ []) ≡ false →
-    e .key-of ≡ key 1 (getD cs i 0) → e .at ≡ p + i → e .len ≡ 1 → In e (lone-entries p lex cs)
-unfolding lone-entries entry
-lone-entries-put p lex [] e i b f k a l = absurd (omega arith)
-lone-entries-put p lex (c ∷ cs) e zero b f k a l =
-    rw (entry-eq e (entry (key 1 c) p 1) k (omega arith) l)
-    (in-skip-here (entry (key 1 c) p 1) (lone-entries (suc p) lex cs) (is-word lex (c ∷ [])) f)
-lone-entries-put p lex (c ∷ cs) e (suc i) b f k a l =
-    in-skip-there e (entry (key 1 c) p 1) (lone-entries (suc p) lex cs) (is-word lex (c ∷ []))
-    (lone-entries-put (suc p) lex cs e i (omega arith) f k (omega arith) l)
+    (p : ℕ) (lex : Lexicon) (cs : List ℕ) (i : ℕ) → i < length cs → is-word lex (getD cs i 0 ∷ []) ≡ false →
+    In (entry (key 1 (getD cs i 0)) (p + i) 1) (lone-entries p lex cs)
+unfolding lone-entries
+lone-entries-put p lex [] i b f = absurd (omega arith)
+lone-entries-put p lex (c ∷ cs) zero b f =
+    let at : p + 0 ≡ p = omega arith in
+    rw at (in-skip-here (entry (key 1 c) p 1) (lone-entries (suc p) lex cs) (is-word lex (c ∷ [])) f)
+lone-entries-put p lex (c ∷ cs) (suc i) b f =
+    let at : p + suc i ≡ suc p + i = omega arith in
+    rw at
+    (in-skip-there (entry (key 1 (getD cs i 0)) (suc p + i) 1) (entry (key 1 c) p 1) (lone-entries (suc p) lex cs) (is-word lex (c ∷ []))
+    (lone-entries-put (suc p) lex cs i (omega arith) f))
 
 -- BOTH
 
@@ -194,7 +196,7 @@ complete-get lex ts cs e m =
         }
 
 pub complete-put : {lex : Lexicon} {ts : List ℕ} → Good-lexicon lex → {e : Entry} → Is-entry lex ts e → In e (complete lex ts)
-unfolding complete key
+unfolding complete key entry
 complete-put {lex} {ts} good {e} h = ⊎-elim word lone (key-kinds lex (e .key-of) (h .is-key))
   where
     word : Is-word-key lex (e .key-of) → In e (complete lex ts)
@@ -217,8 +219,8 @@ complete-put {lex} {ts} good {e} h = ⊎-elim word lone (key-kinds lex (e .key-o
         stand-at 0 stand (omega arith)
         ∙ ap (λ (x : ℕ). getD ts (x - 1) 0) (add-zero (e .at)) in
         in-append-right e (word-entries 0 (lex .words) ts) (lone-entries 1 lex ts)
-        (lone-entries-put 1 lex ts e (e .at - 1) (omega arith)
+        (rw (entry-eq e (entry (key 1 (getD ts (e .at - 1) 0)) (1 + (e .at - 1)) 1)
+        (key-eq (e .key-of) (key 1 (getD ts (e .at - 1) 0)) (c .kind-is) char) (omega arith) (h .len-is ∙ ap length spelt))
+        (lone-entries-put 1 lex ts (e .at - 1) (omega arith)
         (rw (← char)
-        (false-put (is-word lex (e .key-of .value ∷ [])) (λ t. c .no-word (is-word-get lex (e .key-of .value ∷ []) t))))
-        (key-eq (e .key-of) (key 1 (getD ts (e .at - 1) 0)) (c .kind-is) char) (omega arith)
-        (h .len-is ∙ ap length spelt))
+        (false-put (is-word lex (e .key-of .value ∷ [])) (λ t. c .no-word (is-word-get lex (e .key-of .value ∷ []) t))))))

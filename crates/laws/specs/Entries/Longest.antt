@@ -106,7 +106,7 @@ module _ (lex : Lexicon) (good : Good-lexicon lex) (ts : List ℕ) (chars : Char
 
   pub make-index-exact : Maximal-from lex ts 1 (make-index lex ts)
   unfolding make-index
-  make-index-exact = scan-exact lex good ts (longest-at lex ts) longest-at-is
+  make-index-exact = scan-exact good ts (longest-at lex ts) longest-at-is
 
   pub make-index-get : (e : Entry) → In e (make-index lex ts) → In e (entries lex ts)
   make-index-get e m = entries-put lex good ts chars (make-index-exact .get e m)

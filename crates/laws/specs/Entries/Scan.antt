@@ -122,7 +122,7 @@ pub record Maximal-from (lex : Lexicon) (ts : List ℕ) (p : ℕ) (es : List Ent
   pub put : (e : Entry) → Is-maximal lex ts e → p ≤ e .at → In e es
   pub rise : Positions-rise p es
 
-module _ (lex : Lexicon) (good : Good-lexicon lex) (ts : List ℕ) where
+module _ {lex : Lexicon} (good : Good-lexicon lex) (ts : List ℕ) where
   maximal-from-end : Maximal-from lex ts (suc (length ts)) []
   maximal-from-end =
       record {
@@ -157,13 +157,13 @@ module _ (lex : Lexicon) (good : Good-lexicon lex) (ts : List ℕ) where
 
   module _ (longest : ℕ → Entry) (is-longest : (p : ℕ) → 1 ≤ p → p ≤ length ts → Longest-at lex ts p (longest p)) where
     pub scan-from :
-        (left p last : ℕ) → Scanned lex ts p last → 1 ≤ p → p + left ≡ suc (length ts) →
+        (left : ℕ) {p last : ℕ} → Scanned lex ts p last → 1 ≤ p → p + left ≡ suc (length ts) →
         Maximal-from lex ts p (scan longest left p last)
     unfolding scan
-    scan-from zero p last s lo fits =
+    scan-from zero {p} s lo fits =
         let end : p ≡ suc (length ts) = omega arith in
         rw end maximal-from-end
-    scan-from (suc n) p last s lo fits = step (scan-from n (suc p)) (le-or-lt (p + longest p .len) last)
+    scan-from (suc n) {p} {last} s lo fits = step (λ last. scan-from n {last = last}) (le-or-lt (p + longest p .len) last)
       where
         l : Longest-at lex ts p (longest p)
         l = is-longest p lo (omega arith)
@@ -184,4 +184,4 @@ module _ (lex : Lexicon) (good : Good-lexicon lex) (ts : List ℕ) where
 
     -- figure 1 starts with tail 1, and registers all maximal entries and no others, each once, by ascending positions
     pub scan-exact : Maximal-from lex ts 1 (scan longest (length ts) 1 1)
-    scan-exact = scan-from (length ts) 1 1 (scanned-start good ts) (omega arith) (omega arith)
+    scan-exact = scan-from (length ts) (scanned-start good ts) (omega arith) (omega arith)

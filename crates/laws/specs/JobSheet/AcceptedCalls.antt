@@ -90,7 +90,7 @@ module _ {cs ls ts : List ℕ} (h : Buildable cs ls ts) where
         accepts =
             sym
             (accepts-index longest-text cs ls (index-of (lexicon cs ls) (replaced ts)) (h .admits)
-            (index-readable (lexicon cs ls) good (replaced ts) chars-replaced longest-text (omega (arith, length-replaced ts))));
+            (index-readable good (replaced ts) chars-replaced longest-text (omega (arith, length-replaced ts))));
         short = omega (arith, n-of-index (lexicon cs ls) (replaced ts), length-replaced ts);
         few = omega (arith, index-short (lexicon cs ls) (replaced ts) good chars-replaced, length-replaced ts);
       }

@@ -42,11 +42,11 @@ pub record Pair-longest (lex : Lexicon) (ts : List ℕ) (p last number len : ℕ
   pub none : number ≡ 0 → Pairless (lex .words) ts p last
   pub some : (i : ℕ) → number ≡ suc i → Found-word lex ts p last i len
 
-module _ {cs ws : List ℕ} (t : Started cs ws) (ts : List ℕ) (q e : ℕ) where
+module _ {cs ws : List ℕ} (t : Started cs ws) where
   -- of two words that stand there the later one is the longer
   no-longer :
-      (i j : ℕ) → j < suc i → i < length (lexicon-at cs ws .words) → Stand (word cs ws i) ts (q + 1) → Stand (word cs ws j) ts (q + 1) →
-      length (word cs ws j) ≤ length (word cs ws i)
+      (i j : ℕ) → j < suc i → i < length (lexicon-at cs ws .words) → {ts : List ℕ} {p : ℕ} → Stand (word cs ws i) ts p →
+      Stand (word cs ws j) ts p → length (word cs ws j) ≤ length (word cs ws i)
   no-longer i j l b s r =
       ⊎-elim (λ (z : i ≤ j). let same : i ≡ j = omega arith in omega (arith, ap (λ (x : ℕ). length (word cs ws x)) same))
       (λ (z : j < i).
@@ -58,6 +58,7 @@ module _ {cs ws : List ℕ} (t : Started cs ws) (ts : List ℕ) (q e : ℕ) wher
       let in-list : j < length (lengths-of ws) = omega (arith, many-words t) in
       word-some t in-list
 
+module _ {cs ws : List ℕ} (t : Started cs ws) (ts : List ℕ) (q e : ℕ) where
   -- the text ends after one character
   pub pair-past : length ts ≤ q + 1 → Pair-longest (lexicon-at cs ws) ts (q + 1) (e + 1) 0 0
   pair-past end =
@@ -96,7 +97,7 @@ module _ {cs ws : List ℕ} (t : Started cs ws) (ts : List ℕ) (q e : ℕ) wher
                 let before : j < number = h .over j b l s x in
                 absurd (omega (
                   arith,
-                  no-longer (number - 1) j (omega (arith, some)) there standing s,
+                  no-longer t (number - 1) j (omega (arith, some)) there standing s,
                   len-is (t .words) (number - 1) pair-in,
                 )))
                 (le-or-lt (q + 1 + length (word cs ws j)) (e + 1));
@@ -118,9 +119,9 @@ module _ {cs ws : List ℕ} (t : Started cs ws) (ts : List ℕ) (q e : ℕ) wher
               (λ (l : 2 ≤ length (word cs ws j)).
               ⊎-elim (λ (x : q + 1 + length (word cs ws j) ≤ e + 1). omega (arith, len-is (t .words) (number - 1) pair-in))
               (λ (x : e + 1 < q + 1 + length (word cs ws j)).
-              no-longer (number - 1) j (omega (arith, some, h .over j b l s x)) there standing s)
+              no-longer t (number - 1) j (omega (arith, some, h .over j b l s x)) there standing s)
               (le-or-lt (q + 1 + length (word cs ws j)) (e + 1)))
-              (λ (l : length (word cs ws j) < 2). omega (arith, word-there (number - 1) there)) (le-or-lt 2 (length (word cs ws j)))
+              (λ (l : length (word cs ws j) < 2). omega (arith, word-there t (number - 1) there)) (le-or-lt 2 (length (word cs ws j)))
 
           found : Found-word (lexicon-at cs ws) ts (q + 1) (e + 1) (number - 1) len
           found =
@@ -151,29 +152,29 @@ module _ {cs ws : List ℕ} (t : Started cs ws) (ts : List ℕ) (q e : ℕ) wher
           some = λ i y. absurd (omega arith);
         }
 
-    module _ (none : number ≡ 0) (uncovered : e ≤ q) where
-      -- only words of one character stand there
-      short : (j : ℕ) → j < length (lexicon-at cs ws .words) → Stand (word cs ws j) ts (q + 1) → length (word cs ws j) ≡ 1
-      short j b s =
-          ⊎-elim (λ (l : 2 ≤ length (word cs ws j)). absurd (omega (arith, h .none none j b l s)))
-          (λ (l : length (word cs ws j) < 2). let one : length (word cs ws j) ≡ 1 = omega (arith, word-there j b) in one)
-          (le-or-lt 2 (length (word cs ws j)))
-
-      pub found-single :
-          {single : ℕ} → Single-found (lexicon-at cs ws .words) ts (q + 1) single → Found (lexicon-at cs ws) ts (q + 1) (e + 1) single 1
-      found-single s =
-          record {
-            none = λ z. record { none = λ j b r. absurd (s .none z j b (short j b r) r) };
-            some =
-                λ i z.
-                record {
-                  is-word =
-                      record {
-                        below = omega arith;
-                        stand = s .stand i z;
-                        longest = λ j b r. omega (arith, short j b r, s .one i z);
-                      };
-                  len-is = sym (s .one i z);
-                  after = omega arith;
-                };
-          }
+    pub found-single :
+        number ≡ 0 → e ≤ q → {single : ℕ} → Single-found (lexicon-at cs ws .words) ts (q + 1) single →
+        Found (lexicon-at cs ws) ts (q + 1) (e + 1) single 1
+    found-single none uncovered s =
+        record {
+          none = λ z. record { none = λ j b r. absurd (s .none z j b (short j b r) r) };
+          some =
+              λ i z.
+              record {
+                is-word =
+                    record {
+                      below = omega arith;
+                      stand = s .stand i z;
+                      longest = λ j b r. omega (arith, short j b r, s .one i z);
+                    };
+                len-is = sym (s .one i z);
+                after = omega arith;
+              };
+        }
+      where
+        -- only words of one character stand there
+        short : (j : ℕ) → j < length (lexicon-at cs ws .words) → Stand (word cs ws j) ts (q + 1) → length (word cs ws j) ≡ 1
+        short j b s =
+            ⊎-elim (λ (l : 2 ≤ length (word cs ws j)). absurd (omega (arith, h .none none j b l s)))
+            (λ (l : length (word cs ws j) < 2). let one : length (word cs ws j) ≡ 1 = omega (arith, word-there t j b) in one)
+            (le-or-lt 2 (length (word cs ws j)))

@@ -125,36 +125,34 @@ module _ {cs ws heads links : List ℕ} (t : Tables cs ws heads links) (ts : Lis
     pair-below = omega (arith, pair-stop .below, many-words (t .words))
 
     -- the words after it have been skipped
-    over :
-        (number j : ℕ) → (j < next → j < number) → j < length (lexicon-at cs ws .words) → 2 ≤ length (word cs ws j) →
-        Stand (word cs ws j) ts (q + 1) → e + 1 < q + 1 + length (word cs ws j) → j < number
-    over number j h b l s a =
-        ⊎-elim h (λ (z : Passed cs ws ts (q + 1) (e + 1) j). absurd (omega (arith, z s))) (pair-stop .left j (known j b) (pair-mine j l s))
+    pub pair-ranged :
+        {number : ℕ} → Last-standing (lexicon-at cs ws .words) ts (q + 1) next number →
+        Pair-found (lexicon-at cs ws .words) ts (q + 1) (e + 1) number
+    pair-ranged h =
+        record {
+          below = omega (arith, pair-below);
+          stand = h .stand;
+          over =
+              λ j b l s a.
+              ⊎-elim (λ x. h .last j x s) (λ (z : Passed cs ws ts (q + 1) (e + 1) j). absurd (omega (arith, z s)))
+              (pair-stop .left j (known j b) (pair-mine j l s));
+        }
 
     pub pair-hit :
         {r : Bool} → Stands-after (word cs ws (next - 1)) ts (q + 1) (e + 1) r → r ≡ true →
         Pair-found (lexicon-at cs ws .words) ts (q + 1) (e + 1) next
     pair-hit h b =
-        record {
-          below = pair-below;
+        pair-ranged
+        (record {
+          below = omega arith;
           stand = λ i z. let here : next - 1 ≡ i = omega arith in rw here at (h .yes b .0);
-          over = λ j c l s a. over next j (λ x. x) c l s a;
-        }
+          last = λ j x s. x;
+        })
 
     pub pair-miss :
         {r : Bool} → Stands-after (word cs ws (next - 1)) ts (q + 1) (e + 1) r → r ≡ false →
         Pair-walk cs ws links ts q e (getD links (next - 1) 0)
     pair-miss h b = pair-stop .onward (h .no b)
-
-    pub pair-ranged :
-        {number : ℕ} → Last-standing (lexicon-at cs ws .words) ts (q + 1) next number →
-        Pair-found (lexicon-at cs ws .words) ts (q + 1) (e + 1) number
-    pair-ranged {number} h =
-        record {
-          below = omega (arith, pair-below);
-          stand = h .stand;
-          over = λ j c l s a. over number j (λ x. h .last j x s) c l s a;
-        }
 
 -- THE CHAIN OF ONE CHARACTER
 

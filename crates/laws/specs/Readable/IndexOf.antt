@@ -70,14 +70,14 @@ under-flat lex xs ys e there m =
 -- Readable slices with equal n and the same entries are equal.
 pub under-unique :
     (g : ℕ) (lex : Lexicon) (xs ys : List ℕ) → readable g lex xs ≡ true → readable g lex ys ≡ true → n-of xs ≡ n-of ys →
-    ((k : Key) (p : ℕ) → Under k p xs → Under k p ys) → ((k : Key) (p : ℕ) → Under k p ys → Under k p xs) → xs ≡ ys
-under-unique g lex xs ys can also n there back =
+    ((k : Key) (p : ℕ) → (Under k p xs → Under k p ys) × (Under k p ys → Under k p xs)) → xs ≡ ys
+under-unique g lex xs ys can also n same =
     readable-unique g lex xs ys can also n
     (lines-unique (rw n at (readable-get g lex xs can .lines))
-    (readable-get g lex ys also .lines) (λ e m. under-flat lex xs ys e (there (e .key-of) (e .at)) m)
-    (λ e m. under-flat lex ys xs e (back (e .key-of) (e .at)) m))
+    (readable-get g lex ys also .lines) (λ e m. under-flat lex xs ys e (same (e .key-of) (e .at) .0) m)
+    (λ e m. under-flat lex ys xs e (same (e .key-of) (e .at) .1) m))
 
-module _ (lex : Lexicon) (good : Good-lexicon lex) (ts : List ℕ) (chars : Chars ts) where
+module _ {lex : Lexicon} (good : Good-lexicon lex) (ts : List ℕ) (chars : Chars ts) where
   sorted-sound : Sound lex (length ts) (sorted (entries lex ts))
   sorted-sound e m = entries-sound lex good ts chars e (in-sorted-get e (entries lex ts) m)
 
@@ -113,14 +113,14 @@ module _ (lex : Lexicon) (good : Good-lexicon lex) (ts : List ℕ) (chars : Char
   -- THE ONLY ONE
 
   pub index-unique :
-      (g : ℕ) → length ts ≤ g → (xs : List ℕ) → readable g lex xs ≡ true → n-of xs ≡ length ts →
-      ((e : Entry) → In e (flat lex (lines-in xs)) → In e (entries lex ts)) →
-      ((e : Entry) → In e (entries lex ts) → In e (flat lex (lines-in xs))) → xs ≡ index-of lex ts
-  index-unique g small xs can n only all =
-      readable-unique g lex xs (index-of lex ts) can (index-readable g small) (n ∙ sym (n-of-index lex ts))
-      (lines-unique
-      (rw n at (readable-get g lex xs can .lines)) index-lines-good
-      (λ e m. in-index-put e (only e m)) (λ e m. all e (in-index-get e m)))
+      (g : ℕ) (xs : List ℕ) → readable g lex xs ≡ true → n-of xs ≡ length ts →
+      ((e : Entry) → (In e (flat lex (lines-in xs)) → In e (entries lex ts)) × (In e (entries lex ts) → In e (flat lex (lines-in xs)))) →
+      xs ≡ index-of lex ts
+  index-unique g xs can n same =
+      let h = readable-get g lex xs can in
+      readable-unique g lex xs (index-of lex ts) can (index-readable g (omega (arith, h .length-allowed))) (n ∙ sym (n-of-index lex ts))
+      (lines-unique (rw n at (h .lines)) index-lines-good
+      (λ e m. in-index-put e (same e .0 m)) (λ e m. same e .1 (in-index-get e m)))
 
   -- an entry of the text is its key and position
   pub entry-whole : (e : Entry) → In e (entries lex ts) → posting lex (e .key-of) (e .at) ≡ e
@@ -143,10 +143,10 @@ module _ (lex : Lexicon) (good : Good-lexicon lex) (ts : List ℕ) (chars : Char
         all = λ k p a. under-put lex (index-of lex ts) k p (in-index-put (posting lex k p) (among-get k p a));
       }
 
-  pub tells-index : (g : ℕ) → length ts ≤ g → (xs : List ℕ) → Tells g lex ts xs → xs ≡ index-of lex ts
+  pub tells-index : (g : ℕ) (xs : List ℕ) → Tells g lex ts xs → xs ≡ index-of lex ts
   unfolding Among
-  tells-index g small xs tells =
-      index-unique g small xs (tells .can-read) (tells .n-is) only all
+  tells-index g xs tells =
+      index-unique g xs (tells .can-read) (tells .n-is) (λ e. (only e, all e))
     where
       only : (e : Entry) → In e (flat lex (lines-in xs)) → In e (entries lex ts)
       only e m =

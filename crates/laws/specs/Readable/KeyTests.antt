@@ -59,25 +59,22 @@ module _ (read : List ℕ → List ℕ) {cs ls : List ℕ} (h : Is-admitted cs l
 
 -- A LONE CHARACTER'S LINE
 
-module _ (read : List ℕ → List ℕ) (lex : Lexicon) (n least v c : ℕ) (ps : List ℕ) where
-  pub lone-low : v < least → false ≡ line-fits read lex n (65536 + least) (key 1 v) c ps
-  unfolding line-fits key-fits key
+module _ (lex : Lexicon) (least v : ℕ) where
+  pub lone-low : v < least → key-fits lex (65536 + least) (key 1 v) ≡ false
+  unfolding key-fits key
   lone-low low = rw (lt-leb (65536 + least) (1 * 65536 + v) (omega arith))
 
-  pub lone-word : is-word lex (v ∷ []) ≡ true → false ≡ line-fits read lex n (65536 + least) (key 1 v) c ps
-  unfolding line-fits key-fits key-good key
+  pub lone-word : is-word lex (v ∷ []) ≡ true → key-fits lex (65536 + least) (key 1 v) ≡ false
+  unfolding key-fits key-good key
   lone-word t = rw (t, and-false (is-char v), and-false (leb (65536 + least) (1 * 65536 + v)))
 
-  pub lone-fits :
-      least ≤ v → v < 65536 → is-word lex (v ∷ []) ≡ false →
-      line-list-good read n 1 c ps ≡ line-fits read lex n (65536 + least) (key 1 v) c ps
-  unfolding line-fits key-fits key-good key spells is-char
-  lone-fits order small none =
-      rw (le-leb (65536 + least) (1 * 65536 + v) (omega arith), lt-ltb v 65536 small, none)
+  pub lone-fits : least ≤ v → v < 65536 → is-word lex (v ∷ []) ≡ false → key-fits lex (65536 + least) (key 1 v) ≡ true
+  unfolding key-fits key-good key is-char
+  lone-fits order small none = rw (le-leb (65536 + least) (1 * 65536 + v) (omega arith), lt-ltb v 65536 small, none)
 
   -- after the words, any other kind
-  pub kind-other : (k : ℕ) → v < 65536 → (k ≡ 1 → ⊥) → line-fits read lex n (65536 + least) (key k v) c ps ≡ false
-  unfolding line-fits key-fits key
+  pub kind-other : (k : ℕ) → v < 65536 → (k ≡ 1 → ⊥) → key-fits lex (65536 + least) (key k v) ≡ false
+  unfolding key-fits key
   kind-other zero small other = rw (lt-leb (65536 + least) (0 * 65536 + v) (omega arith))
   kind-other (suc zero) small other = absurd (other refl)
   kind-other (suc (suc k)) small other = rw (lt-leb (suc (suc k)) 1 (omega arith))

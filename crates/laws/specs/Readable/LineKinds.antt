@@ -1,14 +1,14 @@
 -- A step of the walk over the directory, by the kind of the line's key. Assumes nothing.
-use mathlib.Core.Path.{_≡_, sym, _∙_}
+use mathlib.Core.Path.{_≡_, _∙_}
 use mathlib.Core.Bool.{true, false}
 use mathlib.Core.List.{List, [], _∷_}
 use Prim.Native.Nat.{ℕ, _+_, _≤_, _<_}
 use native.Mathlib.Omega.{arith}
 use lib.ListN.{drop}
 use Rattle.spec.specs.Dictionary.{Lexicon}
-use Rattle.spec.specs.Words.{key, is-word}
+use Rattle.spec.specs.Words.{spells, key, is-word}
 use Rattle.spec.specs.Index.{greatest-number, n-of, keys-of, kind-at, value-at, count-at, key-at}
-use Rattle.models.specs.Readability.{key-code, line-list-good, line-fits, walk-good}
+use Rattle.models.specs.Readability.{key-code, key-fits, line-list-good, line-fits, walk-good}
 use Rattle.laws.specs.Readable.LineSteps.{Lines-read, lines-step, lines-stop}
 use Rattle.laws.specs.Readable.KeyTests.{lone-low, lone-word, lone-fits, kind-other}
 
@@ -30,6 +30,10 @@ module _ {read : List ℕ → List ℕ} {lex : Lexicon} {xs : List ℕ} {i at le
 
   stop : line-fits read lex n least (key kind value) count (drop at xs) ≡ false → false ≡ walk-good read lex xs
   stop f = lines-stop h (l .below) (same-line ∙ f)
+
+  key-stop : key-fits lex least (key kind value) ≡ false → false ≡ walk-good read lex xs
+  unfolding line-fits
+  key-stop f = stop (rw f)
 
   step :
       line-fits read lex n least (key kind value) count (drop at xs) ≡ true →
@@ -55,19 +59,20 @@ module _ {read : List ℕ → List ℕ} {lex : Lexicon} {xs : List ℕ} {i at le
 module _ {read : List ℕ → List ℕ} {lex : Lexicon} {xs : List ℕ} {i at n kind value count : ℕ} (least : ℕ)
     (h : Lines-read read lex xs i at (65536 + least)) (l : Line-read xs i n kind value count) where
   pub other-stop : (kind ≡ 1 → ⊥) → false ≡ walk-good read lex xs
-  other-stop other = stop h l (kind-other read lex n least value count (drop at xs) kind (omega arith) other)
+  other-stop other = key-stop h l (kind-other lex least value kind (omega arith) other)
 
   module _ (lone : kind ≡ 1) where
     pub low-stop : value < least → false ≡ walk-good read lex xs
-    low-stop low = stop h l (rw lone (sym (lone-low read lex n least value count (drop at xs) low)))
+    low-stop low = key-stop h l (rw lone (lone-low lex least value low))
 
     pub listed-stop : is-word lex (value ∷ []) ≡ true → false ≡ walk-good read lex xs
-    listed-stop t = stop h l (rw lone (sym (lone-word read lex n least value count (drop at xs) t)))
+    listed-stop t = key-stop h l (rw lone (lone-word lex least value t))
 
     module _ (order : least ≤ value) (free : is-word lex (value ∷ []) ≡ false) where
       lone-positions :
           line-fits read lex n (65536 + least) (key kind value) count (drop at xs) ≡ line-list-good read n 1 count (drop at xs)
-      lone-positions = rw lone (sym (lone-fits read lex n least value count (drop at xs) order (omega arith) free))
+      unfolding line-fits key spells
+      lone-positions = rw (lone, lone-fits lex least value order (omega arith) free)
 
       pub lone-stop : line-list-good read n 1 count (drop at xs) ≡ false → false ≡ walk-good read lex xs
       lone-stop f = stop h l (lone-positions ∙ f)

@@ -12,7 +12,7 @@ pub record Bounded (g : ℕ) (cs ls xs : List ℕ) (refusal keys first : ℕ) : 
   pub lines : keys ≡ accepted refusal (keys-of xs) 0
   pub positions : first ≡ accepted refusal (header + 3 * keys-of xs) 0
 
-module _ (g : ℕ) (cs ls xs : List ℕ) (refusal : ℕ) (number : refusal ≡ index-refusal g cs ls xs) where
+module _ (g : ℕ) (cs ls xs : List ℕ) {refusal : ℕ} (number : refusal ≡ index-refusal g cs ls xs) where
   pub bounds-refused : (refusal ≡ 0 → ⊥) → Bounded g cs ls xs refusal 0 0
   bounds-refused some =
       record {

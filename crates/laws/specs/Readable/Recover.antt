@@ -107,16 +107,15 @@ shown-by-put s (q ∷ ps) p b (inr m) lo hi = by-test (lies-on q (length s) p) (
     by-test false later = later
 
 shown-line-put :
-    (lex : Lexicon) (ls : List Line) (l : Line) (p b : ℕ) → In l ls → In b (l .positions) → b ≤ p →
-    p < b + length (spells lex (l .key-of)) → (c : ℕ) × (shown lex ls p ≡ some c)
+    (lex : Lexicon) (ls : List Line) (l : Line) (p : ℕ) → In l ls →
+    ((c : ℕ) × (shown-by (spells lex (l .key-of)) (l .positions) p ≡ some c)) → (c : ℕ) × (shown lex ls p ≡ some c)
 unfolding shown or-shown
-shown-line-put lex [] l p b m n lo hi = absurd m
-shown-line-put lex (k ∷ ls) l p b (inl e) n lo hi =
-    let h = shown-by-put (spells lex (l .key-of)) (l .positions) p b n lo hi in
+shown-line-put lex [] l p m h = absurd m
+shown-line-put lex (k ∷ ls) l p (inl e) h =
     let here : shown-by (spells lex (k .key-of)) (k .positions) p ≡ some (h .0) = rw (← e) (h .1) in
     (h .0, rw here)
-shown-line-put lex (k ∷ ls) l p b (inr m) n lo hi =
-    first (shown-by (spells lex (k .key-of)) (k .positions) p) (shown-line-put lex ls l p b m n lo hi)
+shown-line-put lex (k ∷ ls) l p (inr m) h =
+    first (shown-by (spells lex (k .key-of)) (k .positions) p) (shown-line-put lex ls l p m h)
   where
     first : (o : Option ℕ) → (c : ℕ) × (shown lex ls p ≡ some c) → (c : ℕ) × (or-shown o (shown lex ls p) ≡ some c)
     first none later = later
@@ -129,7 +128,8 @@ pub shown-put :
 shown-put lex ls p e m lo hi =
     let h = flat-get lex ls e m in
     let len : e .len ≡ length (spells lex (h .0 .key-of)) = ap (λ (f : Entry). f .len) (h .3) in
-    shown-line-put lex ls (h .0) p (e .at) (h .1) (h .2) lo (omega arith)
+    shown-line-put lex ls (h .0) p (h .1)
+    (shown-by-put (spells lex (h .0 .key-of)) (h .0 .positions) p (e .at) (h .2) lo (omega arith))
 
 -- THE RECOVERED TEXT
 

@@ -49,24 +49,25 @@ module _ (s : List ℕ) where
   pub period-whole : Period s (length s)
   period-whole = record { within = omega arith; equal = λ x b. absurd (omega arith) }
 
-  module _ (ts : List ℕ) (p : ℕ) (some : 1 ≤ p) (room : p + length s ≤ suc (length ts)) where
-    -- all characters are equal
-    pub stand-all : Equal-part s 0 (length s) ts (p - 1) → Stand s ts p
-    stand-all h =
-        stand-put s ts p some room (λ i b. let z : p - 1 + i ≡ p + i - 1 = omega arith in rw z at (h i (omega arith) b))
+  -- all characters are equal
+  pub stand-all :
+      (ts : List ℕ) (p : ℕ) → 1 ≤ p → p + length s ≤ suc (length ts) → Equal-part s 0 (length s) ts (p - 1) → Stand s ts p
+  stand-all ts p some room h =
+      stand-put s ts p some room (λ i b. let z : p - 1 + i ≡ p + i - 1 = omega arith in rw z at (h i (omega arith) b))
 
-    -- If the string stands one period before, it is enough that the last characters are equal, as many as the period.
-    pub stand-again :
-        {d : ℕ} → Period s d → d ≤ p → Stand s ts (p - d) → Equal-part s (length s - d) (length s) ts (p - 1) → Stand s ts p
-    stand-again {d} period back before h = stand-all (λ i lo b. each i b (le-or-lt (length s - d) i))
-      where
-        each : (i : ℕ) → i < length s → (length s - d ≤ i) ⊎ (i < length s - d) → getD s i 0 ≡ getD ts (p - 1 + i) 0
-        each i b (inl late) = h i late b
-        each i b (inr early) =
-            let z : p - d + (d + i) - 1 ≡ p - 1 + i = omega arith in
-            sym (period .equal i (omega arith))
-            ∙ stand-at (d + i) before (omega arith)
-            ∙ ap (λ (j : ℕ). getD ts j 0) z
+-- If the string stands one period before, it is enough that the last characters are equal, as many as the period.
+pub stand-again :
+    {s ts : List ℕ} (p : ℕ) → 1 ≤ p → p + length s ≤ suc (length ts) → {d : ℕ} → Period s d → d ≤ p → Stand s ts (p - d) →
+    Equal-part s (length s - d) (length s) ts (p - 1) → Stand s ts p
+stand-again {s} {ts} p some room {d} period back before h = stand-all s ts p some room (λ i lo b. each i b (le-or-lt (length s - d) i))
+  where
+    each : (i : ℕ) → i < length s → (length s - d ≤ i) ⊎ (i < length s - d) → getD s i 0 ≡ getD ts (p - 1 + i) 0
+    each i b (inl late) = h i late b
+    each i b (inr early) =
+        let z : p - d + (d + i) - 1 ≡ p - 1 + i = omega arith in
+        sym (period .equal i (omega arith))
+        ∙ stand-at (d + i) before (omega arith)
+        ∙ ap (λ (j : ℕ). getD ts j 0) z
 
 -- if the string stands, every part of it is equal
 pub stand-part : {s ts : List ℕ} {p : ℕ} → Stand s ts p → (a : ℕ) → Equal-part s a (length s) ts (p - 1)

@@ -10,7 +10,7 @@ use lib.Seq.{getD-set-same}
 use Rattle.basics.specs.Member.{In}
 use Rattle.basics.specs.Stores.{set-either}
 use Rattle.spec.specs.Dictionary.{Lexicon}
-use Rattle.spec.specs.Numbers.{Line}
+use Rattle.spec.specs.Numbers.{Line, line}
 use Rattle.spec.specs.Index.{n-of, keys-of, lines-in, readable}
 use Rattle.models.specs.Entries.{no-line, line-of}
 use Rattle.models.specs.Reception.{fill-positions, fill-line-map, mapped-at}
@@ -101,16 +101,16 @@ fill-line-map-keeps i (l ∷ ls) ns p h =
     (fill-positions-keeps (suc i) (l .positions) ns p (omega arith) h)
 
 fill-line-map-put :
-    (i : ℕ) (ls : List Line) (ns : List ℕ) (p j : ℕ) → 1 ≤ p → p ≤ length ns → j < length ls → In p (getD ls j no-line .positions) →
+    (i : ℕ) (ls : List Line) (ns : List ℕ) (p j : ℕ) → 1 ≤ p → p ≤ length ns → In p (getD ls j no-line .positions) →
     1 ≤ mapped-at (fill-line-map i ls ns) p
-unfolding fill-line-map
-fill-line-map-put i [] ns p j lo hi b m = absurd (omega arith)
-fill-line-map-put i (l ∷ ls) ns p zero lo hi b m =
+unfolding fill-line-map no-line line
+fill-line-map-put i [] ns p j lo hi m = absurd m
+fill-line-map-put i (l ∷ ls) ns p zero lo hi m =
     fill-line-map-keeps (suc i) ls (fill-positions (suc i) (l .positions) ns) p
     (fill-positions-put (suc i) (l .positions) ns p (omega arith) lo hi m)
-fill-line-map-put i (l ∷ ls) ns p (suc j) lo hi b m =
+fill-line-map-put i (l ∷ ls) ns p (suc j) lo hi m =
     fill-line-map-put (suc i) ls (fill-positions (suc i) (l .positions) ns) p j lo
-    (omega (arith, length-fill-positions (suc i) (l .positions) ns)) (omega arith) m
+    (omega (arith, length-fill-positions (suc i) (l .positions) ns)) m
 
 -- The line map of all lines of a readable slice, on a list where no position was mapped.
 pub line-map-mapped :
@@ -141,5 +141,4 @@ line-map-mapped {lex} good g xs can ns room clear = record { real = λ p i. real
         let here : In (line-of xs i) (lines-in xs) = line-of-in xs i b in
         let h : Good-line lex (n-of xs) (line-of xs i) = good-line (line-of xs i) here in
         fill-line-map-put 0 (lines-in xs) ns p i (from (line-of xs i) here p m)
-        (omega (arith, h .fits p m, spells-some good (line-of xs i .key-of) (h .is-key)))
-        (omega (arith, length-lines-in xs)) m
+        (omega (arith, h .fits p m, spells-some good (line-of xs i .key-of) (h .is-key))) m

@@ -75,12 +75,12 @@ module _ {lex : Lexicon} (good : Good-lexicon lex) where
 
   module _ (ts : List ℕ) (chars : Chars ts) where
     pub index-recovered : recovered lex (index-of lex ts) ≡ ts
-    index-recovered = recovered-text (index-of lex ts) (index-match lex good ts chars) (n-of-index lex ts)
+    index-recovered = recovered-text (index-of lex ts) (index-match good ts chars) (n-of-index lex ts)
 
     own-index : (g : ℕ) → length ts ≤ g → is-index g lex (index-of lex ts) ≡ true
     own-index g small =
         is-index-put g lex (index-of lex ts)
-        (record { can-read = index-readable lex good ts chars g small; index-is = ap (index-of lex) index-recovered })
+        (record { can-read = index-readable good ts chars g small; index-is = ap (index-of lex) index-recovered })
 
     -- if numbers are the index of these characters, they are the index of the text recovered from them, and the characters are that text
     pub equal-own-index : (g : ℕ) (xs : List ℕ) → length ts ≤ g → index-of lex ts ≡ xs → is-index g lex xs ≡ true
@@ -97,7 +97,7 @@ module _ {lex : Lexicon} (good : Good-lexicon lex) where
         (record { is-own = equal-own-index g xs small e; plain = subst Plain (sym (is-index-recovered xs e)) plain })
 
     pub index-find : (s : List ℕ) → 1 ≤ length s → find lex (index-of lex ts) s ≡ positions s ts
-    index-find s some = find-positions (index-of lex ts) s (index-match lex good ts chars) (n-of-index lex ts) some
+    index-find s some = find-positions (index-of lex ts) s (index-match good ts chars) (n-of-index lex ts) some
 
   -- no two texts have the same index
   pub index-injective : (ts us : List ℕ) → Chars ts → Chars us → index-of lex ts ≡ index-of lex us → ts ≡ us

@@ -35,8 +35,7 @@ module _ {lex : Lexicon} (good : Good-lexicon lex) (g : ℕ) (xs : List ℕ) (ca
       length (entries lex us) ≡ entries-of xs → index-of lex us ≡ xs
   counted-index us chars len each count =
       sym
-      (index-unique lex good us chars g (omega (arith, readable-get g lex xs can .length-allowed)) xs can
-      (sym len) (λ e m. in-sorted-get e (entries lex us) (rw equal m)) each)
+      (index-unique good us chars g xs can (sym len) (λ e. (λ m. in-sorted-get e (entries lex us) (rw equal m), each e)))
     where
       equal : sorted (entries lex us) ≡ flat lex (lines-in xs)
       equal =
@@ -65,16 +64,16 @@ module _ {lex : Lexicon} (good : Good-lexicon lex) (g : ℕ) (xs : List ℕ) (ta
   pub is-index-all : (e : Entry) → In e (entries lex (recovered lex xs)) → In e (flat lex (lines-in xs))
   is-index-all e m =
       subst (λ (ys : List ℕ). In e (flat lex (lines-in ys))) index-is
-      (in-index-put lex good (recovered lex xs) text-chars e m)
+      (in-index-put good (recovered lex xs) text-chars e m)
 
   pub is-index-only : (e : Entry) → In e (flat lex (lines-in xs)) → In e (entries lex (recovered lex xs))
   is-index-only e m =
-      in-index-get lex good (recovered lex xs) text-chars e
+      in-index-get good (recovered lex xs) text-chars e
       (subst (λ (ys : List ℕ). In e (flat lex (lines-in ys))) (sym index-is) m)
 
   pub is-index-count : length (entries lex (recovered lex xs)) ≡ entries-of xs
   is-index-count =
-      sym (entries-of-index lex good (recovered lex xs) text-chars)
+      sym (entries-of-index good (recovered lex xs) text-chars)
       ∙ ap entries-of index-is
 
   -- no two entries of such numbers start at the same position

@@ -121,7 +121,7 @@ module _ {lex : Lexicon} (good : Good-lexicon lex) (g : ℕ) (xs : List ℕ) (ta
       match =
           let h = is-index-get g lex xs taken in
           subst (λ (ys : List ℕ). Lines-match lex (lines-in ys) (recovered lex xs)) (h .index-is)
-          (index-match lex good (recovered lex xs) (readable-chars good g xs (h .can-read)))
+          (index-match good (recovered lex xs) (readable-chars good g xs (h .can-read)))
 
       cover :
           (p : ℕ) → 1 ≤ p → p ≤ length (recovered lex xs) →

@@ -17,7 +17,7 @@ use Rattle.laws.specs.Directory.Tables.{Reads, key-some}
 use Rattle.laws.specs.Window.LineRanges.{Split, word-lines-rise}
 use Rattle.laws.specs.Window.AgreeingLines.{Agreeing-listed, agreeing-start, agreeing-push, agreeing-range}
 use Rattle.laws.specs.Window.WordLines.{Shared-prefix, shared-prefix-start, shared-prefix-next, shared-prefix-agrees, shared-deep}
-use Rattle.laws.specs.Window.WordLines.{Word-column, word-char, shared-prefix-column, shared-prefix-deeper, apart-front, apart-back}
+use Rattle.laws.specs.Window.WordLines.{Word-column, word-char, shared-prefix-column, shared-prefix-deeper, shared-prefix-apart}
 
 -- lines lo to hi − 1 are left, and their words share d characters with the string from o on; at most d are listed, and one more can be
 pub record Refining (cs ws xs s : List ℕ) (o w : ℕ) (lines : List ℕ) (count lo hi d : ℕ) : Type 0 where
@@ -76,20 +76,12 @@ module _ {cs ws xs : List ℕ} (reads : Reads cs ws xs) {w : ℕ} (split : Split
       refining-column = shared-prefix-column reads split (h .shared) some more
 
       pub refining-step :
-          {c from to : ℕ} → c ≡ getD s (o + d) 0 → o + d < length s → Lower-bound (word-char cs xs ws d) lo hi c from →
-          Lower-bound (word-char cs xs ws d) from hi (c + 1) to → Refining cs ws xs s o w lines count from to (d + 1)
-      refining-step {c} {from} {to} is below low high =
+          o + d < length s → {from to : ℕ} → Lower-bound (word-char cs xs ws d) lo hi (getD s (o + d) 0) from →
+          Lower-bound (word-char cs xs ws d) from hi (getD s (o + d) 0 + 1) to → Refining cs ws xs s o w lines count from to (d + 1)
+      refining-step below low high =
           record {
-            shared = shared-prefix-deeper reads split (h .shared) some more is below low high;
-            listed =
-                agreeing-range (h .listed)
-                (record {
-                  from = low .from;
-                  order = high .from;
-                  to = high .to;
-                  front = apart-front reads split (h .shared) some more is below low high;
-                  back = apart-back reads split (h .shared) some more is below low high;
-                });
+            shared = shared-prefix-deeper reads split (h .shared) some more below low high;
+            listed = agreeing-range (h .listed) (shared-prefix-apart reads split (h .shared) some more below low high);
             few = omega arith;
             free = λ rest e. omega arith;
             deep = omega (arith, refining-deep);

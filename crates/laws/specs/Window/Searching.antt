@@ -81,23 +81,23 @@ all-starts e h = rw e at (h .sized)
 
 -- A CALL: refused, or answered by what is found or by the cut-down index
 
-module _ (g : ℕ) (cs ls xs s : List ℕ) (r : Answer) (o : List ℕ) where
-  pub search-refused :
-      (string-refusal g cs ls xs s ≡ 0 → ⊥) → r .refusal ≡ string-refusal g cs ls xs s → r .count ≡ 0 → Search-says g cs ls xs s r o o
-  unfolding Search-says find-refusal
-  search-refused = refused-before (find (lexicon cs ls) xs (replaced s)) r o
+module _ (g : ℕ) (cs ls xs s : List ℕ) where
+  module _ (o : List ℕ) {number : ℕ} (e : number ≡ string-refusal g cs ls xs s) (some : number ≡ 0 → ⊥) where
+    pub search-refused : Search-says g cs ls xs s (record { refusal = number; count = 0 }) o o
+    unfolding Search-says find-refusal
+    search-refused =
+        rw (← e) (refused-before (find (lexicon cs ls) xs (replaced s)) (record { refusal = number; count = 0 }) o some refl refl)
 
-  pub search-says :
-      string-refusal g cs ls xs s ≡ 0 → (z : List ℕ) → Sized (find (lexicon cs ls) xs (replaced s)) r o z → Search-says g cs ls xs s r o z
-  unfolding Search-says find-refusal
-  search-says none z = sized-after none
+    pub cut-refused : Cut-says g cs ls xs s (record { refusal = number; count = 0 }) o o
+    unfolding Cut-says find-refusal
+    cut-refused =
+        rw (← e) (refused-before (cut-down (lexicon cs ls) xs (replaced s)) (record { refusal = number; count = 0 }) o some refl refl)
 
-  pub cut-refused :
-      (string-refusal g cs ls xs s ≡ 0 → ⊥) → r .refusal ≡ string-refusal g cs ls xs s → r .count ≡ 0 → Cut-says g cs ls xs s r o o
-  unfolding Cut-says find-refusal
-  cut-refused = refused-before (cut-down (lexicon cs ls) xs (replaced s)) r o
+  module _ (none : string-refusal g cs ls xs s ≡ 0) {r : Answer} {o z : List ℕ} where
+    pub search-says : Sized (find (lexicon cs ls) xs (replaced s)) r o z → Search-says g cs ls xs s r o z
+    unfolding Search-says find-refusal
+    search-says = sized-after none
 
-  pub cut-says :
-      string-refusal g cs ls xs s ≡ 0 → (z : List ℕ) → Sized (cut-down (lexicon cs ls) xs (replaced s)) r o z → Cut-says g cs ls xs s r o z
-  unfolding Cut-says find-refusal
-  cut-says none z = sized-after none
+    pub cut-says : Sized (cut-down (lexicon cs ls) xs (replaced s)) r o z → Cut-says g cs ls xs s r o z
+    unfolding Cut-says find-refusal
+    cut-says = sized-after none

@@ -8,6 +8,7 @@ use Prim.Native.Nat.{ℕ, _+_, _*_, _-_, _≤_, _<_}
 use native.Mathlib.Omega.{arith}
 use lib.ListN.{length, getD}
 use Rattle.basics.specs.Bools.{false-put, le-or-lt}
+use Rattle.basics.specs.Steps.{Outside}
 use Rattle.spec.specs.Dictionary.{Lexicon}
 use Rattle.spec.specs.Words.{spells}
 use Rattle.spec.specs.Index.{header, keys-of, kind-at, value-at, key-at}
@@ -133,15 +134,6 @@ module _
     pub shared-deep : d < 32
     shared-deep = omega (arith, longer lo (omega arith) some, key-short can lo (shared-line lo (omega arith) some))
 
-    rises : (i j : ℕ) → lo ≤ i → i ≤ j → j < hi → getD (word-of i) d 0 ≤ getD (word-of j) d 0
-    rises i j a b c =
-        ⊎-elim (λ (q : j ≤ i). let here : i ≡ j = omega arith in omega (arith, ap (λ (x : ℕ). getD (word-of x) d 0) here))
-        (λ (q : i < j).
-        next-rises (word-of i) (word-of j) d (word-lines-rise can split i j q (omega arith))
-        (longer i a (omega arith)) (longer j (omega arith) c)
-        (λ k l. h .share i k a (omega arith) l ∙ sym (h .share j k (omega arith) c l)))
-        (le-or-lt j i)
-
     -- the next characters can be searched
     pub shared-prefix-column : Word-column cs xs ws lo hi d
     shared-prefix-column =
@@ -165,11 +157,20 @@ module _
                 omega (arith, room i a b, longer i a b),
               );
         }
+      where
+        rises : (i j : ℕ) → lo ≤ i → i ≤ j → j < hi → getD (word-of i) d 0 ≤ getD (word-of j) d 0
+        rises i j a b c =
+            ⊎-elim (λ (q : j ≤ i). let here : i ≡ j = omega arith in omega (arith, ap (λ (x : ℕ). getD (word-of x) d 0) here))
+            (λ (q : i < j).
+            next-rises (word-of i) (word-of j) d (word-lines-rise can split i j q (omega arith))
+            (longer i a (omega arith)) (longer j (omega arith) c)
+            (λ k l. h .share i k a (omega arith) l ∙ sym (h .share j k (omega arith) c l)))
+            (le-or-lt j i)
 
     -- the equal range of the string's next character shares one character more
     module _
-        {c from to : ℕ} (is : c ≡ getD s (o + d) 0) (below : o + d < length s)
-        (low : Lower-bound (word-char cs xs ws d) lo hi c from) (high : Lower-bound (word-char cs xs ws d) from hi (c + 1) to) where
+        (below : o + d < length s) {from to : ℕ} (low : Lower-bound (word-char cs xs ws d) lo hi (getD s (o + d) 0) from)
+        (high : Lower-bound (word-char cs xs ws d) from hi (getD s (o + d) 0 + 1) to) where
       pub shared-prefix-deeper : Shared-prefix (lexicon-at cs ws) xs s o w from to (d + 1)
       shared-prefix-deeper =
           record {
@@ -186,22 +187,25 @@ module _
               ⊎-elim
               (λ (q : d ≤ j).
               let here : j ≡ d = omega arith in
-              let now : word-char cs xs ws d i ≡ c = omega (arith, low .above i a b2, high .below i a b) in
-              rw here (sym (char-at i a2 b2 d (longer i a2 b2)) ∙ now ∙ is))
+              let now : word-char cs xs ws d i ≡ getD s (o + d) 0 = omega (arith, low .above i a b2, high .below i a b) in
+              rw here (sym (char-at i a2 b2 d (longer i a2 b2)) ∙ now))
               (λ (q : j < d). h .share i j a2 b2 q) (le-or-lt d j)
 
       -- the others do not agree
-      apart : (i : ℕ) → lo ≤ i → i < hi → (word-char cs xs ws d i ≡ c → ⊥) → agrees s 0 (word-of i) o ≡ false
-      apart i a b other =
-          false-put (agrees s 0 (word-of i) o)
-          (λ t.
-          other
-          (char-at i a b d (longer i a b)
-          ∙ sym (agree-deep d (agrees-get s 0 (word-of i) o t) (longer i a b) below)
-          ∙ sym is))
-
-      pub apart-front : (i : ℕ) → lo ≤ i → i < from → agrees s 0 (spells (lexicon-at cs ws) (key-at xs i)) o ≡ false
-      apart-front i a b = apart i a (omega arith) (λ e. omega (arith, low .below i a b))
-
-      pub apart-back : (i : ℕ) → to ≤ i → i < hi → agrees s 0 (spells (lexicon-at cs ws) (key-at xs i)) o ≡ false
-      apart-back i a b = apart i (omega arith) b (λ e. omega (arith, high .above i a b))
+      pub shared-prefix-apart : Outside (λ i. agrees s 0 (spells (lexicon-at cs ws) (key-at xs i)) o ≡ false) lo from to hi
+      shared-prefix-apart =
+          record {
+            from = low .from;
+            order = high .from;
+            to = high .to;
+            front = λ i a b. apart i a (omega arith) (λ e. omega (arith, low .below i a b));
+            back = λ i a b. apart i (omega arith) b (λ e. omega (arith, high .above i a b));
+          }
+        where
+          apart : (i : ℕ) → lo ≤ i → i < hi → (word-char cs xs ws d i ≡ getD s (o + d) 0 → ⊥) → agrees s 0 (word-of i) o ≡ false
+          apart i a b other =
+              false-put (agrees s 0 (word-of i) o)
+              (λ t.
+              other
+              (char-at i a b d (longer i a b)
+              ∙ sym (agree-deep d (agrees-get s 0 (word-of i) o t) (longer i a b) below)))

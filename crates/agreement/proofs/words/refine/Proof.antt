@@ -67,7 +67,7 @@ loop-again-2 c =
     let s = start (at-loop (c .before) .before) in
     let l = at-loop (c .before) .loop in (
       refining-step (s .pre .0) (s .pre .1) (l .inv .0) (omega arith)
-          (λ e. c .before .before .if2 .left (ap length (c .before .before .before .word-at .ensures) ∙ e)) refl (omega arith)
+          (λ e. c .before .before .if2 .left (ap length (c .before .before .before .word-at .ensures) ∙ e)) (omega arith)
           (c .equal-range .ensures .0) (c .equal-range .ensures .1),
       l .inv .1,
       l .inv .2,

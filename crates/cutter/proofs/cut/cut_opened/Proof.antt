@@ -1,5 +1,5 @@
 -- `cut_opened` meets its contract: the call is refused, or the readable index is cut down. Assumes nothing.
-use mathlib.Core.Path.{_≡_, refl, sym, _∙_}
+use mathlib.Core.Path.{_≡_, sym, _∙_}
 use native.Mathlib.Omega.{arith}
 use borrow.Author.Needs.{needs}
 use Rattle.spec.specs.Dictionary.{longest-text}
@@ -30,11 +30,11 @@ cut-string-requires c κs =
 returns-2 : tie.Need-returns-2
 returns-2 c =
     let none = c .before .before .before .before in
-    cut-says _ _ _ _ _ _ _ (sym (number (none .before)) ∙ none .if1 .left) _ (c .before .before .cut-string .ensures)
+    cut-says _ _ _ _ _ (sym (number (none .before)) ∙ none .if1 .left) (c .before .before .cut-string .ensures)
 
 pub cut-opened-spec : {M : Type 1} → statement M
 cut-opened-spec =
     tie.close
     (tie.spec
-    (λ c κs. search needs) (λ c. cut-refused _ _ _ _ _ _ _ (λ e. c .if1 .taken (number (c .before) ∙ e)) (number (c .before)) refl)
+    (λ c κs. search needs) (λ c. cut-refused _ _ _ _ _ _ (number (c .before)) (c .if1 .taken))
     cut-string-requires (λ c. search needs) returns-2)

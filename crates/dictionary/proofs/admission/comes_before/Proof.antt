@@ -1,10 +1,10 @@
 -- `comes_before` meets its contract. The invariant: from i on the words compare as the whole words do. The measure is how many shared
 -- indices are left. Assumes nothing.
-use mathlib.Core.Path.{sym, _∙_}
+use mathlib.Core.Path.{refl, sym, _∙_}
 use Prim.Native.Nat.{_-_}
 use native.Mathlib.Omega.{arith}
 use borrow.Author.Needs.{needs}
-use Rattle.laws.specs.Dictionary.WordCode.{Equal-front, before-differ, before-same, before-read}
+use Rattle.laws.specs.Dictionary.WordCode.{Equal-front, equal-one, before-differ, before-read}
 use Rattle.dictionary.proofs.admission.comes_before.Statement.{statement}
 use Rattle.dictionary.proofs.admission.comes_before.Tie as tie
 
@@ -20,26 +20,18 @@ returns c =
     let start = at-loop .before .before .before .before .before in
     let walk = at-loop .loop in
     sym (before-differ (start .args .left .now) (start .args .right .now) (walk .i) (omega arith) (omega arith) (c .if1 .taken)) ∙
-    walk .inv .2
+    walk .inv .same
 
 loop-again : tie.Need-loop-again Inv-loop μ-loop
-loop-again c =
-    let at-loop = c .before .before .before .before in
-    let start = at-loop .before .before .before .before .before in
-    let walk = at-loop .loop in (
-      omega arith,
-      omega arith,
-      sym (before-same (start .args .left .now) (start .args .right .now) (walk .i) (omega arith) (omega arith) (omega arith)) ∙
-          walk .inv .2,
-    )
+loop-again c = equal-one refl (omega arith) (omega arith) (omega arith) (c .before .before .before .before .loop .inv)
 
 returns-2 : tie.Need-returns-2 Inv-loop μ-loop
 returns-2 c =
     let at-loop = c .before in
     let start = at-loop .before .before .before .before .before in
     let walk = at-loop .loop in
-    sym (before-read (start .args .left .now) (start .args .right .now) (walk .i) (omega arith) (walk .inv .0) (walk .inv .1)) ∙
-    walk .inv .2
+    sym (before-read (start .args .left .now) (start .args .right .now) (walk .i) (omega arith) (walk .inv .left) (walk .inv .right)) ∙
+    walk .inv .same
 
 pub comes-before-spec : {M : Type 1} → statement M
 comes-before-spec =

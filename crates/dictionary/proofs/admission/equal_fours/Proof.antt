@@ -39,18 +39,18 @@ loop-again c =
     let first = second .before .before .before in
     let test = first .before .before .before in
     let turn = test .before .loop in
-    let start = test .before .before .before in
     let below = test .loop-test .taken in (
       omega (arith, below),
-      equal-four (start .args .left .now) (start .args .right .now) (turn .i) (omega (arith, below)) (omega (arith, below))
-          (first .if2 .left) (second .if3 .left) (third .if4 .left) (c .if5 .left) (turn .inv .1),
+      equal-four (omega (arith, below)) (omega (arith, below)) (first .if2 .left) (second .if3 .left) (third .if4 .left) (c .if5 .left)
+          (turn .inv .1),
     )
 
 pub equal-fours-spec : {M : Type 1} → statement M
 equal-fours-spec =
     tie.close
     (tie.spec
-    Inv-loop μ-loop (λ c. (omega arith, omega arith, refl)) (λ c. (omega arith, (omega arith, omega arith, refl))) (λ c. search needs)
+    Inv-loop μ-loop (λ c. record { left = omega arith; right = omega arith; same = refl })
+    (λ c. (omega arith, record { left = omega arith; right = omega arith; same = refl })) (λ c. search needs)
     (λ c. search needs) (λ c. search needs) (λ c. search needs) (λ c. search needs) (λ c. c .before .before .before .before .loop .inv .1)
     (λ c. search needs) (λ c. search needs) (λ c. search needs) (λ c. search needs) (λ c. search needs) (λ c. search needs) returns-3
     (λ c. search needs) (λ c. search needs) (λ c. search needs) (λ c. search needs) (λ c. search needs) (λ c. search needs) returns-4

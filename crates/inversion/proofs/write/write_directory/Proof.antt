@@ -1,7 +1,7 @@
 -- `write_directory` meets its contract. The invariant: the lines of the codes before `code` are written. The measure is how many
 -- codes are left. Assumes nothing.
 use mathlib.Core.Path.{_≡_}
-use mathlib.Core.List.{[], _∷_, _++_}
+use mathlib.Core.List.{_++_}
 use Prim.Native.Nat.{_-_, _+_, _*_, _≤_}
 use native.Mathlib.Omega.{arith}
 use lib.ListN.{length, getD, take}
@@ -36,7 +36,7 @@ room c =
     let links = s .args .links .now in
     omega (
       arith,
-      listing-room directory-by-line heads links (s .args .output .now) (l .inv) (s .pre .0 .threads) (c .loop-test .taken),
+      listing-room directory-by-line (l .inv) (s .pre .0 .threads) (c .loop-test .taken),
       line-numbers-three (line (code-key (l .code)) (chain links (getD heads (l .code) 0))),
     )
 
@@ -63,21 +63,16 @@ loop-again : tie.Need-loop-again Inv-loop μ-loop
 loop-again c =
     let s = start (turn (c .before .before) .before .before) in
     let l = turn (c .before .before) .before .loop in
-    let heads = s .args .heads .now in
-    let links = s .args .links .now in
     let count = c .before .before .before .before .before .chain-length in
     let written = c .before .before .before .put-line in
     let at : header + 3 * (l .line + 1) ≡ header + 3 * l .line + 3 = omega arith in
     rw at
-    (listing-step directory-by-line heads links (s .args .output .now) (l .inv) (s .pre .0 .threads)
-    (turn (c .before .before) .loop-test .taken) (c .next-code2 .ensures)
-    (code-key (l .code) .kind ∷ code-key (l .code) .value ∷ count .result ∷ []) (written .last .0)
-    (line-numbers-are (l .code) (count .result) (chain links (getD heads (l .code) 0)) (count .ensures)) (written .ensures))
+    (listing-step directory-by-line (l .inv) (s .pre .0 .threads) (turn (c .before .before) .loop-test .taken) (c .next-code2 .ensures)
+    (line-numbers-are (l .code) (count .result) (chain (s .args .links .now) (getD (s .args .heads .now) (l .code) 0)) (count .ensures))
+    (written .ensures))
 
 returns : tie.Need-returns Inv-loop μ-loop
-returns c =
-    let a = start (c .before .before) .args in
-    listing-end directory-by-line (a .heads .now) (a .links .now) (a .output .now) (c .before .loop .inv) (c .loop-test .left)
+returns c = listing-end directory-by-line (c .before .loop .inv) (c .loop-test .left)
 
 pub write-directory-spec : {M : Type 1} → statement M
 write-directory-spec =

@@ -35,7 +35,7 @@ room c =
     let links = s .args .links .now in
     omega (
       arith,
-      listing-room positions-by-line heads links (s .args .part .now) (l .inv) (s .pre .0 .threads) (c .loop-test .taken),
+      listing-room positions-by-line (l .inv) (s .pre .0 .threads) (c .loop-test .taken),
       ap length (line-positions-are (l .code) (chain links (getD heads (l .code) 0))),
     )
 
@@ -53,19 +53,13 @@ loop-again : tie.Need-loop-again Inv-loop μ-loop
 loop-again c =
     let s = start (turn (c .before) .before .before) in
     let l = turn (c .before) .before .loop in
-    let heads = s .args .heads .now in
-    let links = s .args .links .now in
-    let positions = chain links (getD heads (l .code) 0) in
     let written = c .before .before .before .write-chain in
     rw (written .ensures .0)
-    (listing-step positions-by-line heads links (s .args .part .now) (l .inv) (s .pre .0 .threads)
-    (turn (c .before) .loop-test .taken) (c .next-code2 .ensures) positions (written .last .1 .1 .0)
-    (line-positions-are (l .code) positions) (written .ensures .1))
+    (listing-step positions-by-line (l .inv) (s .pre .0 .threads) (turn (c .before) .loop-test .taken) (c .next-code2 .ensures)
+    (line-positions-are (l .code) (chain (s .args .links .now) (getD (s .args .heads .now) (l .code) 0))) (written .ensures .1))
 
 returns : tie.Need-returns Inv-loop μ-loop
-returns c =
-    let a = start (c .before .before) .args in
-    listing-end positions-by-line (a .heads .now) (a .links .now) (a .part .now) (c .before .loop .inv) (c .loop-test .left)
+returns c = listing-end positions-by-line (c .before .loop .inv) (c .loop-test .left)
 
 pub write-positions-spec : {M : Type 1} → statement M
 write-positions-spec =

@@ -12,8 +12,7 @@ use Rattle.opening.proofs.opened.bounds_of.Tie as tie
 returns : tie.Need-returns
 returns c =
     let a = c .before .before .before .before .before .args in
-    bounds-refused longest-text (a .chars .now) (a .lengths .now) (a .index .now) (c .before .refusal-of .result)
-    (c .before .refusal-of .ensures)
+    bounds-refused longest-text (a .chars .now) (a .lengths .now) (a .index .now) (c .before .refusal-of .ensures)
     (c .if1 .taken)
 
 key-count-requires : tie.Need-key-count-requires
@@ -27,7 +26,7 @@ returns-2 : tie.Need-returns-2
 returns-2 c =
     let r = c .before .before .before in
     let a = r .before .before .before .before .args in
-    bounds-accepted longest-text (a .chars .now) (a .lengths .now) (a .index .now) (r .refusal-of .result) (r .refusal-of .ensures)
+    bounds-accepted longest-text (a .chars .now) (a .lengths .now) (a .index .now) (r .refusal-of .ensures)
     (c .before .before .if1 .left) (omega arith) (omega arith)
 
 pub bounds-of-spec : {M : Type 1} → statement M

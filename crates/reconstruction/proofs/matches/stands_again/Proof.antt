@@ -17,7 +17,7 @@ returns c =
     let a = s .args in
     let apart : a .step ≡ a .period = c .before .if1 .taken in
     reflects-same (c .equal-from .result)
-    (stand-again (a .string .now) (a .text .now) (a .position) (omega arith) (s .pre .3) (s .pre .0) (omega arith)
+    (stand-again (a .position) (omega arith) (s .pre .3) (s .pre .0) (omega arith)
     (subst (λ (d : ℕ). Stand (a .string .now) (a .text .now) (a .position - d)) apart (s .pre .2)))
     (λ st. stand-part st (length (a .string .now) - a .period)) (c .equal-from .ensures)
 

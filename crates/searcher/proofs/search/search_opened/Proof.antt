@@ -1,5 +1,5 @@
 -- `search_opened` meets its contract: the call is refused, or the readable index is searched. Assumes nothing.
-use mathlib.Core.Path.{_≡_, refl, sym, _∙_}
+use mathlib.Core.Path.{_≡_, sym, _∙_}
 use native.Mathlib.Omega.{arith}
 use borrow.Author.Needs.{needs}
 use Rattle.spec.specs.Dictionary.{longest-text}
@@ -30,11 +30,11 @@ search-words-requires c κs =
 returns-2 : tie.Need-returns-2
 returns-2 c =
     let none = c .before .before .before .before in
-    search-says _ _ _ _ _ _ _ (sym (number (none .before)) ∙ none .if1 .left) _ (c .before .before .search-words .ensures)
+    search-says _ _ _ _ _ (sym (number (none .before)) ∙ none .if1 .left) (c .before .before .search-words .ensures)
 
 pub search-opened-spec : {M : Type 1} → statement M
 search-opened-spec =
     tie.close
     (tie.spec
-    (λ c κs. search needs) (λ c. search-refused _ _ _ _ _ _ _ (λ e. c .if1 .taken (number (c .before) ∙ e)) (number (c .before)) refl)
+    (λ c κs. search needs) (λ c. search-refused _ _ _ _ _ _ (number (c .before)) (c .if1 .taken))
     search-words-requires (λ c. search needs) returns-2)
