@@ -10,11 +10,16 @@ ghost use Rattle.spec.specs.Calls.{in-front};
 use width::Number;
 use width::from_char;
 
+// The first and the last full-width form.
+pub const FIRST_FORM: u16 = 0xFF01;
+
+pub const LAST_FORM: u16 = 0xFF5E;
+
 // Whether a character is a full-width form.
 fn is_full_width(character: u16) -> bool
     ensures { λ r. ⌜ r ≡ is-full-width character ⌝ }
 {
-    (0xFF01 <= character) & (character <= 0xFF5E)
+    (FIRST_FORM <= character) & (character <= LAST_FORM)
 }
 
 // What a character is replaced by: itself where it is no full-width form.

@@ -4,6 +4,7 @@ pub mod LinePass
 pub mod EntriesMatch
 pub mod Received
 pub mod ReceptionTest
+pub mod FormKeys
 pub mod LineMap
 pub mod LineMapFill
 pub mod PositionWalk

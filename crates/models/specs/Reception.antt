@@ -1,10 +1,11 @@
 -- Reception as it is done: the text reconstructed from the entries, the line map, and the test by the scan. Assumes nothing.
-use mathlib.Core.Bool.{Bool, cond, true, _&&_}
+use mathlib.Core.Bool.{Bool, cond, true, false, _&&_, _||_}
 use mathlib.Core.List.{List, [], _∷_}
 use Prim.Native.Nat.{suc, ℕ, _+_, _-_}
 use lib.Dec.{eqb, ltb}
 use lib.ListN.{getD, length, replicate, set}
 use lib.Seq.{sets}
+use Rattle.spec.specs.Replaced.{is-full-width}
 use Rattle.spec.specs.Dictionary.{Lexicon}
 use Rattle.spec.specs.Index.{entries-of, key-at}
 use Rattle.spec.specs.Numbers.{Line}
@@ -61,6 +62,15 @@ token-key m c = cond (eqb m 4097) (key 1 c) (key 0 (m - 1))
 -- the mapped line has the token's key
 unfoldable pub token-mapped : (numbers : List ℕ) → (mapped token c : ℕ) → Bool
 token-mapped xs n m c = ltb 0 n && same-key (key-at xs (n - 1)) (token-key m c)
+
+-- a lone key that is a full-width form
+unfoldable pub form-key : Key → Bool
+form-key k = eqb (k .kind) 1 && is-full-width (k .value)
+
+-- one of the lines has such a key
+unfoldable pub some-form-key : List Line → Bool
+some-form-key [] = false
+some-form-key (l ∷ ls) = form-key (l .key-of) || some-form-key ls
 
 -- the text that lines reconstruct over n sentinels
 abbrev pub reconstructed-over : Lexicon → List Line → (n sentinel : ℕ) → List ℕ

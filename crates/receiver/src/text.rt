@@ -1,4 +1,5 @@
-// The text of a delivered index: reconstructed from its entries, verified by the builder's scan, and searched for full-width forms.
+// The text of a delivered index: reconstructed from its entries, and verified by the builder's scan; it has a full-width form exactly if a
+// lone key is one.
 //
 // Of the work slice the first n numbers take the text and the next n the line map, 2n of the 8n that a caller lends. Whatever was
 // reconstructed, `verify` accepts it exactly if the index is that of the text its entries spell, and then this is the text reconstructed.
@@ -20,8 +21,8 @@ ghost use Rattle.laws.specs.Receive.LineMap.{Line-map};
 ghost use Rattle.laws.specs.Receive.LineMapWalk.{Can-map};
 ghost use Rattle.laws.specs.Receive.Receiving.{delivery-refusal};
 ghost use Rattle.laws.specs.Receive.ReceivedText.{Read-back, Tried};
+use crate::form_keys::has_form_key;
 use directory::tables::fill_word_starts;
-use folding::forms::holds_full_width;
 use layout::fields::text_len;
 use matching::table::fill_match_table;
 use reconstruction::entries::reconstruct_entries;
@@ -120,7 +121,7 @@ fn is_index_of_text(
     test_parts(chars, word_starts, heads, links, index, n, work)
 }
 
-// Whether the index is received, with a match table lent: it is that of the text its entries spell, which has no full-width form.
+// Whether the index is received, with a match table lent: it is that of the text its entries spell, and no lone key is a full-width form.
 fn text_by(
     chars: &[u16],
     word_starts: &[u16],
@@ -138,8 +139,7 @@ fn text_by(
     if !is_index_of_text(chars, word_starts, heads, links, index, work) {
         return false;
     }
-    let n = text_len(index);
-    !holds_full_width(&work[..n])
+    !has_form_key(index)
 }
 
 // Whether the index is received, with slices lent for a match table.

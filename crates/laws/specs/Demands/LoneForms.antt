@@ -3,41 +3,33 @@
 use mathlib.Core.Path.{_≡_, refl, sym, ap, _∙_}
 use mathlib.Core.Bool.{true, false}
 use mathlib.Core.List.{List, [], _∷_}
-use Prim.Native.Nat.{ℕ, _+_, _-_, _*_, _≤_}
+use Prim.Native.Nat.{ℕ, _-_, _*_, _≤_}
 use native.Mathlib.Omega.{arith}
 use lib.Dec.{eqb}
 use lib.ListN.{length, getD}
 use borrow.Author.Tests.{eqb-true}
 use Rattle.basics.specs.Bools.{clash, false-put, and-right}
-use Rattle.basics.specs.Member.{In, in-getD}
+use Rattle.basics.specs.Member.{In}
 use Rattle.spec.specs.declared.TallyAnswer.{TallyAnswer}
 use Rattle.spec.specs.Replaced.{is-full-width, replaced}
 use Rattle.spec.specs.Dictionary.{Lexicon, all-chars, lexicon, dictionary-refusal, admitted}
-use Rattle.spec.specs.Words.{key, is-word, spells}
-use Rattle.spec.specs.Numbers.{Line}
+use Rattle.spec.specs.Words.{key, is-word}
 use Rattle.spec.specs.Index.{n-of, entries-of, lines-in, key-good, readable}
-use Rattle.spec.specs.Reception.{recovered, received}
+use Rattle.spec.specs.Reception.{received}
 use Rattle.spec.specs.Search.{agrees, find}
 use Rattle.spec.specs.Cut.{bears, cut-down}
 use Rattle.spec.specs.FurtherTheorems.{Cut-any}
 use Rattle.spec.specs.Calls.{index-refusal, reception-refusal, Answers, Puts, Receive-says, Recover-says, Tally-says}
 use Rattle.spec.specs.ReplacedTheorems.{Lone-form, Form-as-key, Form-calls}
-use Rattle.laws.specs.Text.Strings.{Stand}
-use Rattle.laws.specs.Text.Facts.{Good-lexicon}
 use Rattle.laws.specs.Text.WidthFolding.{form-get, length-replaced, replaced-plain}
 use Rattle.laws.specs.Dictionary.Answering.{accepted-yes}
 use Rattle.laws.specs.Dictionary.Lexicon.{admitted-lexicon}
-use Rattle.laws.specs.Dictionary.Keys.{is-word-get, lone-is-key, spells-lone}
-use Rattle.laws.specs.Text.Overlaps.{stand-at}
-use Rattle.laws.specs.Entries.Entries.{entries-get}
-use Rattle.laws.specs.Numbers.Flat.{posting, flat-put}
-use Rattle.laws.specs.Readable.Readable.{readable-get}
+use Rattle.laws.specs.Dictionary.Keys.{is-word-get, lone-is-key}
 use Rattle.laws.specs.Search.Agree.{Agree, agrees-get}
 use Rattle.laws.specs.Cut.Bears.{bears-get}
 use Rattle.laws.specs.Cut.Same.{bearing-get}
 use Rattle.laws.specs.Cut.Readable.{lines-in-cut}
-use Rattle.laws.specs.Receive.Received.{is-index-get, Received, received-get, readable-chars}
-use Rattle.laws.specs.Receive.ReceptionTest.{is-index-only}
+use Rattle.laws.specs.Receive.FormKeys.{spells-form, unreceived}
 use Rattle.laws.specs.Demands.Theorems.{cut-any}
 use Rattle.laws.specs.Readable.IndexRefusal.{accepts-index}
 use Rattle.laws.specs.Receive.Receiving.{short-none, delivered, reception-unreceived, recovery-early}
@@ -80,40 +72,10 @@ module _ (s : List ℕ) (c : ℕ) (form : is-full-width c ≡ true) where
       (λ t.
       let h = bears-get (c ∷ []) (replaced s) (omega arith) (omega (arith, length-replaced s)) t in agree-never (h .2))
 
-spells-form : (lex : Lexicon) (l : Line) (c : ℕ) → l .key-of ≡ key 1 c → spells lex (l .key-of) ≡ c ∷ []
-unfolding key
-spells-form lex l c e = rw e (spells-lone lex (key 1 c) refl)
-
 cut-out : (lex : Lexicon) (xs s : List ℕ) (c : ℕ) → 1 ≤ length s → Lone-form (cut-down lex xs (replaced s)) c → ⊥
 cut-out lex xs s c some (form, (l, m, e)) =
     let bear = bearing-get lex (replaced s) (lines-in xs) l (rw (lines-in-cut lex xs (replaced s)) at m) .1 in
     clash (rw (spells-form lex l c e) at bear) (bears-never s c form some)
-
--- NO TEXT HAS IT
-
-module _ {lex : Lexicon} (good : Good-lexicon lex) where
-  -- the entries of a received index stand in the text recovered from it
-  line-stands :
-      {g : ℕ} {xs : List ℕ} → Received g lex xs → (l : Line) → In l (lines-in xs) → (p : ℕ) → In p (l .positions) →
-      Stand (spells lex (l .key-of)) (recovered lex xs) p
-  line-stands {g} {xs} h l m p n =
-      entries-get lex good (recovered lex xs) (readable-chars good g xs (is-index-get g lex xs (h .is-own) .can-read))
-      (posting lex (l .key-of) p)
-      (is-index-only good g xs (h .is-own) (posting lex (l .key-of) p) (flat-put lex (lines-in xs) l p m n)) .is-entry .stand
-
-  -- so the form stands at the first of its positions, in a text that has no full-width form
-  unreceived : (g : ℕ) (xs : List ℕ) → readable g lex xs ≡ true → (c : ℕ) → Lone-form xs c → received g lex xs ≡ false
-  unreceived g xs can c (form, (l, m, e)) = false-put (received g lex xs) (λ t. shown (received-get g lex xs t))
-    where
-      shown : Received g lex xs → ⊥
-      shown h =
-          let p = getD (l .positions) 0 0 in
-          let stand : Stand (c ∷ []) (recovered lex xs) p =
-          rw (spells-form lex l c e) at
-          (line-stands h l m p (in-getD (l .positions) 0 0 (readable-get g lex xs can .lines .each l m .some))) in
-          clash form
-          (ap is-full-width (stand-at 0 stand (omega arith))
-          ∙ h .plain (p + 0 - 1) (omega arith))
 
 found-without :
     (g : ℕ) (lex : Lexicon) (xs s : List ℕ) → readable g lex xs ≡ true →
@@ -130,7 +92,7 @@ form-as-key g =
       bears-never = λ s c some form. bears-never s c form some;
       cut-out = cut-out;
       found-without = found-without g;
-      unreceived = λ cs ls xs c adm can. unreceived (admitted-lexicon cs ls adm) g xs can c;
+      unreceived = λ cs ls xs c adm can. unreceived (admitted-lexicon cs ls adm) g xs c;
     }
 
 -- OVER THE CALLS

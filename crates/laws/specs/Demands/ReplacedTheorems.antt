@@ -1,21 +1,18 @@
 -- The statements of `spec`'s ReplacedTheorems on the replacement, on what stays as before, and on either width, proved. Assumes nothing.
 use mathlib.Core.Path.{_≡_, refl, sym, ap, _∙_}
 use mathlib.Core.Bool.{Bool, true, false, _&&_, not, cond}
-use mathlib.Core.Logic.{⊎-elim}
-use mathlib.Core.List.{List, [], _∷_, _++_}
-use Prim.Native.Nat.{ℕ, zero, suc}
+use mathlib.Core.List.{List, _∷_, _++_}
+use Prim.Native.Nat.{ℕ}
 use native.Mathlib.Omega.{arith}
 use lib.Dec.{eqb}
 use lib.ListN.{length}
 use borrow.Author.Tests.{eqb-true}
-use Rattle.basics.specs.Bools.{false-put, iff-eq, and-right}
-use Rattle.spec.specs.Replaced.{is-full-width, replaced, holds-full-width}
+use Rattle.basics.specs.Bools.{iff-eq, and-right}
+use Rattle.spec.specs.Replaced.{replaced, holds-full-width}
 use Rattle.spec.specs.Dictionary.{Lexicon, words-from, lexicon, total, too-large, lengths-good, lengths-wrong, disordered, some-full-width}
 use Rattle.spec.specs.Dictionary.{unreplaced, dictionary-refusal, admitted}
-use Rattle.spec.specs.Words.{Key, key, spells}
 use Rattle.spec.specs.Numbers.{index-of}
-use Rattle.spec.specs.Index.{readable}
-use Rattle.spec.specs.Reception.{recovered, is-index, received}
+use Rattle.spec.specs.Reception.{is-index, received}
 use Rattle.spec.specs.Search.{find}
 use Rattle.spec.specs.First.{first-position}
 use Rattle.spec.specs.Cut.{cut-down}
@@ -23,14 +20,11 @@ use Rattle.spec.specs.Calls.{text-too-long, string-wrong, build-refusal, string
 use Rattle.spec.specs.Calls.{First-says}
 use Rattle.spec.specs.JobAnswer.{index-lines, found-line, found-lines, answer-lines}
 use Rattle.spec.specs.ReplacedTheorems.{Replacement, Lone-form, As-before, Same-lettering, Either-width}
-use Rattle.laws.specs.Text.Facts.{key-eq, Plain, Good-lexicon, Is-key}
 use Rattle.laws.specs.Text.WidthFolding.{form-put, below-form, above-form, char-lowered, char-stays, length-replaced, getD-replaced}
 use Rattle.laws.specs.Text.WidthFolding.{replaced-none, plain-kept, replaced-chars, words-hold}
 use Rattle.laws.specs.Text.Chars.{all-chars-get, replaced-is-text}
 use Rattle.laws.specs.Dictionary.Lexicon.{admitted-lexicon}
-use Rattle.laws.specs.Dictionary.Keys.{Is-word-key, Is-lone-key, key-kinds, spells-in, spells-lone}
-use Rattle.laws.specs.Readable.Readable.{readable-get}
-use Rattle.laws.specs.Readable.Recover.{recovered-is-plain}
+use Rattle.laws.specs.Receive.FormKeys.{readable-plain}
 use Rattle.laws.specs.Receive.Received.{is-index-get, received-get, received-put, index-injective}
 
 -- THE REPLACEMENT
@@ -68,32 +62,6 @@ dictionary-before cs ls none = by-test (lengths-good ls && eqb (total ls) (lengt
         let sum : total ls ≡ length cs = eqb-true (total ls) (length cs) (and-right (lengths-good ls) (eqb (total ls) (length cs)) t) in
         let plain : some-full-width (words-from ls cs) ≡ false = words-hold ls cs sum ∙ none in
         rw plain
-
--- a key whose string has a full-width form is that form, lone
-spells-plain :
-    {lex : Lexicon} → Good-lexicon lex → {k : Key} → Is-key lex k → ((c : ℕ) → is-full-width c ≡ true → k ≡ key 1 c → ⊥) →
-    Plain (spells lex k)
-unfolding key
-spells-plain {lex} good {k} h none =
-    ⊎-elim (λ (w : Is-word-key lex k). good .plain (spells lex k) (spells-in lex k w))
-    (λ (c : Is-lone-key lex k).
-    rw (spells-lone lex k (c .kind-is))
-    (one (false-put (is-full-width (k .value)) (λ t. none (k .value) t (key-eq k (key 1 (k .value)) (c .kind-is) refl)))))
-    (key-kinds lex k h)
-  where
-    one : is-full-width (k .value) ≡ false → Plain (k .value ∷ [])
-    one f zero b = f
-    one f (suc i) b = absurd (omega arith)
-
--- the text recovered from readable numbers without such a key has no full-width form
-pub readable-plain :
-    (g : ℕ) {lex : Lexicon} → Good-lexicon lex → (xs : List ℕ) → readable g lex xs ≡ true → ((c : ℕ) → Lone-form xs c → ⊥) →
-    Plain (recovered lex xs)
-readable-plain g {lex} good xs can none =
-    recovered-is-plain lex xs
-    (λ l m.
-    spells-plain good (readable-get g lex xs can .lines .each l m .is-key)
-    (λ c t e. none c (t, (l, m, e))))
 
 received-before :
     (g : ℕ) (cs ls xs : List ℕ) → admitted cs ls ≡ true → ((c : ℕ) → Lone-form xs c → ⊥) →

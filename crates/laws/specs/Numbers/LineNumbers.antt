@@ -1,14 +1,17 @@
 -- The lines of a slice by number. Assumes nothing.
 use mathlib.Core.Path.{_≡_, ap}
-use mathlib.Core.List.{List}
+use mathlib.Core.Bool.{true}
+use mathlib.Core.List.{List, [], _∷_}
 use Prim.Native.Nat.{ℕ, zero, suc, _+_, _*_, _<_}
 use native.Mathlib.Omega.{arith}
 use lib.ListN.{length, getD, take, drop}
 use lib.Seq.{drop-drop}
 use Rattle.basics.specs.Member.{In, in-getD, in-place}
-use Rattle.spec.specs.Numbers.{Line, line}
+use Rattle.spec.specs.Numbers.{Line, line, key-before}
 use Rattle.spec.specs.Index.{header, keys-of, key-at, count-at, counts-from, lines-from, lines-in}
 use Rattle.models.specs.Entries.{no-line, line-of}
+use Rattle.laws.specs.Text.Facts.{Keys-rise}
+use Rattle.laws.specs.Numbers.KeyOrder.{Key-before, key-before-get}
 use Rattle.laws.specs.Numbers.Slices.{length-lines-from}
 
 -- the key of line i and its positions, read from the slice
@@ -53,3 +56,20 @@ unfolding line-of
 line-number xs l m =
     let (i, b, e) = in-place l (lines-in xs) no-line m in
     (i, omega (arith, length-lines-in xs), e)
+
+-- of two lines the earlier one has the lesser key
+lines-rise :
+    (ls : List Line) → Keys-rise ls → (i j : ℕ) → i < j → j < length ls →
+    key-before (getD ls i no-line .key-of) (getD ls j no-line .key-of) ≡ true
+lines-rise [] order i j h b = absurd (omega arith)
+lines-rise (l ∷ ls) order i zero h b = absurd (omega arith)
+lines-rise (l ∷ ls) order zero (suc j) h b = order .0 (getD ls j no-line) (in-getD ls j no-line (omega arith))
+lines-rise (l ∷ ls) order (suc i) (suc j) h b = lines-rise ls (order .1) i j (omega arith) (omega arith)
+
+pub keys-before :
+    (xs : List ℕ) → Keys-rise (lines-in xs) → (i j : ℕ) → i < j → j < keys-of xs → Key-before (key-at xs i) (key-at xs j)
+unfolding line-of
+keys-before xs order i j h b =
+    key-before-get (key-at xs i) (key-at xs j)
+    (rw (line-of-key xs i (omega arith), line-of-key xs j b) at
+    (lines-rise (lines-in xs) order i j h (omega (arith, length-lines-in xs))))

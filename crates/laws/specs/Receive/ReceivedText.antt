@@ -1,5 +1,6 @@
 -- The text that reception reconstructs in its work slice, and the line map behind it: the reception test passes exactly if the index is
--- that of the recovered text, which the reconstruction then is; without full-width forms in it, the index is received. Assumes nothing.
+-- that of the recovered text, which the reconstruction then is; without a full-width form as a lone key, the index is received. Assumes
+-- nothing.
 use mathlib.Core.Path.{_≡_, refl, sym, _∙_}
 use mathlib.Core.Bool.{Bool, true, false, not}
 use mathlib.Core.List.{List}
@@ -9,15 +10,15 @@ use native.Mathlib.Omega.{arith}
 use lib.ListN.{length, take, drop, replicate, length-replicate, getD-replicate, List·getD-eq-default}
 use lib.Seq.{length-take-le}
 use Rattle.basics.specs.Bools.{clash, le-or-lt}
-use Rattle.spec.specs.Replaced.{holds-full-width}
 use Rattle.spec.specs.Dictionary.{Lexicon, admitted}
 use Rattle.spec.specs.Index.{n-of, lines-in, readable}
 use Rattle.spec.specs.Reception.{recovered, is-index, received}
 use Rattle.models.specs.Entries.{flat}
-use Rattle.models.specs.Reception.{reconstruct, mapped-at, fill-line-map, verify}
+use Rattle.models.specs.Reception.{reconstruct, mapped-at, fill-line-map, verify, some-form-key}
 use Rattle.laws.specs.Text.Facts.{Chars, Good-lexicon}
 use Rattle.laws.specs.Text.Chars.{chars-take}
 use Rattle.laws.specs.Build.Building.{reached-admitted}
+use Rattle.laws.specs.Receive.FormKeys.{forms-are-keys}
 use Rattle.laws.specs.Receive.LineMapFill.{line-map-mapped}
 use Rattle.laws.specs.Receive.LineMap.{Line-map}
 use Rattle.laws.specs.Receive.Reception.{reconstructing-chars, reception-exact, reception-recovers}
@@ -90,12 +91,14 @@ module _ {g : ℕ} {lex : Lexicon} {xs : List ℕ} {n : ℕ} {w u v : List ℕ} 
       recovers : is-index g lex xs ≡ true → reconstruct lex (flat lex (lines-in xs)) (take n w) ≡ recovered lex xs
       recovers = reception-recovers (h .good) g xs (take n w) text-long
 
--- the index is received if that text has no full-width form
+-- the index is received if no lone key is a full-width form
 module _ {g : ℕ} {lex : Lexicon} {xs v : List ℕ} {shown : Bool} (h : Read-back g lex xs shown v) where
   pub not-tried : shown ≡ false → Tried g lex xs false v
   unfolding received
   not-tried f = record { exact = rw (← h .exact, f) refl; text = λ t. clash t refl }
 
-  pub tried : shown ≡ true → (held : Bool) → held ≡ holds-full-width (take (n-of xs) v) → Tried g lex xs (not held) v
+  pub tried :
+      shown ≡ true → Good-lexicon lex → (held : Bool) → held ≡ some-form-key (lines-in xs) → Tried g lex xs (not held) v
   unfolding received
-  tried t held e = record { exact = rw (← h .exact, t, ← h .text t, ← e) refl; text = λ u. h .text t }
+  tried t good held e =
+      record { exact = rw (← h .exact, t, ← forms-are-keys good g xs (sym (h .exact) ∙ t), ← e) refl; text = λ u. h .text t }

@@ -7,37 +7,21 @@ use mathlib.Core.List.{List, [], _∷_}
 use Prim.Native.Nat.{ℕ, zero, suc, _+_, _*_, _-_, _≤_, _<_}
 use native.Mathlib.Nat.{add-zero}
 use native.Mathlib.Omega.{arith}
-use lib.ListN.{length, getD, drop}
-use lib.Seq.{drop-nil}
+use lib.ListN.{length, getD}
 use Rattle.basics.specs.Bools.{false-put, le-or-lt}
 use Rattle.spec.specs.Dictionary.{Lexicon, lexicon, word-before}
 use Rattle.spec.specs.Words.{key, spells}
-use Rattle.spec.specs.Numbers.{Line, line, key-before}
-use Rattle.spec.specs.Index.{header, keys-of, kind-at, value-at, key-at, lines-in}
+use Rattle.spec.specs.Index.{header, keys-of, kind-at, value-at, key-at}
 use Rattle.spec.specs.Search.{agrees}
 use Rattle.models.specs.Window.{field-at}
-use Rattle.laws.specs.Text.Facts.{Keys-rise}
 use Rattle.laws.specs.Dictionary.Keys.{spells-word, spells-lone}
-use Rattle.laws.specs.Numbers.KeyOrder.{Key-before, key-before-get}
+use Rattle.laws.specs.Numbers.LineNumbers.{keys-before}
 use Rattle.laws.specs.Dictionary.Lexicon.{length-words}
 use Rattle.laws.specs.Dictionary.WordOrder.{ascend-get}
 use Rattle.laws.specs.Search.Agree.{agrees-get, agree-first}
 use Rattle.laws.specs.Search.AgreeWalk.{together}
-use Rattle.laws.specs.Directory.Opened.{lines-next}
-use Rattle.laws.specs.Directory.Tables.{Can-read, key-is, word-below, in-front-of}
+use Rattle.laws.specs.Directory.Tables.{Can-read, key-is, word-below}
 use Rattle.basics.specs.LowerBound.{Rising, Lower-bound}
-
--- KEYS ASCEND
-
-rise-at :
-    (ls : List Line) → Keys-rise ls → (i j : ℕ) {l m : Line} {after later : List Line} → i < j → drop i ls ≡ l ∷ after →
-    drop j ls ≡ m ∷ later → key-before (l .key-of) (m .key-of) ≡ true
-rise-at [] k i j h p q = absurd (omega (arith, sym (ap length (drop-nil i)) ∙ ap length p))
-rise-at (x ∷ xs) k i zero h p q = absurd (omega arith)
-rise-at (x ∷ xs) k zero (suc j) {l} {m} {later} h p q =
-    let e : x ≡ l = ap (λ (ys : List Line). getD ys 0 l) p in
-    ap (λ (y : Line). key-before (y .key-of) (m .key-of)) (sym e) ∙ k .0 m (in-front-of xs j m later q)
-rise-at (x ∷ xs) k (suc i) (suc j) h p q = rise-at xs (k .1) i j (omega arith) p q
 
 -- of the lines a to b − 1 only r can agree with the string at the offset o
 abbrev pub Only-line : Lexicon → (numbers string : List ℕ) → (o a b r : ℕ) → Type 0
@@ -104,24 +88,18 @@ module _ {xs : List ℕ} {w : ℕ} (h : Values-rise xs w) where
             (le-or-lt i r)
 
 module _ {cs ls xs : List ℕ} (can : Can-read cs ls xs) where
-  keys-before : (i j : ℕ) → i < j → j < keys-of xs → Key-before (key-at xs i) (key-at xs j)
-  unfolding line
-  keys-before i j h b =
-      key-before-get (key-at xs i) (key-at xs j)
-      (rise-at (lines-in xs) (can .lines .order) i j h (lines-next xs i (omega arith)) (lines-next xs j b))
-
   -- of two lines of one kind the later has the greater value
   values-before : (i j : ℕ) → i < j → j < keys-of xs → kind-at xs i ≡ kind-at xs j → value-at xs i < value-at xs j
   unfolding key
   values-before i j h b same =
       ⊎-elim (λ (p : kind-at xs i < kind-at xs j). absurd (omega arith))
-      (λ (p : (kind-at xs i ≡ kind-at xs j) × (value-at xs i < value-at xs j)). p .1) (keys-before i j h b)
+      (λ (p : (kind-at xs i ≡ kind-at xs j) × (value-at xs i < value-at xs j)). p .1) (keys-before xs (can .lines .order) i j h b)
 
   kinds-before : (i j : ℕ) → i < j → j < keys-of xs → kind-at xs i ≤ kind-at xs j
   unfolding key
   kinds-before i j h b =
       ⊎-elim (λ (p : kind-at xs i < kind-at xs j). omega arith)
-      (λ (p : (kind-at xs i ≡ kind-at xs j) × (value-at xs i < value-at xs j)). omega arith) (keys-before i j h b)
+      (λ (p : (kind-at xs i ≡ kind-at xs j) × (value-at xs i < value-at xs j)). omega arith) (keys-before xs (can .lines .order) i j h b)
 
   -- so binary search by kind finds the first lone character
   pub kinds-rise : Rising (field-at xs 0) 0 (keys-of xs)

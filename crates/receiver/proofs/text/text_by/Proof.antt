@@ -1,14 +1,12 @@
--- `text_by` meets its contract: an index of the text its entries spell is received exactly if that text has no
--- full-width form. Assumes nothing.
-use mathlib.Core.Path.{sym}
-use Prim.Native.Nat.{_≤_}
-use native.Mathlib.Omega.{arith}
+-- `text_by` meets its contract: an index of the text its entries spell is received exactly if no lone key is a full-width form. Assumes
+-- nothing.
 use borrow.Author.Needs.{needs}
 use borrow.Author.Tests.{not-true, not-false}
 use lib.ListN.{length}
-use lib.Seq.{length-take-le}
 use Rattle.spec.specs.Dictionary.{longest-text}
 use Rattle.models.specs.WordStarts.{lengths-of}
+use Rattle.laws.specs.Dictionary.Lexicon.{admitted-lexicon}
+use Rattle.laws.specs.Receive.FormKeys.{readable-ordered}
 use Rattle.laws.specs.Receive.Receiving.{Delivered, delivered}
 use Rattle.laws.specs.Receive.ReceivedText.{not-tried, tried}
 use Rattle.receiver.proofs.text.text_by.Statement.{statement}
@@ -27,13 +25,6 @@ met s =
     delivered longest-text (s .args .chars .now) (lengths-of (s .args .word-starts .now)) (s .args .index .now)
     (length (s .args .work .now)) (s .pre .0)
 
-room :
-    (c : tie.After-text-len) →
-    c .text-len .result ≤ length (c .before .before .before .before .is-index-of-text .last .1 .1 .1 .1 .1 .0)
-room c =
-    let call = c .before .before .before .before in
-    omega (arith, met (start (last-slice call)) .room, c .text-len .ensures .0, call .is-index-of-text .kept)
-
 returns : tie.Need-returns
 returns c =
     let call = c .before .before .before .is-index-of-text in
@@ -41,16 +32,16 @@ returns c =
 
 returns-2 : tie.Need-returns-2
 returns-2 c =
-    let count = c .before .before in
-    let call = count .before .before .before .before .is-index-of-text in
-    tried (call .ensures) (not-false (call .result) (count .before .if1 .left)) (c .holds-full-width .result)
-    (rw (← count .text-len .ensures .0) (c .holds-full-width .ensures))
+    let call = c .before .before .before .before in
+    let s = start (last-slice call) in
+    tried (call .is-index-of-text .ensures) (not-false (call .is-index-of-text .result) (c .before .if1 .left))
+    (admitted-lexicon (s .args .chars .now) (lengths-of (s .args .word-starts .now)) (s .pre .1 .words .dictionary))
+    (c .has-form-key .result) (c .has-form-key .ensures)
 
 pub text-by-spec : {M : Type 1} → statement M
 text-by-spec =
     tie.close
     (tie.spec
     (λ c κs. search needs) (λ c. search needs) returns
-    (λ c κs. met (start (last-slice (c .before .before .before))) .fits .has-header)
-    (λ c. room c) (λ c. sym (length-take-le (c .before .text-len .result) _ (room (c .before)))) (λ c κs. search needs)
+    (λ c κs. readable-ordered longest-text _ _ (met (start (last-slice (c .before .before .before))) .can-read))
     (λ c. search needs) returns-2)
