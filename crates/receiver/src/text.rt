@@ -12,11 +12,11 @@ ghost use Rattle.spec.specs.Dictionary.{longest-text, lexicon};
 ghost use Rattle.spec.specs.Index.{n-of, lines-in, readable};
 ghost use Rattle.spec.specs.Calls.{zeros};
 ghost use Rattle.models.specs.WordStarts.{lengths-of, lexicon-at};
-ghost use Rattle.models.specs.Entries.{flat};
-ghost use Rattle.models.specs.Reception.{reconstruct, mapped-at, fill-line-map, verify};
+ghost use Rattle.models.specs.Reception.{reconstructed-over, mapped-at, fill-line-map, verify};
 ghost use Rattle.laws.specs.Text.Facts.{Chars};
 ghost use Rattle.laws.specs.Numbers.Slices.{Fits};
 ghost use Rattle.laws.specs.Match.MatchTable.{Started, Room, Tables};
+ghost use Rattle.laws.specs.Directory.Tables.{Reads};
 ghost use Rattle.laws.specs.Receive.LineMap.{Line-map};
 ghost use Rattle.laws.specs.Receive.LineMapWalk.{Can-map};
 ghost use Rattle.laws.specs.Receive.Receiving.{delivery-refusal};
@@ -31,7 +31,18 @@ use scanning::work::clear;
 use verification::verify::verify;
 use width::Number;
 
-// Reconstructs the text from the entries, over the first `n` numbers of the work slice.
+// Reconstructs the text from the entries, in a slice that is cleared first, so that all that it holds are characters.
+fn reconstruct_afresh(chars: &[u16], word_starts: &[u16], index: &[Number], text: &mut [Number])
+    requires { ⌜ Reads (now chars) (now «word_starts») (now index) × (length (now text) ≡ n-of (now index)) ⌝ }
+    ensures { λ _. ⌜
+        now (text .exit) ≡ reconstructed-over (lexicon-at (now (chars .entry)) (now («word_starts» .entry)))
+        (lines-in (now (index .entry))) (length (now (text .entry))) 0 ⌝ }
+{
+    clear(text);
+    reconstruct_entries(chars, word_starts, index, text);
+}
+
+// Reconstructs the text from the entries in the first `n` numbers of the work slice.
 fn reconstruct_front(
     chars: &[u16],
     word_starts: &[u16],
@@ -44,11 +55,10 @@ fn reconstruct_front(
         (readable longest-text (lexicon-at (now chars) (now «word_starts»)) (now index) ≡ true) × (n ≡ n-of (now index)) ×
         (n ≤ length (now work)) ⌝ }
     ensures { λ _. ⌜
-        take n (now (work .exit)) ≡ reconstruct (lexicon-at (now (chars .entry)) (now («word_starts» .entry)))
-        (flat (lexicon-at (now (chars .entry)) (now («word_starts» .entry))) (lines-in (now (index .entry))))
-        (take n (now (work .entry))) ⌝ }
+        take n (now (work .exit)) ≡ reconstructed-over (lexicon-at (now (chars .entry)) (now («word_starts» .entry)))
+        (lines-in (now (index .entry))) n 0 ⌝ }
 {
-    reconstruct_entries(chars, word_starts, index, &mut work[..n]);
+    reconstruct_afresh(chars, word_starts, index, &mut work[..n]);
 }
 
 // Fills the line map of an index in a slice that is cleared first.

@@ -8,15 +8,12 @@ use mathlib.Core.Logic.{⊎-elim}
 use Prim.Native.Nat.{ℕ, _-_, _≤_, _<_}
 use native.Mathlib.Omega.{arith}
 use lib.ListN.{length, take, drop, replicate, length-replicate, getD-replicate, List·getD-eq-default}
-use lib.Seq.{length-take-le}
 use Rattle.basics.specs.Bools.{clash, le-or-lt}
 use Rattle.spec.specs.Dictionary.{Lexicon, admitted}
 use Rattle.spec.specs.Index.{n-of, lines-in, readable}
 use Rattle.spec.specs.Reception.{recovered, is-index, received}
-use Rattle.models.specs.Entries.{flat}
-use Rattle.models.specs.Reception.{reconstruct, mapped-at, fill-line-map, verify, some-form-key}
+use Rattle.models.specs.Reception.{reconstructed-over, mapped-at, fill-line-map, verify, some-form-key}
 use Rattle.laws.specs.Text.Facts.{Chars, Good-lexicon}
-use Rattle.laws.specs.Text.Chars.{chars-take}
 use Rattle.laws.specs.Build.Building.{reached-admitted}
 use Rattle.laws.specs.Receive.FormKeys.{forms-are-keys}
 use Rattle.laws.specs.Receive.LineMapFill.{line-map-mapped}
@@ -49,26 +46,28 @@ pub delivered-admitted :
     (g : ℕ) (cs ls xs : List ℕ) (w : ℕ) → Chars cs → delivery-refusal g cs ls xs w ≡ 0 → admitted cs ls ≡ true
 delivered-admitted g cs ls xs w chars none = reached-admitted cs ls chars (delivered g cs ls xs w none .admits)
 
--- the work slice: w before the reconstruction, u after it, v after the line map is filled
-pub record In-work (g : ℕ) (lex : Lexicon) (xs : List ℕ) (n : ℕ) (w u v : List ℕ) : Type 0 where
+-- the work slice: u after the reconstruction, v after the line map is filled
+pub record In-work (g : ℕ) (lex : Lexicon) (xs : List ℕ) (n : ℕ) (u v : List ℕ) : Type 0 where
   pub good : Good-lexicon lex
   pub can : readable g lex xs ≡ true
   pub n-is : n ≡ n-of xs
-  pub room : n ≤ length w
-  pub chars : Chars w
-  pub reconstructs : take n u ≡ reconstruct lex (flat lex (lines-in xs)) (take n w)
+  pub reconstructs : take n u ≡ reconstructed-over lex (lines-in xs) n 0
   pub keeps : take n v ≡ take n u
   pub mapped : take n (drop n v) ≡ fill-line-map 0 (lines-in xs) (replicate n 0)
 
-module _ {g : ℕ} {lex : Lexicon} {xs : List ℕ} {n : ℕ} {w u v : List ℕ} (h : In-work g lex xs n w u v) where
-  reconstructed : take n v ≡ reconstruct lex (flat lex (lines-in xs)) (take n w)
+module _ {g : ℕ} {lex : Lexicon} {xs : List ℕ} {n : ℕ} {u v : List ℕ} (h : In-work g lex xs n u v) where
+  reconstructed : take n v ≡ reconstructed-over lex (lines-in xs) n 0
   reconstructed = h .keeps ∙ h .reconstructs
 
-  text-long : length (take n w) ≡ n-of xs
-  text-long = length-take-le n w (h .room) ∙ h .n-is
+  -- cleared, the slice holds characters
+  cleared-chars : Chars (replicate n 0)
+  cleared-chars i b = rw (getD-replicate {A = ℕ} n i 0 0 (omega (arith, length-replicate {A = ℕ} n 0))) (omega arith)
+
+  cleared-long : length (replicate {A = ℕ} n 0) ≡ n-of xs
+  cleared-long = length-replicate {A = ℕ} n 0 ∙ h .n-is
 
   line-map-long : n-of xs ≤ length (replicate {A = ℕ} n 0)
-  line-map-long = omega (arith, h .n-is, length-replicate {A = ℕ} n 0)
+  line-map-long = omega (arith, cleared-long)
 
   pub tried-mapped : Line-map xs (mapped-at (take n (drop n v)))
   tried-mapped =
@@ -78,7 +77,7 @@ module _ {g : ℕ} {lex : Lexicon} {xs : List ℕ} {n : ℕ} {w u v : List ℕ} 
   pub tried-chars : Chars (take n v)
   tried-chars =
       rw reconstructed
-      (reconstructing-chars (h .good) g xs (take n w) text-long (h .can) (chars-take n w (h .chars)))
+      (reconstructing-chars (h .good) g xs (replicate n 0) cleared-long (h .can) cleared-chars)
 
   pub read-back : {r : Bool} → r ≡ verify lex (mapped-at (take n (drop n v))) xs (take n v) → Read-back g lex xs r v
   read-back {r} e = record { exact = exact; text = λ t. rw (← h .n-is) (reconstructed ∙ recovers (sym exact ∙ t)) }
@@ -86,10 +85,10 @@ module _ {g : ℕ} {lex : Lexicon} {xs : List ℕ} {n : ℕ} {w u v : List ℕ} 
       exact : r ≡ is-index g lex xs
       exact =
           e
-          ∙ rw reconstructed (reception-exact (h .good) g xs (take n w) text-long (h .can) (chars-take n w (h .chars)) tried-mapped)
+          ∙ rw reconstructed (reception-exact (h .good) g xs (replicate n 0) cleared-long (h .can) cleared-chars tried-mapped)
 
-      recovers : is-index g lex xs ≡ true → reconstruct lex (flat lex (lines-in xs)) (take n w) ≡ recovered lex xs
-      recovers = reception-recovers (h .good) g xs (take n w) text-long
+      recovers : is-index g lex xs ≡ true → reconstructed-over lex (lines-in xs) n 0 ≡ recovered lex xs
+      recovers = reception-recovers (h .good) g xs (replicate n 0) cleared-long
 
 -- the index is received if no lone key is a full-width form
 module _ {g : ℕ} {lex : Lexicon} {xs v : List ℕ} {shown : Bool} (h : Read-back g lex xs shown v) where

@@ -38,8 +38,7 @@ made :
     let slices = read (front c) .before in
     let s = start slices in
     In-work longest-text (lexicon-at (s .args .chars .now) (s .args .word-starts .now)) (s .args .index .now)
-    (read (front c) .text-len .result) (s .args .work .now) (front c .reconstruct-front .last .1 .1 .1 .1 .0)
-    (c .fill-line-map-behind .last .1 .1 .0)
+    (read (front c) .text-len .result) (front c .reconstruct-front .last .1 .1 .1 .1 .0) (c .fill-line-map-behind .last .1 .1 .0)
 made c =
     let slices = read (front c) .before in
     let s = start slices in
@@ -47,8 +46,6 @@ made c =
       good = good s;
       can = met s .can-read;
       n-is = read (front c) .text-len .ensures .0;
-      room = omega (arith, met s .room, read (front c) .text-len .ensures .0);
-      chars = λ i h. omega (arith, slices .slice-known .given i);
       reconstructs = front c .reconstruct-front .ensures;
       keeps = c .fill-line-map-behind .ensures .0;
       mapped = c .fill-line-map-behind .ensures .1;
