@@ -24,6 +24,7 @@ use layout::fields::kind_at;
 use layout::fields::line_start;
 use layout::fields::text_len;
 use layout::fields::value_at;
+use width::LONGEST;
 use width::Number;
 use width::Sum;
 use width::number_at;
@@ -260,6 +261,9 @@ fn readable(chars: &[u16], lengths: &[u16], index: &[Number], as_gaps: bool) -> 
         (with-lists (read-as as_gaps) (now (index .entry))) ⌝ }
 {
     if index.len() < HEADER {
+        return false;
+    }
+    if text_len(index) > LONGEST {
         return false;
     }
     if index.len() < line_start(key_count(index)) {

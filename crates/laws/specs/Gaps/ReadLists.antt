@@ -16,7 +16,7 @@ use Rattle.models.specs.Readability.{key-code, as-is, list-good, line-list-good
 use Rattle.laws.specs.Gaps.GapLists.{length-sums}
 use Rattle.laws.specs.Gaps.WithLists.{Keeps-length, Same-lines, length-lists, front-list, later-lists, length-with, same-with}
 use Rattle.laws.specs.Gaps.WithLists.{positions-with, n-with, keys-with}
-use Rattle.laws.specs.Readable.LineWalk.{unreadable-header, unreadable-directory, readable-walk}
+use Rattle.laws.specs.Readable.LineWalk.{unreadable-header, unreadable-long, unreadable-directory, readable-walk}
 use Rattle.laws.specs.Readable.LineSteps.{positions-there}
 
 module _ (read : List ℕ → List ℕ) (keeps : Keeps-length read) where
@@ -41,6 +41,9 @@ module _ (read : List ℕ → List ℕ) (keeps : Keeps-length read) where
   module _ (g : ℕ) (lex : Lexicon) (xs : List ℕ) where
     pub header-missing : length xs < header → false ≡ readable g lex (with-lists read xs)
     header-missing short = unreadable-header g lex (with-lists read xs) (omega (arith, length-with read keeps xs))
+
+    pub text-too-long : g < n-of xs → false ≡ readable g lex (with-lists read xs)
+    text-too-long long = unreadable-long g lex (with-lists read xs) (omega (arith, n-with read keeps xs))
 
     pub directory-missing : length xs < header + 3 * keys-of xs → false ≡ readable g lex (with-lists read xs)
     directory-missing short =

@@ -17,6 +17,7 @@ use Rattle.spec.specs.Index.{kinds-good, key-good, keys-ascend, rise-from, last
 use Rattle.models.specs.Readability.{key-code, list-good, line-list-good, key-fits, line-fits, rest-good, as-is, walk-good}
 use Rattle.laws.specs.Numbers.KeyNumbers.{codes-ascend, codes-all, small-lines}
 use Rattle.laws.specs.Numbers.Slices.{Fits, lengths-fit-get}
+use Rattle.laws.specs.Readable.Readable.{readable-get}
 
 -- ONE LINE
 
@@ -217,6 +218,10 @@ module _ (g : ℕ) (lex : Lexicon) (xs : List ℕ) where
   pub unreadable-directory : length xs < header + 3 * keys-of xs → false ≡ readable g lex xs
   unreadable-directory h =
       sym (false-put (readable g lex xs) (λ (t : readable g lex xs ≡ true). omega (arith, readable-fits t .has-directory)))
+
+  pub unreadable-long : g < n-of xs → false ≡ readable g lex xs
+  unreadable-long h =
+      sym (false-put (readable g lex xs) (λ (t : readable g lex xs ≡ true). omega (arith, readable-get g lex xs t .length-allowed)))
 
   pub readable-walk :
       header ≤ length xs → header + 3 * keys-of xs ≤ length xs → n-of xs ≤ g →
