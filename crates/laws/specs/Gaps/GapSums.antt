@@ -18,6 +18,10 @@ use Rattle.models.specs.Gaps.{by-pairs, first-apart, carry, masked-sums, masks}
 
 -- SUMS THAT RESTART
 
+-- all ones let a sum through; only this law knows how many bits a number has
+through : (s : ℕ) → s ≤ carry → bitAnd s carry ≡ s
+through s small = and-mask s 16 ∙ mod-eq-of-lt (omega arith)
+
 -- the gaps of one list after its first
 carried :
     (s b : ℕ) (ds ms es : List ℕ) → s + total ds ≤ carry →
@@ -25,9 +29,8 @@ carried :
 unfolding masked-sums by-pairs sums-after total
 carried s b [] ms es small = let z : s + 0 ≡ s = omega arith in rw z
 carried s b (d ∷ ds) ms es small =
-    let through : bitAnd s carry ≡ s = and-mask s 16 ∙ mod-eq-of-lt (omega arith) in
     let sum : s + (d + total ds) ≡ s + d + total ds = omega arith in
-    rw (through, sum) (ap (λ (l : List ℕ). (s + d) ∷ l) (carried (s + d) d ds ms es (omega arith)))
+    rw (through s (omega arith), sum) (ap (λ (l : List ℕ). (s + d) ∷ l) (carried (s + d) d ds ms es (omega arith)))
 
 masked-list :
     (s : ℕ) (ds ms es : List ℕ) → total ds ≤ carry →
