@@ -4,7 +4,7 @@ ghost use Prim.Native.Nat.{_+_, _≤_};
 ghost use lib.ListN.{length};
 ghost use Rattle.basics.specs.Placed.{Wrote};
 ghost use Rattle.spec.specs.Replaced.{replaced};
-ghost use Rattle.spec.specs.Dictionary.{words-from};
+ghost use Rattle.spec.specs.Dictionary.{longest-text, words-from};
 ghost use Rattle.models.specs.WordStarts.{lexicon-at};
 ghost use Rattle.spec.specs.Index.{n-of};
 ghost use Rattle.spec.specs.Search.{find};
@@ -30,7 +30,7 @@ fn put_find(
 ) -> usize
     requires { ⌜
         Opened (now chars) (now «word_starts») (now index) (now «list_starts») × Is-string (now string) ×
-        (n-of (now index) ≤ length (now found)) ⌝ }
+        (n-of (now index) ≤ length (now found)) × (n-of (now index) ≤ longest-text) ⌝ }
     requires { ⌜
         at + length (found-line (find (lexicon-at (now chars) (now «word_starts»)) (now index) (replaced (now string)))) ≤ length
         (now out) ⌝ }
@@ -57,7 +57,7 @@ pub(crate) fn put_finds(
 ) -> usize
     requires { ⌜
         Opened (now chars) (now «word_starts») (now index) (now «list_starts») × Strings-good (now strings) (now counts) ×
-        (n-of (now index) ≤ length (now found)) ⌝ }
+        (n-of (now index) ≤ length (now found)) × (n-of (now index) ≤ longest-text) ⌝ }
     requires { ⌜
         at + length (found-lines (lexicon-at (now chars) (now «word_starts»)) (now index) (words-from (now counts) (now strings))) ≤ length
         (now out) ⌝ }

@@ -141,10 +141,10 @@ pub(crate) fn prefers_text_scan(
     string: &[u16],
     starts: usize,
 ) -> bool
-    requires { ⌜ Reads (now chars) (now «word_starts») (now index) × Is-string (now string) × (starts ≤ 2 ^ 32) ⌝ }
-    ensures { λ r. ⌜
-        (r ≡ true →
-        (starts + length (now (string .entry)) ≤ suc (n-of (now (index .entry)))) × (n-of (now (index .entry)) ≤ longest-text)) ⌝ }
+    requires { ⌜
+        Reads (now chars) (now «word_starts») (now index) × Is-string (now string) × (starts ≤ 2 ^ 32) ×
+        (n-of (now index) ≤ longest-text) ⌝ }
+    ensures { λ r. ⌜ (r ≡ true → starts + length (now (string .entry)) ≤ suc (n-of (now (index .entry)))) ⌝ }
 {
     let n = text_len(index);
     if n + 1 < starts + string.len() {

@@ -29,7 +29,7 @@ use width::Sum;
 // How many starts there are at which a string of this length fits into the text of an index.
 pub(crate) fn starts_of(index: &[Number], len: usize) -> usize
     requires { ⌜ header ≤ length (now index) ⌝ }
-    ensures { λ r. ⌜ (r ≡ suc (n-of (now (index .entry))) - len) × (n-of (now (index .entry)) ≤ longest-text) ⌝ }
+    ensures { λ r. ⌜ r ≡ suc (n-of (now (index .entry))) - len ⌝ }
 {
     let n = text_len(index);
     if n < len {
@@ -47,7 +47,9 @@ fn search_plain(
     string: &[u16],
     output: &mut [Number],
 ) -> Answer
-    requires { ⌜ Opened (now chars) (now «word_starts») (now index) (now «list_starts») × Is-string (now string) ⌝ }
+    requires { ⌜
+        Opened (now chars) (now «word_starts») (now index) (now «list_starts») × Is-string (now string) ×
+        (n-of (now index) ≤ longest-text) ⌝ }
     ensures { λ r. ⌜
         Sized (find (lexicon-at (now (chars .entry)) (now («word_starts» .entry))) (now (index .entry)) (now (string .entry))) r
         (now (output .entry)) (now (output .exit)) ⌝ }
@@ -73,7 +75,9 @@ pub fn search_tabled(
     string: &[u16],
     output: &mut [Number],
 ) -> Answer
-    requires { ⌜ Opened (now chars) (now «word_starts») (now index) (now «list_starts») × Is-string (now string) ⌝ }
+    requires { ⌜
+        Opened (now chars) (now «word_starts») (now index) (now «list_starts») × Is-string (now string) ×
+        (n-of (now index) ≤ longest-text) ⌝ }
     ensures { λ r. ⌜
         Sized (find (lexicon-at (now (chars .entry)) (now («word_starts» .entry))) (now (index .entry)) (replaced (now (string .entry)))) r
         (now (output .entry)) (now (output .exit)) ⌝ }
@@ -93,7 +97,8 @@ fn search_filled(
     output: &mut [Number],
 ) -> Answer
     requires { ⌜
-        Reads (now chars) (now «word_starts») (now index) × Is-string (now string) × (keys-of (now index) ≤ length (now «list_starts»)) ⌝ }
+        Reads (now chars) (now «word_starts») (now index) × Is-string (now string) × (keys-of (now index) ≤ length (now «list_starts»)) ×
+        (n-of (now index) ≤ longest-text) ⌝ }
     ensures { λ r. ⌜
         Sized (find (lexicon-at (now (chars .entry)) (now («word_starts» .entry))) (now (index .entry)) (replaced (now (string .entry)))) r
         (now (output .entry)) (now (output .exit)) ⌝ }
@@ -110,7 +115,9 @@ fn search_few_lines(
     string: &[u16],
     output: &mut [Number],
 ) -> Answer
-    requires { ⌜ Reads (now chars) (now «word_starts») (now index) × Is-string (now string) × (keys-of (now index) ≤ 1024) ⌝ }
+    requires { ⌜
+        Reads (now chars) (now «word_starts») (now index) × Is-string (now string) × (keys-of (now index) ≤ 1024) ×
+        (n-of (now index) ≤ longest-text) ⌝ }
     ensures { λ r. ⌜
         Sized (find (lexicon-at (now (chars .entry)) (now («word_starts» .entry))) (now (index .entry)) (replaced (now (string .entry)))) r
         (now (output .entry)) (now (output .exit)) ⌝ }
@@ -127,7 +134,9 @@ fn search_some_lines(
     string: &[u16],
     output: &mut [Number],
 ) -> Answer
-    requires { ⌜ Reads (now chars) (now «word_starts») (now index) × Is-string (now string) × (keys-of (now index) ≤ 8192) ⌝ }
+    requires { ⌜
+        Reads (now chars) (now «word_starts») (now index) × Is-string (now string) × (keys-of (now index) ≤ 8192) ×
+        (n-of (now index) ≤ longest-text) ⌝ }
     ensures { λ r. ⌜
         Sized (find (lexicon-at (now (chars .entry)) (now («word_starts» .entry))) (now (index .entry)) (replaced (now (string .entry)))) r
         (now (output .entry)) (now (output .exit)) ⌝ }
@@ -144,7 +153,7 @@ fn search_many_lines(
     string: &[u16],
     output: &mut [Number],
 ) -> Answer
-    requires { ⌜ Reads (now chars) (now «word_starts») (now index) × Is-string (now string) ⌝ }
+    requires { ⌜ Reads (now chars) (now «word_starts») (now index) × Is-string (now string) × (n-of (now index) ≤ longest-text) ⌝ }
     ensures { λ r. ⌜
         Sized (find (lexicon-at (now (chars .entry)) (now («word_starts» .entry))) (now (index .entry)) (replaced (now (string .entry)))) r
         (now (output .entry)) (now (output .exit)) ⌝ }
@@ -161,7 +170,7 @@ fn search_lines(
     string: &[u16],
     output: &mut [Number],
 ) -> Answer
-    requires { ⌜ Reads (now chars) (now «word_starts») (now index) × Is-string (now string) ⌝ }
+    requires { ⌜ Reads (now chars) (now «word_starts») (now index) × Is-string (now string) × (n-of (now index) ≤ longest-text) ⌝ }
     ensures { λ r. ⌜
         Sized (find (lexicon-at (now (chars .entry)) (now («word_starts» .entry))) (now (index .entry)) (replaced (now (string .entry)))) r
         (now (output .entry)) (now (output .exit)) ⌝ }
@@ -184,7 +193,7 @@ fn search_words(
     string: &[u16],
     output: &mut [Number],
 ) -> Answer
-    requires { ⌜ Can-read (now chars) (now lengths) (now index) × Is-string (now string) ⌝ }
+    requires { ⌜ Can-read (now chars) (now lengths) (now index) × Is-string (now string) × (n-of (now index) ≤ longest-text) ⌝ }
     ensures { λ r. ⌜
         Sized (find (lexicon (now (chars .entry)) (now (lengths .entry))) (now (index .entry)) (replaced (now (string .entry)))) r
         (now (output .entry)) (now (output .exit)) ⌝ }

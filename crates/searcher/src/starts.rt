@@ -4,7 +4,7 @@ ghost use mathlib.Core.Path.{_≡_};
 ghost use Prim.Native.Nat.{_≤_};
 ghost use lib.ListN.{length, replicate};
 ghost use Rattle.spec.specs.Dictionary.{longest-text};
-ghost use Rattle.spec.specs.Index.{greatest-number};
+ghost use Rattle.spec.specs.Index.{greatest-number, n-of};
 ghost use Rattle.models.specs.WordStarts.{lexicon-at};
 ghost use Rattle.laws.specs.Directory.Tables.{Opened};
 ghost use Rattle.laws.specs.Search.Sizing.{Is-string};
@@ -28,7 +28,7 @@ fn search_lent(
 ) -> Answer
     requires { ⌜
         Opened (now chars) (now «word_starts») (now index) (now «list_starts») × Is-string (now string) × (starts ≤ greatest-number) ×
-        (starts ≤ length (now reach)) × (now reach ≡ replicate (length (now reach)) 0) ⌝ }
+        (starts ≤ length (now reach)) × (now reach ≡ replicate (length (now reach)) 0) × (n-of (now index) ≤ longest-text) ⌝ }
     ensures { λ r. ⌜
         Window-says (lexicon-at (now (chars .entry)) (now («word_starts» .entry))) (now (index .entry)) (now (string .entry)) starts 1 r
         (now (output .entry)) (now (output .exit)) ⌝ }
@@ -54,7 +54,9 @@ fn search_in_short(
     starts: usize,
     output: &mut [Number],
 ) -> Answer
-    requires { ⌜ Opened (now chars) (now «word_starts») (now index) (now «list_starts») × Is-string (now string) × (starts ≤ 1024) ⌝ }
+    requires { ⌜
+        Opened (now chars) (now «word_starts») (now index) (now «list_starts») × Is-string (now string) × (starts ≤ 1024) ×
+        (n-of (now index) ≤ longest-text) ⌝ }
     ensures { λ r. ⌜
         Window-says (lexicon-at (now (chars .entry)) (now («word_starts» .entry))) (now (index .entry)) (now (string .entry)) starts 1 r
         (now (output .entry)) (now (output .exit)) ⌝ }
@@ -82,7 +84,9 @@ fn search_in_middle(
     starts: usize,
     output: &mut [Number],
 ) -> Answer
-    requires { ⌜ Opened (now chars) (now «word_starts») (now index) (now «list_starts») × Is-string (now string) × (starts ≤ 8192) ⌝ }
+    requires { ⌜
+        Opened (now chars) (now «word_starts») (now index) (now «list_starts») × Is-string (now string) × (starts ≤ 8192) ×
+        (n-of (now index) ≤ longest-text) ⌝ }
     ensures { λ r. ⌜
         Window-says (lexicon-at (now (chars .entry)) (now («word_starts» .entry))) (now (index .entry)) (now (string .entry)) starts 1 r
         (now (output .entry)) (now (output .exit)) ⌝ }
@@ -111,7 +115,8 @@ fn search_in_long(
     output: &mut [Number],
 ) -> Answer
     requires { ⌜
-        Opened (now chars) (now «word_starts») (now index) (now «list_starts») × Is-string (now string) × (starts ≤ longest-text) ⌝ }
+        Opened (now chars) (now «word_starts») (now index) (now «list_starts») × Is-string (now string) × (starts ≤ longest-text) ×
+        (n-of (now index) ≤ longest-text) ⌝ }
     ensures { λ r. ⌜
         Window-says (lexicon-at (now (chars .entry)) (now («word_starts» .entry))) (now (index .entry)) (now (string .entry)) starts 1 r
         (now (output .entry)) (now (output .exit)) ⌝ }
@@ -140,7 +145,8 @@ pub(crate) fn search_starts(
     output: &mut [Number],
 ) -> Answer
     requires { ⌜
-        Opened (now chars) (now «word_starts») (now index) (now «list_starts») × Is-string (now string) × (starts ≤ longest-text) ⌝ }
+        Opened (now chars) (now «word_starts») (now index) (now «list_starts») × Is-string (now string) × (starts ≤ longest-text) ×
+        (n-of (now index) ≤ longest-text) ⌝ }
     ensures { λ r. ⌜
         Window-says (lexicon-at (now (chars .entry)) (now («word_starts» .entry))) (now (index .entry)) (now (string .entry)) starts 1 r
         (now (output .entry)) (now (output .exit)) ⌝ }

@@ -72,7 +72,8 @@ fn reach_if_cheaper(
     reach: &mut [Number],
 ) -> bool
     requires { ⌜
-        Reads (now chars) (now «word_starts») (now index) × Is-string (now string) × (length (now reach) ≤ 2 ^ 32) ⌝ }
+        Reads (now chars) (now «word_starts») (now index) × Is-string (now string) × (length (now reach) ≤ 2 ^ 32) ×
+        (n-of (now index) ≤ longest-text) ⌝ }
     ensures told { λ r. ⌜
         (r ≡ true → Finds (lexicon-at (now (chars .entry)) (now («word_starts» .entry))) (now (index .entry)) (now (string .entry))
         (now (reach .exit))) ⌝ }
@@ -96,7 +97,7 @@ pub(crate) fn search_cleared(
 ) -> Answer
     requires { ⌜
         Opened (now chars) (now «word_starts») (now index) (now «list_starts») × Is-string (now string) ×
-        (length (now reach) ≤ greatest-number) × (now reach ≡ replicate (length (now reach)) 0) ⌝ }
+        (length (now reach) ≤ greatest-number) × (now reach ≡ replicate (length (now reach)) 0) × (n-of (now index) ≤ longest-text) ⌝ }
     ensures { λ r. ⌜
         Window-says (lexicon-at (now (chars .entry)) (now («word_starts» .entry))) (now (index .entry)) (now (string .entry))
         (length (now (reach .entry))) 1 r (now (output .entry)) (now (output .exit)) ⌝ }

@@ -2,16 +2,17 @@
 use mathlib.Core.Path.{_≡_, refl}
 use mathlib.Core.Bool.{Bool, true, false, not, cond}
 use mathlib.Core.List.{List}
-use Prim.Native.Nat.{ℕ}
+use Prim.Native.Nat.{ℕ, _≤_}
 use native.Mathlib.Omega.{arith}
 use lib.Dec.{eqb}
 use borrow.Author.Tests.{ne-eqb, eqb-true, eqb-false}
 use Rattle.spec.specs.Dictionary.{lexicon, dictionary-refusal}
-use Rattle.spec.specs.Index.{readable}
+use Rattle.spec.specs.Index.{n-of, readable}
 use Rattle.spec.specs.Calls.{unreadable, or-else, index-refusal}
 use Rattle.laws.specs.Dictionary.WordCode.{Small}
 use Rattle.laws.specs.Dictionary.Lexicon.{Is-admitted}
 use Rattle.laws.specs.Numbers.Slices.{Fits}
+use Rattle.laws.specs.Readable.Readable.{readable-get}
 use Rattle.laws.specs.Readable.LineWalk.{readable-fits}
 use Rattle.laws.specs.Readable.KeyTests.{dictionary-read}
 
@@ -44,6 +45,9 @@ module _ (g : ℕ) (cs ls xs : List ℕ) where
       by-tests true p true q e = record { no-refusal = eqb-true (dictionary-refusal cs ls) 0 p; is-readable = q }
       by-tests true p false q e = absurd (omega arith)
       by-tests false p b q e = absurd (eqb-false (dictionary-refusal cs ls) 0 p e)
+
+  pub accepted-length : index-refusal g cs ls xs ≡ 0 → n-of xs ≤ g
+  accepted-length none = readable-get g (lexicon cs ls) xs (index-accepted none .is-readable) .length-allowed
 
 -- what an operation on an index relies on once no line is met
 pub record Index-read (g : ℕ) (cs ls xs : List ℕ) : Type 0 where

@@ -64,6 +64,7 @@ put-finds-requires c κs =
         },
         s .pre .1 .0,
         omega arith,
+        omega arith,
       ),
       rw (front-lengths (s .pre .0 .1) (replicate 4097 0) table) (at-finds printed .room),
     )

@@ -25,4 +25,4 @@ prefers-text-scan-spec =
     tie.close
     (tie.spec
     (λ c κs. search needs) (λ c. search needs) (λ c. search needs) (λ c. λ t. clash t refl) count-word-lines-requires
-    (λ c. search needs) cost-exceeds-requires (λ c t. (omega arith, omega arith)))
+    (λ c. search needs) cost-exceeds-requires (λ c t. omega arith))

@@ -5,6 +5,7 @@ use borrow.Author.Needs.{needs}
 use Rattle.spec.specs.Replaced.{replaced}
 use Rattle.spec.specs.Dictionary.{longest-text, lexicon}
 use Rattle.spec.specs.Calls.{string-refusal}
+use Rattle.laws.specs.Readable.IndexRefusal.{accepted-length}
 use Rattle.laws.specs.Directory.Tables.{can-read}
 use Rattle.laws.specs.Search.Sizing.{string-number, string-passes}
 use Rattle.laws.specs.First.Found.{first-position-small}
@@ -26,16 +27,18 @@ first-words-requires c κs =
       can-read _ _ _ _ (λ i. omega (arith, tested .before .before .before .before .shared-slice-known .given i))
           (λ i. omega (arith, tested .before .before .shared-slice-known3 .given i)) (passes .0),
       passes .1,
+      accepted-length _ _ _ _ (passes .0),
     )
 
 cast-position : tie.Need-cast-position
 cast-position c =
-    let index = c .before .before .before .before in
-    let a = index .before .before .before .args in
+    let tested = c .before .before in
+    let passes = string-passes _ _ _ _ _ (sym (number tested) ∙ c .before .if1 .left) in
+    let a = tested .before .before .before .before .before .args in
     omega (
       arith,
       first-position-small (lexicon (a .chars .now) (a .lengths .now)) (a .index .now) (replaced (a .string .now)),
-      index .shared-slice-known3 .given 0,
+      accepted-length longest-text (a .chars .now) (a .lengths .now) (a .index .now) (passes .0),
     )
 
 returns-2 : tie.Need-returns-2

@@ -9,4 +9,4 @@ first-plain-spec =
     tie.close
     (tie.spec
     (λ c κs. search needs) (λ c κs. search needs)
-    (λ c. first-in-all (c .before .starts-of .ensures .0) (c .first-of-starts .ensures)))
+    (λ c. first-in-all (c .before .starts-of .ensures) (c .first-of-starts .ensures)))

@@ -16,7 +16,7 @@ slice-aggregate-first-lines c =
 first-lines-requires : tie.Need-first-lines-requires
 first-lines-requires c κs =
     let s = start (c .before .before .before) in
-    (front-reads (s .pre .0) (replicate 4097 0) (c .before .before .fill-word-starts .ensures), s .pre .1)
+    (front-reads (s .pre .0) (replicate 4097 0) (c .before .before .fill-word-starts .ensures), s .pre .1, s .pre .2)
 
 returns : tie.Need-returns
 returns c =

@@ -4,6 +4,7 @@ use native.Mathlib.Omega.{arith}
 use borrow.Author.Needs.{needs}
 use Rattle.spec.specs.Dictionary.{longest-text}
 use Rattle.spec.specs.Calls.{string-refusal}
+use Rattle.laws.specs.Readable.IndexRefusal.{accepted-length}
 use Rattle.laws.specs.Directory.Tables.{can-read}
 use Rattle.laws.specs.Search.Sizing.{string-number, string-passes}
 use Rattle.laws.specs.Window.Searching.{search-refused, search-says}
@@ -25,6 +26,7 @@ search-words-requires c κs =
       can-read _ _ _ _ (λ i. omega (arith, tested .before .before .before .before .before .shared-slice-known .given i))
           (λ i. omega (arith, tested .before .before .before .shared-slice-known3 .given i)) (passes .0),
       passes .1,
+      accepted-length _ _ _ _ (passes .0),
     )
 
 returns-2 : tie.Need-returns-2

@@ -9,4 +9,4 @@ search-plain-spec =
     tie.close
     (tie.spec
     (λ c κs. search needs) (λ c κs. search needs) (λ c. search needs)
-    (λ c. all-starts (c .before .before .before .before .starts-of .ensures .0) (c .before .before .search-starts .ensures)))
+    (λ c. all-starts (c .before .before .before .before .starts-of .ensures) (c .before .before .search-starts .ensures)))

@@ -5,4 +5,4 @@ use Rattle.searcher.proofs.search.starts_of.Tie as tie
 
 pub starts-of-spec : {M : Type 1} → statement M
 starts-of-spec =
-    tie.close (tie.spec (λ c κs. omega arith) (λ c. (omega arith, omega arith)) (λ c. omega arith) (λ c. (omega arith, omega arith)))
+    tie.close (tie.spec (λ c κs. omega arith) (λ c. omega arith) (λ c. omega arith) (λ c. omega arith))

@@ -18,6 +18,7 @@ search-cleared-requires c κs =
       s .pre .1,
       omega (arith, length-take-le (a .starts) (a .reach .now) (s .pre .3)),
       cleared-part _ _ _ (s .pre .4) (s .pre .3),
+      s .pre .5,
     )
 
 returns : tie.Need-returns
