@@ -32,7 +32,7 @@ fn estimate_line(
 ) -> usize
     requires { ⌜
         Reads (now chars) (now «word_starts») (now index) × (line < keys-of (now index)) × (kind-at (now index) line ≡ 0) ⌝ }
-    ensures { λ r. ⌜ r ≤ 2 ^ 32 ⌝ }
+    ensures { λ r. ⌜ r ≤ 2 ^ 37 ⌝ }
 {
     let count = count_at(index, line);
     if whole {
@@ -53,7 +53,7 @@ fn estimate_words(
     whole: bool,
 ) -> usize
     requires { ⌜ Bears-on (now chars) (now «word_starts») (now index) (now string) «word_lines» × («key_start» < length (now string)) ⌝ }
-    ensures { λ r. ⌜ r ≤ 2 ^ 49 ⌝ }
+    ensures { λ r. ⌜ r ≤ 2 ^ 50 ⌝ }
 {
     let mut lines = [0u16; 36];
     let agreeing = agreeing_words(
@@ -90,7 +90,7 @@ fn count_keys(
     word_lines: usize,
 ) -> usize
     requires { ⌜ Bears-on (now chars) (now «word_starts») (now index) (now string) «word_lines» × («key_start» < length (now string)) ⌝ }
-    ensures { λ r. ⌜ r ≤ 2 ^ 50 ⌝ }
+    ensures { λ r. ⌜ r ≤ 2 ^ 51 ⌝ }
 {
     let words = estimate_words(
         chars,

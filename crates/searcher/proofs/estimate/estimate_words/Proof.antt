@@ -1,27 +1,27 @@
--- `estimate_words` meets its contract. The invariants: each of the lines passed costs at most 2³². The measures are how many lines are
--- left. Assumes nothing.
+-- `estimate_words` meets its contract. The invariants: each of the lines passed costs at most 2³⁷, and there are at most 4,096 of each
+-- kind, listed or in the range. The measures are how many lines are left. Assumes nothing.
 use mathlib.Core.Path.{sym}
 use Prim.Native.Nat.{_+_, _*_, _-_, _^_, _≤_, _<_}
 use native.Mathlib.Omega.{arith}
 use lib.ListN.{length}
 use lib.Seq.{length-take-le}
 use borrow.Author.Needs.{needs}
-use Rattle.spec.specs.Index.{greatest-number}
 use Rattle.laws.specs.Window.AgreeingLines.{listed-few}
+use Rattle.laws.specs.Window.LineRanges.{word-lines-few}
 use Rattle.laws.specs.Cut.Flagging.{agreeing-below}
 use Rattle.searcher.proofs.estimate.estimate_words.Statement.{statement}
 use Rattle.searcher.proofs.estimate.estimate_words.Tie as tie
 
 abbrev Inv-loop : tie.InvT-loop
 Inv-loop chars word-starts index string key-start word-lines whole agreeing listed sum₀ i₀ sum i =
-    (i ≤ length listed) × (length listed ≤ greatest-number) × (sum ≤ 2 ^ 32 * i)
+    (i ≤ length listed) × (length listed ≤ 4096) × (agreeing .to ≤ 4096) × (sum ≤ 2 ^ 37 * i)
 
 abbrev μ-loop : tie.MeasureT-loop
 μ-loop chars word-starts index string key-start word-lines whole agreeing listed sum₀ i₀ sum i = length listed - i
 
 abbrev Inv-loop2 : tie.InvT-loop2
 Inv-loop2 chars word-starts index string key-start word-lines whole agreeing sum₀ i line₀ sum line =
-    (line ≤ agreeing .to) × (sum ≤ 2 ^ 32 * (greatest-number + line))
+    (line ≤ agreeing .to) × (agreeing .to ≤ 4096) × (sum ≤ 2 ^ 37 * (4096 + line))
 
 abbrev μ-loop2 : tie.MeasureT-loop2
 μ-loop2 chars word-starts index string key-start word-lines whole agreeing sum₀ i line₀ sum line = agreeing .to - line
@@ -31,8 +31,10 @@ start c = c .before .before .before .before .before
 
 loop-holds : tie.Need-loop-holds Inv-loop μ-loop Inv-loop2 μ-loop2
 loop-holds c =
-    let few = listed-few (c .before .before .agreeing-words .ensures .0) in
-    (omega arith, omega (arith, few), omega arith)
+    let words = c .before .before in
+    let h = start (words .before) .pre .0 in
+    let few = word-lines-few (h .reads .can) (h .split) in
+    (omega arith, omega (arith, few, listed-few (words .agreeing-words .ensures .0)), omega (arith, few), omega arith)
 
 estimate-line-requires : tie.Need-estimate-line-requires Inv-loop μ-loop Inv-loop2 μ-loop2
 estimate-line-requires c κs =
@@ -61,5 +63,5 @@ estimate-words-spec =
     loop-holds (λ c. search needs) (λ c. search needs)
     (λ c. omega (arith, c .shared-slice-known5 .given (c .before .before .loop .i))) estimate-line-requires
     (λ c. omega arith) (λ c. omega arith) (λ c. omega arith)
-    (λ c. (omega arith, omega arith, omega arith)) (λ c. (omega arith, omega arith)) estimate-line-requires-2 (λ c. omega arith)
-    (λ c. omega arith) (λ c. omega arith) (λ c. (omega arith, omega arith)) (λ c. omega arith))
+    (λ c. (omega arith, omega arith, omega arith, omega arith)) (λ c. (omega arith, omega arith, omega arith)) estimate-line-requires-2 (λ c. omega arith)
+    (λ c. omega arith) (λ c. omega arith) (λ c. (omega arith, omega arith, omega arith)) (λ c. omega arith))
