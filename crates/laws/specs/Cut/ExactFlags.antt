@@ -1,7 +1,7 @@
 -- The lines whose keys bear on a string, by exact flags, and the walk that sizes the cut-down index. Assumes nothing.
 use mathlib.Core.Path.{_≡_, refl, ap, _∙_}
 use mathlib.Core.Bool.{Bool, true, false, cond}
-use mathlib.Core.List.{List, [], _∷_}
+use mathlib.Core.List.{List, [], _∷_, _++_}
 use Prim.Native.Nat.{ℕ, _+_, _*_, _≤_, _<_}
 use native.Mathlib.Omega.{arith}
 use lib.ListN.{length, getD, take, drop, length-append, length-drop}
@@ -9,10 +9,11 @@ use lib.Seq.{length-take-le}
 use Rattle.spec.specs.Dictionary.{Lexicon}
 use Rattle.spec.specs.Words.{spells}
 use Rattle.spec.specs.Numbers.{Line, line, all-positions}
-use Rattle.spec.specs.Index.{greatest-number, keys-of, count-at, key-at, lines-in}
+use Rattle.spec.specs.Index.{header, greatest-number, n-of, keys-of, count-at, key-at, lines-in}
 use Rattle.spec.specs.Cut.{bears, bearing}
 use Rattle.models.specs.Window.{list-start}
-use Rattle.laws.specs.Numbers.Slices.{Fits}
+use Rattle.laws.specs.Numbers.Slices.{Fits, length-numbers, numbers-lines-in}
+use Rattle.laws.specs.Numbers.LineNumbers.{length-lines-in}
 use Rattle.laws.specs.Directory.Opened.{line-of, lines-next, lines-none, list-room}
 
 module _ (lex : Lexicon) (xs s : List ℕ) where
@@ -69,6 +70,32 @@ module _ {lex : Lexicon} {xs s fs : List ℕ} (lines : Flagged-lines lex xs s fs
 
 -- THE SIZE
 
+-- the bearing lines have no more positions than all lines
+bearing-positions : (lex : Lexicon) (s : List ℕ) (ls : List Line) → length (all-positions (bearing lex s ls)) ≤ length (all-positions ls)
+unfolding bearing all-positions
+bearing-positions lex s [] = omega arith
+bearing-positions lex s (l ∷ ls) = by-test (bears (spells lex (l .key-of)) s) (bearing-positions lex s ls)
+  where
+    by-test :
+        (t : Bool) → length (all-positions (bearing lex s ls)) ≤ length (all-positions ls) →
+        length (all-positions (cond t (l ∷ bearing lex s ls) (bearing lex s ls))) ≤ length (l .positions ++ all-positions ls)
+    by-test true h =
+        omega (arith, length-append (l .positions) (all-positions (bearing lex s ls)), length-append (l .positions) (all-positions ls))
+    by-test false h = omega (arith, length-append (l .positions) (all-positions ls))
+
+-- so the slice holds them after the directory
+bearing-within :
+    (lex : Lexicon) (xs s : List ℕ) → Fits xs →
+    header + 3 * keys-of xs + length (all-positions (bearing-from lex xs s 0)) ≤ length xs
+bearing-within lex xs s fits =
+    omega (
+      arith,
+      bearing-positions lex s (lines-in xs),
+      length-lines-in xs,
+      length-numbers (n-of xs) (lines-in xs),
+      ap length (numbers-lines-in xs fits),
+    )
+
 -- `keys` of the first i lines bear, with `entries` entries
 pub record Counting (lex : Lexicon) (xs s fs : List ℕ) (keys entries i : ℕ) : Type 0 where
   pub lines : Flagged-lines lex xs s fs
@@ -76,7 +103,7 @@ pub record Counting (lex : Lexicon) (xs s fs : List ℕ) (keys entries i : ℕ) 
   pub keys-left : keys + length (bearing-from lex xs s i) ≡ length (bearing-from lex xs s 0)
   pub entries-left : entries + length (all-positions (bearing-from lex xs s i)) ≡ length (all-positions (bearing-from lex xs s 0))
   pub keys-few : keys ≤ i
-  pub entries-few : entries ≤ greatest-number * i
+  pub entries-few : header + 3 * keys-of xs + entries ≤ length xs
 
 pub counting-start : {lex : Lexicon} {xs s fs : List ℕ} → Flagged-lines lex xs s fs → Counting lex xs s fs 0 0 0
 counting-start lines =
@@ -86,36 +113,38 @@ counting-start lines =
       keys-left = omega arith;
       entries-left = omega arith;
       keys-few = omega arith;
-      entries-few = omega arith;
+      entries-few = omega (arith, lines .fits .has-directory);
     }
 
--- the number of bearing keys and of their positions
+-- the number of bearing keys and of their positions, which with the header take no more numbers than the index
 pub record Is-size (lex : Lexicon) (xs s : List ℕ) (keys entries : ℕ) : Type 0 where
   pub keys-are : keys ≡ length (bearing lex s (lines-in xs))
   pub entries-are : entries ≡ length (all-positions (bearing lex s (lines-in xs)))
   pub keys-small : keys ≤ greatest-number
-  pub entries-small : entries ≤ greatest-number * greatest-number
+  pub entries-small : header + 3 * keys + entries ≤ length xs
 
 module _ {lex : Lexicon} {xs s fs : List ℕ} {keys entries i : ℕ} (h : Counting lex xs s fs keys entries i) where
   pub counting-step :
-      i < keys-of xs → (getD fs i 0 ≡ 0 → ⊥) → {count : ℕ} → count ≡ count-at xs i → count ≤ greatest-number →
+      i < keys-of xs → (getD fs i 0 ≡ 0 → ⊥) → {count : ℕ} → count ≡ count-at xs i →
       Counting lex xs s fs (keys + 1) (entries + count) (i + 1)
   unfolding all-positions line
-  counting-step below some is small =
+  counting-step below some {count} is =
       let kept = flagged-next (h .lines) i below some in
+      let left :
+      entries + count + length (all-positions (bearing-from lex xs s (i + 1))) ≡ length (all-positions (bearing-from lex xs s 0)) =
+      omega (
+        arith,
+        ap (λ (l : List Line). length (all-positions l)) kept,
+        length-append (take (count-at xs i) (drop (list-start xs i) xs)) (all-positions (bearing-from lex xs s (i + 1))),
+        positions-length (h .lines) i below,
+      ) in
       record {
         lines = h .lines;
         within = omega arith;
         keys-left = omega (arith, ap length kept);
-        entries-left =
-            omega (
-              arith,
-              ap (λ (l : List Line). length (all-positions l)) kept,
-              length-append (take (count-at xs i) (drop (list-start xs i) xs)) (all-positions (bearing-from lex xs s (i + 1))),
-              positions-length (h .lines) i below,
-            );
+        entries-left = left;
         keys-few = omega arith;
-        entries-few = omega arith;
+        entries-few = omega (arith, left, bearing-within lex xs s (h .lines .fits));
       }
 
   pub counting-pass : i < keys-of xs → getD fs i 0 ≡ 0 → Counting lex xs s fs keys entries (i + 1)

@@ -18,7 +18,15 @@ abbrev μ-loop : tie.MeasureT-loop
 loop-again : tie.Need-loop-again Inv-loop μ-loop
 loop-again c =
     counting-step (c .before .before .before .before .loop .inv) (omega arith) (c .before .if1 .taken) (c .count-at .ensures .0)
-    (c .count-at .ensures .1)
+
+-- the sum of the counts does not wrap: the index holds as many positions
+add-entries : tie.Need-add-entries Inv-loop μ-loop
+add-entries c =
+    omega (
+      arith,
+      counting-step (c .before .before .before .before .loop .inv) (omega arith) (c .before .if1 .taken) (c .count-at .ensures .0)
+          .entries-few,
+    )
 
 pub size-flagged-spec : {M : Type 1} → statement M
 size-flagged-spec =
@@ -26,6 +34,6 @@ size-flagged-spec =
     (tie.spec
     Inv-loop μ-loop (λ c κs. omega arith)
     (λ c. let known = c .before in counting-start (known .before .before .before .before .before .pre)) (λ c. omega arith)
-    (λ c. search needs) (λ c. omega arith) (λ c κs. omega arith) (λ c. omega arith) (λ c. search needs) loop-again (λ c. search needs)
+    (λ c. search needs) (λ c. omega arith) (λ c κs. omega arith) add-entries (λ c. search needs) loop-again (λ c. search needs)
     (λ c. counting-pass (c .before .before .before .loop .inv) (omega arith) (c .if1 .left))
     (λ c. counting-end (c .before .loop .inv) (omega arith) (omega arith)))
