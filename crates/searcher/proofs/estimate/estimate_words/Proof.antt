@@ -63,5 +63,5 @@ estimate-words-spec =
     loop-holds (λ c. search needs) (λ c. search needs)
     (λ c. omega (arith, c .shared-slice-known5 .given (c .before .before .loop .i))) estimate-line-requires
     (λ c. omega arith) (λ c. omega arith) (λ c. omega arith)
-    (λ c. (omega arith, omega arith, omega arith, omega arith)) (λ c. (omega arith, omega arith, omega arith)) estimate-line-requires-2 (λ c. omega arith)
-    (λ c. omega arith) (λ c. omega arith) (λ c. (omega arith, omega arith, omega arith)) (λ c. omega arith))
+    (λ c. (omega arith, omega arith, omega arith, omega arith)) (λ c. (omega arith, omega arith, omega arith)) estimate-line-requires-2
+    (λ c. omega arith) (λ c. omega arith) (λ c. omega arith) (λ c. (omega arith, omega arith, omega arith)) (λ c. omega arith))
