@@ -52,7 +52,8 @@ fn line_leads(
         Reads (now chars) (now «word_starts») (now index) × (line < keys-of (now index)) × (kind-at (now index) line ≡ 0) ×
         (1 ≤ length (now string)) × (least ≤ 1) ⌝ }
     ensures { λ r. ⌜
-        r ≡ is-leading least (lexicon-at (now (chars .entry)) (now («word_starts» .entry))) (now (index .entry)) (now (string .entry)) line ⌝ }
+        r ≡ is-leading least (lexicon-at (now (chars .entry)) (now («word_starts» .entry))) (now (index .entry)) (now (string .entry))
+        line ⌝ }
 {
     let start = word_starts[value_at(index, line)] as usize;
     let word = word_at(chars, word_starts, index, line);
@@ -79,8 +80,8 @@ fn fill_leading(
     ensures { λ r. ⌜
         (r ≡ length (leading-lines least (lexicon-at (now (chars .entry)) (now («word_starts» .entry))) (now (index .entry))
         (now (string .entry)) «word_lines»)) ×
-        (now (lines .exit) ≡ in-front (leading-lines least (lexicon-at (now (chars .entry)) (now («word_starts» .entry))) (now (index .entry))
-        (now (string .entry)) «word_lines») (now (lines .entry))) ⌝ }
+        (now (lines .exit) ≡ in-front (leading-lines least (lexicon-at (now (chars .entry)) (now («word_starts» .entry)))
+        (now (index .entry)) (now (string .entry)) «word_lines») (now (lines .entry))) ⌝ }
 {
     let mut count = 0;
     let mut line = 0;

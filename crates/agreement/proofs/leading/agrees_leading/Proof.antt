@@ -73,4 +73,5 @@ agrees-leading-spec =
     tie.close
     (tie.spec
     Inv-loop μ-loop (λ c. search needs) (λ c. omega arith) loop-holds (λ c. omega arith) (λ c. search needs) (λ c. search needs)
-    (λ c. search needs) (λ c. search needs) sub-agrees-at (λ c κs. tt) returns (λ c. search needs) loop-again (λ c. search needs) loop-again-2 returns-2)
+    (λ c. search needs) (λ c. search needs) sub-agrees-at (λ c κs. tt) returns (λ c. search needs) loop-again (λ c. search needs)
+    loop-again-2 returns-2)

@@ -12,7 +12,8 @@ start c =
 returns : tie.Need-returns
 returns c =
     let lone = c .before .before in
-    let words = lone .before .before .before .before .before .before in
+    let flagged = lone .before .before .before in
+    let words = flagged .before .before .before in
     flagged-both (start words .pre .0 .split .within) (words .flag-words .ensures) (lone .flag-lone .ensures)
 
 pub flag-offset-spec : {M : Type 1} → statement M
