@@ -6,12 +6,12 @@
 ghost use mathlib.Core.Path.{_≡_};
 ghost use Prim.Native.Nat.{_≤_, _<_};
 ghost use lib.ListN.{length, take};
-ghost use Rattle.spec.specs.Calls.{in-front};
 ghost use Rattle.spec.specs.Index.{keys-of, kind-at};
 ghost use Rattle.models.specs.Window.{agrees-leading, is-leading, leading-lines};
 ghost use Rattle.models.specs.WordStarts.{lexicon-at};
 ghost use Rattle.laws.specs.Directory.Tables.{Reads};
 ghost use Rattle.laws.specs.Window.LineRanges.{Split};
+ghost use Rattle.laws.specs.Window.LeadingLines.{Filled};
 use crate::blocks::seen_to_lack;
 use crate::offset::agrees_at;
 use directory::lines::word_at;
@@ -78,10 +78,8 @@ fn fill_leading(
         Reads (now chars) (now «word_starts») (now index) × Split (now index) «word_lines» × (1 ≤ length (now string)) ×
         («word_lines» ≤ length (now lines)) × (least ≤ 1) ⌝ }
     ensures { λ r. ⌜
-        (r ≡ length (leading-lines least (lexicon-at (now (chars .entry)) (now («word_starts» .entry))) (now (index .entry))
-        (now (string .entry)) «word_lines»)) ×
-        (now (lines .exit) ≡ in-front (leading-lines least (lexicon-at (now (chars .entry)) (now («word_starts» .entry)))
-        (now (index .entry)) (now (string .entry)) «word_lines») (now (lines .entry))) ⌝ }
+        Filled (leading-lines least (lexicon-at (now (chars .entry)) (now («word_starts» .entry))) (now (index .entry))
+        (now (string .entry)) «word_lines») r (now (lines .entry)) (now (lines .exit)) ⌝ }
 {
     let mut count = 0;
     let mut line = 0;

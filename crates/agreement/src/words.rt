@@ -3,13 +3,11 @@
 // Words are sorted, so those that share the string's next characters are one range of lines. Each further character takes the equal range
 // within the last one, by binary search. A word that ends on the way agrees, and where the string ends all words left do. Where at most
 // four lines are left they are compared. Search, estimate and cut-down index each walk what is found here.
-ghost use mathlib.Core.Path.{_≡_};
 ghost use Prim.Native.Nat.{_+_, _≤_, _<_};
 ghost use lib.ListN.{length};
 ghost use Rattle.models.specs.WordStarts.{lexicon-at};
-ghost use Rattle.laws.specs.Directory.Tables.{Reads};
-ghost use Rattle.laws.specs.Window.LineRanges.{Split};
-ghost use Rattle.laws.specs.Window.AgreeingLines.{Agreeing-listed, Range-agrees};
+ghost use Rattle.laws.specs.Window.LineRanges.{Search-lines};
+ghost use Rattle.laws.specs.Window.AgreeingLines.{Agreeing-listed, Agreeing-found};
 ghost use Rattle.laws.specs.Window.AgreeingWords.{Refining};
 use crate::offset::agrees_at;
 use directory::lines::word_at;
@@ -36,8 +34,8 @@ fn refine(
     lines: &mut [u16],
 ) -> Agreeing
     requires { ⌜
-        Reads (now chars) (now «word_starts») (now index) × Split (now index) «word_lines» × («key_start» < length (now string)) ×
-        (length (now string) ≤ 256) × (36 ≤ length (now lines)) ⌝ }
+        Search-lines (now chars) (now «word_starts») (now index) (now string) «word_lines» × («key_start» < length (now string)) ×
+        (36 ≤ length (now lines)) ⌝ }
     ensures { λ r. ⌜
         Refining (now (chars .entry)) (now («word_starts» .entry)) (now (index .entry)) (now (string .entry)) «key_start» «word_lines»
         (now (lines .exit)) (r .count) (r .from) (r .to) (r .depth) ×
@@ -89,14 +87,12 @@ fn compare_few(
     lines: &mut [u16],
 ) -> Agreeing
     requires { ⌜
-        Reads (now chars) (now «word_starts») (now index) × Split (now index) «word_lines» × («key_start» ≤ 256) ×
-        Agreeing-listed «key_start» (lexicon-at (now chars) (now «word_starts»)) (now index) (now string) «word_lines» (now lines)
-        (refined .count) (refined .from) (refined .to) × (36 ≤ length (now lines)) × (refined .count ≤ 32) ×
-        (refined .to ≤ refined .from + 4) ⌝ }
+        Search-lines (now chars) (now «word_starts») (now index) (now string) «word_lines» × («key_start» < length (now string)) ×
+        Refining (now chars) (now «word_starts») (now index) (now string) «key_start» «word_lines» (now lines) (refined .count)
+        (refined .from) (refined .to) (refined .depth) × (refined .to ≤ refined .from + 4) ⌝ }
     ensures { λ r. ⌜
         Agreeing-listed «key_start» (lexicon-at (now (chars .entry)) (now («word_starts» .entry))) (now (index .entry))
-        (now (string .entry))
-        «word_lines» (now (lines .exit)) (r .count) (r .from) (r .to) × (r .to ≤ r .from) ⌝ }
+        (now (string .entry)) «word_lines» (now (lines .exit)) (r .count) (r .from) (r .to) × (r .to ≤ r .from) ⌝ }
 {
     let mut count = refined.count;
     let mut low = refined.from;
@@ -129,14 +125,11 @@ pub fn agreeing_words(
     lines: &mut [u16],
 ) -> Agreeing
     requires { ⌜
-        Reads (now chars) (now «word_starts») (now index) × Split (now index) «word_lines» × («key_start» < length (now string)) ×
-        (length (now string) ≤ 256) × (36 ≤ length (now lines)) ⌝ }
+        Search-lines (now chars) (now «word_starts») (now index) (now string) «word_lines» × («key_start» < length (now string)) ×
+        (36 ≤ length (now lines)) ⌝ }
     ensures { λ r. ⌜
-        Agreeing-listed «key_start» (lexicon-at (now (chars .entry)) (now («word_starts» .entry))) (now (index .entry))
-        (now (string .entry))
-        «word_lines» (now (lines .exit)) (r .count) (r .from) (r .to) ×
-        Range-agrees «key_start» (lexicon-at (now (chars .entry)) (now («word_starts» .entry))) (now (index .entry)) (now (string .entry))
-        (r .from) (r .to) ⌝ }
+        Agreeing-found «key_start» (lexicon-at (now (chars .entry)) (now («word_starts» .entry))) (now (index .entry))
+        (now (string .entry)) «word_lines» (now (lines .exit)) (r .count) (r .from) (r .to) ⌝ }
 {
     let refined = refine(
         chars,

@@ -6,9 +6,9 @@ ghost use mathlib.Core.Path.{_≡_};
 ghost use Prim.Native.Nat.{_≤_};
 ghost use lib.ListN.{length, replicate};
 ghost use Rattle.spec.specs.Index.{keys-of};
+ghost use Rattle.spec.specs.Dictionary.{longest-text};
 ghost use Rattle.models.specs.WordStarts.{lexicon-at};
-ghost use Rattle.laws.specs.Directory.Tables.{Reads};
-ghost use Rattle.laws.specs.Search.Sizing.{Is-string};
+ghost use Rattle.laws.specs.Directory.Searchable.{Search-reads};
 ghost use Rattle.laws.specs.Cut.ExactFlags.{Exact-flags};
 use crate::flags::flag_list;
 use crate::offsets::flag_offsets;
@@ -24,7 +24,7 @@ pub fn flag_bearing(
     flags: &mut [u8],
 )
     requires { ⌜
-        Reads (now chars) (now «word_starts») (now index) × Is-string (now string) × (keys-of (now index) ≤ length (now flags)) ×
+        Search-reads longest-text (now chars) (now «word_starts») (now index) (now string) × (keys-of (now index) ≤ length (now flags)) ×
         (now flags ≡ replicate (length (now flags)) 0) ⌝ }
     ensures { λ r. ⌜
         Exact-flags (lexicon-at (now (chars .entry)) (now («word_starts» .entry))) (now (index .entry)) (now (string .entry))

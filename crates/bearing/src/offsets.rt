@@ -6,8 +6,8 @@ ghost use Prim.Native.Nat.{_≤_, _<_};
 ghost use lib.ListN.{length};
 ghost use Rattle.spec.specs.Index.{keys-of};
 ghost use Rattle.models.specs.WordStarts.{lexicon-at};
-ghost use Rattle.laws.specs.Cut.Flagging.{Flags, Offset-flagged};
-ghost use Rattle.laws.specs.Cut.FlagWalks.{Bears-on, Offsets};
+ghost use Rattle.laws.specs.Cut.Flagging.{Offset-flagged};
+ghost use Rattle.laws.specs.Cut.FlagWalks.{Offsets, Flags-lines};
 use crate::flags::flag_list;
 use crate::flags::flag_run;
 use agreement::lone::lone_line;
@@ -27,8 +27,8 @@ fn flag_words(
     flags: &mut [u8],
 )
     requires { ⌜
-        Bears-on (now chars) (now «word_starts») (now index) (now string) «word_lines» × («key_start» < length (now string)) ×
-        (36 ≤ length (now lines)) × Flags (lexicon-at (now chars) (now «word_starts»)) (now index) (now string) (now flags) ⌝ }
+        Flags-lines (now chars) (now «word_starts») (now index) (now string) «word_lines» (now flags) ×
+        («key_start» < length (now string)) × (36 ≤ length (now lines)) ⌝ }
     ensures { λ r. ⌜
         Offset-flagged (lexicon-at (now (chars .entry)) (now («word_starts» .entry))) (now (index .entry)) (now (string .entry)) «key_start»
         0 «word_lines» (now (flags .entry)) (now (flags .exit)) ⌝ }
@@ -58,8 +58,8 @@ fn flag_lone(
     flags: &mut [u8],
 )
     requires { ⌜
-        Bears-on (now chars) (now «word_starts») (now index) (now string) «word_lines» × («key_start» < length (now string)) ×
-        Flags (lexicon-at (now chars) (now «word_starts»)) (now index) (now string) (now flags) ⌝ }
+        Flags-lines (now chars) (now «word_starts») (now index) (now string) «word_lines» (now flags) ×
+        («key_start» < length (now string)) ⌝ }
     ensures { λ r. ⌜
         Offset-flagged (lexicon-at (now (chars .entry)) (now («word_starts» .entry))) (now (index .entry)) (now (string .entry)) «key_start»
         «word_lines» (keys-of (now (index .entry))) (now (flags .entry)) (now (flags .exit)) ⌝ }
@@ -82,8 +82,8 @@ fn flag_offset(
     flags: &mut [u8],
 )
     requires { ⌜
-        Bears-on (now chars) (now «word_starts») (now index) (now string) «word_lines» × («key_start» < length (now string)) ×
-        (36 ≤ length (now lines)) × Flags (lexicon-at (now chars) (now «word_starts»)) (now index) (now string) (now flags) ⌝ }
+        Flags-lines (now chars) (now «word_starts») (now index) (now string) «word_lines» (now flags) ×
+        («key_start» < length (now string)) × (36 ≤ length (now lines)) ⌝ }
     ensures { λ r. ⌜
         Offset-flagged (lexicon-at (now (chars .entry)) (now («word_starts» .entry))) (now (index .entry)) (now (string .entry)) «key_start»
         0 (keys-of (now (index .entry))) (now (flags .entry)) (now (flags .exit)) ⌝ }
@@ -120,8 +120,7 @@ pub(crate) fn flag_offsets(
     flags: &mut [u8],
 )
     requires { ⌜
-        Bears-on (now chars) (now «word_starts») (now index) (now string) «word_lines» × (36 ≤ length (now lines)) ×
-        Flags (lexicon-at (now chars) (now «word_starts»)) (now index) (now string) (now flags) ⌝ }
+        Flags-lines (now chars) (now «word_starts») (now index) (now string) «word_lines» (now flags) × (36 ≤ length (now lines)) ⌝ }
     ensures { λ r. ⌜
         Offsets (lexicon-at (now (chars .entry)) (now («word_starts» .entry))) (now (index .entry)) (now (string .entry))
         (now (flags .entry)) (now (flags .exit)) (length (now (string .entry))) ⌝ }

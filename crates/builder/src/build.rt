@@ -7,13 +7,12 @@ ghost use mathlib.Core.Path.{_≡_};
 ghost use Prim.Native.Nat.{_≤_};
 ghost use lib.ListN.{length, take};
 ghost use Rattle.spec.specs.Replaced.{replaced};
-ghost use Rattle.spec.specs.Dictionary.{longest-text, lexicon};
-ghost use Rattle.spec.specs.Numbers.{index-of};
-ghost use Rattle.spec.specs.Calls.{Puts, build-refusal, Build-says};
-ghost use Rattle.models.specs.WordStarts.{lengths-of, lexicon-at};
+ghost use Rattle.spec.specs.Dictionary.{longest-text};
+ghost use Rattle.spec.specs.Calls.{Build-says};
+ghost use Rattle.models.specs.WordStarts.{lengths-of};
 ghost use Rattle.laws.specs.Match.MatchTable.{Room};
 ghost use Rattle.laws.specs.Build.PostingChains.{Linkable, Fresh};
-ghost use Rattle.laws.specs.Build.Building.{early-refusal, Tokens-say};
+ghost use Rattle.laws.specs.Build.Building.{early-refusal, Tokens-say, Build-puts};
 use crate::text::scan_replaced;
 use dictionary::admission::refusal_of;
 use directory::tables::fill_word_starts;
@@ -107,10 +106,8 @@ fn index_with(
     requires { ⌜ early-refusal longest-text (now chars) (lengths-of (now «word_starts»)) (now text) (length (now work)) ≡ 0 ⌝ }
     requires { ⌜ Room (now chars) (now «word_starts») (now heads) (now links) ⌝ }
     ensures { λ r. ⌜
-        Puts (build-refusal longest-text (now (chars .entry)) (lengths-of (now («word_starts» .entry))) (now (text .entry))
-        (length (now (output .entry))) (length (now (work .entry))))
-        (index-of (lexicon-at (now (chars .entry)) (now («word_starts» .entry))) (replaced (now (text .entry)))) r
-        (now (output .entry)) (now (output .exit)) ⌝ }
+        Build-puts longest-text (now (chars .entry)) (lengths-of (now («word_starts» .entry))) (now (text .entry))
+        (length (now (work .entry))) r (now (output .entry)) (now (output .exit)) ⌝ }
 {
     fill_match_table(chars, word_starts, heads, links);
     scan_replaced(chars, word_starts, heads, links, text, work);
@@ -127,8 +124,7 @@ fn index_text(
 ) -> Answer
     requires { ⌜ early-refusal longest-text (now chars) (now lengths) (now text) (length (now work)) ≡ 0 ⌝ }
     ensures { λ r. ⌜
-        Puts (build-refusal longest-text (now (chars .entry)) (now (lengths .entry)) (now (text .entry)) (length (now (output .entry)))
-        (length (now (work .entry)))) (index-of (lexicon (now (chars .entry)) (now (lengths .entry))) (replaced (now (text .entry)))) r
+        Build-puts longest-text (now (chars .entry)) (now (lengths .entry)) (now (text .entry)) (length (now (work .entry))) r
         (now (output .entry)) (now (output .exit)) ⌝ }
 {
     let mut heads = [0u16; 10240];

@@ -2,15 +2,14 @@
 //
 // Of the lines of words only those listed in `leading_lines` are walked, as no other agrees at such an offset. A word is tried at each of
 // its indices that has the string's first character. A lone character is tried at the offset 0 alone.
-ghost use mathlib.Core.Path.{_≡_};
 ghost use Prim.Native.Nat.{_^_, _≤_};
 ghost use lib.ListN.{length};
 ghost use Rattle.spec.specs.Index.{lines-in};
-ghost use Rattle.models.specs.Window.{back-all, leading-all, leading-lines};
+ghost use Rattle.models.specs.Window.{back-all, leading-all};
 ghost use Rattle.models.specs.WordStarts.{lexicon-at};
 ghost use Rattle.laws.specs.Window.Window.{Within, Reaches};
 ghost use Rattle.laws.specs.Window.ListRange.{Ascending};
-ghost use Rattle.laws.specs.Window.Searches.{Searches};
+ghost use Rattle.laws.specs.Window.Searches.{Searches-listed};
 use crate::extend::extend_key;
 use crate::lines::extend_lone;
 use directory::lines::positions_of;
@@ -61,8 +60,7 @@ pub(crate) fn extend_leading(
     max_reach: usize,
 ) -> usize
     requires { ⌜
-        Searches (now chars) (now «word_starts») (now index) (now «list_starts») (now string) «word_lines» first ×
-        (now lines ≡ leading-lines 0 (lexicon-at (now chars) (now «word_starts»)) (now index) (now string) «word_lines») ×
+        Searches-listed (now chars) (now «word_starts») (now index) (now «list_starts») (now string) (now lines) «word_lines» first ×
         Within «max_reach» (now reach) ⌝ }
     ensures { λ r. ⌜
         Reaches (leading-all (lexicon-at (now (chars .entry)) (now («word_starts» .entry))) (lines-in (now (index .entry)))

@@ -3,13 +3,12 @@
 ghost use mathlib.Core.Path.{_≡_};
 ghost use mathlib.Core.Bool.{true};
 ghost use Prim.Native.Nat.{_≤_, _<_};
-ghost use lib.ListN.{length};
 ghost use Rattle.spec.specs.Index.{keys-of};
 ghost use Rattle.models.specs.Window.{run, offset-at, agrees-line, run-list};
 ghost use Rattle.models.specs.WordStarts.{lexicon-at};
-ghost use Rattle.laws.specs.Window.Window.{Within, Reaches};
+ghost use Rattle.laws.specs.Window.Window.{Reaches};
 ghost use Rattle.laws.specs.Window.AgreeingLines.{Lines-agree, Range-agrees};
-ghost use Rattle.laws.specs.Window.Searches.{Searches};
+ghost use Rattle.laws.specs.Window.Searches.{Searches-offset};
 use crate::extend::extend_at_positions;
 use agreement::lone::lone_line;
 use agreement::words::agreeing_words;
@@ -34,10 +33,9 @@ fn extend_line(
     max_reach: usize,
 ) -> usize
     requires { ⌜
-        Searches (now chars) (now «word_starts») (now index) (now «list_starts») (now string) «word_lines» first ×
-        («key_start» < length (now string)) × (line < «word_lines») ×
-        (agrees-line «key_start» (lexicon-at (now chars) (now «word_starts»)) (now index) (now string) line ≡ true) ×
-        Within «max_reach» (now reach) ⌝ }
+        Searches-offset (now chars) (now «word_starts») (now index) (now «list_starts») (now string) «word_lines» first «key_start» «max_reach» (now reach) ×
+        (line < «word_lines») ×
+        (agrees-line «key_start» (lexicon-at (now chars) (now «word_starts»)) (now index) (now string) line ≡ true) ⌝ }
     ensures { λ r. ⌜
         Reaches (offset-at «key_start» (lexicon-at (now (chars .entry)) (now («word_starts» .entry))) (now (index .entry))
         (now (string .entry)) first line (now (reach .entry))) (now (reach .exit)) r ⌝ }
@@ -62,10 +60,8 @@ fn extend_listed(
     max_reach: usize,
 ) -> usize
     requires { ⌜
-        Searches (now chars) (now «word_starts») (now index) (now «list_starts») (now string) «word_lines» first ×
-        («key_start» < length (now string)) ×
-        Lines-agree «key_start» (lexicon-at (now chars) (now «word_starts»)) (now index) (now string) «word_lines» (now lines) ×
-        Within «max_reach» (now reach) ⌝ }
+        Searches-offset (now chars) (now «word_starts») (now index) (now «list_starts») (now string) «word_lines» first «key_start» «max_reach» (now reach) ×
+        Lines-agree «key_start» (lexicon-at (now chars) (now «word_starts»)) (now index) (now string) «word_lines» (now lines) ⌝ }
     ensures { λ r. ⌜
         Reaches (run-list (offset-at «key_start» (lexicon-at (now (chars .entry)) (now («word_starts» .entry))) (now (index .entry))
         (now (string .entry)) first) (now (lines .entry)) (now (reach .entry))) (now (reach .exit)) r ⌝ }
@@ -107,10 +103,8 @@ fn extend_range(
     max_reach: usize,
 ) -> usize
     requires { ⌜
-        Searches (now chars) (now «word_starts») (now index) (now «list_starts») (now string) «word_lines» first ×
-        («key_start» < length (now string)) × (to ≤ «word_lines») ×
-        Range-agrees «key_start» (lexicon-at (now chars) (now «word_starts»)) (now index) (now string) from to ×
-        Within «max_reach» (now reach) ⌝ }
+        Searches-offset (now chars) (now «word_starts») (now index) (now «list_starts») (now string) «word_lines» first «key_start» «max_reach» (now reach) ×
+        (to ≤ «word_lines») × Range-agrees «key_start» (lexicon-at (now chars) (now «word_starts»)) (now index) (now string) from to ⌝ }
     ensures { λ r. ⌜
         Reaches (run (offset-at «key_start» (lexicon-at (now (chars .entry)) (now («word_starts» .entry))) (now (index .entry))
         (now (string .entry)) first) from to (now (reach .entry))) (now (reach .exit)) r ⌝ }
@@ -150,8 +144,7 @@ pub(crate) fn extend_words(
     max_reach: usize,
 ) -> usize
     requires { ⌜
-        Searches (now chars) (now «word_starts») (now index) (now «list_starts») (now string) «word_lines» first ×
-        («key_start» < length (now string)) × Within «max_reach» (now reach) ⌝ }
+        Searches-offset (now chars) (now «word_starts») (now index) (now «list_starts») (now string) «word_lines» first «key_start» «max_reach» (now reach) ⌝ }
     ensures { λ r. ⌜
         Reaches (run (offset-at «key_start» (lexicon-at (now (chars .entry)) (now («word_starts» .entry))) (now (index .entry))
         (now (string .entry)) first) 0 «word_lines» (now (reach .entry))) (now (reach .exit)) r ⌝ }
@@ -210,8 +203,7 @@ pub(crate) fn extend_lone(
     max_reach: usize,
 ) -> usize
     requires { ⌜
-        Searches (now chars) (now «word_starts») (now index) (now «list_starts») (now string) «word_lines» first ×
-        («key_start» < length (now string)) × Within «max_reach» (now reach) ⌝ }
+        Searches-offset (now chars) (now «word_starts») (now index) (now «list_starts») (now string) «word_lines» first «key_start» «max_reach» (now reach) ⌝ }
     ensures { λ r. ⌜
         Reaches (run (offset-at «key_start» (lexicon-at (now (chars .entry)) (now («word_starts» .entry))) (now (index .entry))
         (now (string .entry)) first) «word_lines» (keys-of (now (index .entry))) (now (reach .entry))) (now (reach .exit)) r ⌝ }

@@ -7,7 +7,7 @@ ghost use Rattle.spec.specs.Index.{lines-in};
 ghost use Rattle.models.specs.Window.{offset-all, offsets-all};
 ghost use Rattle.models.specs.WordStarts.{lexicon-at};
 ghost use Rattle.laws.specs.Window.Window.{Within, Reaches};
-ghost use Rattle.laws.specs.Window.Searches.{Searches};
+ghost use Rattle.laws.specs.Window.Searches.{Searches, Searches-offset};
 use crate::lines::extend_lone;
 use crate::lines::extend_words;
 use width::Number;
@@ -28,8 +28,7 @@ fn extend_offset(
     max_reach: usize,
 ) -> usize
     requires { ⌜
-        Searches (now chars) (now «word_starts») (now index) (now «list_starts») (now string) «word_lines» first ×
-        («key_start» < length (now string)) × Within «max_reach» (now reach) ⌝ }
+        Searches-offset (now chars) (now «word_starts») (now index) (now «list_starts») (now string) «word_lines» first «key_start» «max_reach» (now reach) ⌝ }
     ensures { λ r. ⌜
         Reaches (offset-all «key_start» (lexicon-at (now (chars .entry)) (now («word_starts» .entry))) (lines-in (now (index .entry)))
         (now (string .entry)) first (now (reach .entry))) (now (reach .exit)) r ⌝ }

@@ -1,12 +1,10 @@
 // The greedy cover of a window of starts: the leading keys, then the offsets above 0.
 //
 // Entries are taken by ascending offset, so one pass is enough: whatever can extend the covered prefix up to an entry comes before it.
-ghost use mathlib.Core.Path.{_≡_};
-ghost use Rattle.models.specs.Window.{leading-lines};
 ghost use Rattle.models.specs.WordStarts.{lexicon-at};
 ghost use Rattle.laws.specs.Window.Window.{Within};
 ghost use Rattle.laws.specs.Window.Extending.{Window-done};
-ghost use Rattle.laws.specs.Window.Searches.{Searches};
+ghost use Rattle.laws.specs.Window.Searches.{Searches-listed};
 use crate::leading::extend_leading;
 use crate::offsets::extend_offsets;
 use width::Number;
@@ -25,8 +23,7 @@ pub fn extend_window(
     reach: &mut [Number],
 ) -> usize
     requires { ⌜
-        Searches (now chars) (now «word_starts») (now index) (now «list_starts») (now string) «word_lines» first ×
-        (now lines ≡ leading-lines 0 (lexicon-at (now chars) (now «word_starts»)) (now index) (now string) «word_lines») ×
+        Searches-listed (now chars) (now «word_starts») (now index) (now «list_starts») (now string) (now lines) «word_lines» first ×
         Within 0 (now reach) ⌝ }
     ensures { λ r. ⌜
         Window-done (lexicon-at (now (chars .entry)) (now («word_starts» .entry))) (now (index .entry)) (now (string .entry)) first

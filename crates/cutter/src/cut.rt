@@ -10,8 +10,8 @@ ghost use Rattle.spec.specs.Index.{keys-of};
 ghost use Rattle.spec.specs.Cut.{cut-down};
 ghost use Rattle.spec.specs.Calls.{index-refusal, Cut-says};
 ghost use Rattle.models.specs.WordStarts.{lexicon-at};
-ghost use Rattle.laws.specs.Directory.Tables.{Can-read, Reads};
-ghost use Rattle.laws.specs.Search.Sizing.{Is-string, Sized};
+ghost use Rattle.laws.specs.Search.Sizing.{Sized};
+ghost use Rattle.laws.specs.Directory.Searchable.{Can-search, Search-reads};
 use crate::cutting::size_flagged;
 use crate::cutting::write_cut;
 use bearing::bearing::flag_bearing;
@@ -35,7 +35,7 @@ fn cut_lent<'a>(
     output: &mut [Number],
 ) -> Answer
     requires { ⌜
-        Reads (now chars) (now «word_starts») (now index) × Is-string (now string) × (keys-of (now index) ≤ length (now flags)) ×
+        Search-reads longest-text (now chars) (now «word_starts») (now index) (now string) × (keys-of (now index) ≤ length (now flags)) ×
         (now flags ≡ replicate (length (now flags)) 0) ⌝ }
     ensures { λ r. ⌜
         Sized (cut-down (lexicon-at (now (chars .entry)) (now («word_starts» .entry))) (now (index .entry)) (now (string .entry))) r
@@ -62,7 +62,7 @@ fn cut_few_lines<'a>(
     string: &[u16],
     output: &mut [Number],
 ) -> Answer
-    requires { ⌜ Reads (now chars) (now «word_starts») (now index) × Is-string (now string) × (keys-of (now index) ≤ 1024) ⌝ }
+    requires { ⌜ Search-reads longest-text (now chars) (now «word_starts») (now index) (now string) × (keys-of (now index) ≤ 1024) ⌝ }
     ensures { λ r. ⌜
         Sized (cut-down (lexicon-at (now (chars .entry)) (now («word_starts» .entry))) (now (index .entry)) (now (string .entry))) r
         (now (output .entry)) (now (output .exit)) ⌝ }
@@ -79,7 +79,7 @@ fn cut_some_lines<'a>(
     string: &[u16],
     output: &mut [Number],
 ) -> Answer
-    requires { ⌜ Reads (now chars) (now «word_starts») (now index) × Is-string (now string) × (keys-of (now index) ≤ 8192) ⌝ }
+    requires { ⌜ Search-reads longest-text (now chars) (now «word_starts») (now index) (now string) × (keys-of (now index) ≤ 8192) ⌝ }
     ensures { λ r. ⌜
         Sized (cut-down (lexicon-at (now (chars .entry)) (now («word_starts» .entry))) (now (index .entry)) (now (string .entry))) r
         (now (output .entry)) (now (output .exit)) ⌝ }
@@ -96,7 +96,7 @@ fn cut_many_lines<'a>(
     string: &[u16],
     output: &mut [Number],
 ) -> Answer
-    requires { ⌜ Reads (now chars) (now «word_starts») (now index) × Is-string (now string) ⌝ }
+    requires { ⌜ Search-reads longest-text (now chars) (now «word_starts») (now index) (now string) ⌝ }
     ensures { λ r. ⌜
         Sized (cut-down (lexicon-at (now (chars .entry)) (now («word_starts» .entry))) (now (index .entry)) (now (string .entry))) r
         (now (output .entry)) (now (output .exit)) ⌝ }
@@ -113,7 +113,7 @@ fn cut_lines<'a>(
     string: &[u16],
     output: &mut [Number],
 ) -> Answer
-    requires { ⌜ Reads (now chars) (now «word_starts») (now index) × Is-string (now string) ⌝ }
+    requires { ⌜ Search-reads longest-text (now chars) (now «word_starts») (now index) (now string) ⌝ }
     ensures { λ r. ⌜
         Sized (cut-down (lexicon-at (now (chars .entry)) (now («word_starts» .entry))) (now (index .entry)) (now (string .entry))) r
         (now (output .entry)) (now (output .exit)) ⌝ }
@@ -136,7 +136,7 @@ fn cut_string<'a>(
     string: &[u16],
     output: &mut [Number],
 ) -> Answer
-    requires { ⌜ Can-read (now chars) (now lengths) (now index) × Is-string (now string) ⌝ }
+    requires { ⌜ Can-search longest-text (now chars) (now lengths) (now index) (now string) ⌝ }
     ensures { λ r. ⌜
         Sized (cut-down (lexicon (now (chars .entry)) (now (lengths .entry))) (now (index .entry)) (replaced (now (string .entry)))) r
         (now (output .entry)) (now (output .exit)) ⌝ }

@@ -14,6 +14,7 @@ ghost use Rattle.spec.specs.Cut.{bearing, cut-down};
 ghost use Rattle.spec.specs.Calls.{in-front};
 ghost use Rattle.models.specs.WordStarts.{lexicon-at};
 ghost use Rattle.laws.specs.Cut.ExactFlags.{Flagged-lines, Is-size};
+ghost use Rattle.laws.specs.Cut.Cutting.{Cuts};
 use copying::slices::write_list;
 use layout::fields::count_at;
 use layout::fields::key_count;
@@ -143,9 +144,8 @@ pub(crate) fn write_cut(
     output: &mut [Number],
 )
     requires { ⌜
-        Flagged-lines (lexicon-at (now chars) (now «word_starts»)) (now index) (now string) (now flags) ×
-        Is-size (lexicon-at (now chars) (now «word_starts»)) (now index) (now string) (size .keys) (size .entries) ×
-        (length (cut-down (lexicon-at (now chars) (now «word_starts»)) (now index) (now string)) ≤ length (now output)) ⌝ }
+        Cuts (lexicon-at (now chars) (now «word_starts»)) (now index) (now string) (now flags) (size .keys) (size .entries)
+        (now output) ⌝ }
     ensures { λ r. ⌜
         now (output .exit) ≡ in-front (cut-down (lexicon-at (now (chars .entry)) (now («word_starts» .entry))) (now (index .entry))
         (now (string .entry))) (now (output .entry)) ⌝ }

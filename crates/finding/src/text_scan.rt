@@ -13,7 +13,7 @@ ghost use Rattle.spec.specs.Index.{n-of, lines-in};
 ghost use Rattle.models.specs.Reception.{reconstructed-over};
 ghost use Rattle.laws.specs.Text.Facts.{All-stand};
 ghost use Rattle.models.specs.WordStarts.{lexicon-at};
-ghost use Rattle.laws.specs.Directory.Tables.{Reads};
+ghost use Rattle.laws.specs.Receive.ReconstructionWalk.{Reconstructs};
 ghost use Rattle.laws.specs.TextScan.ZSearch.{Prefix-lengths};
 ghost use Rattle.laws.specs.TextScan.ReconstructedSearch.{Finds};
 use reconstruction::checked::reconstruct_checked;
@@ -42,8 +42,7 @@ pub fn reach_reconstructed(
     reach: &mut [Number],
 ) -> bool
     requires { ⌜
-        Reads (now chars) (now «word_starts») (now index) ×
-        (length (now string) ≤ 256) × (length (now text) ≡ n-of (now index)) ×
+        Reconstructs (now chars) (now «word_starts») (now index) (now text) × (length (now string) ≤ 256) ×
         (length (now reach) + length (now string) ≤ suc (n-of (now index))) ⌝ }
     ensures told { λ r. ⌜
         (r ≡ true → Finds (lexicon-at (now (chars .entry)) (now («word_starts» .entry))) (now (index .entry)) (now (string .entry))

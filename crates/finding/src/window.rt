@@ -4,14 +4,15 @@ ghost use mathlib.Core.Path.{_≡_};
 ghost use Prim.Native.Nat.{_+_, _^_, _≤_};
 ghost use lib.ListN.{length, replicate};
 ghost use Rattle.spec.specs.Index.{greatest-number};
-ghost use Rattle.models.specs.Window.{found-in, leading-lines};
+ghost use Rattle.spec.specs.Dictionary.{longest-text};
+ghost use Rattle.models.specs.Window.{found-in};
 ghost use Rattle.models.specs.WordStarts.{lexicon-at};
-ghost use Rattle.laws.specs.Directory.Tables.{Opened};
+ghost use Rattle.laws.specs.Directory.Searchable.{Search-opened};
 ghost use Rattle.laws.specs.Window.Window.{Within};
 ghost use Rattle.laws.specs.Window.Extending.{Window-done};
-ghost use Rattle.laws.specs.Search.Sizing.{Is-string, Sized};
+ghost use Rattle.laws.specs.Search.Sizing.{Sized};
 ghost use Rattle.laws.specs.Window.Searching.{Window-says};
-ghost use Rattle.laws.specs.Window.Searches.{Searches};
+ghost use Rattle.laws.specs.Window.Searches.{Searches-listed};
 ghost use Rattle.laws.specs.First.Found.{First-in};
 use crate::finding::count_found;
 use crate::finding::first_found;
@@ -50,7 +51,7 @@ fn extend_listing(
     reach: &mut [Number],
 ) -> usize
     requires { ⌜
-        Opened (now chars) (now «word_starts») (now index) (now «list_starts») × Is-string (now string) ×
+        Search-opened longest-text (now chars) (now «word_starts») (now index) (now «list_starts») (now string) ×
         (4096 ≤ length (now lines)) × (first ≤ 2 ^ 32) × Within 0 (now reach) ⌝ }
     ensures { λ r. ⌜
         Window-done (lexicon-at (now (chars .entry)) (now («word_starts» .entry))) (now (index .entry)) (now (string .entry)) first
@@ -83,7 +84,7 @@ pub fn search_window(
     output: &mut [Number],
 ) -> Answer
     requires { ⌜
-        Opened (now chars) (now «word_starts») (now index) (now «list_starts») × Is-string (now string) ×
+        Search-opened longest-text (now chars) (now «word_starts») (now index) (now «list_starts») (now string) ×
         (first + length (now reach) ≤ greatest-number + 1) × (now reach ≡ replicate (length (now reach)) 0) ⌝ }
     ensures { λ r. ⌜
         Window-says (lexicon-at (now (chars .entry)) (now («word_starts» .entry))) (now (index .entry)) (now (string .entry))
@@ -123,8 +124,7 @@ pub fn first_in_window(
     reach: &mut [Number],
 ) -> usize
     requires { ⌜
-        Searches (now chars) (now «word_starts») (now index) (now «list_starts») (now string) «word_lines» first ×
-        (now lines ≡ leading-lines 0 (lexicon-at (now chars) (now «word_starts»)) (now index) (now string) «word_lines») ×
+        Searches-listed (now chars) (now «word_starts») (now index) (now «list_starts») (now string) (now lines) «word_lines» first ×
         (first + length (now reach) ≤ 2 ^ 32) × (now reach ≡ replicate (length (now reach)) 0) ⌝ }
     ensures { λ r. ⌜
         First-in (lexicon-at (now (chars .entry)) (now («word_starts» .entry))) (now (index .entry)) (now (string .entry))

@@ -10,7 +10,7 @@ ghost use Rattle.spec.specs.Index.{n-of};
 ghost use Rattle.spec.specs.Search.{find};
 ghost use Rattle.spec.specs.JobAnswer.{found-line, found-lines};
 ghost use Rattle.laws.specs.Directory.Tables.{Opened};
-ghost use Rattle.laws.specs.Search.Sizing.{Is-string};
+ghost use Rattle.laws.specs.Directory.Searchable.{Search-opened};
 ghost use Rattle.laws.specs.JobSheet.JobAnswering.{Strings-good};
 use printer::print::put_found_line;
 use searcher::search::search_tabled;
@@ -29,8 +29,8 @@ fn put_find(
     at: usize,
 ) -> usize
     requires { ⌜
-        Opened (now chars) (now «word_starts») (now index) (now «list_starts») × Is-string (now string) ×
-        (n-of (now index) ≤ length (now found)) × (n-of (now index) ≤ longest-text) ⌝ }
+        Search-opened longest-text (now chars) (now «word_starts») (now index) (now «list_starts») (now string) ×
+        (n-of (now index) ≤ length (now found)) ⌝ }
     requires { ⌜
         at + length (found-line (find (lexicon-at (now chars) (now «word_starts»)) (now index) (replaced (now string)))) ≤ length
         (now out) ⌝ }

@@ -8,7 +8,7 @@ ghost use Rattle.spec.specs.Index.{keys-of};
 ghost use Rattle.models.specs.JobSheet.{shown, printed-of};
 ghost use Rattle.laws.specs.Directory.Tables.{Can-read};
 ghost use Rattle.laws.specs.JobSheet.AcceptedCalls.{Usable};
-ghost use Rattle.laws.specs.JobSheet.JobAnswering.{Strings-good, Parts-good};
+ghost use Rattle.laws.specs.JobSheet.JobAnswering.{Strings-good, Parts-good, Answer-room};
 use crate::finds::put_finds;
 use builder::build::build;
 use directory::tables::fill_list_starts;
@@ -33,7 +33,7 @@ fn put_filled<'a>(
     requires { ⌜
         Usable (now chars) (now lengths) (now index) × Can-read (now chars) (now lengths) (now index) × (keys ≡ keys-of (now index)) ×
         (keys ≤ length (now «list_starts»)) ⌝ }
-    requires { ⌜ Strings-good (now strings) (now counts) × (2000 ≤ length (now found)) × (700000 ≤ length (now out)) ⌝ }
+    requires { ⌜ Strings-good (now strings) (now counts) × Answer-room (now found) (now out) ⌝ }
     ensures { λ r. ⌜
         Wrote (shown (now (chars .entry)) (now (lengths .entry)) (now (index .entry)) (now (strings .entry)) (now (counts .entry))) 0
         (now (out .entry)) r (now (out .exit)) ⌝ }
@@ -69,7 +69,7 @@ fn put_opened<'a>(
 ) -> usize
     requires { ⌜
         Usable (now chars) (now lengths) (now index) × (keys ≡ keys-of (now index)) × Strings-good (now strings) (now counts) ×
-        (2000 ≤ length (now found)) × (700000 ≤ length (now out)) ⌝ }
+        Answer-room (now found) (now out) ⌝ }
     ensures { λ r. ⌜
         Wrote (shown (now (chars .entry)) (now (lengths .entry)) (now (index .entry)) (now (strings .entry)) (now (counts .entry))) 0
         (now (out .entry)) r (now (out .exit)) ⌝ }
@@ -99,8 +99,7 @@ fn put_lines<'a>(
     out: &mut [u8],
 ) -> usize
     requires { ⌜
-        Usable (now chars) (now lengths) (now index) × Strings-good (now strings) (now counts) × (2000 ≤ length (now found)) ×
-        (700000 ≤ length (now out)) ⌝ }
+        Usable (now chars) (now lengths) (now index) × Strings-good (now strings) (now counts) × Answer-room (now found) (now out) ⌝ }
     ensures { λ r. ⌜
         Wrote (shown (now (chars .entry)) (now (lengths .entry)) (now (index .entry)) (now (strings .entry)) (now (counts .entry))) 0
         (now (out .entry)) r (now (out .exit)) ⌝ }

@@ -16,11 +16,11 @@ ghost use Rattle.models.specs.Reception.{reconstructed-over, mapped-at, fill-li
 ghost use Rattle.laws.specs.Text.Facts.{Chars};
 ghost use Rattle.laws.specs.Numbers.Slices.{Fits};
 ghost use Rattle.laws.specs.Match.MatchTable.{Started, Room, Tables};
-ghost use Rattle.laws.specs.Directory.Tables.{Reads};
 ghost use Rattle.laws.specs.Receive.LineMap.{Line-map};
 ghost use Rattle.laws.specs.Receive.LineMapWalk.{Can-map};
 ghost use Rattle.laws.specs.Receive.Receiving.{delivery-refusal};
 ghost use Rattle.laws.specs.Receive.ReceivedText.{Read-back, Tried};
+ghost use Rattle.laws.specs.Receive.ReconstructionWalk.{Reconstructs};
 use crate::form_keys::has_form_key;
 use directory::tables::fill_word_starts;
 use layout::fields::text_len;
@@ -33,7 +33,7 @@ use width::Number;
 
 // Reconstructs the text from the entries, in a slice that is cleared first, so that all that it holds are characters.
 fn reconstruct_afresh(chars: &[u16], word_starts: &[u16], index: &[Number], text: &mut [Number])
-    requires { ⌜ Reads (now chars) (now «word_starts») (now index) × (length (now text) ≡ n-of (now index)) ⌝ }
+    requires { ⌜ Reconstructs (now chars) (now «word_starts») (now index) (now text) ⌝ }
     ensures { λ _. ⌜
         now (text .exit) ≡ reconstructed-over (lexicon-at (now (chars .entry)) (now («word_starts» .entry)))
         (lines-in (now (index .entry))) (length (now (text .entry))) 0 ⌝ }

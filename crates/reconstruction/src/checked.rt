@@ -1,12 +1,10 @@
 // The text reconstructed from the entries of an index over a sentinel, and whether every entry stands in it.
 //
 // Where two entries contradict each other, one of them does not stand in the reconstructed text.
-ghost use mathlib.Core.Path.{_≡_};
 ghost use Prim.Native.Nat.{_≤_};
-ghost use lib.ListN.{length};
 ghost use Rattle.spec.specs.Index.{greatest-number, n-of, lines-in};
 ghost use Rattle.models.specs.WordStarts.{lexicon-at};
-ghost use Rattle.laws.specs.Directory.Tables.{Reads};
+ghost use Rattle.laws.specs.Receive.ReconstructionWalk.{Reconstructs};
 ghost use Rattle.laws.specs.TextScan.ReconstructedSearch.{Checked};
 use crate::entries::reconstruct_entries;
 use crate::matches::entries_match;
@@ -21,9 +19,7 @@ pub fn reconstruct_checked(
     sentinel: usize,
     text: &mut [Number],
 ) -> bool
-    requires { ⌜
-        Reads (now chars) (now «word_starts») (now index) × (length (now text) ≡ n-of (now index)) ×
-        (sentinel ≤ greatest-number) ⌝ }
+    requires { ⌜ Reconstructs (now chars) (now «word_starts») (now index) (now text) × (sentinel ≤ greatest-number) ⌝ }
     ensures { λ r. ⌜
         Checked (lexicon-at (now (chars .entry)) (now («word_starts» .entry))) (lines-in (now (index .entry))) (n-of (now (index .entry)))
         sentinel (now (text .exit)) r ⌝ }

@@ -8,13 +8,13 @@ ghost use Prim.Native.Nat.{_+_, _-_, _≤_};
 ghost use lib.ListN.{length, take, drop};
 ghost use lib.Seq.{sets};
 ghost use Rattle.spec.specs.Words.{spells};
-ghost use Rattle.spec.specs.Index.{n-of, key-at, lines-in};
+ghost use Rattle.spec.specs.Index.{key-at, lines-in};
 ghost use Rattle.models.specs.Entries.{flat};
 ghost use Rattle.models.specs.WordStarts.{lexicon-at};
 ghost use Rattle.models.specs.Reception.{reconstruct, reconstruct-positions};
 ghost use Rattle.laws.specs.Directory.Opened.{Is-line};
-ghost use Rattle.laws.specs.Directory.Tables.{Reads};
 ghost use Rattle.laws.specs.Receive.PositionWalk.{Lie-within};
+ghost use Rattle.laws.specs.Receive.ReconstructionWalk.{Reconstructs};
 use crate::line_map::fill_at;
 use directory::words::word_of;
 use layout::fields::key_count;
@@ -59,8 +59,8 @@ fn reconstruct_line(
     text: &mut [Number],
 )
     requires { ⌜
-        Reads (now chars) (now «word_starts») (now index) ×
-        Is-line (now index) number (line .kind) (line .value) (line .from) (line .to) × (length (now text) ≡ n-of (now index)) ⌝ }
+        Reconstructs (now chars) (now «word_starts») (now index) (now text) ×
+        Is-line (now index) number (line .kind) (line .value) (line .from) (line .to) ⌝ }
     ensures { λ r. ⌜
         now (text .exit) ≡ reconstruct-positions (spells (lexicon-at (now (chars .entry)) (now («word_starts» .entry)))
         (key-at (now (index .entry)) number)) (take (line .to - line .from) (drop (line .from) (now (index .entry))))
@@ -83,7 +83,7 @@ pub fn reconstruct_entries(
     index: &[Number],
     text: &mut [Number],
 )
-    requires { ⌜ Reads (now chars) (now «word_starts») (now index) × (length (now text) ≡ n-of (now index)) ⌝ }
+    requires { ⌜ Reconstructs (now chars) (now «word_starts») (now index) (now text) ⌝ }
     ensures { λ r. ⌜
         now (text .exit) ≡ reconstruct (lexicon-at (now (chars .entry)) (now («word_starts» .entry)))
         (flat (lexicon-at (now (chars .entry)) (now («word_starts» .entry))) (lines-in (now (index .entry)))) (now (text .entry)) ⌝ }

@@ -11,14 +11,14 @@ ghost use Prim.Native.Nat.{suc, _+_, _-_, _≤_};
 ghost use lib.ListN.{length, take, drop};
 ghost use Rattle.basics.specs.Bools.{Reflects};
 ghost use Rattle.spec.specs.Words.{spells};
-ghost use Rattle.spec.specs.Index.{n-of, key-at, lines-in};
+ghost use Rattle.spec.specs.Index.{key-at, lines-in};
 ghost use Rattle.models.specs.WordStarts.{lexicon-at};
 ghost use Rattle.laws.specs.Text.Strings.{Stand};
 ghost use Rattle.laws.specs.Text.Facts.{Rise, All-stand};
 ghost use Rattle.laws.specs.Directory.Opened.{Is-line};
-ghost use Rattle.laws.specs.Directory.Tables.{Reads};
 ghost use Rattle.laws.specs.Receive.PositionWalk.{Lie-within};
 ghost use Rattle.laws.specs.Receive.EntriesMatch.{Equal-part, Period, Stand-each};
+ghost use Rattle.laws.specs.Receive.ReconstructionWalk.{Reconstructs};
 use directory::words::word_of;
 use layout::fields::key_count;
 use layout::fields::line_start;
@@ -142,8 +142,8 @@ fn line_stands(
     text: &[Number],
 ) -> bool
     requires { ⌜
-        Reads (now chars) (now «word_starts») (now index) ×
-        Is-line (now index) number (line .kind) (line .value) (line .from) (line .to) × (length (now text) ≡ n-of (now index)) ⌝ }
+        Reconstructs (now chars) (now «word_starts») (now index) (now text) ×
+        Is-line (now index) number (line .kind) (line .value) (line .from) (line .to) ⌝ }
     ensures { λ r. ⌜
         Reflects r (Stand-each (spells (lexicon-at (now (chars .entry)) (now («word_starts» .entry)))
         (key-at (now (index .entry)) number)) (now (text .entry))
@@ -165,7 +165,7 @@ pub(crate) fn entries_match(
     index: &[Number],
     text: &[Number],
 ) -> bool
-    requires { ⌜ Reads (now chars) (now «word_starts») (now index) × (length (now text) ≡ n-of (now index)) ⌝ }
+    requires { ⌜ Reconstructs (now chars) (now «word_starts») (now index) (now text) ⌝ }
     ensures { λ r. ⌜
         Reflects r (All-stand (lexicon-at (now (chars .entry)) (now («word_starts» .entry))) (lines-in (now (index .entry)))
         (now (text .entry))) ⌝ }

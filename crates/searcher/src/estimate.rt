@@ -11,8 +11,8 @@ ghost use lib.ListN.{length};
 ghost use Rattle.spec.specs.Dictionary.{longest-text};
 ghost use Rattle.spec.specs.Index.{n-of, keys-of, kind-at};
 ghost use Rattle.laws.specs.Directory.Tables.{Reads};
-ghost use Rattle.laws.specs.Search.Sizing.{Is-string};
-ghost use Rattle.laws.specs.Cut.FlagWalks.{Bears-on};
+ghost use Rattle.laws.specs.Directory.Searchable.{Search-reads};
+ghost use Rattle.laws.specs.Window.LineRanges.{Search-lines};
 use agreement::lone::lone_line;
 use agreement::words::agreeing_words;
 use directory::lines::word_at;
@@ -52,7 +52,8 @@ fn estimate_words(
     word_lines: usize,
     whole: bool,
 ) -> usize
-    requires { ⌜ Bears-on (now chars) (now «word_starts») (now index) (now string) «word_lines» × («key_start» < length (now string)) ⌝ }
+    requires { ⌜
+        Search-lines (now chars) (now «word_starts») (now index) (now string) «word_lines» × («key_start» < length (now string)) ⌝ }
     ensures { λ r. ⌜ r ≤ 2 ^ 50 ⌝ }
 {
     let mut lines = [0u16; 36];
@@ -89,7 +90,8 @@ fn count_keys(
     key_start: usize,
     word_lines: usize,
 ) -> usize
-    requires { ⌜ Bears-on (now chars) (now «word_starts») (now index) (now string) «word_lines» × («key_start» < length (now string)) ⌝ }
+    requires { ⌜
+        Search-lines (now chars) (now «word_starts») (now index) (now string) «word_lines» × («key_start» < length (now string)) ⌝ }
     ensures { λ r. ⌜ r ≤ 2 ^ 51 ⌝ }
 {
     let words = estimate_words(
@@ -117,7 +119,7 @@ fn cost_exceeds(
     word_lines: usize,
     limit: usize,
 ) -> bool
-    requires { ⌜ Bears-on (now chars) (now «word_starts») (now index) (now string) «word_lines» × (limit ≤ 2 ^ 50) ⌝ }
+    requires { ⌜ Search-lines (now chars) (now «word_starts») (now index) (now string) «word_lines» × (limit ≤ 2 ^ 50) ⌝ }
 {
     let stride = 1 + string.len() / 32;
     let mut sum = estimate_words(chars, word_starts, index, string, 0, word_lines, true);
@@ -141,9 +143,7 @@ pub(crate) fn prefers_text_scan(
     string: &[u16],
     starts: usize,
 ) -> bool
-    requires { ⌜
-        Reads (now chars) (now «word_starts») (now index) × Is-string (now string) × (starts ≤ 2 ^ 32) ×
-        (n-of (now index) ≤ longest-text) ⌝ }
+    requires { ⌜ Search-reads longest-text (now chars) (now «word_starts») (now index) (now string) × (starts ≤ 2 ^ 32) ⌝ }
     ensures { λ r. ⌜ (r ≡ true → starts + length (now (string .entry)) ≤ suc (n-of (now (index .entry)))) ⌝ }
 {
     let n = text_len(index);

@@ -6,12 +6,11 @@ ghost use Prim.Native.Nat.{_≤_};
 ghost use lib.ListN.{length};
 ghost use Rattle.spec.specs.Replaced.{replaced};
 ghost use Rattle.spec.specs.Dictionary.{longest-text, lexicon};
-ghost use Rattle.spec.specs.Index.{n-of, keys-of};
+ghost use Rattle.spec.specs.Index.{keys-of};
 ghost use Rattle.spec.specs.First.{first-position};
 ghost use Rattle.spec.specs.Calls.{index-refusal, First-says};
 ghost use Rattle.models.specs.WordStarts.{lexicon-at};
-ghost use Rattle.laws.specs.Directory.Tables.{Can-read, Reads, Opened};
-ghost use Rattle.laws.specs.Search.Sizing.{Is-string};
+ghost use Rattle.laws.specs.Directory.Searchable.{Can-search, Search-reads, Search-opened};
 use crate::first_starts::first_of_starts;
 use crate::search::starts_of;
 use directory::tables::fill_list_starts;
@@ -33,9 +32,7 @@ fn first_plain(
     list_starts: &[Sum],
     string: &[u16],
 ) -> usize
-    requires { ⌜
-        Opened (now chars) (now «word_starts») (now index) (now «list_starts») × Is-string (now string) ×
-        (n-of (now index) ≤ longest-text) ⌝ }
+    requires { ⌜ Search-opened longest-text (now chars) (now «word_starts») (now index) (now «list_starts») (now string) ⌝ }
     ensures { λ r. ⌜
         r ≡ first-position (lexicon-at (now (chars .entry)) (now («word_starts» .entry))) (now (index .entry)) (now (string .entry)) ⌝ }
 {
@@ -51,9 +48,7 @@ fn first_tabled(
     list_starts: &[Sum],
     string: &[u16],
 ) -> usize
-    requires { ⌜
-        Opened (now chars) (now «word_starts») (now index) (now «list_starts») × Is-string (now string) ×
-        (n-of (now index) ≤ longest-text) ⌝ }
+    requires { ⌜ Search-opened longest-text (now chars) (now «word_starts») (now index) (now «list_starts») (now string) ⌝ }
     ensures { λ r. ⌜
         r ≡ first-position (lexicon-at (now (chars .entry)) (now («word_starts» .entry))) (now (index .entry))
         (replaced (now (string .entry))) ⌝ }
@@ -72,8 +67,8 @@ fn first_filled(
     list_starts: &mut [Sum],
 ) -> usize
     requires { ⌜
-        Reads (now chars) (now «word_starts») (now index) × Is-string (now string) × (keys-of (now index) ≤ length (now «list_starts»)) ×
-        (n-of (now index) ≤ longest-text) ⌝ }
+        Search-reads longest-text (now chars) (now «word_starts») (now index) (now string) ×
+        (keys-of (now index) ≤ length (now «list_starts»)) ⌝ }
     ensures { λ r. ⌜
         r ≡ first-position (lexicon-at (now (chars .entry)) (now («word_starts» .entry))) (now (index .entry))
         (replaced (now (string .entry))) ⌝ }
@@ -84,9 +79,7 @@ fn first_filled(
 
 // The first found position in an index of at most 1,024 lines, with a local table.
 fn first_few_lines(chars: &[u16], word_starts: &[u16], index: &[Number], string: &[u16]) -> usize
-    requires { ⌜
-        Reads (now chars) (now «word_starts») (now index) × Is-string (now string) × (keys-of (now index) ≤ 1024) ×
-        (n-of (now index) ≤ longest-text) ⌝ }
+    requires { ⌜ Search-reads longest-text (now chars) (now «word_starts») (now index) (now string) × (keys-of (now index) ≤ 1024) ⌝ }
     ensures { λ r. ⌜
         r ≡ first-position (lexicon-at (now (chars .entry)) (now («word_starts» .entry))) (now (index .entry))
         (replaced (now (string .entry))) ⌝ }
@@ -97,9 +90,7 @@ fn first_few_lines(chars: &[u16], word_starts: &[u16], index: &[Number], string:
 
 // The first found position in an index of at most 8,192 lines, with a local table.
 fn first_some_lines(chars: &[u16], word_starts: &[u16], index: &[Number], string: &[u16]) -> usize
-    requires { ⌜
-        Reads (now chars) (now «word_starts») (now index) × Is-string (now string) × (keys-of (now index) ≤ 8192) ×
-        (n-of (now index) ≤ longest-text) ⌝ }
+    requires { ⌜ Search-reads longest-text (now chars) (now «word_starts») (now index) (now string) × (keys-of (now index) ≤ 8192) ⌝ }
     ensures { λ r. ⌜
         r ≡ first-position (lexicon-at (now (chars .entry)) (now («word_starts» .entry))) (now (index .entry))
         (replaced (now (string .entry))) ⌝ }
@@ -110,7 +101,7 @@ fn first_some_lines(chars: &[u16], word_starts: &[u16], index: &[Number], string
 
 // The first found position in an index of any number of lines, with a local table.
 fn first_many_lines(chars: &[u16], word_starts: &[u16], index: &[Number], string: &[u16]) -> usize
-    requires { ⌜ Reads (now chars) (now «word_starts») (now index) × Is-string (now string) × (n-of (now index) ≤ longest-text) ⌝ }
+    requires { ⌜ Search-reads longest-text (now chars) (now «word_starts») (now index) (now string) ⌝ }
     ensures { λ r. ⌜
         r ≡ first-position (lexicon-at (now (chars .entry)) (now («word_starts» .entry))) (now (index .entry))
         (replaced (now (string .entry))) ⌝ }
@@ -121,7 +112,7 @@ fn first_many_lines(chars: &[u16], word_starts: &[u16], index: &[Number], string
 
 // The first found position in a readable index, with the smallest table of list starts that is long enough.
 fn first_lines(chars: &[u16], word_starts: &[u16], index: &[Number], string: &[u16]) -> usize
-    requires { ⌜ Reads (now chars) (now «word_starts») (now index) × Is-string (now string) × (n-of (now index) ≤ longest-text) ⌝ }
+    requires { ⌜ Search-reads longest-text (now chars) (now «word_starts») (now index) (now string) ⌝ }
     ensures { λ r. ⌜
         r ≡ first-position (lexicon-at (now (chars .entry)) (now («word_starts» .entry))) (now (index .entry))
         (replaced (now (string .entry))) ⌝ }
@@ -138,7 +129,7 @@ fn first_lines(chars: &[u16], word_starts: &[u16], index: &[Number], string: &[u
 
 // The first found position in a readable index, with a local table of word starts.
 fn first_words(chars: &[u16], lengths: &[u16], index: &[Number], string: &[u16]) -> usize
-    requires { ⌜ Can-read (now chars) (now lengths) (now index) × Is-string (now string) × (n-of (now index) ≤ longest-text) ⌝ }
+    requires { ⌜ Can-search longest-text (now chars) (now lengths) (now index) (now string) ⌝ }
     ensures { λ r. ⌜
         r ≡ first-position (lexicon (now (chars .entry)) (now (lengths .entry))) (now (index .entry)) (replaced (now (string .entry))) ⌝ }
 {

@@ -7,8 +7,7 @@ ghost use lib.ListN.{length};
 ghost use Rattle.spec.specs.Dictionary.{longest-text};
 ghost use Rattle.spec.specs.Index.{n-of};
 ghost use Rattle.models.specs.WordStarts.{lexicon-at};
-ghost use Rattle.laws.specs.Directory.Tables.{Opened};
-ghost use Rattle.laws.specs.Search.Sizing.{Is-string};
+ghost use Rattle.laws.specs.Directory.Searchable.{Search-opened};
 ghost use Rattle.laws.specs.First.Found.{First-in};
 use crate::estimate::prefers_text_scan;
 use crate::first_windows::first_by_entries;
@@ -28,8 +27,8 @@ fn first_by_text(
     reach: &mut [Number],
 ) -> usize
     requires { ⌜
-        Opened (now chars) (now «word_starts») (now index) (now «list_starts») × Is-string (now string) ×
-        (length (now reach) + length (now string) ≤ suc (n-of (now index))) × (n-of (now index) ≤ longest-text) ⌝ }
+        Search-opened longest-text (now chars) (now «word_starts») (now index) (now «list_starts») (now string) ×
+        (length (now reach) + length (now string) ≤ suc (n-of (now index))) ⌝ }
     ensures { λ r. ⌜
         First-in (lexicon-at (now (chars .entry)) (now («word_starts» .entry))) (now (index .entry)) (now (string .entry))
         (length (now (reach .entry))) 1 r ⌝ }
@@ -51,8 +50,8 @@ fn first_by_text_in(
     room: &mut [Number],
 ) -> usize
     requires { ⌜
-        Opened (now chars) (now «word_starts») (now index) (now «list_starts») × Is-string (now string) ×
-        (starts ≤ length (now room)) × (starts + length (now string) ≤ suc (n-of (now index))) × (n-of (now index) ≤ longest-text) ⌝ }
+        Search-opened longest-text (now chars) (now «word_starts») (now index) (now «list_starts») (now string) ×
+        (starts ≤ length (now room)) × (starts + length (now string) ≤ suc (n-of (now index))) ⌝ }
     ensures { λ r. ⌜
         First-in (lexicon-at (now (chars .entry)) (now («word_starts» .entry))) (now (index .entry)) (now (string .entry)) starts 1 r ⌝ }
 {
@@ -76,8 +75,8 @@ fn first_by_estimate(
     starts: usize,
 ) -> usize
     requires { ⌜
-        Opened (now chars) (now «word_starts») (now index) (now «list_starts») × Is-string (now string) × (starts ≤ longest-text) ×
-        (starts + length (now string) ≤ suc (n-of (now index))) × (n-of (now index) ≤ longest-text) ⌝ }
+        Search-opened longest-text (now chars) (now «word_starts») (now index) (now «list_starts») (now string) ×
+        (starts ≤ longest-text) × (starts + length (now string) ≤ suc (n-of (now index))) ⌝ }
     ensures { λ r. ⌜
         First-in (lexicon-at (now (chars .entry)) (now («word_starts» .entry))) (now (index .entry)) (now (string .entry)) starts 1 r ⌝ }
 {
@@ -103,8 +102,8 @@ pub(crate) fn first_of_starts(
     starts: usize,
 ) -> usize
     requires { ⌜
-        Opened (now chars) (now «word_starts») (now index) (now «list_starts») × Is-string (now string) × (starts ≤ longest-text) ×
-        (n-of (now index) ≤ longest-text) ⌝ }
+        Search-opened longest-text (now chars) (now «word_starts») (now index) (now «list_starts») (now string) ×
+        (starts ≤ longest-text) ⌝ }
     ensures { λ r. ⌜
         First-in (lexicon-at (now (chars .entry)) (now («word_starts» .entry))) (now (index .entry)) (now (string .entry)) starts 1 r ⌝ }
 {

@@ -6,11 +6,9 @@ ghost use mathlib.Core.Path.{_≡_};
 ghost use Prim.Native.Nat.{_+_, _^_, _≤_};
 ghost use lib.ListN.{length, replicate};
 ghost use Rattle.spec.specs.Dictionary.{longest-text};
-ghost use Rattle.models.specs.Window.{leading-lines};
 ghost use Rattle.models.specs.WordStarts.{lexicon-at};
-ghost use Rattle.laws.specs.Directory.Tables.{Opened};
-ghost use Rattle.laws.specs.Search.Sizing.{Is-string};
-ghost use Rattle.laws.specs.Window.Searches.{Searches};
+ghost use Rattle.laws.specs.Directory.Searchable.{Search-opened};
+ghost use Rattle.laws.specs.Window.Searches.{Searches-listed};
 ghost use Rattle.laws.specs.First.Found.{First-in};
 use agreement::leading::list_leading;
 use finding::window::first_in_window;
@@ -32,8 +30,7 @@ fn first_in_lent(
     reach: &mut [Number],
 ) -> usize
     requires { ⌜
-        Searches (now chars) (now «word_starts») (now index) (now «list_starts») (now string) «word_lines» first ×
-        (now lines ≡ leading-lines 0 (lexicon-at (now chars) (now «word_starts»)) (now index) (now string) «word_lines») ×
+        Searches-listed (now chars) (now «word_starts») (now index) (now «list_starts») (now string) (now lines) «word_lines» first ×
         (first + starts ≤ 2 ^ 32) × (starts ≤ length (now reach)) × (now reach ≡ replicate (length (now reach)) 0) ⌝ }
     ensures { λ r. ⌜
         First-in (lexicon-at (now (chars .entry)) (now («word_starts» .entry))) (now (index .entry)) (now (string .entry)) starts first
@@ -65,8 +62,7 @@ fn first_in_short(
     starts: usize,
 ) -> usize
     requires { ⌜
-        Searches (now chars) (now «word_starts») (now index) (now «list_starts») (now string) «word_lines» first ×
-        (now lines ≡ leading-lines 0 (lexicon-at (now chars) (now «word_starts»)) (now index) (now string) «word_lines») ×
+        Searches-listed (now chars) (now «word_starts») (now index) (now «list_starts») (now string) (now lines) «word_lines» first ×
         (first + starts ≤ 2 ^ 32) × (starts ≤ 1024) ⌝ }
     ensures { λ r. ⌜
         First-in (lexicon-at (now (chars .entry)) (now («word_starts» .entry))) (now (index .entry)) (now (string .entry)) starts first
@@ -100,8 +96,7 @@ fn first_in_middle(
     starts: usize,
 ) -> usize
     requires { ⌜
-        Searches (now chars) (now «word_starts») (now index) (now «list_starts») (now string) «word_lines» first ×
-        (now lines ≡ leading-lines 0 (lexicon-at (now chars) (now «word_starts»)) (now index) (now string) «word_lines») ×
+        Searches-listed (now chars) (now «word_starts») (now index) (now «list_starts») (now string) (now lines) «word_lines» first ×
         (first + starts ≤ 2 ^ 32) × (starts ≤ 8192) ⌝ }
     ensures { λ r. ⌜
         First-in (lexicon-at (now (chars .entry)) (now («word_starts» .entry))) (now (index .entry)) (now (string .entry)) starts first
@@ -135,8 +130,7 @@ fn first_in_long(
     starts: usize,
 ) -> usize
     requires { ⌜
-        Searches (now chars) (now «word_starts») (now index) (now «list_starts») (now string) «word_lines» first ×
-        (now lines ≡ leading-lines 0 (lexicon-at (now chars) (now «word_starts»)) (now index) (now string) «word_lines») ×
+        Searches-listed (now chars) (now «word_starts») (now index) (now «list_starts») (now string) (now lines) «word_lines» first ×
         (first + starts ≤ 2 ^ 32) × (starts ≤ longest-text) ⌝ }
     ensures { λ r. ⌜
         First-in (lexicon-at (now (chars .entry)) (now («word_starts» .entry))) (now (index .entry)) (now (string .entry)) starts first
@@ -169,8 +163,7 @@ fn first_by_windows(
     starts: usize,
 ) -> usize
     requires { ⌜
-        Searches (now chars) (now «word_starts») (now index) (now «list_starts») (now string) «word_lines» 1 ×
-        (now lines ≡ leading-lines 0 (lexicon-at (now chars) (now «word_starts»)) (now index) (now string) «word_lines») ×
+        Searches-listed (now chars) (now «word_starts») (now index) (now «list_starts») (now string) (now lines) «word_lines» 1 ×
         (starts ≤ longest-text) ⌝ }
     ensures { λ r. ⌜
         First-in (lexicon-at (now (chars .entry)) (now («word_starts» .entry))) (now (index .entry)) (now (string .entry)) starts 1 r ⌝ }
@@ -239,8 +232,8 @@ fn first_listing(
     lines: &mut [u16],
 ) -> usize
     requires { ⌜
-        Opened (now chars) (now «word_starts») (now index) (now «list_starts») × Is-string (now string) × (starts ≤ longest-text) ×
-        (4096 ≤ length (now lines)) ⌝ }
+        Search-opened longest-text (now chars) (now «word_starts») (now index) (now «list_starts») (now string) ×
+        (starts ≤ longest-text) × (4096 ≤ length (now lines)) ⌝ }
     ensures { λ r. ⌜
         First-in (lexicon-at (now (chars .entry)) (now («word_starts» .entry))) (now (index .entry)) (now (string .entry)) starts 1 r ⌝ }
 {
@@ -268,7 +261,8 @@ pub(crate) fn first_by_entries(
     starts: usize,
 ) -> usize
     requires { ⌜
-        Opened (now chars) (now «word_starts») (now index) (now «list_starts») × Is-string (now string) × (starts ≤ longest-text) ⌝ }
+        Search-opened longest-text (now chars) (now «word_starts») (now index) (now «list_starts») (now string) ×
+        (starts ≤ longest-text) ⌝ }
     ensures { λ r. ⌜
         First-in (lexicon-at (now (chars .entry)) (now («word_starts» .entry))) (now (index .entry)) (now (string .entry)) starts 1 r ⌝ }
 {

@@ -11,8 +11,8 @@ ghost use Rattle.spec.specs.Index.{header, n-of, keys-of};
 ghost use Rattle.spec.specs.Search.{find};
 ghost use Rattle.spec.specs.Calls.{index-refusal, Search-says};
 ghost use Rattle.models.specs.WordStarts.{lexicon-at};
-ghost use Rattle.laws.specs.Directory.Tables.{Can-read, Reads, Opened};
-ghost use Rattle.laws.specs.Search.Sizing.{Is-string, Sized};
+ghost use Rattle.laws.specs.Search.Sizing.{Sized};
+ghost use Rattle.laws.specs.Directory.Searchable.{Can-search, Search-reads, Search-opened};
 use crate::starts::search_starts;
 use directory::tables::fill_list_starts;
 use directory::tables::fill_word_starts;
@@ -47,9 +47,7 @@ fn search_plain(
     string: &[u16],
     output: &mut [Number],
 ) -> Answer
-    requires { ⌜
-        Opened (now chars) (now «word_starts») (now index) (now «list_starts») × Is-string (now string) ×
-        (n-of (now index) ≤ longest-text) ⌝ }
+    requires { ⌜ Search-opened longest-text (now chars) (now «word_starts») (now index) (now «list_starts») (now string) ⌝ }
     ensures { λ r. ⌜
         Sized (find (lexicon-at (now (chars .entry)) (now («word_starts» .entry))) (now (index .entry)) (now (string .entry))) r
         (now (output .entry)) (now (output .exit)) ⌝ }
@@ -75,9 +73,7 @@ pub fn search_tabled(
     string: &[u16],
     output: &mut [Number],
 ) -> Answer
-    requires { ⌜
-        Opened (now chars) (now «word_starts») (now index) (now «list_starts») × Is-string (now string) ×
-        (n-of (now index) ≤ longest-text) ⌝ }
+    requires { ⌜ Search-opened longest-text (now chars) (now «word_starts») (now index) (now «list_starts») (now string) ⌝ }
     ensures { λ r. ⌜
         Sized (find (lexicon-at (now (chars .entry)) (now («word_starts» .entry))) (now (index .entry)) (replaced (now (string .entry)))) r
         (now (output .entry)) (now (output .exit)) ⌝ }
@@ -97,8 +93,8 @@ fn search_filled(
     output: &mut [Number],
 ) -> Answer
     requires { ⌜
-        Reads (now chars) (now «word_starts») (now index) × Is-string (now string) × (keys-of (now index) ≤ length (now «list_starts»)) ×
-        (n-of (now index) ≤ longest-text) ⌝ }
+        Search-reads longest-text (now chars) (now «word_starts») (now index) (now string) ×
+        (keys-of (now index) ≤ length (now «list_starts»)) ⌝ }
     ensures { λ r. ⌜
         Sized (find (lexicon-at (now (chars .entry)) (now («word_starts» .entry))) (now (index .entry)) (replaced (now (string .entry)))) r
         (now (output .entry)) (now (output .exit)) ⌝ }
@@ -115,9 +111,7 @@ fn search_few_lines(
     string: &[u16],
     output: &mut [Number],
 ) -> Answer
-    requires { ⌜
-        Reads (now chars) (now «word_starts») (now index) × Is-string (now string) × (keys-of (now index) ≤ 1024) ×
-        (n-of (now index) ≤ longest-text) ⌝ }
+    requires { ⌜ Search-reads longest-text (now chars) (now «word_starts») (now index) (now string) × (keys-of (now index) ≤ 1024) ⌝ }
     ensures { λ r. ⌜
         Sized (find (lexicon-at (now (chars .entry)) (now («word_starts» .entry))) (now (index .entry)) (replaced (now (string .entry)))) r
         (now (output .entry)) (now (output .exit)) ⌝ }
@@ -134,9 +128,7 @@ fn search_some_lines(
     string: &[u16],
     output: &mut [Number],
 ) -> Answer
-    requires { ⌜
-        Reads (now chars) (now «word_starts») (now index) × Is-string (now string) × (keys-of (now index) ≤ 8192) ×
-        (n-of (now index) ≤ longest-text) ⌝ }
+    requires { ⌜ Search-reads longest-text (now chars) (now «word_starts») (now index) (now string) × (keys-of (now index) ≤ 8192) ⌝ }
     ensures { λ r. ⌜
         Sized (find (lexicon-at (now (chars .entry)) (now («word_starts» .entry))) (now (index .entry)) (replaced (now (string .entry)))) r
         (now (output .entry)) (now (output .exit)) ⌝ }
@@ -153,7 +145,7 @@ fn search_many_lines(
     string: &[u16],
     output: &mut [Number],
 ) -> Answer
-    requires { ⌜ Reads (now chars) (now «word_starts») (now index) × Is-string (now string) × (n-of (now index) ≤ longest-text) ⌝ }
+    requires { ⌜ Search-reads longest-text (now chars) (now «word_starts») (now index) (now string) ⌝ }
     ensures { λ r. ⌜
         Sized (find (lexicon-at (now (chars .entry)) (now («word_starts» .entry))) (now (index .entry)) (replaced (now (string .entry)))) r
         (now (output .entry)) (now (output .exit)) ⌝ }
@@ -170,7 +162,7 @@ fn search_lines(
     string: &[u16],
     output: &mut [Number],
 ) -> Answer
-    requires { ⌜ Reads (now chars) (now «word_starts») (now index) × Is-string (now string) × (n-of (now index) ≤ longest-text) ⌝ }
+    requires { ⌜ Search-reads longest-text (now chars) (now «word_starts») (now index) (now string) ⌝ }
     ensures { λ r. ⌜
         Sized (find (lexicon-at (now (chars .entry)) (now («word_starts» .entry))) (now (index .entry)) (replaced (now (string .entry)))) r
         (now (output .entry)) (now (output .exit)) ⌝ }
@@ -193,7 +185,7 @@ fn search_words(
     string: &[u16],
     output: &mut [Number],
 ) -> Answer
-    requires { ⌜ Can-read (now chars) (now lengths) (now index) × Is-string (now string) × (n-of (now index) ≤ longest-text) ⌝ }
+    requires { ⌜ Can-search longest-text (now chars) (now lengths) (now index) (now string) ⌝ }
     ensures { λ r. ⌜
         Sized (find (lexicon (now (chars .entry)) (now (lengths .entry))) (now (index .entry)) (replaced (now (string .entry)))) r
         (now (output .entry)) (now (output .exit)) ⌝ }

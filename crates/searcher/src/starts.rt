@@ -4,10 +4,9 @@ ghost use mathlib.Core.Path.{_≡_};
 ghost use Prim.Native.Nat.{_≤_};
 ghost use lib.ListN.{length, replicate};
 ghost use Rattle.spec.specs.Dictionary.{longest-text};
-ghost use Rattle.spec.specs.Index.{greatest-number, n-of};
+ghost use Rattle.spec.specs.Index.{greatest-number};
 ghost use Rattle.models.specs.WordStarts.{lexicon-at};
-ghost use Rattle.laws.specs.Directory.Tables.{Opened};
-ghost use Rattle.laws.specs.Search.Sizing.{Is-string};
+ghost use Rattle.laws.specs.Directory.Searchable.{Search-opened};
 ghost use Rattle.laws.specs.Window.Searching.{Window-says};
 use crate::window::search_cleared;
 use spec::Answer;
@@ -27,8 +26,8 @@ fn search_lent(
     output: &mut [Number],
 ) -> Answer
     requires { ⌜
-        Opened (now chars) (now «word_starts») (now index) (now «list_starts») × Is-string (now string) × (starts ≤ greatest-number) ×
-        (starts ≤ length (now reach)) × (now reach ≡ replicate (length (now reach)) 0) × (n-of (now index) ≤ longest-text) ⌝ }
+        Search-opened longest-text (now chars) (now «word_starts») (now index) (now «list_starts») (now string) ×
+        (starts ≤ greatest-number) × (starts ≤ length (now reach)) × (now reach ≡ replicate (length (now reach)) 0) ⌝ }
     ensures { λ r. ⌜
         Window-says (lexicon-at (now (chars .entry)) (now («word_starts» .entry))) (now (index .entry)) (now (string .entry)) starts 1 r
         (now (output .entry)) (now (output .exit)) ⌝ }
@@ -55,8 +54,7 @@ fn search_in_short(
     output: &mut [Number],
 ) -> Answer
     requires { ⌜
-        Opened (now chars) (now «word_starts») (now index) (now «list_starts») × Is-string (now string) × (starts ≤ 1024) ×
-        (n-of (now index) ≤ longest-text) ⌝ }
+        Search-opened longest-text (now chars) (now «word_starts») (now index) (now «list_starts») (now string) × (starts ≤ 1024) ⌝ }
     ensures { λ r. ⌜
         Window-says (lexicon-at (now (chars .entry)) (now («word_starts» .entry))) (now (index .entry)) (now (string .entry)) starts 1 r
         (now (output .entry)) (now (output .exit)) ⌝ }
@@ -85,8 +83,7 @@ fn search_in_middle(
     output: &mut [Number],
 ) -> Answer
     requires { ⌜
-        Opened (now chars) (now «word_starts») (now index) (now «list_starts») × Is-string (now string) × (starts ≤ 8192) ×
-        (n-of (now index) ≤ longest-text) ⌝ }
+        Search-opened longest-text (now chars) (now «word_starts») (now index) (now «list_starts») (now string) × (starts ≤ 8192) ⌝ }
     ensures { λ r. ⌜
         Window-says (lexicon-at (now (chars .entry)) (now («word_starts» .entry))) (now (index .entry)) (now (string .entry)) starts 1 r
         (now (output .entry)) (now (output .exit)) ⌝ }
@@ -115,8 +112,8 @@ fn search_in_long(
     output: &mut [Number],
 ) -> Answer
     requires { ⌜
-        Opened (now chars) (now «word_starts») (now index) (now «list_starts») × Is-string (now string) × (starts ≤ longest-text) ×
-        (n-of (now index) ≤ longest-text) ⌝ }
+        Search-opened longest-text (now chars) (now «word_starts») (now index) (now «list_starts») (now string) ×
+        (starts ≤ longest-text) ⌝ }
     ensures { λ r. ⌜
         Window-says (lexicon-at (now (chars .entry)) (now («word_starts» .entry))) (now (index .entry)) (now (string .entry)) starts 1 r
         (now (output .entry)) (now (output .exit)) ⌝ }
@@ -145,8 +142,8 @@ pub(crate) fn search_starts(
     output: &mut [Number],
 ) -> Answer
     requires { ⌜
-        Opened (now chars) (now «word_starts») (now index) (now «list_starts») × Is-string (now string) × (starts ≤ longest-text) ×
-        (n-of (now index) ≤ longest-text) ⌝ }
+        Search-opened longest-text (now chars) (now «word_starts») (now index) (now «list_starts») (now string) ×
+        (starts ≤ longest-text) ⌝ }
     ensures { λ r. ⌜
         Window-says (lexicon-at (now (chars .entry)) (now («word_starts» .entry))) (now (index .entry)) (now (string .entry)) starts 1 r
         (now (output .entry)) (now (output .exit)) ⌝ }

@@ -7,8 +7,7 @@ ghost use lib.ListN.{length, replicate};
 ghost use Rattle.spec.specs.Dictionary.{longest-text};
 ghost use Rattle.spec.specs.Index.{greatest-number, n-of};
 ghost use Rattle.models.specs.WordStarts.{lexicon-at};
-ghost use Rattle.laws.specs.Directory.Tables.{Reads, Opened};
-ghost use Rattle.laws.specs.Search.Sizing.{Is-string};
+ghost use Rattle.laws.specs.Directory.Searchable.{Search-reads, Search-opened};
 ghost use Rattle.laws.specs.TextScan.ReconstructedSearch.{Finds};
 ghost use Rattle.laws.specs.Window.Searching.{Window-says};
 use crate::estimate::prefers_text_scan;
@@ -31,7 +30,7 @@ fn reach_in_front(
     reach: &mut [Number],
 ) -> bool
     requires { ⌜
-        Reads (now chars) (now «word_starts») (now index) × (length (now string) ≤ 256) × (n-of (now index) ≤ length (now room)) ×
+        Search-reads longest-text (now chars) (now «word_starts») (now index) (now string) × (n-of (now index) ≤ length (now room)) ×
         (length (now reach) + length (now string) ≤ suc (n-of (now index))) ⌝ }
     ensures told { λ r. ⌜
         (r ≡ true → Finds (lexicon-at (now (chars .entry)) (now («word_starts» .entry))) (now (index .entry)) (now (string .entry))
@@ -52,8 +51,8 @@ pub(crate) fn reach_by_text(
     reach: &mut [Number],
 ) -> bool
     requires { ⌜
-        Reads (now chars) (now «word_starts») (now index) × (length (now string) ≤ 256) ×
-        (length (now reach) + length (now string) ≤ suc (n-of (now index))) × (n-of (now index) ≤ longest-text) ⌝ }
+        Search-reads longest-text (now chars) (now «word_starts») (now index) (now string) ×
+        (length (now reach) + length (now string) ≤ suc (n-of (now index))) ⌝ }
     ensures told { λ r. ⌜
         (r ≡ true → Finds (lexicon-at (now (chars .entry)) (now («word_starts» .entry))) (now (index .entry)) (now (string .entry))
         (now (reach .exit))) ⌝ }
@@ -71,9 +70,7 @@ fn reach_if_cheaper(
     string: &[u16],
     reach: &mut [Number],
 ) -> bool
-    requires { ⌜
-        Reads (now chars) (now «word_starts») (now index) × Is-string (now string) × (length (now reach) ≤ 2 ^ 32) ×
-        (n-of (now index) ≤ longest-text) ⌝ }
+    requires { ⌜ Search-reads longest-text (now chars) (now «word_starts») (now index) (now string) × (length (now reach) ≤ 2 ^ 32) ⌝ }
     ensures told { λ r. ⌜
         (r ≡ true → Finds (lexicon-at (now (chars .entry)) (now («word_starts» .entry))) (now (index .entry)) (now (string .entry))
         (now (reach .exit))) ⌝ }
@@ -96,8 +93,8 @@ pub(crate) fn search_cleared(
     output: &mut [Number],
 ) -> Answer
     requires { ⌜
-        Opened (now chars) (now «word_starts») (now index) (now «list_starts») × Is-string (now string) ×
-        (length (now reach) ≤ greatest-number) × (now reach ≡ replicate (length (now reach)) 0) × (n-of (now index) ≤ longest-text) ⌝ }
+        Search-opened longest-text (now chars) (now «word_starts») (now index) (now «list_starts») (now string) ×
+        (length (now reach) ≤ greatest-number) × (now reach ≡ replicate (length (now reach)) 0) ⌝ }
     ensures { λ r. ⌜
         Window-says (lexicon-at (now (chars .entry)) (now («word_starts» .entry))) (now (index .entry)) (now (string .entry))
         (length (now (reach .entry))) 1 r (now (output .entry)) (now (output .exit)) ⌝ }

@@ -58,6 +58,10 @@ output-refused r o h = rw (lt-ltb o r h)
 unfoldable pub early-refusal : (g : ℕ) → (chars lengths text : List ℕ) → (work : ℕ) → ℕ
 early-refusal g cs ls ts w = or-else (dictionary-refusal cs ls) (cond (text-too-long g ts) 4 (cond (work-short (length ts) w) 7 0))
 
+-- the index of the text is put out, or the refusal; w is how long the work slice is
+abbrev pub Build-puts : (g : ℕ) → (chars lengths text : List ℕ) → (w : ℕ) → Answer → (out out-now : List ℕ) → Type 0
+Build-puts g cs ls ts w r o z = Puts (build-refusal g cs ls ts (length o) w) (index-of (lexicon cs ls) (replaced ts)) r o z
+
 -- what holds if none of them is met
 pub record Reached (g : ℕ) (cs ls ts : List ℕ) (w : ℕ) : Type 0 where
   pub admits : dictionary-refusal cs ls ≡ 0
@@ -243,7 +247,7 @@ module _ {g : ℕ} {cs ls ts : List ℕ} {w : ℕ} (met : Reached g cs ls ts w) 
   -- what answers for the tokens answers for the call
   pub build-tokens :
       Chars ts → (r : Answer) (o z : List ℕ) → Tokens-say ms (replaced ts) r o z →
-      Puts (build-refusal g cs ls ts (length o) w) (index-of (lexicon cs ls) (replaced ts)) r o z
+      Build-puts g cs ls ts w r o z
   build-tokens text r o z puts =
       rw (
         build-late met (length o),

@@ -194,21 +194,28 @@ cut-long {lex} {xs} {s} size =
 abbrev pub Cut-listed : (lex : Lexicon) → (xs s old now : List ℕ) → (at : ℕ) → Type 0
 Cut-listed lex xs s old now at = Writing (cut-down lex xs s) old now (all-positions (bearing lex s (lines-in xs))) at
 
-module _ {lex : Lexicon} {xs s : List ℕ} {keys entries : ℕ} (size : Is-size lex xs s keys entries) (old : List ℕ)
-    (room : length (cut-down lex xs s) ≤ length old) {n : ℕ} (is : n ≡ n-of xs) {head : List ℕ} (e : head ≡ over (n ∷ keys ∷ []) old) where
+-- the bearing lines are flagged, how many keys and entries they have is known, and the slice has room for them
+pub record Cuts (lex : Lexicon) (xs s fs : List ℕ) (keys entries : ℕ) (out : List ℕ) : Type 0 where
+  pub lines : Flagged-lines lex xs s fs
+  pub size : Is-size lex xs s keys entries
+  pub room : length (cut-down lex xs s) ≤ length out
+
+module _ {lex : Lexicon} {xs s fs : List ℕ} {keys entries : ℕ} {old : List ℕ} (cuts : Cuts lex xs s fs keys entries old) {n : ℕ}
+    (is : n ≡ n-of xs) {head : List ℕ} (e : head ≡ over (n ∷ keys ∷ []) old) where
   headed : head ≡ over (n-of xs ∷ keys ∷ []) old
   headed = rw is at e
 
   pub cut-directory-room : header + length (directory (bearing lex s (lines-in xs))) ≤ length head
   unfolding cut-down
-  cut-directory-room = rw headed (directory-room (n-of xs) (bearing lex s (lines-in xs)) keys (size .keys-are) old room)
+  cut-directory-room = rw headed (directory-room (n-of xs) (bearing lex s (lines-in xs)) keys (cuts .size .keys-are) old (cuts .room))
 
   pub cut-listed :
       {now : List ℕ} → now ≡ over (take header head ++ directory (bearing lex s (lines-in xs))) head → {at : ℕ} → at ≡ header + 3 * keys →
       Cut-listed lex xs s old now at
   unfolding cut-down
   cut-listed {now} d a =
-      rw a (directory-written (n-of xs) (bearing lex s (lines-in xs)) keys (size .keys-are) old room now (rw headed at d))
+      rw a
+      (directory-written (n-of xs) (bearing lex s (lines-in xs)) keys (cuts .size .keys-are) old (cuts .room) now (rw headed at d))
 
 -- the positions, written through the part of the slice from `at` on
 pub cut-written :

@@ -18,9 +18,8 @@ use Rattle.models.specs.WordStarts.{lexicon-at}
 use Rattle.models.specs.Window.{agrees-leading, is-leading, leading-lines}
 use Rattle.laws.specs.Search.Agree.{Agree, agrees-get, agrees-put, agree-move}
 use Rattle.laws.specs.Cut.Bears.{bears-get}
-use Rattle.laws.specs.Directory.Tables.{Reads, key-some}
-use Rattle.laws.specs.Window.LineRanges.{Split, lone-single}
-use Rattle.laws.specs.Search.Sizing.{Is-string}
+use Rattle.laws.specs.Directory.Tables.{key-some}
+use Rattle.laws.specs.Window.LineRanges.{Search-lines, lone-single}
 use Rattle.laws.specs.Cut.ExactFlags.{bears-at, Exact-flags}
 use Rattle.laws.specs.Cut.Flagging.{Ones-at, Flags, Flagging, Flagged, Offset-flagged, flagging-start, flagging-on, flagging-list}
 use Rattle.laws.specs.Cut.Flagging.{flagged-kept}
@@ -79,13 +78,12 @@ module _ {lex : Lexicon} {xs s : List ℕ} where
           (those-from-put w 0 (is-leading 1 lex xs s) i (omega arith) (omega arith)
           (any-from-put (length k - 1) 1 (λ (q : ℕ). agrees s q k 0) p l (omega arith) t))
 
--- the index is read by the table of word starts, its first w lines are those of words, and the string may be searched for
-pub record Bears-on (cs ws xs s : List ℕ) (w : ℕ) : Type 0 where
-  pub reads : Reads cs ws xs
-  pub split : Split xs w
-  pub string : Is-string s
+-- the lines of a search, and the flags set so far
+pub record Flags-lines (cs ws xs s : List ℕ) (w : ℕ) (fs : List ℕ) : Type 0 where
+  pub lines : Search-lines cs ws xs s w
+  pub flags : Flags (lexicon-at cs ws) xs s fs
 
-module _ {cs ws xs s : List ℕ} {w : ℕ} (on : Bears-on cs ws xs s w) {old mid fs : List ℕ} (backs : Backs (lexicon-at cs ws) xs s old mid w)
+module _ {cs ws xs s : List ℕ} {w : ℕ} (on : Search-lines cs ws xs s w) {old mid fs : List ℕ} (backs : Backs (lexicon-at cs ws) xs s old mid w)
     (offsets : Offsets (lexicon-at cs ws) xs s mid fs (length s)) where
   abbrev key : ℕ → List ℕ
   key i = spells (lexicon-at cs ws) (key-at xs i)

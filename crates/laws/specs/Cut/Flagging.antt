@@ -16,9 +16,8 @@ use Rattle.spec.specs.Dictionary.{Lexicon}
 use Rattle.spec.specs.Words.{spells}
 use Rattle.spec.specs.Index.{keys-of, key-at}
 use Rattle.spec.specs.Search.{agrees}
-use Rattle.models.specs.Window.{agrees-line}
 use Rattle.laws.specs.Search.Agree.{agrees-get}
-use Rattle.laws.specs.Window.AgreeingLines.{Agreeing-listed, listed-agrees, agrees-listed}
+use Rattle.laws.specs.Window.AgreeingLines.{Agreeing-listed, Agreeing-found, listed-agrees, agrees-listed}
 use Rattle.laws.specs.Window.LineRanges.{Only-line}
 use Rattle.laws.specs.Cut.Bears.{bears-put}
 use Rattle.laws.specs.Cut.ExactFlags.{bears-at}
@@ -210,23 +209,23 @@ module _ {lex : Lexicon} {xs s : List ℕ} where
 
   -- the words that agree: those listed, then a range
   pub flagged-words :
-      {o w : ℕ} {lines : List ℕ} {count from to : ℕ} → Agreeing-listed o lex xs s w lines count from to → w ≤ keys-of xs →
-      ((i : ℕ) → from ≤ i → i < to → agrees-line o lex xs s i ≡ true) → {fs mid now : List ℕ} → Flags lex xs s fs →
-      Ones-at (take count lines) fs mid → Ones from to mid now → Offset-flagged lex xs s o 0 w fs now
-  flagged-words {o} {w} {lines} {count} {from} {to} h within all {fs} {mid} {now} flags listed range =
+      {o w : ℕ} {lines : List ℕ} {count from to : ℕ} → Agreeing-found o lex xs s w lines count from to → w ≤ keys-of xs →
+      {fs mid now : List ℕ} → Flags lex xs s fs → Ones-at (take count lines) fs mid → Ones from to mid now →
+      Offset-flagged lex xs s o 0 w fs now
+  flagged-words {o} {w} {lines} {count} {from} {to} found within {fs} {mid} {now} flags listed range =
       record {
         way = flagging-on first second;
         done =
             λ i a b t.
             ⊎-elim (λ (p : In i (take count lines)). omega (arith, listed .listed i p, second .kept i (omega arith)))
-            (λ (p : (from ≤ i) × (i < to)). omega (arith, range .inside i (p .0) (p .1))) (agrees-listed h i b t);
+            (λ (p : (from ≤ i) × (i < to)). omega (arith, range .inside i (p .0) (p .1))) (agrees-listed (found .listed) i b t);
       }
     where
       first : Flagging lex xs s fs mid
-      first = flagging-list flags listed (λ i m. agrees-bears-at lex xs s 0 o i (listed-agrees h i m .1))
+      first = flagging-list flags listed (λ i m. agrees-bears-at lex xs s 0 o i (listed-agrees (found .listed) i m .1))
 
       second : Flagging lex xs s mid now
-      second = flagging-ones (first .flags) range (λ i a b. agrees-bears-at lex xs s 0 o i (all i a b))
+      second = flagging-ones (first .flags) range (λ i a b. agrees-bears-at lex xs s 0 o i (found .range i a b))
 
   -- of the lines a to b − 1 only r agrees, or none does
   module _ {o a b : ℕ} {fs : List ℕ} (h : Flags lex xs s fs) where

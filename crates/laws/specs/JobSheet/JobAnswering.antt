@@ -67,6 +67,11 @@ pub record Strings-good (fs ns : List ℕ) : Type 0 where
   pub tested : some-length-wrong ns ≡ false
   pub fits : total ns ≤ length fs
 
+-- slices that hold the positions of any string, and any answer
+pub record Answer-room (found out : List ℕ) : Type 0 where
+  pub positions : 2000 ≤ length found
+  pub answer : 700000 ≤ length out
+
 pub shown-short :
     {cs ls xs : List ℕ} (ss : List (List ℕ)) → Usable cs ls xs → Small xs → length ss ≤ 50 →
     length (index-lines xs ++ found-lines (lexicon cs ls) xs ss) ≤ 700000

@@ -30,6 +30,11 @@ use Rattle.laws.specs.Receive.LinePass.{line-positions, Passing, passing
 
 -- WHAT IS READ
 
+-- a readable index with its word starts, and a slice as long as its text
+pub record Reconstructs (cs ws xs text : List ℕ) : Type 0 where
+  pub reads : Reads cs ws xs
+  pub long : length text ≡ n-of xs
+
 -- a readable index and an admitted dictionary, with its word starts
 module _ {cs ws : List ℕ} (started : Started cs ws) where
   pub started-reads :

@@ -57,6 +57,11 @@ module _ (o : ℕ) (lex : Lexicon) (xs s : List ℕ) where
     pub within : hi ≤ w
     pub room : count ≤ length lines
 
+  -- and the lines of that range agree
+  pub record Agreeing-found (w : ℕ) (lines : List ℕ) (count lo hi : ℕ) : Type 0 where
+    pub listed : Agreeing-listed w lines count lo hi
+    pub range : Range-agrees o lex xs s lo hi
+
 module _ {o : ℕ} {lex : Lexicon} {xs s : List ℕ} where
   pub agreeing-start : (w : ℕ) (lines : List ℕ) → Agreeing-listed o lex xs s w lines 0 0 w
   agreeing-start w lines = record { found = refl; order = omega arith; within = omega arith; room = omega arith }

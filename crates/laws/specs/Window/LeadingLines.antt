@@ -172,6 +172,11 @@ module _ {f : ℕ → List ℕ → List ℕ} {is old : List ℕ} where
 
 -- FILLING THE LIST
 
+-- the numbers are written to the start of the list, and counted
+pub record Filled (new : List ℕ) (count : ℕ) (old now : List ℕ) : Type 0 where
+  pub counted : count ≡ length new
+  pub is : now ≡ in-front new old
+
 -- of the first w lines those from i on are still to be tested, and `count` are listed
 pub record Leading (m : ℕ) (lex : Lexicon) (xs s : List ℕ) (w : ℕ) (old now : List ℕ) (count i : ℕ) : Type 0 where
   pub writing : Writing (leading-lines m lex xs s w) old now (those-from (w - i) i (is-leading m lex xs s)) count
@@ -211,14 +216,13 @@ module _ {m : ℕ} {lex : Lexicon} {xs s : List ℕ} {w : ℕ} {old : List ℕ} 
       unfolding those-from
       last = let z : w - i ≡ 0 = omega arith in rw z at (h .writing)
 
-      pub leading-count : count ≡ length (leading-lines m lex xs s w)
-      leading-count = sym (written-length (leading-lines m lex xs s w) old now count last)
-
-      pub leading-written : now ≡ in-front (leading-lines m lex xs s w) old
+      pub leading-filled : Filled (leading-lines m lex xs s w) count old now
       unfolding in-front
-      leading-written = written (leading-lines m lex xs s w) old now count last
+      leading-filled =
+          let lines = leading-lines m lex xs s w in
+          record { counted = sym (written-length lines old now count last); is = written lines old now count last }
 
 -- the start of the filled list
-pub leading-taken : {count : ℕ} {new now : List ℕ} (old : List ℕ) → count ≡ length new → now ≡ in-front new old → take count now ≡ new
+pub leading-taken : {new : List ℕ} {count : ℕ} {old now : List ℕ} → Filled new count old now → take count now ≡ new
 unfolding in-front
-leading-taken {count} {new} old e w = rw w (take-at new (drop (length new) old) count (sym e))
+leading-taken {new} {count} {old} h = rw (h .is) (take-at new (drop (length new) old) count (sym (h .counted)))

@@ -20,7 +20,8 @@ use Rattle.laws.specs.Dictionary.Lexicon.{length-words}
 use Rattle.laws.specs.Dictionary.WordOrder.{ascend-get}
 use Rattle.laws.specs.Search.Agree.{agrees-get, agree-first}
 use Rattle.laws.specs.Search.AgreeWalk.{together}
-use Rattle.laws.specs.Directory.Tables.{Can-read, key-is, word-below}
+use Rattle.laws.specs.Search.Sizing.{Is-string}
+use Rattle.laws.specs.Directory.Tables.{Can-read, Reads, key-is, word-below}
 use Rattle.basics.specs.LowerBound.{Rising, Lower-bound}
 
 -- of the lines a to b − 1 only r can agree with the string at the offset o
@@ -32,6 +33,12 @@ pub record Split (xs : List ℕ) (w : ℕ) : Type 0 where
   pub within : w ≤ keys-of xs
   pub words : (i : ℕ) → i < w → kind-at xs i ≡ 0
   pub lone : (i : ℕ) → w ≤ i → i < keys-of xs → kind-at xs i ≡ 1
+
+-- the index is read by the table of word starts, its first w lines are those of words, and the string may be searched for
+pub record Search-lines (cs ws xs s : List ℕ) (w : ℕ) : Type 0 where
+  pub reads : Reads cs ws xs
+  pub split : Split xs w
+  pub string : Is-string s
 
 -- the values of the lines from w on ascend strictly
 pub record Values-rise (xs : List ℕ) (w : ℕ) : Type 0 where

@@ -7,7 +7,8 @@ use native.Mathlib.Omega.{arith}
 use lib.ListN.{length, getD}
 use Rattle.spec.specs.Words.{spells}
 use Rattle.spec.specs.Index.{keys-of, kind-at, key-at, lines-in}
-use Rattle.models.specs.Window.{positions-all, key-all, back-all, leading-all, offset-all, run, positions-at, offset-at, leading-at}
+use Rattle.models.specs.Window.{positions-all, key-all, back-all, leading-all, leading-lines, offset-all, run, positions-at, offset-at}
+use Rattle.models.specs.Window.{leading-at}
 use Rattle.models.specs.WordStarts.{lexicon-at}
 use Rattle.laws.specs.Numbers.Slices.{Fits}
 use Rattle.laws.specs.Directory.Tables.{Reads, List-starts, Opened, spelt-short}
@@ -27,6 +28,17 @@ pub record Searches (cs ws xs ts s : List ℕ) (w q : ℕ) : Type 0 where
   pub split : Split xs w
   pub string : Is-string s
   pub first-small : q ≤ 2 ^ 32
+
+-- and the leading lines are listed
+pub record Searches-listed (cs ws xs ts s lines : List ℕ) (w q : ℕ) : Type 0 where
+  pub searches : Searches cs ws xs ts s w q
+  pub listed : lines ≡ leading-lines 0 (lexicon-at cs ws) xs s w
+
+-- or the window is extended by keys at the offset o; none of its starts reaches further than to m
+pub record Searches-offset (cs ws xs ts s : List ℕ) (w q o m : ℕ) (rs : List ℕ) : Type 0 where
+  pub searches : Searches cs ws xs ts s w q
+  pub inside : o < length s
+  pub within : Within m rs
 
 -- a line of a word
 module _ {cs ws xs ts s : List ℕ} {w q : ℕ} (h : Searches cs ws xs ts s w q) {i : ℕ} (below : i < w) where

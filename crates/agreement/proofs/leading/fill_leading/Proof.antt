@@ -6,8 +6,7 @@ use native.Mathlib.Omega.{arith}
 use borrow.Author.Needs.{needs}
 use lib.ListN.{length}
 use Rattle.models.specs.WordStarts.{lexicon-at}
-use Rattle.laws.specs.Window.LeadingLines.{Leading, leading-start, leading-passed, leading-room, leading-listed, leading-count}
-use Rattle.laws.specs.Window.LeadingLines.{leading-written}
+use Rattle.laws.specs.Window.LeadingLines.{Leading, leading-start, leading-passed, leading-room, leading-listed, leading-filled}
 use Rattle.agreement.proofs.leading.fill_leading.Statement.{statement}
 use Rattle.agreement.proofs.leading.fill_leading.Tie as tie
 
@@ -45,8 +44,7 @@ loop-again-2 c =
 
 returns : tie.Need-returns Inv-loop μ-loop
 returns c =
-    let l = c .before .loop in
-    (leading-count (l .inv) (c .loop-test .left), leading-written (l .inv) (c .loop-test .left))
+    leading-filled (c .before .loop .inv) (c .loop-test .left)
 
 pub fill-leading-spec : {M : Type 1} → statement M
 fill-leading-spec =

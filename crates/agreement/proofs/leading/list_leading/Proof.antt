@@ -1,7 +1,6 @@
 -- `list_leading` meets its contract: there is room for every line of a word, and the list is the first numbers
 -- of the slice. Assumes nothing.
 use native.Mathlib.Omega.{arith}
-use Rattle.models.specs.Window.{leading-lines}
 use Rattle.models.specs.WordStarts.{lexicon-at}
 use Rattle.laws.specs.Window.LineRanges.{Split, kinds-rise, split-found, word-lines-few}
 use Rattle.laws.specs.Window.LeadingLines.{leading-short, leading-taken}
@@ -35,8 +34,7 @@ returns c =
     let words = ended .count-word-lines .result in (
       split ended,
       omega (arith, leading-short (a .least) lexicon (a .index .now) (a .string .now) words, word-lines-few (s .pre .0 .can) (split ended)),
-      leading-taken {new = leading-lines (a .least) lexicon (a .index .now) (a .string .now) words} (a .lines .now) (filled .ensures .0)
-          (filled .ensures .1),
+      leading-taken (filled .ensures),
     )
 
 pub list-leading-spec : {M : Type 1} → statement M

@@ -13,18 +13,19 @@ returns c =
     let refined = c .before .before .before .before in
     let s = start (refined .before .before) in
     let found = refined .refine .ensures .0 in
-    (found .listed, refining-all (s .pre .0) (s .pre .1) found (s .pre .2) (omega arith))
+    let h = s .pre .0 in
+    record { listed = found .listed; range = refining-all (h .reads) (h .split) found (s .pre .1) (omega arith) }
 
 compare-few-requires : tie.Need-compare-few-requires
 compare-few-requires c κs =
     let refined = c .before .before .before .before .before in
     let s = start (refined .before .before) in
     let found = refined .refine .ensures in
-    (s .pre .0, s .pre .1, omega arith, found .0 .listed, found .0 .len, omega arith, found .1 (omega arith))
+    (s .pre .0, s .pre .1, found .0, found .1 (omega arith))
 
 pub agreeing-words-spec : {M : Type 1} → statement M
 agreeing-words-spec =
     tie.close
     (tie.spec
     (λ c κs. search needs) (λ c. search needs) (λ c. search needs) returns compare-few-requires (λ c. search needs)
-    (λ c. (c .before .before .compare-few .ensures .0, λ i a b. absurd (omega arith))))
+    (λ c. record { listed = c .before .before .compare-few .ensures .0; range = λ i a b. absurd (omega arith) }))

@@ -26,12 +26,13 @@ abbrev start : tie.After-slice-known Inv-loop μ-loop → tie.Start Inv-loop μ-
 start c = c .before .before .before .before .before
 
 loop-holds : tie.Need-loop-holds Inv-loop μ-loop
-loop-holds c = let s = start c in (s .pre .3, refl, omega arith)
+loop-holds c = let s = start c in (s .pre .2 .listed, refl, omega arith)
 
 word-at-requires : tie.Need-word-at-requires Inv-loop μ-loop
 word-at-requires c κs =
     let s = start (c .before .before) in
-    (s .pre .0, omega arith, s .pre .1 .words (c .before .loop .low) (omega arith))
+    let h = s .pre .0 in
+    (h .reads, omega arith, h .split .words (c .before .loop .low) (omega arith))
 
 -- what `agrees_at` answers of the line
 agreed : (c : tie.After-agrees-at Inv-loop μ-loop) → let a = start (c .before .before .before .before) .args in

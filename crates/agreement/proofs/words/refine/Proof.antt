@@ -24,7 +24,7 @@ abbrev at-loop : tie.After-shared-slice-known5 Inv-loop μ-loop → tie.At-loop 
 at-loop c = c .before .before .before .before .before
 
 loop-holds : tie.Need-loop-holds Inv-loop μ-loop
-loop-holds c = let s = start c in (refining-start (s .pre .0) (s .pre .1) (s .pre .4), refl, refl)
+loop-holds c = let s = start c in (refining-start (s .pre .0 .reads) (s .pre .0 .split) (s .pre .2), refl, refl)
 
 returns : tie.Need-returns Inv-loop μ-loop
 returns c = (c .before .before .loop .inv .0, λ more. absurd (omega (arith, more)))
@@ -33,13 +33,13 @@ word-at-requires : tie.Need-word-at-requires Inv-loop μ-loop
 word-at-requires c κs =
     let s = start (c .before .before .before) in
     let l = c .before .before .loop in
-    (s .pre .0, omega arith, s .pre .1 .words (l .low) (omega arith))
+    (s .pre .0 .reads, omega arith, s .pre .0 .split .words (l .low) (omega arith))
 
 loop-again : tie.Need-loop-again Inv-loop μ-loop
 loop-again c =
     let s = start (c .before .before .before .before .before) in
     let l = c .before .before .before .before .loop in (
-      refining-push (s .pre .0) (s .pre .1) (l .inv .0) (omega arith) (s .pre .2)
+      refining-push (s .pre .0 .reads) (s .pre .0 .split) (l .inv .0) (omega arith) (s .pre .1)
           (sym (ap length (c .before .word-at .ensures)) ∙ c .if2 .taken),
       l .inv .1,
       length-set (l .lines) (l .count) (l .low) ∙ l .inv .2,
@@ -49,7 +49,7 @@ equal-range-requires : tie.Need-equal-range-requires Inv-loop μ-loop
 equal-range-requires c κs =
     let s = start (at-loop c .before) in
     let l = at-loop c .loop in
-    refining-column (s .pre .0) (s .pre .1) (l .inv .0) (omega arith)
+    refining-column (s .pre .0 .reads) (s .pre .0 .split) (l .inv .0) (omega arith)
     (λ e. c .before .if2 .left (ap length (c .before .before .word-at .ensures) ∙ e))
 
 loop-less-2 : tie.Need-loop-less-2 Inv-loop μ-loop
@@ -58,7 +58,7 @@ loop-less-2 c =
     let l = at-loop (c .before) .loop in
     omega (
       arith,
-      refining-deep (s .pre .0) (s .pre .1) (l .inv .0) (omega arith)
+      refining-deep (s .pre .0 .reads) (s .pre .0 .split) (l .inv .0) (omega arith)
           (λ e. c .before .before .if2 .left (ap length (c .before .before .before .word-at .ensures) ∙ e)),
     )
 
@@ -66,7 +66,7 @@ loop-again-2 : tie.Need-loop-again-2 Inv-loop μ-loop
 loop-again-2 c =
     let s = start (at-loop (c .before) .before) in
     let l = at-loop (c .before) .loop in (
-      refining-step (s .pre .0) (s .pre .1) (l .inv .0) (omega arith)
+      refining-step (s .pre .0 .reads) (s .pre .0 .split) (l .inv .0) (omega arith)
           (λ e. c .before .before .if2 .left (ap length (c .before .before .before .word-at .ensures) ∙ e)) (omega arith)
           (c .equal-range .ensures .0) (c .equal-range .ensures .1),
       l .inv .1,

@@ -5,8 +5,9 @@ use lib.Seq.{length-take-le}
 use borrow.Author.Needs.{needs}
 use Rattle.models.specs.WordStarts.{lexicon-at}
 use Rattle.laws.specs.Window.LeadingLines.{leading-below}
+use Rattle.laws.specs.Window.LineRanges.{Search-lines}
 use Rattle.laws.specs.Cut.Flagging.{flags-none}
-use Rattle.laws.specs.Cut.FlagWalks.{Bears-on, Backs, backs-leading, flags-exact-flags}
+use Rattle.laws.specs.Cut.FlagWalks.{Backs, backs-leading, flags-exact-flags}
 use Rattle.bearing.proofs.bearing.flag_bearing.Statement.{statement}
 use Rattle.bearing.proofs.bearing.flag_bearing.Tie as tie
 
@@ -25,8 +26,10 @@ slice-aggregate-flag-list c =
 
 on :
     (c : tie.After-list-leading) → let a = start c .args in
-    Bears-on (a .chars .now) (a .word-starts .now) (a .index .now) (a .string .now) (c .list-leading .result .words)
-on c = record { reads = start c .pre .0; split = c .list-leading .ensures .0; string = start c .pre .1 }
+    Search-lines (a .chars .now) (a .word-starts .now) (a .index .now) (a .string .now) (c .list-leading .result .words)
+on c =
+    let h = start c .pre .0 in
+    record { reads = h .reads; split = c .list-leading .ensures .0; string = h .string }
 
 flag-list-requires : tie.Need-flag-list-requires
 flag-list-requires c κs =
@@ -36,7 +39,7 @@ flag-list-requires c κs =
     let below =
     leading-below 1 (lexicon-at (a .chars .now) (a .word-starts .now)) (a .index .now) (a .string .now) (l .list-leading .result .words)
     (l .list-leading .ensures .2) in
-    λ j b. omega (arith, below j b, on l .split .within, s .pre .2)
+    λ j b. omega (arith, below j b, on l .split .within, s .pre .1)
 
 -- after the lines that agree below 0
 backs :
@@ -45,12 +48,12 @@ backs :
     (listed c .list-leading .result .words)
 backs c =
     let s = start (listed c) in
-    backs-leading (listed c .list-leading .ensures .2) (flags-none (s .pre .3) (s .pre .2)) (c .flag-list .ensures)
+    backs-leading (listed c .list-leading .ensures .2) (flags-none (s .pre .2) (s .pre .1)) (c .flag-list .ensures)
 
 flag-offsets-requires : tie.Need-flag-offsets-requires
 flag-offsets-requires c κs =
     let flagged = c .before .before .before .before in
-    (on (listed flagged), omega arith, backs flagged .way .flags)
+    (record { lines = on (listed flagged); flags = backs flagged .way .flags }, omega arith)
 
 returns : tie.Need-returns
 returns c =

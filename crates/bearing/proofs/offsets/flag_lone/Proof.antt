@@ -11,15 +11,15 @@ start c = c .before .before .before .before .before
 
 lone-line-requires : tie.Need-lone-line-requires
 lone-line-requires c κs =
-    let h = start (c .before) .pre .0 in (h .reads .can .fits, lone-rise (h .reads .can) (h .split))
+    let h = start (c .before) .pre .0 .lines in (h .reads .can .fits, lone-rise (h .reads .can) (h .split))
 
 returns : tie.Need-returns
 returns c =
     let s = start (c .before .before .before .before) in
     let a = s .args in
-    let h = s .pre .0 in
+    let h = s .pre .0 .lines in
     let line = c .before .before .lone-line in
-    flagged-one (s .pre .2) (line .result) (omega arith)
+    flagged-one (s .pre .0 .flags) (line .result) (omega arith)
     (lone-agrees (h .reads .can) (h .split) (a .string .now) (a .key-start) (line .ensures) (omega arith) (s .pre .1))
     (lone-others (h .reads .can) (h .split) (a .string .now) (a .key-start) (line .ensures))
 
@@ -27,9 +27,9 @@ returns-2 : tie.Need-returns-2
 returns-2 c =
     let s = start (c .before .before .before .before) in
     let a = s .args in
-    let h = s .pre .0 in
+    let h = s .pre .0 .lines in
     let line = c .before .before .lone-line in
-    flagged-none (s .pre .2)
+    flagged-none (s .pre .0 .flags)
     (λ i from below.
     lone-others (h .reads .can) (h .split) (a .string .now) (a .key-start) (line .ensures) i from below (λ e. omega arith))
 

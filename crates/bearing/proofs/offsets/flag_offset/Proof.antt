@@ -14,7 +14,7 @@ returns c =
     let lone = c .before .before in
     let flagged = lone .before .before .before in
     let words = flagged .before .before .before in
-    flagged-both (start words .pre .0 .split .within) (words .flag-words .ensures) (lone .flag-lone .ensures)
+    flagged-both (start words .pre .0 .lines .split .within) (words .flag-words .ensures) (lone .flag-lone .ensures)
 
 pub flag-offset-spec : {M : Type 1} → statement M
 flag-offset-spec =

@@ -24,13 +24,13 @@ start c =
     known .before .before .before .before .before
 
 loop-holds : tie.Need-loop-holds Inv-loop μ-loop
-loop-holds c = (omega arith, offsets-start (start c .pre .2), refl)
+loop-holds c = (omega arith, offsets-start (start c .pre .0 .flags), refl)
 
 loop-again : tie.Need-loop-again Inv-loop μ-loop
 loop-again c =
     let flagged = c .before .before .before .before in
     let l = flagged .before .before .before .before in (
-      omega (arith, start (l .before) .pre .0 .string .some),
+      omega (arith, start (l .before) .pre .0 .lines .string .some),
       offsets-next (l .loop .inv .1) (flagged .flag-offset .ensures),
       c .before .before .before .lines .given ∙ l .loop .inv .2,
     )
@@ -50,5 +50,9 @@ flag-offsets-spec =
     Inv-loop μ-loop (λ c. omega arith) loop-holds
     (λ c κs.
     let l = c .before .before .before in
-    let s = start (l .before) in (s .pre .0, omega arith, omega (arith, l .loop .inv .2, s .pre .1), l .loop .inv .1 .way .flags))
+    let s = start (l .before) in (
+      record { lines = s .pre .0 .lines; flags = l .loop .inv .1 .way .flags },
+      omega arith,
+      omega (arith, l .loop .inv .2, s .pre .1),
+    ))
     (λ c. search needs) (λ c. omega arith) loop-again (λ c. c .before .loop .inv .2) (λ c. c .before .loop .inv .1 .way .len) returns)

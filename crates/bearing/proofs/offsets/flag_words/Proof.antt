@@ -13,11 +13,11 @@ start c = c .before .before .before .before .before
 slice-aggregate-flag-list : tie.Need-slice-aggregate-flag-list
 slice-aggregate-flag-list c =
     let found = c .before .before .before .agreeing-words in
-    sym (length-take-le (found .result .count) (found .last .1 .1 .1 .1 .1 .1 .0) (found .ensures .0 .room))
+    sym (length-take-le (found .result .count) (found .last .1 .1 .1 .1 .1 .1 .0) (found .ensures .listed .room))
 
 flag-list-requires : tie.Need-flag-list-requires
 flag-list-requires c κs =
-    agreeing-below (c .before .before .before .before .agreeing-words .ensures .0) (omega arith)
+    agreeing-below (c .before .before .before .before .agreeing-words .ensures .listed) (omega arith)
 
 returns : tie.Need-returns
 returns c =
@@ -25,8 +25,8 @@ returns c =
     let list = run .before .before .before .before in
     let words = list .before .before .before .before .before in
     let s = start (words .before .before .before) in
-    let found = words .agreeing-words .ensures in
-    flagged-words (found .0) (s .pre .0 .split .within) (found .1) (s .pre .3) (list .flag-list .ensures) (run .flag-run .ensures)
+    let h = s .pre .0 in
+    flagged-words (words .agreeing-words .ensures) (h .lines .split .within) (h .flags) (list .flag-list .ensures) (run .flag-run .ensures)
 
 pub flag-words-spec : {M : Type 1} → statement M
 flag-words-spec =

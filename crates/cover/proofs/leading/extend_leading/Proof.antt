@@ -29,20 +29,20 @@ below c =
     let s = start (c .before .before .before .before) in
     let a = s .args in
     leading-below 0 (lexicon-at (a .chars .now) (a .word-starts .now)) (a .index .now) (a .string .now) (a .word-lines)
-    (s .pre .1) (c .before .loop .i) (c .loop-test .taken)
+    (s .pre .0 .listed) (c .before .loop .i) (c .loop-test .taken)
 
 word-at-requires : tie.Need-word-at-requires Inv-loop μ-loop
 word-at-requires c κs =
-    let turn = c .before in word-line (start (turn .before .before .before .before) .pre .0) (below turn)
+    let turn = c .before in word-line (start (turn .before .before .before .before) .pre .0 .searches) (below turn)
 
 positions-of-requires : tie.Need-positions-of-requires Inv-loop μ-loop
 positions-of-requires c κs =
-    let turn = c .before .before in word-list (start (turn .before .before .before .before) .pre .0) (below turn)
+    let turn = c .before .before in word-list (start (turn .before .before .before .before) .pre .0 .searches) (below turn)
 
 extend-back-requires : tie.Need-extend-back-requires Inv-loop μ-loop
 extend-back-requires c κs =
     let turn = c .before .before .before .before in
-    let h = start (turn .before .before .before .before) .pre .0 in
+    let h = start (turn .before .before .before .before) .pre .0 .searches in
     let key = c .before .before .word-at .ensures in (
       word-short h (below turn) key,
       h .string .some,
@@ -55,7 +55,7 @@ loop-again : tie.Need-loop-again Inv-loop μ-loop
 loop-again c =
     let done = c .before .before in
     let turn = done .before .before .before .before .before in
-    let h = start (turn .before .before .before .before) .pre .0 in
+    let h = start (turn .before .before .before .before) .pre .0 .searches in
     listed-step (turn .before .loop .inv) (turn .loop-test .taken) (done .extend-back .kept .1 .1 .1 .1 .0)
     (word-leading h (below turn) (c .before .before .before .before .before .word-at .ensures)
     (c .before .before .before .before .positions-of .ensures) (turn .before .loop .reach) (done .extend-back .ensures))
@@ -63,7 +63,8 @@ loop-again c =
 extend-lone-requires : tie.Need-extend-lone-requires Inv-loop μ-loop
 extend-lone-requires c κs =
     let s = start (c .before .before .before .before .before) in
-    (s .pre .0, omega arith, c .before .before .loop .inv .way .bounded)
+    let h = s .pre .0 .searches in
+    record { searches = h; inside = h .string .some; within = c .before .before .loop .inv .way .bounded }
 
 returns : tie.Need-returns Inv-loop μ-loop
 returns c =
@@ -71,14 +72,14 @@ returns c =
     let s = start (ended .before .before .before .before) in
     let a = s .args in
     let lexicon = lexicon-at (a .chars .now) (a .word-starts .now) in
-    leading-both (s .pre .0) (a .reach .now)
-    (leading-reaches lexicon (a .index .now) (a .string .now) (a .first) (a .word-lines) (a .reach .now) (s .pre .1)
+    leading-both (s .pre .0 .searches) (a .reach .now)
+    (leading-reaches lexicon (a .index .now) (a .string .now) (a .first) (a .word-lines) (a .reach .now) (s .pre .0 .listed)
     (listed-end (ended .before .loop .inv) (ended .loop-test .left)))
     (c .before .before .extend-lone .ensures)
 
 pub extend-leading-spec : {M : Type 1} → statement M
 extend-leading-spec =
-    tie.close (tie.spec Inv-loop μ-loop (λ c. listed-start (start (c .before .before) .pre .2)) (λ c. search needs)
+    tie.close (tie.spec Inv-loop μ-loop (λ c. listed-start (start (c .before .before) .pre .1)) (λ c. search needs)
     (λ c. omega arith) (λ c. omega (arith, c .shared-slice-known7 .given (c .before .before .loop .i))) (λ c. omega arith)
     word-at-requires positions-of-requires extend-back-requires (λ c. omega arith) loop-again extend-lone-requires
     (λ c. c .before .before .extend-lone .kept .1 .1 .1 .1 .1 .1 .1 .1 .0 ∙ c .before .before .before .before .before .loop .inv .way .len)

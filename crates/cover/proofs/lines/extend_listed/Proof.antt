@@ -23,15 +23,16 @@ abbrev start : tie.After-shared-slice-known5 Inv-loop μ-loop → tie.Start Inv-
 start c = c .before .before .before .before .before
 
 loop-holds : tie.Need-loop-holds Inv-loop μ-loop
-loop-holds c = listed-start (start (c .before .before) .pre .3)
+loop-holds c = listed-start (start (c .before .before) .pre .0 .within)
 
 extend-line-requires : tie.Need-extend-line-requires Inv-loop μ-loop
 extend-line-requires c κs =
     let turn = c .before .before in
     let s = start (turn .before .before .before .before) in
     let l = turn .before .loop in
-    let here = s .pre .2 (getD (s .args .lines .now) (l .i) 0) (in-getD (s .args .lines .now) (l .i) 0 (turn .loop-test .taken)) in
-    (s .pre .0, s .pre .1, here .0, here .1, l .inv .way .bounded)
+    let h = s .pre .0 in
+    let here = s .pre .1 (getD (s .args .lines .now) (l .i) 0) (in-getD (s .args .lines .now) (l .i) 0 (turn .loop-test .taken)) in
+    (record { searches = h .searches; inside = h .inside; within = l .inv .way .bounded }, here .0, here .1)
 
 loop-again : tie.Need-loop-again Inv-loop μ-loop
 loop-again c =

@@ -15,23 +15,23 @@ start c = c .before .before .before .before .before
 
 lone-line-requires : tie.Need-lone-line-requires
 lone-line-requires c κs =
-    let h = start (c .before .before) .pre .0 in
+    let h = start (c .before .before) .pre .searches in
     (h .opened .reads .can .fits, lone-rise (h .opened .reads .can) (h .split))
 
 returns : tie.Need-returns
 returns c =
     let line = c .before .before in
     let s = start (line .before .before .before) in
-    lone-none (s .pre .0) (s .args .key-start) (line .lone-line .ensures) (s .args .reach .now) (omega arith) (s .pre .2)
+    lone-none (s .pre .searches) (s .args .key-start) (line .lone-line .ensures) (s .args .reach .now) (omega arith) (s .pre .within)
 
 extend-at-positions-requires : tie.Need-extend-at-positions-requires
 extend-at-positions-requires c κs =
     let line = c .before .before .before .before in
     let s = start (line .before .before .before) in
     let a = s .args in
-    let h = s .pre .0 in (
+    let h = s .pre .searches in (
       offset-fits 1 (a .key-start) (a .first) (omega arith) (omega arith) (h .first-small),
-      s .pre .2,
+      s .pre .within,
       listed-rise (h .opened .reads .can) (line .lone-line .result) (omega arith)
           (c .before .positions-of .result .now) (c .before .positions-of .ensures),
     )
@@ -45,7 +45,7 @@ returns-2 c =
     let line = found .lone-line in
     let positions = c .before .before .before .before .positions-of in
     let below : line .result < keys-of (a .index .now) = omega (arith, told .if1 .left, told .before .key-count .ensures .0) in
-    lone-found (s .pre .0) (a .key-start) (line .ensures) (a .reach .now) below (s .pre .1) (positions .ensures)
+    lone-found (s .pre .searches) (a .key-start) (line .ensures) (a .reach .now) below (s .pre .inside) (positions .ensures)
     (c .before .before .extend-at-positions .ensures)
 
 pub extend-lone-spec : {M : Type 1} → statement M

@@ -21,13 +21,17 @@ start c = c .before .before .before .before .before
 
 loop-holds : tie.Need-loop-holds Inv-loop μ-loop
 loop-holds c =
-    (left-start (start (c .before) .pre .4), omega arith)
+    (left-start (start (c .before) .pre .0 .within), omega arith)
 
 extend-line-requires : tie.Need-extend-line-requires Inv-loop μ-loop
 extend-line-requires c κs =
     let s = start (c .before .before .before .before) in
     let l = c .before .before .loop in
-    (s .pre .0, s .pre .1, omega arith, s .pre .3 (l .line) (l .inv .1) (omega arith), l .inv .0 .way .bounded)
+    let h = s .pre .0 in (
+      record { searches = h .searches; inside = h .inside; within = l .inv .0 .way .bounded },
+      omega arith,
+      s .pre .2 (l .line) (l .inv .1) (omega arith),
+    )
 
 loop-again : tie.Need-loop-again Inv-loop μ-loop
 loop-again c =

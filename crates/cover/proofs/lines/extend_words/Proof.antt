@@ -13,19 +13,12 @@ start c = c .before .before .before .before .before
 slice-aggregate-extend-listed : tie.Need-slice-aggregate-extend-listed
 slice-aggregate-extend-listed c =
     let found = c .before .before .agreeing-words in
-    sym (length-take-le (found .result .count) (found .last .1 .1 .1 .1 .1 .1 .0) (found .ensures .0 .room))
+    sym (length-take-le (found .result .count) (found .last .1 .1 .1 .1 .1 .1 .0) (found .ensures .listed .room))
 
 extend-listed-requires : tie.Need-extend-listed-requires
 extend-listed-requires c κs =
     let found = c .before .before .before in
-    let s = start (found .before .before .before) in
-    let a = s .args in (
-      s .pre .0,
-      s .pre .1,
-      listed-agrees
-          (found .agreeing-words .ensures .0),
-      s .pre .2,
-    )
+    (start (found .before .before .before) .pre, listed-agrees (found .agreeing-words .ensures .listed))
 
 returns : tie.Need-returns
 returns c =
@@ -33,7 +26,7 @@ returns c =
     let listed = run .before .before .before .before in
     let found = listed .before .before .before .before in
     let a = start (found .before .before .before) .args in
-    agreeing-reaches (found .agreeing-words .ensures .0) (a .first) (a .reach .now) (listed .extend-listed .ensures)
+    agreeing-reaches (found .agreeing-words .ensures .listed) (a .first) (a .reach .now) (listed .extend-listed .ensures)
     (run .extend-range .ensures)
 
 pub extend-words-spec : {M : Type 1} → statement M

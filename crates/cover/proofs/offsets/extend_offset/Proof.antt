@@ -10,7 +10,7 @@ returns c =
     let words = lone .before .before .before .before in
     let known = words .before .before .before in
     let s = known .before .before .before .before .before in
-    offset-both (s .pre .0) (s .args .reach .now) (s .args .key-start) (words .extend-words .ensures)
+    offset-both (s .pre .searches) (s .args .reach .now) (s .args .key-start) (words .extend-words .ensures)
     (lone .extend-lone .ensures)
 
 pub extend-offset-spec : {M : Type 1} → statement M

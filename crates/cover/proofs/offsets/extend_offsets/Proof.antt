@@ -26,7 +26,11 @@ loop-holds c = let s = start (c .before) in offsets-start (s .pre .0 .string .so
 extend-offset-requires : tie.Need-extend-offset-requires Inv-loop μ-loop
 extend-offset-requires c κs =
     let s = start (c .before .before .before .before .before) in
-    (s .pre .0, c .before .before .loop-test .taken, c .before .before .before .loop .inv .way .bounded)
+    record {
+      searches = s .pre .0;
+      inside = c .before .before .loop-test .taken;
+      within = c .before .before .before .loop .inv .way .bounded;
+    }
 
 loop-again : tie.Need-loop-again Inv-loop μ-loop
 loop-again c =

@@ -13,7 +13,7 @@ returns c = sized-short (omega (arith, cut-long (c .before .before .before .size
 write-cut-requires : tie.Need-write-cut-requires
 write-cut-requires c κs =
     let size = c .before .before .before .before .before .size-flagged .ensures in
-    (search needs, size, omega (arith, cut-long size))
+    record { lines = search needs; size = size; room = omega (arith, cut-long size) }
 
 returns-2 : tie.Need-returns-2
 returns-2 c =

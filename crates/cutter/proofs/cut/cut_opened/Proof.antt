@@ -4,8 +4,8 @@ use native.Mathlib.Omega.{arith}
 use borrow.Author.Needs.{needs}
 use Rattle.spec.specs.Dictionary.{longest-text}
 use Rattle.spec.specs.Calls.{string-refusal}
-use Rattle.laws.specs.Directory.Tables.{can-read}
-use Rattle.laws.specs.Search.Sizing.{string-number, string-passes}
+use Rattle.laws.specs.Search.Sizing.{string-number}
+use Rattle.laws.specs.Directory.Searchable.{can-search}
 use Rattle.laws.specs.Window.Searching.{cut-refused, cut-says}
 use Rattle.cutter.proofs.cut.cut_opened.Statement.{statement}
 use Rattle.cutter.proofs.cut.cut_opened.Tie as tie
@@ -21,11 +21,8 @@ number c = string-number _ _ _ _ _ (start (c .before) .pre) (c .string-refusal .
 cut-string-requires : tie.Need-cut-string-requires
 cut-string-requires c κs =
     let tested = c .before .before in
-    let passes = string-passes _ _ _ _ _ (sym (number tested) ∙ c .before .if1 .left) in (
-      can-read _ _ _ _ (λ i. omega (arith, tested .before .before .before .before .before .shared-slice-known .given i))
-          (λ i. omega (arith, tested .before .before .before .shared-slice-known3 .given i)) (passes .0),
-      passes .1,
-    )
+    can-search _ _ _ _ _ (λ i. omega (arith, tested .before .before .before .before .before .shared-slice-known .given i))
+    (λ i. omega (arith, tested .before .before .before .shared-slice-known3 .given i)) (sym (number tested) ∙ c .before .if1 .left)
 
 returns-2 : tie.Need-returns-2
 returns-2 c =

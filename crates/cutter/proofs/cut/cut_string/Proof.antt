@@ -13,22 +13,24 @@ start c = c .before .before .before .before .before
 slice-aggregate-cut-lines : tie.Need-slice-aggregate-cut-lines
 slice-aggregate-cut-lines c =
     let s = start (c .before .before .before .before .before) in
-    front-long (s .pre .0) (replicate 4097 0) (c .before .before .fill-word-starts .ensures)
+    front-long (s .pre .can) (replicate 4097 0) (c .before .before .fill-word-starts .ensures)
 
 cut-lines-requires : tie.Need-cut-lines-requires
 cut-lines-requires c κs =
     let filled = c .before .before .before .before in
-    let s = start (filled .before .before .before) in (
-      front-reads (s .pre .0) (replicate 4097 0) (filled .fill-word-starts .ensures),
-      own-string _ _ (filled .before .before .replaced-string .ensures) (s .pre .1),
-    )
+    let h = start (filled .before .before .before) .pre in
+    record {
+      reads = front-reads (h .can) (replicate 4097 0) (filled .fill-word-starts .ensures);
+      string = own-string _ _ (filled .before .before .replaced-string .ensures) (h .string);
+      n-short = h .n-short;
+    }
 
 returns : tie.Need-returns
 returns c =
     let cut = c .before .before in
     let filled = cut .before .before .before .before .before in
     let s = start (filled .before .before .before) in
-    let lengths = front-lengths (s .pre .0) (replicate 4097 0) (filled .fill-word-starts .ensures) in
+    let lengths = front-lengths (s .pre .can) (replicate 4097 0) (filled .fill-word-starts .ensures) in
     rw (lengths, filled .before .before .replaced-string .ensures) at (cut .cut-lines .ensures)
 
 pub cut-string-spec : {M : Type 1} → statement M

@@ -19,26 +19,26 @@ listed c =
     let directory = c .before .before .before in
     let head = directory .before .before .before .before in
     let s = start (head .before .before .before .before) in
-    cut-listed (s .pre .1) (s .args .output .now) (s .pre .2) (head .before .text-len .ensures .0) (head .write-header .ensures)
+    cut-listed (s .pre) (head .before .text-len .ensures .0) (head .write-header .ensures)
     (directory .write-directory .ensures) (c .line-start .ensures)
 
 write-header-requires : tie.Need-write-header-requires
 write-header-requires c κs =
-    let long = cut-long (start (c .before .before .before) .pre .1) in (omega arith, omega arith, omega arith)
+    let long = cut-long (start (c .before .before .before) .pre .size) in (omega arith, omega arith, omega arith)
 
 write-directory-requires : tie.Need-write-directory-requires
 write-directory-requires c κs =
     let head = c .before .before .before in
     let s = start (head .before .before .before .before) in (
-      s .pre .0,
-      cut-directory-room (s .pre .1) (s .args .output .now) (s .pre .2) (head .before .text-len .ensures .0) (head .write-header .ensures),
+      s .pre .lines,
+      cut-directory-room (s .pre) (head .before .text-len .ensures .0) (head .write-header .ensures),
     )
 
 write-positions-requires : tie.Need-write-positions-requires
 write-positions-requires c κs =
     let directory = c .before .before .before .before in
     let head = directory .before .before .before .before in
-    (start (head .before .before .before .before) .pre .0, lent-room (listed (c .before)))
+    (start (head .before .before .before .before) .pre .lines, lent-room (listed (c .before)))
 
 pub write-cut-spec : {M : Type 1} → statement M
 write-cut-spec =

@@ -13,19 +13,19 @@ start c = c .before .before .before .before .before
 extend-window-requires : tie.Need-extend-window-requires
 extend-window-requires c κs =
     let s = start (c .before .before .before) in
-    (s .pre .0, s .pre .1, cleared-within (length (s .args .reach .now)) (s .args .reach .now) (s .pre .3))
+    (s .pre .0, cleared-within (length (s .args .reach .now)) (s .args .reach .now) (s .pre .2))
 
 returns : tie.Need-returns
 returns c =
     let window = c .before .before .before in
     let s = start (window .before .before .before .before) in
-    laws.first-in-none (length (s .args .reach .now)) (s .pre .3) (window .extend-window .ensures) (c .if1 .taken)
+    laws.first-in-none (length (s .args .reach .now)) (s .pre .2) (window .extend-window .ensures) (c .if1 .taken)
 
 returns-2 : tie.Need-returns-2
 returns-2 c =
     let window = c .before .before .before .before .before in
     let s = start (window .before .before .before .before) in
-    laws.first-in-window (length (s .args .reach .now)) (s .pre .3) (window .extend-window .ensures) (c .first-found .ensures)
+    laws.first-in-window (length (s .args .reach .now)) (s .pre .2) (window .extend-window .ensures) (c .first-found .ensures)
 
 pub first-in-window-spec : {M : Type 1} → statement M
 first-in-window-spec =

@@ -14,13 +14,13 @@ start c = c .before .before .before .before .before
 extend-listing-requires : tie.Need-extend-listing-requires
 extend-listing-requires c κs =
     let s = start (c .before .before .before .before) in
-    (s .pre .0, s .pre .1, omega arith, omega arith, cleared-within (length (s .args .reach .now)) (s .args .reach .now) (s .pre .3))
+    (s .pre .0, omega arith, omega arith, cleared-within (length (s .args .reach .now)) (s .args .reach .now) (s .pre .2))
 
 returns : tie.Need-returns
 returns c =
     let window = c .before .before .before .before in
     let s = start (window .before .before .before .before .before) in
-    says-none (length (s .args .reach .now)) (s .pre .3) (window .extend-listing .ensures) (c .if1 .taken) refl refl
+    says-none (length (s .args .reach .now)) (s .pre .2) (window .extend-listing .ensures) (c .if1 .taken) refl refl
 
 returns-2 : tie.Need-returns-2
 returns-2 c =
@@ -28,7 +28,7 @@ returns-2 c =
     let some = answered .before .before .before in
     let window = some .before .before .before .before in
     let s = start (window .before .before .before .before .before) in
-    says-answered (length (s .args .reach .now)) (s .pre .3) (window .extend-listing .ensures) (answered .answer-window .ensures)
+    says-answered (length (s .args .reach .now)) (s .pre .2) (window .extend-listing .ensures) (answered .answer-window .ensures)
 
 pub search-window-spec : {M : Type 1} → statement M
 search-window-spec =

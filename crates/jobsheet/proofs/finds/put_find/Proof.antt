@@ -28,7 +28,7 @@ positions-in-hand c =
       some = omega (arith, length-replaced (a .string .now));
       short = omega (arith, length-replaced (a .string .now));
     })
-    (s .pre .0 .2) (c .search-tabled .ensures)
+    (s .pre .0 .1) (c .search-tabled .ensures)
 
 slice-aggregate-put-found-line : tie.Need-slice-aggregate-put-found-line
 slice-aggregate-put-found-line c =

@@ -39,7 +39,10 @@ put-find-requires c κs =
     let l = turn .before .loop in
     let taken = turn .loop-test .taken in
     let s = start (turn .before .before .before .before .before) in
-    ((s .pre .0 .0, string-is (l .inv .1) taken, omega arith, s .pre .0 .3), find-fits (l .inv .1) taken)
+    (
+      (record { opened = s .pre .0 .0; string = string-is (l .inv .1) taken; n-short = s .pre .0 .3 }, omega arith),
+      find-fits (l .inv .1) taken,
+    )
 
 loop-again : tie.Need-loop-again Inv-loop μ-loop
 loop-again c =

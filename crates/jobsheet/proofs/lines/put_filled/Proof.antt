@@ -31,7 +31,7 @@ put-index-lines-requires c κs =
     let s = start f in (
       usable-whole (s .pre .0 .0),
       index-lines-fit (s .args .out .now) (s .pre .0 .0) (λ i. omega (arith, known f .before .before .shared-slice-known3 .given i))
-          (s .pre .1 .0) (s .pre .1 .2),
+          (s .pre .1 .0) (s .pre .1 .1 .answer),
     )
 
 -- what is left to print after the lines of the index
@@ -44,7 +44,7 @@ at-finds c =
     let f = filled (c .before .before) in
     let s = start f in
     then-finds (s .args .out .now) (s .pre .0 .0) (λ i. omega (arith, known f .before .before .shared-slice-known3 .given i)) (s .pre .1 .0)
-    (s .pre .1 .2) (c .put-index-lines .ensures)
+    (s .pre .1 .1 .answer) (c .put-index-lines .ensures)
 
 slice-aggregate-put-finds : tie.Need-slice-aggregate-put-finds
 slice-aggregate-put-finds c =

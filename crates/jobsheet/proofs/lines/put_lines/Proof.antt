@@ -47,7 +47,7 @@ use Rattle.basics.specs.Placed.{Wrote}
 use Rattle.models.specs.JobSheet.{shown}
 use Rattle.laws.specs.Readable.Opening.{Bounded, opened-keys}
 use Rattle.laws.specs.JobSheet.AcceptedCalls.{Usable}
-use Rattle.laws.specs.JobSheet.JobAnswering.{Strings-good}
+use Rattle.laws.specs.JobSheet.JobAnswering.{Strings-good, Answer-room}
 use Rattle.opening.proofs.Opens.{val, Shr, Lent, Open, twice, to-open, asks-open, opens}
 use Rattle.opening.proofs.opened.open_index.Symbol as opener-def
 use Rattle.opening.proofs.opened.open_index.Symbol.{name as #open-index}
@@ -63,7 +63,7 @@ use Rattle.jobsheet.proofs.lines.put_lines.Code as code
 
 -- what the caller must meet where the lines of an index are printed
 abbrev Asked : (cs ls xs fs ks found out : List ℕ) → Type 0
-Asked cs ls xs fs ks found out = Usable cs ls xs × Strings-good fs ks × (2000 ≤ length found) × (700000 ≤ length out)
+Asked cs ls xs fs ks found out = Usable cs ls xs × Strings-good fs ks × Answer-room found out
 
 abbrev stayed : Stays (itself.ended .signature .params) (itself.ended .kept)
 stayed =
@@ -157,7 +157,7 @@ module _ {M : Type 1} (𝓤 : URA M) (H : Heap 𝓤) (A : Atoms 𝓤) (W : Given
         ent 𝓤 (⋆ 𝓤 H A ((‵ (flft κ q) ⊛ ‵ ftrue) ∷ ‵ Aside ∷ [])) (Callee 𝓤 H A mem run .pre to-callee)
     goes-callee bounded keys-fit =
         qed W ((‵ (flft κ q) ⊛ ‵ ftrue) ∷ ‵ Aside ∷ []) ∵ says !
-        (asked .0, opened-keys bounded (bounded .number ∙ asked .0 .accepts), asked .1, asked .2, asked .3) $
+        (asked .0, opened-keys bounded (bounded .number ∙ asked .0 .accepts), asked .1, asked .2) $
         move ! (1 ∷ []) $ fsplit ! $ move ! (1 ∷ []) $ fsplit ! $ move ! (3 ∷ []) $ split ! $ move ! (2 ∷ 1 ∷ []) $ join ! $ move !
         (3 ∷ 0 ∷ []) $ join ! $ move ! (1 ∷ 0 ∷ []) $ join ! $ frame ! $
         -- [the three, s, k, t and d]

@@ -20,7 +20,7 @@ unfolding zeros
 reconstruct-entries-requires c κs =
     let cleared = c .before .before .before in
     let s = start (slices cleared) in
-    (s .pre .0, cleared .clear .kept .0 ∙ s .pre .1)
+    record { reads = s .pre .reads; long = cleared .clear .kept .0 ∙ s .pre .long }
 
 returns : tie.Need-returns
 unfolding zeros

@@ -21,11 +21,13 @@ slice-aggregate-text c =
 reconstruct-afresh-requires : tie.Need-reconstruct-afresh-requires
 reconstruct-afresh-requires c κs =
     let s = start c in
-    let a = s .args in (
-      started-reads (s .pre .0) longest-text (omega arith) (a .index .now) (s .pre .1)
-          (omega (arith, c .before .before .shared-slice-known3 .given 1)),
-      length-take-le (a .n) (a .work .now) (s .pre .3) ∙ s .pre .2,
-    )
+    let a = s .args in
+    record {
+      reads =
+          started-reads (s .pre .0) longest-text (omega arith) (a .index .now) (s .pre .1)
+          (omega (arith, c .before .before .shared-slice-known3 .given 1));
+      long = length-take-le (a .n) (a .work .now) (s .pre .3) ∙ s .pre .2;
+    }
 
 returns : tie.Need-returns
 returns c =

@@ -20,7 +20,7 @@ returns c =
     record {
       is =
           reconstructed-sentinel (lexicon-at (a .chars .now) (a .word-starts .now)) (lines-in (a .index .now)) (a .sentinel)
-          (filled .fill .ensures) (s .pre .1) (made .reconstruct-entries .ensures);
+          (filled .fill .ensures) (s .pre .0 .long) (made .reconstruct-entries .ensures);
       shown = c .entries-match .ensures;
     }
 
@@ -28,5 +28,5 @@ pub reconstruct-checked-spec : {M : Type 1} → statement M
 reconstruct-checked-spec =
     tie.close
     (tie.spec
-    (λ c. omega (arith, start c .pre .2)) (λ c κs. search needs) (λ c κs. search needs) (λ c κs. search needs) (λ c. search needs)
+    (λ c. omega (arith, start c .pre .1)) (λ c κs. search needs) (λ c κs. search needs) (λ c κs. search needs) (λ c. search needs)
     returns)

@@ -28,7 +28,7 @@ reconstruct-line-requires : tie.Need-reconstruct-line-requires Inv-loop μ-loop
 reconstruct-line-requires c κs =
     let turn = c .before .before .before in
     let s = start (turn .before .before) in
-    (s .pre .0, c .before .next-line .ensures, turn .loop .inv .len ∙ s .pre .1)
+    (record { reads = s .pre .reads; long = turn .loop .inv .len ∙ s .pre .long }, c .before .next-line .ensures)
 
 loop-again : tie.Need-loop-again Inv-loop μ-loop
 loop-again c =

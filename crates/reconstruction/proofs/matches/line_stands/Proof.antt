@@ -12,30 +12,30 @@ start c = c .before .before .before .before .before
 holds-at-each-requires : tie.Need-holds-at-each-requires
 holds-at-each-requires c κs =
     let s = start (c .before .before) in
-    lone-reconstructs (s .pre .0) (s .pre .1) (c .if1 .taken) (s .pre .2)
+    lone-reconstructs (s .pre .0 .reads) (s .pre .1) (c .if1 .taken) (s .pre .0 .long)
 
 returns : tie.Need-returns
 returns c =
     let s = start (c .before .before .before) in
-    lone-stood (s .pre .0) (s .pre .1) (c .before .if1 .taken) (c .holds-at-each .ensures)
+    lone-stood (s .pre .0 .reads) (s .pre .1) (c .before .if1 .taken) (c .holds-at-each .ensures)
 
 word-of-requires : tie.Need-word-of-requires
 word-of-requires c κs =
     let s = start (c .before .before) in
-    (s .pre .0 .words, word-there (s .pre .0) (s .pre .1) (c .if1 .left))
+    (s .pre .0 .reads .words, word-there (s .pre .0 .reads) (s .pre .1) (c .if1 .left))
 
 stands-at-each-requires : tie.Need-stands-at-each-requires
 stands-at-each-requires c κs =
     let s = start (c .before .before .before) in (
-      word-reconstructs (s .pre .0) (s .pre .1) (c .before .if1 .left) (c .word-of .ensures) (s .pre .2),
-      positions-some (s .pre .0) (s .pre .1),
-      positions-rise (s .pre .0) (s .pre .1),
+      word-reconstructs (s .pre .0 .reads) (s .pre .1) (c .before .if1 .left) (c .word-of .ensures) (s .pre .0 .long),
+      positions-some (s .pre .0 .reads) (s .pre .1),
+      positions-rise (s .pre .0 .reads) (s .pre .1),
     )
 
 returns-2 : tie.Need-returns-2
 returns-2 c =
     let s = start (c .before .before .before .before) in
-    word-stood (s .pre .0) (s .pre .1) (c .before .before .if1 .left) (c .before .word-of .ensures) (c .stands-at-each .ensures)
+    word-stood (s .pre .0 .reads) (s .pre .1) (c .before .before .if1 .left) (c .before .word-of .ensures) (c .stands-at-each .ensures)
 
 pub line-stands-spec : {M : Type 1} → statement M
 line-stands-spec =

@@ -34,7 +34,7 @@ loop-holds c =
     let words = c .before .before in
     let h = start (words .before) .pre .0 in
     let few = word-lines-few (h .reads .can) (h .split) in
-    (omega arith, omega (arith, few, listed-few (words .agreeing-words .ensures .0)), omega (arith, few), omega arith)
+    (omega arith, omega (arith, few, listed-few (words .agreeing-words .ensures .listed)), omega (arith, few), omega arith)
 
 estimate-line-requires : tie.Need-estimate-line-requires Inv-loop μ-loop Inv-loop2 μ-loop2
 estimate-line-requires c κs =
@@ -42,7 +42,7 @@ estimate-line-requires c κs =
     let s = start (words .before) in
     let h = s .pre .0 in
     let l = c .before .before .loop in
-    let below = agreeing-below (words .agreeing-words .ensures .0) {n = s .args .word-lines} (omega arith) (l .i)
+    let below = agreeing-below (words .agreeing-words .ensures .listed) {n = s .args .word-lines} (omega arith) (l .i)
     (c .before .loop-test .taken) in
     (h .reads, omega (arith, below), h .split .words _ below)
 
@@ -59,7 +59,7 @@ estimate-words-spec =
     (tie.spec
     Inv-loop μ-loop Inv-loop2 μ-loop2 (λ c. search needs) (λ c κs. search needs) (λ c. search needs)
     (λ c. let found = c .before .before .agreeing-words in
-    sym (length-take-le (found .result .count) (found .last .1 .1 .1 .1 .1 .1 .0) (found .ensures .0 .room)))
+    sym (length-take-le (found .result .count) (found .last .1 .1 .1 .1 .1 .1 .0) (found .ensures .listed .room)))
     loop-holds (λ c. search needs) (λ c. search needs)
     (λ c. omega (arith, c .shared-slice-known5 .given (c .before .before .loop .i))) estimate-line-requires
     (λ c. omega arith) (λ c. omega arith) (λ c. omega arith)

@@ -10,15 +10,15 @@ use Rattle.searcher.proofs.estimate.prefers_text_scan.Tie as tie
 count-word-lines-requires : tie.Need-count-word-lines-requires
 count-word-lines-requires c κs =
     let len = c .before in
-    let can = len .before .before .before .before .before .pre .0 .can in
+    let can = len .before .before .before .before .before .pre .0 .reads .can in
     (can .fits, kinds-rise can)
 
 cost-exceeds-requires : tie.Need-cost-exceeds-requires
 cost-exceeds-requires c κs =
     let len = c .before .before in
     let s = len .before .before .before .before .before in
-    let reads = s .pre .0 in
-    (record { reads = reads; split = split-found (reads .can) (c .count-word-lines .ensures); string = s .pre .1 }, omega arith)
+    let h = s .pre .0 in
+    (record { reads = h .reads; split = split-found (h .reads .can) (c .count-word-lines .ensures); string = h .string }, omega arith)
 
 pub prefers-text-scan-spec : {M : Type 1} → statement M
 prefers-text-scan-spec =

@@ -6,8 +6,8 @@ use Rattle.spec.specs.Replaced.{replaced}
 use Rattle.spec.specs.Dictionary.{longest-text, lexicon}
 use Rattle.spec.specs.Calls.{string-refusal}
 use Rattle.laws.specs.Readable.IndexRefusal.{accepted-length}
-use Rattle.laws.specs.Directory.Tables.{can-read}
 use Rattle.laws.specs.Search.Sizing.{string-number, string-passes}
+use Rattle.laws.specs.Directory.Searchable.{can-search}
 use Rattle.laws.specs.First.Found.{first-position-small}
 use Rattle.laws.specs.First.Answers.{first-refused, first-says}
 use Rattle.searcher.proofs.first.first_opened.Statement.{statement}
@@ -23,12 +23,8 @@ number c = string-number _ _ _ _ _ (c .before .before .before .before .before .p
 first-words-requires : tie.Need-first-words-requires
 first-words-requires c κs =
     let tested = c .before in
-    let passes = string-passes _ _ _ _ _ (sym (number tested) ∙ c .if1 .left) in (
-      can-read _ _ _ _ (λ i. omega (arith, tested .before .before .before .before .shared-slice-known .given i))
-          (λ i. omega (arith, tested .before .before .shared-slice-known3 .given i)) (passes .0),
-      passes .1,
-      accepted-length _ _ _ _ (passes .0),
-    )
+    can-search _ _ _ _ _ (λ i. omega (arith, tested .before .before .before .before .shared-slice-known .given i))
+    (λ i. omega (arith, tested .before .before .shared-slice-known3 .given i)) (sym (number tested) ∙ c .if1 .left)
 
 cast-position : tie.Need-cast-position
 cast-position c =

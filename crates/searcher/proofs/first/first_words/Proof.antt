@@ -1,7 +1,8 @@
 -- `first_words` meets its contract: the table of word starts that is lent on has the dictionary's lengths. Assumes nothing.
 use lib.ListN.{replicate}
 use borrow.Author.Needs.{needs}
-use Rattle.laws.specs.Directory.Tables.{front-long, front-lengths, front-reads}
+use Rattle.laws.specs.Directory.Tables.{front-long, front-lengths}
+use Rattle.laws.specs.Directory.Searchable.{front-searches}
 use Rattle.searcher.proofs.first.first_words.Statement.{statement}
 use Rattle.searcher.proofs.first.first_words.Tie as tie
 
@@ -11,17 +12,17 @@ start c = c .before .before .before .before .before
 slice-aggregate-first-lines : tie.Need-slice-aggregate-first-lines
 slice-aggregate-first-lines c =
     let s = start (c .before .before .before) in
-    front-long (s .pre .0) (replicate 4097 0) (c .before .before .fill-word-starts .ensures)
+    front-long (s .pre .can) (replicate 4097 0) (c .before .before .fill-word-starts .ensures)
 
 first-lines-requires : tie.Need-first-lines-requires
 first-lines-requires c κs =
     let s = start (c .before .before .before) in
-    (front-reads (s .pre .0) (replicate 4097 0) (c .before .before .fill-word-starts .ensures), s .pre .1, s .pre .2)
+    front-searches (s .pre) (replicate 4097 0) (c .before .before .fill-word-starts .ensures)
 
 returns : tie.Need-returns
 returns c =
     let s = start (c .before .before .before .before) in
-    rw (front-lengths (s .pre .0) (replicate 4097 0) (c .before .before .before .fill-word-starts .ensures)) at (c .first-lines .ensures)
+    rw (front-lengths (s .pre .can) (replicate 4097 0) (c .before .before .before .fill-word-starts .ensures)) at (c .first-lines .ensures)
 
 pub first-words-spec : {M : Type 1} → statement M
 first-words-spec =

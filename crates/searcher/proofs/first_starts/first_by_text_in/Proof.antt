@@ -12,16 +12,16 @@ start c = c .before .before .before .before .before
 first-by-text-requires : tie.Need-first-by-text-requires
 first-by-text-requires c κs =
     let s = start (c .before .before) in
-    (s .pre .0, s .pre .1, omega (arith, length-take-le (s .args .starts) (s .args .room .now) (s .pre .2)), s .pre .4)
+    (s .pre .0, omega (arith, length-take-le (s .args .starts) (s .args .room .now) (s .pre .1)))
 
 returns : tie.Need-returns
 returns c =
     let s = start (c .before .before .before .before .before) in
-    rw (length-take-le (s .args .starts) (s .args .room .now) (s .pre .2)) at (c .before .before .first-by-text .ensures)
+    rw (length-take-le (s .args .starts) (s .args .room .now) (s .pre .1)) at (c .before .before .first-by-text .ensures)
 
 pub first-by-text-in-spec : {M : Type 1} → statement M
 first-by-text-in-spec =
     tie.close
     (tie.spec
-    (λ c. search needs) (λ c. sym (length-take-le _ _ (start (c .before .before) .pre .2))) first-by-text-requires (λ c. search needs)
+    (λ c. search needs) (λ c. sym (length-take-le _ _ (start (c .before .before) .pre .1))) first-by-text-requires (λ c. search needs)
     returns)

@@ -8,7 +8,7 @@ first-by-estimate-requires c κs =
     let known = c .before .before in
     let s = known .before .before .before .before .before in
     let told = c .before .prefers-text-scan .ensures (c .if1 .taken) in
-    (s .pre .0, s .pre .1, s .pre .2, told, s .pre .3)
+    (s .pre .0, s .pre .1, told)
 
 pub first-of-starts-spec : {M : Type 1} → statement M
 first-of-starts-spec =

@@ -15,20 +15,19 @@ first-in-window-requires c κs =
     let s = start (c .before .before .before) in
     let a = s .args in (
       s .pre .0,
-      s .pre .1,
-      omega (arith, length-take-le (a .starts) (a .reach .now) (s .pre .3)),
-      cleared-part _ _ _ (s .pre .4) (s .pre .3),
+      omega (arith, length-take-le (a .starts) (a .reach .now) (s .pre .2)),
+      cleared-part _ _ _ (s .pre .3) (s .pre .2),
     )
 
 returns : tie.Need-returns
 returns c =
     let window = c .before .before in
     let s = start (window .before .before .before .before) in
-    rw (length-take-le (s .args .starts) (s .args .reach .now) (s .pre .3)) at (window .first-in-window .ensures)
+    rw (length-take-le (s .args .starts) (s .args .reach .now) (s .pre .2)) at (window .first-in-window .ensures)
 
 pub first-in-lent-spec : {M : Type 1} → statement M
 first-in-lent-spec =
     tie.close
     (tie.spec
-    (λ c. search needs) (λ c. sym (length-take-le _ _ (start (c .before .before .before) .pre .3))) first-in-window-requires
+    (λ c. search needs) (λ c. sym (length-take-le _ _ (start (c .before .before .before) .pre .2))) first-in-window-requires
     (λ c. search needs) returns)

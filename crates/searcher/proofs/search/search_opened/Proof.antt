@@ -4,9 +4,8 @@ use native.Mathlib.Omega.{arith}
 use borrow.Author.Needs.{needs}
 use Rattle.spec.specs.Dictionary.{longest-text}
 use Rattle.spec.specs.Calls.{string-refusal}
-use Rattle.laws.specs.Readable.IndexRefusal.{accepted-length}
-use Rattle.laws.specs.Directory.Tables.{can-read}
-use Rattle.laws.specs.Search.Sizing.{string-number, string-passes}
+use Rattle.laws.specs.Search.Sizing.{string-number}
+use Rattle.laws.specs.Directory.Searchable.{can-search}
 use Rattle.laws.specs.Window.Searching.{search-refused, search-says}
 use Rattle.searcher.proofs.search.search_opened.Statement.{statement}
 use Rattle.searcher.proofs.search.search_opened.Tie as tie
@@ -22,12 +21,8 @@ number c = string-number _ _ _ _ _ (start (c .before) .pre) (c .string-refusal .
 search-words-requires : tie.Need-search-words-requires
 search-words-requires c κs =
     let tested = c .before .before in
-    let passes = string-passes _ _ _ _ _ (sym (number tested) ∙ c .before .if1 .left) in (
-      can-read _ _ _ _ (λ i. omega (arith, tested .before .before .before .before .before .shared-slice-known .given i))
-          (λ i. omega (arith, tested .before .before .before .shared-slice-known3 .given i)) (passes .0),
-      passes .1,
-      accepted-length _ _ _ _ (passes .0),
-    )
+    can-search _ _ _ _ _ (λ i. omega (arith, tested .before .before .before .before .before .shared-slice-known .given i))
+    (λ i. omega (arith, tested .before .before .before .shared-slice-known3 .given i)) (sym (number tested) ∙ c .before .if1 .left)
 
 returns-2 : tie.Need-returns-2
 returns-2 c =

@@ -1,7 +1,8 @@
 -- `search_words` meets its contract: the table of word starts that is lent on has the dictionary's lengths. Assumes nothing.
 use lib.ListN.{replicate}
 use borrow.Author.Needs.{needs}
-use Rattle.laws.specs.Directory.Tables.{front-long, front-lengths, front-reads}
+use Rattle.laws.specs.Directory.Tables.{front-long, front-lengths}
+use Rattle.laws.specs.Directory.Searchable.{front-searches}
 use Rattle.searcher.proofs.search.search_words.Statement.{statement}
 use Rattle.searcher.proofs.search.search_words.Tie as tie
 
@@ -11,18 +12,18 @@ start c = c .before .before .before .before .before
 slice-aggregate-search-lines : tie.Need-slice-aggregate-search-lines
 slice-aggregate-search-lines c =
     let s = start (c .before .before .before .before) in
-    front-long (s .pre .0) (replicate 4097 0) (c .before .before .fill-word-starts .ensures)
+    front-long (s .pre .can) (replicate 4097 0) (c .before .before .fill-word-starts .ensures)
 
 search-lines-requires : tie.Need-search-lines-requires
 search-lines-requires c κs =
     let s = start (c .before .before .before .before .before) in
-    (front-reads (s .pre .0) (replicate 4097 0) (c .before .before .before .fill-word-starts .ensures), s .pre .1, s .pre .2)
+    front-searches (s .pre) (replicate 4097 0) (c .before .before .before .fill-word-starts .ensures)
 
 returns : tie.Need-returns
 returns c =
     let lines = c .before .before in
     let filled = lines .before .before .before .before in
-    let can = start (filled .before .before) .pre .0 in
+    let can = start (filled .before .before) .pre .can in
     rw (front-lengths can (replicate 4097 0) (filled .fill-word-starts .ensures)) at (lines .search-lines .ensures)
 
 pub search-words-spec : {M : Type 1} → statement M

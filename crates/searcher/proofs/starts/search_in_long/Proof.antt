@@ -14,7 +14,7 @@ start c = c .before .before .before .before .before
 search-lent-requires : tie.Need-search-lent-requires
 search-lent-requires c κs =
     let s = start (last-slice c) in
-    (s .pre .0, s .pre .1, omega (arith, s .pre .2), omega (arith, s .pre .2), refl, s .pre .3)
+    (s .pre .0, omega (arith, s .pre .1), omega (arith, s .pre .1), refl)
 
 pub search-in-long-spec : {M : Type 1} → statement M
 search-in-long-spec =

@@ -15,21 +15,19 @@ search-cleared-requires c κs =
     let s = start (c .before .before .before .before) in
     let a = s .args in (
       s .pre .0,
-      s .pre .1,
-      omega (arith, length-take-le (a .starts) (a .reach .now) (s .pre .3)),
-      cleared-part _ _ _ (s .pre .4) (s .pre .3),
-      s .pre .5,
+      omega (arith, length-take-le (a .starts) (a .reach .now) (s .pre .2)),
+      cleared-part _ _ _ (s .pre .3) (s .pre .2),
     )
 
 returns : tie.Need-returns
 returns c =
     let cleared = c .before .before .before .before in
     let s = start (cleared .before .before .before .before .before) in
-    rw (length-take-le (s .args .starts) (s .args .reach .now) (s .pre .3)) at (cleared .search-cleared .ensures)
+    rw (length-take-le (s .args .starts) (s .args .reach .now) (s .pre .2)) at (cleared .search-cleared .ensures)
 
 pub search-lent-spec : {M : Type 1} → statement M
 search-lent-spec =
     tie.close
     (tie.spec
-    (λ c. search needs) (λ c. sym (length-take-le _ _ (start (c .before .before .before) .pre .3))) search-cleared-requires
+    (λ c. search needs) (λ c. sym (length-take-le _ _ (start (c .before .before .before) .pre .2))) search-cleared-requires
     (λ c. search needs) (λ c. search needs) returns)

@@ -12,7 +12,7 @@ reach-by-text-requires c κs =
     let s = known .before .before .before .before .before in
     let prefers = c .before .before .prefers-text-scan in
     let told = prefers .ensures (not-false (prefers .result) (c .before .if1 .left)) in
-    (s .pre .0, s .pre .1 .short, told, s .pre .3)
+    (s .pre .0, told)
 
 pub reach-if-cheaper-spec : {M : Type 1} → statement M
 reach-if-cheaper-spec =

@@ -19,7 +19,11 @@ part c = length-take-le _ _ (omega arith)
 reach-reconstructed-requires : tie.Need-reach-reconstructed-requires
 reach-reconstructed-requires c κs =
     let s = start (c .before .before .before .before) in
-    (s .pre .0, s .pre .1, part (c .before .before) ∙ c .before .before .text-len .ensures .0, s .pre .3)
+    (
+      record { reads = s .pre .0 .reads; long = part (c .before .before) ∙ c .before .before .text-len .ensures .0 },
+      s .pre .0 .string .short,
+      s .pre .2,
+    )
 
 pub reach-in-front-spec : {M : Type 1} → statement M
 reach-in-front-spec =

@@ -19,7 +19,7 @@ search-window-requires c κs =
     let known = tried .before .before .before .before in
     let s = known .before .before .before .before .before in
     let told = tried .reach-if-cheaper in
-    (s .pre .0, s .pre .1, omega arith, still-clear _ _ (told .ensures .1 (c .before .before .if1 .left)) (s .pre .3))
+    (s .pre .0, omega arith, still-clear _ _ (told .ensures .1 (c .before .before .if1 .left)) (s .pre .2))
 
 returns-2 : tie.Need-returns-2
 returns-2 c =
