@@ -6,10 +6,9 @@
 ghost use mathlib.Core.Path.{_≡_};
 ghost use Prim.Native.Nat.{_≤_, _<_};
 ghost use lib.ListN.{length, take};
-ghost use Rattle.spec.specs.Index.{keys-of, kind-at};
 ghost use Rattle.models.specs.Window.{agrees-leading, is-leading, leading-lines};
 ghost use Rattle.models.specs.WordStarts.{lexicon-at};
-ghost use Rattle.laws.specs.Directory.Tables.{Reads};
+ghost use Rattle.laws.specs.Directory.Tables.{Reads, Word-line};
 ghost use Rattle.laws.specs.Window.LineRanges.{Split};
 ghost use Rattle.laws.specs.Window.LeadingLines.{Filled};
 use crate::blocks::seen_to_lack;
@@ -49,8 +48,7 @@ fn line_leads(
     least: usize,
 ) -> bool
     requires { ⌜
-        Reads (now chars) (now «word_starts») (now index) × (line < keys-of (now index)) × (kind-at (now index) line ≡ 0) ×
-        (1 ≤ length (now string)) × (least ≤ 1) ⌝ }
+        Word-line (now chars) (now «word_starts») (now index) line × (1 ≤ length (now string)) × (least ≤ 1) ⌝ }
     ensures { λ r. ⌜
         r ≡ is-leading least (lexicon-at (now (chars .entry)) (now («word_starts» .entry))) (now (index .entry)) (now (string .entry))
         line ⌝ }

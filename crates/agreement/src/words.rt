@@ -87,7 +87,6 @@ fn compare_few(
     lines: &mut [u16],
 ) -> Agreeing
     requires { ⌜
-        Search-lines (now chars) (now «word_starts») (now index) (now string) «word_lines» × («key_start» < length (now string)) ×
         Refining (now chars) (now «word_starts») (now index) (now string) «key_start» «word_lines» (now lines) (refined .count)
         (refined .from) (refined .to) (refined .depth) × (refined .to ≤ refined .from + 4) ⌝ }
     ensures { λ r. ⌜

@@ -1,13 +1,12 @@
 // The word and the positions of a directory line as slices, found through the tables of starts in constant time.
 ghost use mathlib.Core.Path.{_≡_};
 ghost use Prim.Native.Nat.{_<_};
-ghost use lib.ListN.{length};
 ghost use Rattle.spec.specs.Words.{spells};
-ghost use Rattle.spec.specs.Index.{keys-of, kind-at, key-at};
+ghost use Rattle.spec.specs.Index.{keys-of, key-at};
 ghost use Rattle.models.specs.Window.{positions-at};
 ghost use Rattle.models.specs.WordStarts.{lexicon-at};
 ghost use Rattle.laws.specs.Numbers.Slices.{Fits};
-ghost use Rattle.laws.specs.Directory.Tables.{Reads, List-starts};
+ghost use Rattle.laws.specs.Directory.Tables.{Word-line, List-starts};
 use crate::words::word_of;
 use layout::fields::count_at;
 use layout::fields::key_count;
@@ -23,8 +22,7 @@ pub fn word_at<'a>(
     index: &[Number],
     line: usize,
 ) -> &'a [u16]
-    requires { ⌜
-        Reads (now chars) (now «word_starts») (now index) × (line < keys-of (now index)) × (kind-at (now index) line ≡ 0) ⌝ }
+    requires { ⌜ Word-line (now chars) (now «word_starts») (now index) line ⌝ }
     ensures { λ r. ⌜
         now r ≡ spells (lexicon-at (now (chars .entry)) (now («word_starts» .entry))) (key-at (now (index .entry)) line) ⌝ }
 {

@@ -8,14 +8,11 @@ ghost use mathlib.Core.Bool.{true, false};
 ghost use Prim.Native.Nat.{ℕ, suc, _+_, _≤_};
 ghost use lib.ListN.{length};
 ghost use Rattle.basics.specs.Absent.{Least-absent};
-ghost use Rattle.basics.specs.Bools.{Reflects};
 ghost use Rattle.spec.specs.Index.{n-of, lines-in};
-ghost use Rattle.models.specs.Reception.{reconstructed-over};
-ghost use Rattle.laws.specs.Text.Facts.{All-stand};
 ghost use Rattle.models.specs.WordStarts.{lexicon-at};
 ghost use Rattle.laws.specs.Receive.ReconstructionWalk.{Reconstructs};
 ghost use Rattle.laws.specs.TextScan.ZSearch.{Prefix-lengths};
-ghost use Rattle.laws.specs.TextScan.ReconstructedSearch.{Finds};
+ghost use Rattle.laws.specs.TextScan.ReconstructedSearch.{Checked, Finds};
 use reconstruction::checked::reconstruct_checked;
 use width::Number;
 use zsearch::prefix_lengths::fill_prefix_lengths;
@@ -49,11 +46,8 @@ pub fn reach_reconstructed(
         (now (reach .exit))) ⌝ }
     ensures kept { λ r. ⌜ (r ≡ false → now (reach .exit) ≡ now (reach .entry)) ⌝ }
     ensures reconstructed { λ r. ⌜
-        ((g : ℕ) → Least-absent (now (string .entry)) g → (now (text .exit) ≡ reconstructed-over
-        (lexicon-at (now (chars .entry)) (now («word_starts» .entry))) (lines-in (now (index .entry))) (n-of (now (index .entry))) g) ×
-        Reflects r (All-stand (lexicon-at (now (chars .entry)) (now («word_starts» .entry))) (lines-in (now (index .entry)))
-        (reconstructed-over (lexicon-at (now (chars .entry)) (now («word_starts» .entry))) (lines-in (now (index .entry)))
-        (n-of (now (index .entry))) g))) ⌝ }
+        ((g : ℕ) → Least-absent (now (string .entry)) g → Checked (lexicon-at (now (chars .entry)) (now («word_starts» .entry)))
+        (lines-in (now (index .entry))) (n-of (now (index .entry))) g (now (text .exit)) r) ⌝ }
     ensures reached { λ r. ⌜ (r ≡ true → Prefix-lengths (now (string .entry)) (now (text .exit)) (now (reach .exit))) ⌝ }
 {
     let sentinel = sentinel_of(string);

@@ -89,10 +89,15 @@ module _ {cs ls xs : List ℕ} (can : Can-read cs ls xs) (i : ℕ) (below : i < 
   pub spelt-short : (k : List ℕ) → k ≡ spells (lexicon cs ls) (key-at xs i) → length k ≤ 32
   spelt-short k e = rw e key-short
 
--- the word of line i
-module _ {cs ws xs : List ℕ} (reads : Reads cs ws xs) (i : ℕ) (below : i < keys-of xs) (kind : kind-at xs i ≡ 0) where
+-- line i of a readable index is that of a word
+pub record Word-line (cs ws xs : List ℕ) (i : ℕ) : Type 0 where
+  pub reads : Reads cs ws xs
+  pub below : i < keys-of xs
+  pub kind : kind-at xs i ≡ 0
+
+module _ {cs ws xs : List ℕ} {i : ℕ} (line : Word-line cs ws xs i) where
   pub line-word : value-at xs i < length (lengths-of ws)
-  line-word = word-below (reads .can) i below kind
+  line-word = word-below (line .reads .can) i (line .below) (line .kind)
 
   abbrev word : List ℕ
   word = spells (lexicon-at cs ws) (key-at xs i)
@@ -100,13 +105,13 @@ module _ {cs ws xs : List ℕ} (reads : Reads cs ws xs) (i : ℕ) (below : i < k
   -- it is that number of the dictionary
   pub line-spells : getD (lexicon-at cs ws .words) (value-at xs i) [] ≡ word
   unfolding key
-  line-spells = sym (spells-word (lexicon-at cs ws) (key-at xs i) kind)
+  line-spells = sym (spells-word (lexicon-at cs ws) (key-at xs i) (line .kind))
 
   pub line-long : getD ws (value-at xs i + 1) 0 ≡ getD ws (value-at xs i) 0 + length word
-  line-long = omega (arith, word-long (reads .words) (value-at xs i) line-word, ap length line-spells)
+  line-long = omega (arith, word-long (line .reads .words) (value-at xs i) line-word, ap length line-spells)
 
   pub line-end : getD ws (value-at xs i) 0 + length word ≤ length cs
-  line-end = omega (arith, line-long, end-room (reads .words) (value-at xs i) line-word)
+  line-end = omega (arith, line-long, end-room (line .reads .words) (value-at xs i) line-word)
 
   -- its characters lie among the dictionary's
   pub line-char : (j : ℕ) → j < length word → getD cs (getD ws (value-at xs i) 0 + j) 0 ≡ getD word j 0
@@ -115,7 +120,7 @@ module _ {cs ws xs : List ℕ} (reads : Reads cs ws xs) (i : ℕ) (below : i < k
       ∙ sym
       (getD-take (getD ws (value-at xs i + 1) 0 - getD ws (value-at xs i) 0) (drop (getD ws (value-at xs i) 0) cs) j 0
       (omega (arith, line-long)))
-      ∙ ap (λ (k : List ℕ). getD k j 0) (word-lies (reads .words) (value-at xs i) line-word ∙ line-spells)
+      ∙ ap (λ (k : List ℕ). getD k j 0) (word-lies (line .reads .words) (value-at xs i) line-word ∙ line-spells)
 
 -- FILLING THE TABLE OF LISTS
 

@@ -23,7 +23,7 @@ use Rattle.laws.specs.Match.MatchTable.{Started}
 use Rattle.laws.specs.Readable.Readable.{readable-get}
 use Rattle.laws.specs.Readable.LineWalk.{readable-fits}
 use Rattle.laws.specs.Directory.Opened.{line-of, Is-line}
-use Rattle.laws.specs.Directory.Tables.{Reads, line-is-good, key-is, line-word, line-spells}
+use Rattle.laws.specs.Directory.Tables.{Reads, Word-line, line-is-good, key-is, line-word, line-spells}
 use Rattle.laws.specs.Receive.PositionWalk.{length-reconstruct-positions, reconstruct-character, Lie-within}
 use Rattle.laws.specs.Receive.EntriesMatch.{Stand-each}
 use Rattle.laws.specs.Receive.LinePass.{line-positions, Passing, passing-start, passing-step, passing-end}
@@ -109,15 +109,15 @@ module _ {cs ws xs : List ℕ} (reads : Reads cs ws xs) {i kind value from to : 
 
   -- a word, by its number in the dictionary
   module _ (word : kind ≡ 0) where
-    kind-is : kind-at xs i ≡ 0
-    kind-is = omega arith
+    at : Word-line cs ws xs i
+    at = record { reads = reads; below = is .below; kind = omega arith }
 
     pub word-there : value < length (lengths-of ws)
-    word-there = omega (arith, line-word reads i (is .below) kind-is)
+    word-there = omega (arith, line-word at)
 
     module _ {k : List ℕ} (e : k ≡ getD (lex .words) value []) where
       spelt : k ≡ spells lex (key-at xs i)
-      spelt = e ∙ ap (λ (v : ℕ). getD (lex .words) v []) (is .value-is) ∙ line-spells reads i (is .below) kind-is
+      spelt = e ∙ ap (λ (v : ℕ). getD (lex .words) v []) (is .value-is) ∙ line-spells at
 
       pub word-reconstructs : {m : ℕ} → m ≡ n-of xs → Lie-within (length k) m positions
       word-reconstructs len = rw spelt (key-room len)

@@ -94,13 +94,12 @@ reconstructed-sentinel lex ls g filled len e =
 -- The sentinel is the least number absent from the string, and there is only one.
 pub reconstructed-once :
     {lex : Lexicon} {ls : List Line} {n : ℕ} {s ts : List ℕ} {h : ℕ} {t r : Bool} → Least-absent s h → Checked lex ls n h ts t → t ≡ r →
-    (g : ℕ) → Least-absent s g → (ts ≡ reconstructed-over lex ls n g) × Reflects r (All-stand lex ls (reconstructed-over lex ls n g))
+    (g : ℕ) → Least-absent s g → Checked lex ls n g ts r
 reconstructed-once {lex} {ls} {n} {ts} {r} least text answer g also =
-    let same : ts ≡ reconstructed-over lex ls n g = text .is ∙ ap (reconstructed-over lex ls n) (least-one least also) in (
-      same,
-      subst (λ (us : List ℕ). Reflects r (All-stand lex ls us)) same
-          (subst (λ (b : Bool). Reflects b (All-stand lex ls ts)) answer (text .shown)),
-    )
+    record {
+      is = text .is ∙ ap (reconstructed-over lex ls n) (least-one least also);
+      shown = subst (λ (b : Bool). Reflects b (All-stand lex ls ts)) answer (text .shown);
+    }
 
 -- THE CONTRACT OF A SEARCH
 

@@ -16,14 +16,14 @@ use Rattle.basics.specs.Steps.{any-from, any-from-get, any-from-put, those-from
 use Rattle.basics.specs.Writing.{Writing, starts, has-room, writes, written, written-length}
 use Rattle.spec.specs.Dictionary.{Lexicon}
 use Rattle.spec.specs.Words.{spells}
-use Rattle.spec.specs.Index.{keys-of, kind-at, value-at, key-at}
+use Rattle.spec.specs.Index.{value-at, key-at}
 use Rattle.spec.specs.Search.{agrees}
 use Rattle.models.specs.Reach.{reach-back}
 use Rattle.models.specs.Window.{back-all, run-from, run, positions-at, leading-at, agrees-leading, is-leading, leading-lines, run-list}
 use Rattle.models.specs.WordStarts.{lexicon-at}
 use Rattle.spec.specs.Calls.{in-front}
 use Rattle.laws.specs.Text.Strings.{Lacks}
-use Rattle.laws.specs.Directory.Tables.{Reads, line-char}
+use Rattle.laws.specs.Directory.Tables.{Word-line, line-char}
 use Rattle.laws.specs.Build.PostingsByKey.{those-short}
 use Rattle.laws.specs.Search.Reach.{reach-key-apart}
 use Rattle.laws.specs.Search.AgreeWalk.{key-starts-apart}
@@ -90,14 +90,13 @@ module _ (s k : List ℕ) where
 
 -- a word that is seen to lack the string's first character from index m on
 pub line-lacks :
-    {cs ws xs : List ℕ} (reads : Reads cs ws xs) (i : ℕ) (below : i < keys-of xs) (kind : kind-at xs i ≡ 0) (s : List ℕ) (m : ℕ)
-    {v : ℕ} {k : List ℕ} → v ≡ value-at xs i → k ≡ spells (lexicon-at cs ws) (key-at xs i) →
+    {cs ws xs : List ℕ} {i : ℕ} → Word-line cs ws xs i → (s : List ℕ) (m : ℕ) {v : ℕ} {k : List ℕ} → v ≡ value-at xs i → k ≡ spells (lexicon-at cs ws) (key-at xs i) →
     Lacks cs (getD ws v 0 + m) (length k - m) (getD s 0 0) → false ≡ is-leading m (lexicon-at cs ws) xs s i
-line-lacks {cs} {ws} {xs} reads i below kind s m {v} e f lacks =
+line-lacks {cs} {ws} {xs} {i} line s m {v} e f lacks =
     leading-lacks m s (spells (lexicon-at cs ws) (key-at xs i))
     (λ j l b c.
     let at : getD ws v 0 + m + (j - m) ≡ getD ws (value-at xs i) 0 + j = omega (arith, ap (λ (u : ℕ). getD ws u 0) e) in
-    lacks (j - m) (omega (arith, ap length f)) (ap (λ (u : ℕ). getD cs u 0) at ∙ line-char reads i below kind j b ∙ c))
+    lacks (j - m) (omega (arith, ap length f)) (ap (λ (u : ℕ). getD cs u 0) at ∙ line-char line j b ∙ c))
 
 -- a walk may skip steps that change nothing
 pub run-those :

@@ -21,7 +21,7 @@ use Rattle.laws.specs.Dictionary.WordOrder.{ascend-get}
 use Rattle.laws.specs.Search.Agree.{agrees-get, agree-first}
 use Rattle.laws.specs.Search.AgreeWalk.{together}
 use Rattle.laws.specs.Search.Sizing.{Is-string}
-use Rattle.laws.specs.Directory.Tables.{Can-read, Reads, key-is, word-below}
+use Rattle.laws.specs.Directory.Tables.{Can-read, Reads, Word-line, key-is, word-below}
 use Rattle.basics.specs.LowerBound.{Rising, Lower-bound}
 
 -- of the lines a to b − 1 only r can agree with the string at the offset o
@@ -39,6 +39,9 @@ pub record Search-lines (cs ws xs s : List ℕ) (w : ℕ) : Type 0 where
   pub reads : Reads cs ws xs
   pub split : Split xs w
   pub string : Is-string s
+
+pub search-line : {cs ws xs s : List ℕ} {w : ℕ} → Search-lines cs ws xs s w → (i : ℕ) → i < w → Word-line cs ws xs i
+search-line h i below = record { reads = h .reads; below = omega (arith, h .split .within); kind = h .split .words i below }
 
 -- the values of the lines from w on ascend strictly
 pub record Values-rise (xs : List ℕ) (w : ℕ) : Type 0 where

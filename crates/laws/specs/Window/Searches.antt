@@ -6,12 +6,12 @@ use Prim.Native.Nat.{ℕ, _^_, _≤_, _<_}
 use native.Mathlib.Omega.{arith}
 use lib.ListN.{length, getD}
 use Rattle.spec.specs.Words.{spells}
-use Rattle.spec.specs.Index.{keys-of, kind-at, key-at, lines-in}
+use Rattle.spec.specs.Index.{keys-of, key-at, lines-in}
 use Rattle.models.specs.Window.{positions-all, key-all, back-all, leading-all, leading-lines, offset-all, run, positions-at, offset-at}
 use Rattle.models.specs.Window.{leading-at}
 use Rattle.models.specs.WordStarts.{lexicon-at}
 use Rattle.laws.specs.Numbers.Slices.{Fits}
-use Rattle.laws.specs.Directory.Tables.{Reads, List-starts, Opened, spelt-short}
+use Rattle.laws.specs.Directory.Tables.{List-starts, Opened, Word-line, spelt-short}
 use Rattle.laws.specs.Search.Sizing.{Is-string}
 use Rattle.laws.specs.Window.Window.{Within, Reaches, reaches-same, reaches-by}
 use Rattle.laws.specs.Window.WindowSearch.{key-agrees}
@@ -42,8 +42,8 @@ pub record Searches-offset (cs ws xs ts s : List ℕ) (w q o m : ℕ) (rs : List
 
 -- a line of a word
 module _ {cs ws xs ts s : List ℕ} {w q : ℕ} (h : Searches cs ws xs ts s w q) {i : ℕ} (below : i < w) where
-  pub word-line : Reads cs ws xs × (i < keys-of xs) × (kind-at xs i ≡ 0)
-  word-line = (h .opened .reads, omega arith, h .split .words i below)
+  pub word-line : Word-line cs ws xs i
+  word-line = record { reads = h .opened .reads; below = omega arith; kind = h .split .words i below }
 
   pub word-list : Fits xs × List-starts xs (keys-of xs) ts × (i < keys-of xs)
   word-list = (h .opened .reads .can .fits, h .opened .list-starts, omega arith)

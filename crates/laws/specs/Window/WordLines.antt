@@ -11,14 +11,14 @@ use Rattle.basics.specs.Bools.{false-put, le-or-lt}
 use Rattle.basics.specs.Steps.{Outside}
 use Rattle.spec.specs.Dictionary.{Lexicon}
 use Rattle.spec.specs.Words.{spells}
-use Rattle.spec.specs.Index.{header, keys-of, kind-at, value-at, key-at}
+use Rattle.spec.specs.Index.{header, keys-of, value-at, key-at}
 use Rattle.spec.specs.Search.{agrees}
 use Rattle.models.specs.WordStarts.{lengths-of, lexicon-at}
 use Rattle.laws.specs.Search.Agree.{Agree, agrees-get}
 use Rattle.laws.specs.Search.AgreeWalk.{together}
 use Rattle.laws.specs.Match.PrefixRanges.{prefix-not-before, next-rises}
 use Rattle.laws.specs.Dictionary.WordStarts.{starts-long}
-use Rattle.laws.specs.Directory.Tables.{Can-read, Reads, line-room, line-word, line-end, line-char, key-short, key-some}
+use Rattle.laws.specs.Directory.Tables.{Can-read, Reads, Word-line, line-room, line-word, line-end, line-char, key-short, key-some}
 use Rattle.basics.specs.LowerBound.{Rising, Lower-bound, rising-part}
 use Rattle.laws.specs.Window.LineRanges.{Split, word-lines-rise}
 
@@ -87,17 +87,17 @@ module _
     pub shared-line : i < keys-of xs
     shared-line = omega arith
 
-    kind : kind-at xs i ≡ 0
-    kind = split .words i (omega arith)
+    line : Word-line cs ws xs i
+    line = record { reads = reads; below = shared-line; kind = split .words i (omega arith) }
 
     pub shared-word : value-at xs i < length (lengths-of ws)
-    shared-word = line-word reads i shared-line kind
+    shared-word = line-word line
 
     room : getD ws (value-at xs i) 0 + length (word-of i) ≤ length cs
-    room = line-end reads i shared-line kind
+    room = line-end line
 
     char-at : (j : ℕ) → j < length (word-of i) → word-char cs xs ws j i ≡ getD (word-of i) j 0
-    char-at = line-char reads i shared-line kind
+    char-at = line-char line
 
   -- words that end at depth d, or all if the string ends there, agree
   pub shared-prefix-agrees :

@@ -30,7 +30,12 @@ room c =
 line-leads-requires : tie.Need-line-leads-requires Inv-loop μ-loop
 line-leads-requires c κs =
     let s = start (c .before .before) in
-    (s .pre .0, omega arith, s .pre .1 .words (c .before .loop .line) (c .loop-test .taken), s .pre .2, s .pre .4)
+    let split = s .pre .1 in
+    let taken = c .loop-test .taken in (
+      record { reads = s .pre .0; below = omega (arith, split .within); kind = split .words (c .before .loop .line) taken },
+      s .pre .2,
+      s .pre .4,
+    )
 
 loop-again : tie.Need-loop-again Inv-loop μ-loop
 loop-again c =

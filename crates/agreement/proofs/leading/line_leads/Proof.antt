@@ -21,7 +21,7 @@ value c = c .before .before
 shared-slice-read-start : tie.Need-shared-slice-read-start
 shared-slice-read-start c =
     let s = start (c .before) in
-    omega (arith, line-word (s .pre .0) (s .args .line) (s .pre .1) (s .pre .2), starts-long (s .pre .0 .words))
+    omega (arith, line-word (s .pre .0), starts-long (s .pre .0 .reads .words))
 
 -- the word has a character, and ends within the dictionary's
 word-ends :
@@ -30,11 +30,11 @@ word-ends :
 word-ends c =
     let s = start (value c) in
     let spelt = ap length (c .word-at .ensures) in (
-      omega (arith, spelt, key-some (s .pre .0 .can) (s .args .line) (s .pre .1)),
+      omega (arith, spelt, key-some (s .pre .0 .reads .can) (s .args .line) (s .pre .0 .below)),
       omega (
         arith,
         spelt,
-        line-end (s .pre .0) (s .args .line) (s .pre .1) (s .pre .2),
+        line-end (s .pre .0),
         ap (λ (w : ℕ). getD (s .args .word-starts .now) w 0) (value c .value-at .ensures .0),
       ),
     )
@@ -52,14 +52,15 @@ returns : tie.Need-returns
 returns c =
     let w = c .before .before .before in
     let s = start (value w) in
-    line-lacks (s .pre .0) (s .args .line) (s .pre .1) (s .pre .2) (s .args .string .now) (s .args .least) (value w .value-at .ensures .0)
+    line-lacks (s .pre .0) (s .args .string .now) (s .args .least) (value w .value-at .ensures .0)
     (w .word-at .ensures) (c .before .seen-to-lack .ensures (c .if1 .taken))
 
 agrees-leading-requires : tie.Need-agrees-leading-requires
 agrees-leading-requires c κs =
     let w = c .before .before .before in
     let s = start (value w) in
-    (spelt-short (s .pre .0 .can) (s .args .line) (s .pre .1) (w .word-at .result .now) (w .word-at .ensures), s .pre .3)
+    let line = s .pre .0 in
+    (spelt-short (line .reads .can) (s .args .line) (line .below) (w .word-at .result .now) (w .word-at .ensures), s .pre .1)
 
 returns-2 : tie.Need-returns-2
 returns-2 c =

@@ -11,17 +11,13 @@ start c = c .before .before .before .before .before
 returns : tie.Need-returns
 returns c =
     let refined = c .before .before .before .before in
-    let s = start (refined .before .before) in
     let found = refined .refine .ensures .0 in
-    let h = s .pre .0 in
-    record { listed = found .listed; range = refining-all (h .reads) (h .split) found (s .pre .1) (omega arith) }
+    record { listed = found .listed; range = refining-all found (omega arith) }
 
 compare-few-requires : tie.Need-compare-few-requires
 compare-few-requires c κs =
     let refined = c .before .before .before .before .before in
-    let s = start (refined .before .before) in
-    let found = refined .refine .ensures in
-    (s .pre .0, s .pre .1, found .0, found .1 (omega arith))
+    let found = refined .refine .ensures in (found .0, found .1 (omega arith))
 
 pub agreeing-words-spec : {M : Type 1} → statement M
 agreeing-words-spec =

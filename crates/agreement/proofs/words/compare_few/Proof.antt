@@ -10,6 +10,7 @@ use Rattle.models.specs.WordStarts.{lexicon-at}
 use Rattle.models.specs.Window.{agrees-line}
 use Rattle.laws.specs.Search.Offset.{agrees-offset}
 use Rattle.laws.specs.Search.Offset32.{start-fits, offset-natural}
+use Rattle.laws.specs.Window.LineRanges.{search-line}
 use Rattle.laws.specs.Window.AgreeingLines.{Agreeing-listed, agreeing-push, agreeing-pass}
 use Rattle.agreement.proofs.words.compare_few.Statement.{statement}
 use Rattle.agreement.proofs.words.compare_few.Tie as tie
@@ -26,13 +27,12 @@ abbrev start : tie.After-slice-known Inv-loop μ-loop → tie.Start Inv-loop μ-
 start c = c .before .before .before .before .before
 
 loop-holds : tie.Need-loop-holds Inv-loop μ-loop
-loop-holds c = let s = start c in (s .pre .2 .listed, refl, omega arith)
+loop-holds c = let s = start c in (s .pre .0 .listed, refl, omega arith)
 
 word-at-requires : tie.Need-word-at-requires Inv-loop μ-loop
 word-at-requires c κs =
     let s = start (c .before .before) in
-    let h = s .pre .0 in
-    (h .reads, omega arith, h .split .words (c .before .loop .low) (omega arith))
+    search-line (s .pre .0 .on) (c .before .loop .low) (omega arith)
 
 -- what `agrees_at` answers of the line
 agreed : (c : tie.After-agrees-at Inv-loop μ-loop) → let a = start (c .before .before .before .before) .args in

@@ -4,6 +4,7 @@ use mathlib.Core.Path.{_≡_, refl, sym, ap, _∙_}
 use Prim.Native.Nat.{_+_, _-_}
 use native.Mathlib.Omega.{arith}
 use lib.ListN.{length, length-set}
+use Rattle.laws.specs.Window.LineRanges.{search-line}
 use Rattle.laws.specs.Window.AgreeingWords.{Refining, refining-start, refining-push, refining-deep, refining-column, refining-step}
 use Rattle.agreement.proofs.words.refine.Statement.{statement}
 use Rattle.agreement.proofs.words.refine.Tie as tie
@@ -24,7 +25,7 @@ abbrev at-loop : tie.After-shared-slice-known5 Inv-loop μ-loop → tie.At-loop 
 at-loop c = c .before .before .before .before .before
 
 loop-holds : tie.Need-loop-holds Inv-loop μ-loop
-loop-holds c = let s = start c in (refining-start (s .pre .0 .reads) (s .pre .0 .split) (s .pre .2), refl, refl)
+loop-holds c = let s = start c in (refining-start (s .pre .0) (s .pre .1) (s .pre .2), refl, refl)
 
 returns : tie.Need-returns Inv-loop μ-loop
 returns c = (c .before .before .loop .inv .0, λ more. absurd (omega (arith, more)))
@@ -33,13 +34,13 @@ word-at-requires : tie.Need-word-at-requires Inv-loop μ-loop
 word-at-requires c κs =
     let s = start (c .before .before .before) in
     let l = c .before .before .loop in
-    (s .pre .0 .reads, omega arith, s .pre .0 .split .words (l .low) (omega arith))
+    search-line (s .pre .0) (l .low) (omega arith)
 
 loop-again : tie.Need-loop-again Inv-loop μ-loop
 loop-again c =
     let s = start (c .before .before .before .before .before) in
     let l = c .before .before .before .before .loop in (
-      refining-push (s .pre .0 .reads) (s .pre .0 .split) (l .inv .0) (omega arith) (s .pre .1)
+      refining-push (l .inv .0) (omega arith)
           (sym (ap length (c .before .word-at .ensures)) ∙ c .if2 .taken),
       l .inv .1,
       length-set (l .lines) (l .count) (l .low) ∙ l .inv .2,
@@ -49,7 +50,7 @@ equal-range-requires : tie.Need-equal-range-requires Inv-loop μ-loop
 equal-range-requires c κs =
     let s = start (at-loop c .before) in
     let l = at-loop c .loop in
-    refining-column (s .pre .0 .reads) (s .pre .0 .split) (l .inv .0) (omega arith)
+    refining-column (l .inv .0) (omega arith)
     (λ e. c .before .if2 .left (ap length (c .before .before .word-at .ensures) ∙ e))
 
 loop-less-2 : tie.Need-loop-less-2 Inv-loop μ-loop
@@ -58,7 +59,7 @@ loop-less-2 c =
     let l = at-loop (c .before) .loop in
     omega (
       arith,
-      refining-deep (s .pre .0 .reads) (s .pre .0 .split) (l .inv .0) (omega arith)
+      refining-deep (l .inv .0) (omega arith)
           (λ e. c .before .before .if2 .left (ap length (c .before .before .before .word-at .ensures) ∙ e)),
     )
 
@@ -66,7 +67,7 @@ loop-again-2 : tie.Need-loop-again-2 Inv-loop μ-loop
 loop-again-2 c =
     let s = start (at-loop (c .before) .before) in
     let l = at-loop (c .before) .loop in (
-      refining-step (s .pre .0 .reads) (s .pre .0 .split) (l .inv .0) (omega arith)
+      refining-step (l .inv .0) (omega arith)
           (λ e. c .before .before .if2 .left (ap length (c .before .before .before .word-at .ensures) ∙ e)) (omega arith)
           (c .equal-range .ensures .0) (c .equal-range .ensures .1),
       l .inv .1,

@@ -13,7 +13,7 @@ use Rattle.directory.proofs.lines.word_at.Tie as tie
 word-of-requires : tie.Need-word-of-requires
 word-of-requires c κs =
     let s = c .before .before .before .before in
-    (s .pre .0 .words, omega (arith, line-word (s .pre .0) (s .args .line) (s .pre .1) (s .pre .2)))
+    (s .pre .reads .words, omega (arith, line-word (s .pre)))
 
 returns : tie.Need-returns
 returns c =
@@ -21,7 +21,7 @@ returns c =
     let a = s .args in
     c .word-of .ensures
     ∙ ap (λ (w : ℕ). getD (lexicon-at (a .chars .now) (a .word-starts .now) .words) w []) (c .before .value-at .ensures .0)
-    ∙ line-spells (s .pre .0) (a .line) (s .pre .1) (s .pre .2)
+    ∙ line-spells (s .pre)
 
 pub word-at-spec : {M : Type 1} → statement M
 word-at-spec = tie.close (tie.spec (λ c κs. search needs) word-of-requires returns)

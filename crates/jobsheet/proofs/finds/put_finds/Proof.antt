@@ -38,8 +38,7 @@ put-find-requires c κs =
     let turn = c .before .before .before .before in
     let l = turn .before .loop in
     let taken = turn .loop-test .taken in
-    let s = start (turn .before .before .before .before .before) in
-    (
+    let s = start (turn .before .before .before .before .before) in (
       (record { opened = s .pre .0 .0; string = string-is (l .inv .1) taken; n-short = s .pre .0 .3 }, omega arith),
       find-fits (l .inv .1) taken,
     )

@@ -9,7 +9,8 @@ use Rattle.searcher.proofs.estimate.cost_exceeds.Statement.{statement}
 use Rattle.searcher.proofs.estimate.cost_exceeds.Tie as tie
 
 abbrev Inv-loop : tie.InvT-loop
-Inv-loop chars word-starts index string word-lines limit stride sum₀ at₀ sum at = (1 ≤ stride) × (stride ≤ 9) × (sum ≤ 2 ^ 55)
+Inv-loop chars word-starts index string word-lines limit stride sum₀ at₀ sum at =
+    (1 ≤ stride) × (stride ≤ 9) × (sum ≤ limit + 9 * (limit + 33 * 2 ^ 32))
 
 abbrev μ-loop : tie.MeasureT-loop
 μ-loop chars word-starts index string word-lines limit stride sum₀ at₀ sum at = length string - at
@@ -17,7 +18,8 @@ abbrev μ-loop : tie.MeasureT-loop
 -- what one sample adds
 sample :
     (c : tie.After-count-keys Inv-loop μ-loop) → let estimated = c .before .before .before .before in
-    (1 + length (estimated .before .before .before .before .before .args .string .now) / 32) * c .count-keys .result ≤ 9 * 2 ^ 51
+    let a = estimated .before .before .before .before .before .args in
+    (1 + length (a .string .now) / 32) * c .count-keys .result ≤ 9 * (a .limit + 33 * 2 ^ 32)
 sample c = mul-le-mul (c .before .before .before .loop .inv .1) (c .count-keys .ensures)
 
 pub cost-exceeds-spec : {M : Type 1} → statement M

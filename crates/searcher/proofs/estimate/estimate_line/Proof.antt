@@ -16,7 +16,7 @@ cost c =
     let counted = c .before .before in
     let s = counted .before .before .before .before in
     mul-le-mul {n₂ = greatest-number} (omega arith)
-    (spelt-short (s .pre .0 .can) (s .args .line) (s .pre .1) (c .word-at .result .now) (c .word-at .ensures))
+    (spelt-short (s .pre .reads .can) (s .args .line) (s .pre .below) (c .word-at .result .now) (c .word-at .ensures))
 
 pub estimate-line-spec : {M : Type 1} → statement M
 estimate-line-spec =
