@@ -33,7 +33,8 @@ fn extend_line(
     max_reach: usize,
 ) -> usize
     requires { ⌜
-        Searches-offset (now chars) (now «word_starts») (now index) (now «list_starts») (now string) «word_lines» first «key_start» «max_reach» (now reach) ×
+        Searches-offset (now chars) (now «word_starts») (now index) (now «list_starts») (now string) «word_lines» first «key_start»
+        «max_reach» (now reach) ×
         (line < «word_lines») ×
         (agrees-line «key_start» (lexicon-at (now chars) (now «word_starts»)) (now index) (now string) line ≡ true) ⌝ }
     ensures { λ r. ⌜
@@ -60,7 +61,8 @@ fn extend_listed(
     max_reach: usize,
 ) -> usize
     requires { ⌜
-        Searches-offset (now chars) (now «word_starts») (now index) (now «list_starts») (now string) «word_lines» first «key_start» «max_reach» (now reach) ×
+        Searches-offset (now chars) (now «word_starts») (now index) (now «list_starts») (now string) «word_lines» first «key_start»
+        «max_reach» (now reach) ×
         Lines-agree «key_start» (lexicon-at (now chars) (now «word_starts»)) (now index) (now string) «word_lines» (now lines) ⌝ }
     ensures { λ r. ⌜
         Reaches (run-list (offset-at «key_start» (lexicon-at (now (chars .entry)) (now («word_starts» .entry))) (now (index .entry))
@@ -103,7 +105,8 @@ fn extend_range(
     max_reach: usize,
 ) -> usize
     requires { ⌜
-        Searches-offset (now chars) (now «word_starts») (now index) (now «list_starts») (now string) «word_lines» first «key_start» «max_reach» (now reach) ×
+        Searches-offset (now chars) (now «word_starts») (now index) (now «list_starts») (now string) «word_lines» first «key_start»
+        «max_reach» (now reach) ×
         (to ≤ «word_lines») × Range-agrees «key_start» (lexicon-at (now chars) (now «word_starts»)) (now index) (now string) from to ⌝ }
     ensures { λ r. ⌜
         Reaches (run (offset-at «key_start» (lexicon-at (now (chars .entry)) (now («word_starts» .entry))) (now (index .entry))
@@ -144,7 +147,8 @@ pub(crate) fn extend_words(
     max_reach: usize,
 ) -> usize
     requires { ⌜
-        Searches-offset (now chars) (now «word_starts») (now index) (now «list_starts») (now string) «word_lines» first «key_start» «max_reach» (now reach) ⌝ }
+        Searches-offset (now chars) (now «word_starts») (now index) (now «list_starts») (now string) «word_lines» first «key_start»
+        «max_reach» (now reach) ⌝ }
     ensures { λ r. ⌜
         Reaches (run (offset-at «key_start» (lexicon-at (now (chars .entry)) (now («word_starts» .entry))) (now (index .entry))
         (now (string .entry)) first) 0 «word_lines» (now (reach .entry))) (now (reach .exit)) r ⌝ }
@@ -203,7 +207,8 @@ pub(crate) fn extend_lone(
     max_reach: usize,
 ) -> usize
     requires { ⌜
-        Searches-offset (now chars) (now «word_starts») (now index) (now «list_starts») (now string) «word_lines» first «key_start» «max_reach» (now reach) ⌝ }
+        Searches-offset (now chars) (now «word_starts») (now index) (now «list_starts») (now string) «word_lines» first «key_start»
+        «max_reach» (now reach) ⌝ }
     ensures { λ r. ⌜
         Reaches (run (offset-at «key_start» (lexicon-at (now (chars .entry)) (now («word_starts» .entry))) (now (index .entry))
         (now (string .entry)) first) «word_lines» (keys-of (now (index .entry))) (now (reach .entry))) (now (reach .exit)) r ⌝ }

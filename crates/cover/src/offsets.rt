@@ -28,7 +28,8 @@ fn extend_offset(
     max_reach: usize,
 ) -> usize
     requires { ⌜
-        Searches-offset (now chars) (now «word_starts») (now index) (now «list_starts») (now string) «word_lines» first «key_start» «max_reach» (now reach) ⌝ }
+        Searches-offset (now chars) (now «word_starts») (now index) (now «list_starts») (now string) «word_lines» first «key_start»
+        «max_reach» (now reach) ⌝ }
     ensures { λ r. ⌜
         Reaches (offset-all «key_start» (lexicon-at (now (chars .entry)) (now («word_starts» .entry))) (lines-in (now (index .entry)))
         (now (string .entry)) first (now (reach .entry))) (now (reach .exit)) r ⌝ }

@@ -7,8 +7,7 @@ ghost use Rattle.basics.specs.Placed.{Wrote};
 ghost use Rattle.spec.specs.Index.{keys-of};
 ghost use Rattle.models.specs.JobSheet.{shown, printed-of};
 ghost use Rattle.laws.specs.Directory.Tables.{Can-read};
-ghost use Rattle.laws.specs.JobSheet.AcceptedCalls.{Usable};
-ghost use Rattle.laws.specs.JobSheet.JobAnswering.{Strings-good, Parts-good, Answer-room};
+ghost use Rattle.laws.specs.JobSheet.JobAnswering.{Parts-good, Prints};
 use crate::finds::put_finds;
 use builder::build::build;
 use directory::tables::fill_list_starts;
@@ -30,10 +29,9 @@ fn put_filled<'a>(
     found: &mut [Number],
     out: &mut [u8],
 ) -> usize
+    requires { ⌜ Prints (now chars) (now lengths) (now index) (now strings) (now counts) (now found) (now out) ⌝ }
     requires { ⌜
-        Usable (now chars) (now lengths) (now index) × Can-read (now chars) (now lengths) (now index) × (keys ≡ keys-of (now index)) ×
-        (keys ≤ length (now «list_starts»)) ⌝ }
-    requires { ⌜ Strings-good (now strings) (now counts) × Answer-room (now found) (now out) ⌝ }
+        Can-read (now chars) (now lengths) (now index) × (keys ≡ keys-of (now index)) × (keys ≤ length (now «list_starts»)) ⌝ }
     ensures { λ r. ⌜
         Wrote (shown (now (chars .entry)) (now (lengths .entry)) (now (index .entry)) (now (strings .entry)) (now (counts .entry))) 0
         (now (out .entry)) r (now (out .exit)) ⌝ }
@@ -68,8 +66,8 @@ fn put_opened<'a>(
     out: &mut [u8],
 ) -> usize
     requires { ⌜
-        Usable (now chars) (now lengths) (now index) × (keys ≡ keys-of (now index)) × Strings-good (now strings) (now counts) ×
-        Answer-room (now found) (now out) ⌝ }
+        Prints (now chars) (now lengths) (now index) (now strings) (now counts) (now found) (now out) ×
+        (keys ≡ keys-of (now index)) ⌝ }
     ensures { λ r. ⌜
         Wrote (shown (now (chars .entry)) (now (lengths .entry)) (now (index .entry)) (now (strings .entry)) (now (counts .entry))) 0
         (now (out .entry)) r (now (out .exit)) ⌝ }
@@ -98,8 +96,7 @@ fn put_lines<'a>(
     found: &mut [Number],
     out: &mut [u8],
 ) -> usize
-    requires { ⌜
-        Usable (now chars) (now lengths) (now index) × Strings-good (now strings) (now counts) × Answer-room (now found) (now out) ⌝ }
+    requires { ⌜ Prints (now chars) (now lengths) (now index) (now strings) (now counts) (now found) (now out) ⌝ }
     ensures { λ r. ⌜
         Wrote (shown (now (chars .entry)) (now (lengths .entry)) (now (index .entry)) (now (strings .entry)) (now (counts .entry))) 0
         (now (out .entry)) r (now (out .exit)) ⌝ }

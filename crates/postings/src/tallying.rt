@@ -31,7 +31,7 @@ fn key_length(chars: &[u16], lengths: &[u16], kind: usize, value: usize) -> usiz
     lengths[value] as usize
 }
 
-// The counts, with the number of positions of each key of a readable index added to the count for its length. Each is at most 2^62
+// The counts, with the number of positions of each key of a readable index added to the count for its length. Each is at most 2³²
 // on entry, so that no sum wraps.
 fn raised(
     chars: &[u16],
@@ -42,7 +42,7 @@ fn raised(
 ) -> [u64; 32]
     requires { ⌜
         Is-admitted (now chars) (now lengths) × (readable longest-text (lexicon (now chars) (now lengths)) (now index) ≡ true) ×
-        (keys ≡ keys-of (now index)) × (header + 3 * keys ≤ length (now index)) × ((j : ℕ) → getD counts j 0 ≤ 2 ^ 62) ⌝ }
+        (keys ≡ keys-of (now index)) × (header + 3 * keys ≤ length (now index)) × ((j : ℕ) → getD counts j 0 ≤ 2 ^ 32) ⌝ }
     ensures { λ r. ⌜ r ≡ added counts (tally (lexicon (now (chars .entry)) (now (lengths .entry))) (now (index .entry))) ⌝ }
 {
     let mut counts = counts;

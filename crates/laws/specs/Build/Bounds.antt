@@ -112,7 +112,7 @@ index-below {lex} ts good chars bound wide short =
       entries-of-numbers (length ts) (lines-of (sorted (entries lex ts))),
     ))
 
--- for a text of fewer than 65,536 characters: 16-bit numbers
-pub index-chars : {lex : Lexicon} (ts : List ℕ) → Good-lexicon lex → Chars ts → length ts < 65536 → Chars (index-of lex ts)
+-- the index of a text as short as that of a job has no number that is not a character's
+pub index-chars : {lex : Lexicon} (ts : List ℕ) → Good-lexicon lex → Chars ts → length ts ≤ 2000 → Chars (index-of lex ts)
 index-chars {lex} ts good chars short i h =
     index-below ts good chars 65536 (omega arith) (omega arith) (getD (index-of lex ts) i 0) (in-getD (index-of lex ts) i 0 h)

@@ -1,15 +1,15 @@
 -- The walks that set the flags of the lines whose keys bear on a string: the offsets from 0 up, and those below 0. After both, the flags
 -- are exact. Assumes nothing.
-use mathlib.Core.Path.{_≡_, refl, _∙_}
+use mathlib.Core.Path.{_≡_, refl}
 use mathlib.Core.Bool.{Bool, true, false, cond}
 use mathlib.Core.Logic.{⊎-elim}
-use mathlib.Core.List.{List, [], _∷_, _++_, append-nil}
+use mathlib.Core.List.{List}
 use Prim.Native.Nat.{ℕ, _+_, _-_, _≤_, _<_}
 use native.Mathlib.Omega.{arith}
 use lib.ListN.{length, getD}
 use Rattle.basics.specs.Bools.{le-or-lt}
 use Rattle.basics.specs.Member.{In}
-use Rattle.basics.specs.Steps.{any-from-get, any-from-put, those-from, those-from-get, those-from-put, those-from-append}
+use Rattle.basics.specs.Steps.{any-from-get, any-from-put, those-from-get, those-from-put}
 use Rattle.spec.specs.Dictionary.{Lexicon}
 use Rattle.spec.specs.Words.{spells}
 use Rattle.spec.specs.Index.{keys-of, key-at}
@@ -83,8 +83,8 @@ pub record Flags-lines (cs ws xs s : List ℕ) (w : ℕ) (fs : List ℕ) : Type 
   pub lines : Search-lines cs ws xs s w
   pub flags : Flags (lexicon-at cs ws) xs s fs
 
-module _ {cs ws xs s : List ℕ} {w : ℕ} (on : Search-lines cs ws xs s w) {old mid fs : List ℕ} (backs : Backs (lexicon-at cs ws) xs s old mid w)
-    (offsets : Offsets (lexicon-at cs ws) xs s mid fs (length s)) where
+module _ {cs ws xs s : List ℕ} {w : ℕ} (on : Search-lines cs ws xs s w) {old mid fs : List ℕ}
+    (backs : Backs (lexicon-at cs ws) xs s old mid w) (offsets : Offsets (lexicon-at cs ws) xs s mid fs (length s)) where
   abbrev key : ℕ → List ℕ
   key i = spells (lexicon-at cs ws) (key-at xs i)
 

@@ -67,8 +67,10 @@ pub record Strings-good (fs ns : List ℕ) : Type 0 where
   pub tested : some-length-wrong ns ≡ false
   pub fits : total ns ≤ length fs
 
--- slices that hold the positions of any string, and any answer
-pub record Answer-room (found out : List ℕ) : Type 0 where
+-- an index and strings whose lines are printed, with slices that hold the positions of any string, and any answer
+pub record Prints (cs ls xs fs ns found out : List ℕ) : Type 0 where
+  pub usable : Usable cs ls xs
+  pub strings : Strings-good fs ns
   pub positions : 2000 ≤ length found
   pub answer : 700000 ≤ length out
 
@@ -83,8 +85,7 @@ shown-short {cs} {ls} {xs} ss u small few =
       found-lines-short (lexicon cs ls) xs (u .short) ss,
     )
 
-module _ {cs ls xs fs ns : List ℕ} (out : List ℕ) (u : Usable cs ls xs) (small : Small xs) (good : Strings-good fs ns)
-    (room : 700000 ≤ length out) where
+module _ {cs ls xs fs ns found out : List ℕ} (h : Prints cs ls xs fs ns found out) (small : Small xs) where
   finds-lines : List ℕ
   finds-lines = found-lines (lexicon cs ls) xs (words-from ns fs)
 
@@ -92,7 +93,7 @@ module _ {cs ls xs fs ns : List ℕ} (out : List ℕ) (u : Usable cs ls xs) (sma
   unfolding shown finds-lines
   first =
       writing-start (shown cs ls xs fs ns) 0 out
-      (omega (arith, shown-short (words-from ns fs) u small (omega (arith, length-words ns fs))))
+      (omega (arith, h .answer, shown-short (words-from ns fs) (h .usable) small (omega (arith, h .strings .few, length-words ns fs))))
 
   pub index-lines-fit : 0 + length (index-lines xs) ≤ length out
   index-lines-fit = writing-room (index-lines xs) finds-lines first

@@ -157,7 +157,8 @@ module _ (lex : Lexicon) (ls : List Line) (s : List ℕ) where
       by-test true few = omega arith
       by-test false few = omega arith
 
-  found-small : (n q : ℕ) → q + n ≤ 65536 → Small (found-from n q lex ls s)
+  -- a text of a job has at most 2,000 characters
+  found-small : (n q : ℕ) → q + n ≤ 2002 → Small (found-from n q lex ls s)
   unfolding found-from
   found-small zero q h i = omega arith
   found-small (suc n) q h i = by-test (all-covered (length s) q lex ls s q) i (found-small n (suc q) (omega arith))
@@ -174,7 +175,7 @@ module _ (lex : Lexicon) (xs : List ℕ) where
   unfolding find
   find-few s some = omega (arith, found-few lex (lines-in xs) s (suc (n-of xs) - length s) 1)
 
-  pub find-small : (s : List ℕ) → n-of xs ≤ 65534 → Small (find lex xs s)
+  pub find-small : (s : List ℕ) → n-of xs ≤ 2000 → Small (find lex xs s)
   unfolding find
   find-small s h = found-small lex (lines-in xs) s (suc (n-of xs) - length s) 1 (omega arith)
 

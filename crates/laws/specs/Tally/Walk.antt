@@ -98,7 +98,7 @@ zeros-read (suc n) zero = refl
 zeros-read (suc n) (suc j) = zeros-read n j
 
 -- zeros are small enough that no tally makes them wrap
-pub small-zeros : (j : ℕ) → getD (replicate {A = ℕ} 32 0) j 0 ≤ 2 ^ 62
+pub small-zeros : (j : ℕ) → getD (replicate {A = ℕ} 32 0) j 0 ≤ 2 ^ 32
 small-zeros j = omega (arith, zeros-read 32 j)
 
 -- THE WALK
@@ -107,13 +107,13 @@ small-zeros j = omega (arith, zeros-read 32 j)
 pub record Tallied (lex : Lexicon) (xs given counts : List ℕ) (i : ℕ) : Type 0 where
   pub within : i ≤ keys-of xs
   pub whole : length counts ≡ 32
-  pub bounded : (j : ℕ) → getD counts j 0 ≤ 2 ^ 62 + greatest-number * i
+  pub bounded : (j : ℕ) → getD counts j 0 ≤ 2 ^ 32 + greatest-number * i
   pub summed :
       (j : ℕ) → j < 32 →
       getD counts j 0 + counted lex (1 + j) (keys-of xs - i) i xs ≡ getD given j 0 + counted lex (1 + j) (keys-of xs) 0 xs
 
 pub tally-start :
-    (lex : Lexicon) (xs given : List ℕ) → length given ≡ 32 → ((j : ℕ) → getD given j 0 ≤ 2 ^ 62) → Tallied lex xs given given 0
+    (lex : Lexicon) (xs given : List ℕ) → length given ≡ 32 → ((j : ℕ) → getD given j 0 ≤ 2 ^ 32) → Tallied lex xs given given 0
 tally-start lex xs given len small =
     record {
       within = omega arith;
@@ -158,7 +158,7 @@ module _ {lex : Lexicon} {xs given counts : List ℕ} {i : ℕ} (h : Tallied lex
           summed = λ j b. summed j b (here-or-other j);
         }
       where
-        bounded : (j : ℕ) → (j ≡ position) ⊎ (j ≡ position → ⊥) → getD raised j 0 ≤ 2 ^ 62 + greatest-number * (i + 1)
+        bounded : (j : ℕ) → (j ≡ position) ⊎ (j ≡ position → ⊥) → getD raised j 0 ≤ 2 ^ 32 + greatest-number * (i + 1)
         bounded j (inl e) = rw e (omega (arith, raised-here, h .bounded position))
         bounded j (inr other) = omega (arith, raised-other j other, h .bounded j)
 

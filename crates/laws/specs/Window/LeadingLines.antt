@@ -90,8 +90,9 @@ module _ (s k : List ℕ) where
 
 -- a word that is seen to lack the string's first character from index m on
 pub line-lacks :
-    {cs ws xs : List ℕ} {i : ℕ} → Word-line cs ws xs i → (s : List ℕ) (m : ℕ) {v : ℕ} {k : List ℕ} → v ≡ value-at xs i → k ≡ spells (lexicon-at cs ws) (key-at xs i) →
-    Lacks cs (getD ws v 0 + m) (length k - m) (getD s 0 0) → false ≡ is-leading m (lexicon-at cs ws) xs s i
+    {cs ws xs : List ℕ} {i : ℕ} → Word-line cs ws xs i → (s : List ℕ) (m : ℕ) {v : ℕ} {k : List ℕ} → v ≡ value-at xs i →
+    k ≡ spells (lexicon-at cs ws) (key-at xs i) → Lacks cs (getD ws v 0 + m) (length k - m) (getD s 0 0) →
+    false ≡ is-leading m (lexicon-at cs ws) xs s i
 line-lacks {cs} {ws} {xs} {i} line s m {v} e f lacks =
     leading-lacks m s (spells (lexicon-at cs ws) (key-at xs i))
     (λ j l b c.

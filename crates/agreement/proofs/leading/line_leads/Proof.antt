@@ -1,6 +1,5 @@
 -- `line_leads` meets its contract: a word that lacks the string's first character from an index on starts no earlier. Assumes nothing.
 use mathlib.Core.Path.{ap, _∙_}
-use mathlib.Core.List.{List}
 use Prim.Native.Nat.{ℕ, _+_, _≤_}
 use native.Mathlib.Omega.{arith}
 use lib.ListN.{length, getD}

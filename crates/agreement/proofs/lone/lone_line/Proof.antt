@@ -1,5 +1,4 @@
 -- `lone_line` meets its contract: the lower bound is the line of the character, or the character has none. Assumes nothing.
-use mathlib.Core.Path.{sym, _∙_}
 use native.Mathlib.Omega.{arith}
 use borrow.Author.Needs.{needs}
 use Rattle.laws.specs.Window.LineRanges.{values-order, lone-here, lone-nowhere}

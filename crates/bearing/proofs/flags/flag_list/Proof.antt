@@ -1,5 +1,4 @@
 -- `flag_list` meets its contract. The invariant: the first i listed lines are flagged. The measure is how many are left. Assumes nothing.
-use mathlib.Core.Path.{_≡_, _∙_}
 use Prim.Native.Nat.{_-_, _≤_, _<_}
 use native.Mathlib.Omega.{arith}
 use lib.ListN.{length, getD, take}

@@ -1,6 +1,6 @@
 -- `fill_word_starts` meets its contract. The invariant: the starts of the first i words are written, and `at` is the next one. The
 -- measure is how many words are left. Assumes nothing.
-use mathlib.Core.Path.{_≡_, refl, _∙_}
+use mathlib.Core.Path.{_∙_}
 use Prim.Native.Nat.{_-_}
 use native.Mathlib.Omega.{arith}
 use lib.ListN.{length, length-set}

@@ -59,7 +59,7 @@ put-lines-requires : tie.Need-put-lines-requires
 put-lines-requires c κs =
     let b = built (c .before .before .before) in
     let s = start b in
-    (in-hand-usable b, s .pre .0 .strings, record { positions = s .pre .1 .2; answer = s .pre .1 .3 })
+    record { usable = in-hand-usable b; strings = s .pre .0 .strings; positions = s .pre .1 .2; answer = s .pre .1 .3 }
 
 returns : tie.Need-returns
 returns c =

@@ -29,9 +29,8 @@ put-index-lines-requires : tie.Need-put-index-lines-requires
 put-index-lines-requires c κs =
     let f = filled (c .before) in
     let s = start f in (
-      usable-whole (s .pre .0 .0),
-      index-lines-fit (s .args .out .now) (s .pre .0 .0) (λ i. omega (arith, known f .before .before .shared-slice-known3 .given i))
-          (s .pre .1 .0) (s .pre .1 .1 .answer),
+      usable-whole (s .pre .0 .usable),
+      index-lines-fit (s .pre .0) (λ i. omega (arith, known f .before .before .shared-slice-known3 .given i)),
     )
 
 -- what is left to print after the lines of the index
@@ -43,13 +42,12 @@ at-finds :
 at-finds c =
     let f = filled (c .before .before) in
     let s = start f in
-    then-finds (s .args .out .now) (s .pre .0 .0) (λ i. omega (arith, known f .before .before .shared-slice-known3 .given i)) (s .pre .1 .0)
-    (s .pre .1 .1 .answer) (c .put-index-lines .ensures)
+    then-finds (s .pre .0) (λ i. omega (arith, known f .before .before .shared-slice-known3 .given i)) (c .put-index-lines .ensures)
 
 slice-aggregate-put-finds : tie.Need-slice-aggregate-put-finds
 slice-aggregate-put-finds c =
     let f = filled (c .before .before .before .before .before) in
-    front-long (start f .pre .0 .1) (replicate 4097 0) (f .fill-word-starts .ensures)
+    front-long (start f .pre .1 .0) (replicate 4097 0) (f .fill-word-starts .ensures)
 
 put-finds-requires : tie.Need-put-finds-requires
 put-finds-requires c κs =
@@ -59,14 +57,14 @@ put-finds-requires c κs =
     let table = f .fill-word-starts .ensures in (
       (
         record {
-          reads = front-reads (s .pre .0 .1) (replicate 4097 0) table;
+          reads = front-reads (s .pre .1 .0) (replicate 4097 0) table;
           list-starts = printed .before .before .before .before .fill-list-starts .ensures;
         },
-        s .pre .1 .0,
+        s .pre .0 .strings,
         omega arith,
         omega arith,
       ),
-      rw (front-lengths (s .pre .0 .1) (replicate 4097 0) table) (at-finds printed .room),
+      rw (front-lengths (s .pre .1 .0) (replicate 4097 0) table) (at-finds printed .room),
     )
 
 returns : tie.Need-returns
@@ -76,7 +74,7 @@ returns c =
     let f = filled (printed .before .before) in
     let s = start f in
     let a = s .args in
-    let lengths = front-lengths (s .pre .0 .1) (replicate 4097 0) (f .fill-word-starts .ensures) in
+    let lengths = front-lengths (s .pre .1 .0) (replicate 4097 0) (f .fill-word-starts .ensures) in
     writing-last (found-lines (lexicon (a .chars .now) (a .lengths .now)) (a .index .now) (words-from (a .counts .now) (a .strings .now)))
     (at-finds printed) (rw lengths at (put .put-finds .ensures))
 

@@ -12,8 +12,8 @@ put-filled-requires c κs =
     let chars = index .before .before in
     let s = chars .before in
     let can = can-read _ _ _ _ (λ i. omega (arith, chars .shared-slice-known .given i))
-    (λ i. omega (arith, index .shared-slice-known3 .given i)) (s .pre .0 .accepts) in
-    ((s .pre .0, can, s .pre .1, omega arith), (s .pre .2, s .pre .3))
+    (λ i. omega (arith, index .shared-slice-known3 .given i)) (s .pre .0 .usable .accepts) in
+    (s .pre .0, (can, s .pre .1, omega arith))
 
 pub put-opened-spec : {M : Type 1} → statement M
 put-opened-spec =

@@ -1,7 +1,7 @@
 -- `estimate_words` meets its contract. The invariants: the lines passed before the last cost no more than the limit, and each costs at most
 -- 32 times 2³². The measures are how many lines are left. Assumes nothing.
 use mathlib.Core.Path.{sym}
-use Prim.Native.Nat.{_+_, _*_, _-_, _^_, _≤_, _<_}
+use Prim.Native.Nat.{_+_, _*_, _-_, _^_, _≤_}
 use native.Mathlib.Omega.{arith}
 use lib.ListN.{length}
 use lib.Seq.{length-take-le}

@@ -8,7 +8,11 @@ first-plain-requires : tie.Need-first-plain-requires
 first-plain-requires c κs =
     let known = c .before .before in
     let s = known .before .before .before .before .before in
-    record { opened = s .pre .opened; string = own-string _ _ (c .before .replaced-string .ensures) (s .pre .string); n-short = s .pre .n-short }
+    record {
+      opened = s .pre .opened;
+      string = own-string _ _ (c .before .replaced-string .ensures) (s .pre .string);
+      n-short = s .pre .n-short;
+    }
 
 pub first-tabled-spec : {M : Type 1} → statement M
 first-tabled-spec =

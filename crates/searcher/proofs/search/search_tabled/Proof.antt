@@ -8,7 +8,11 @@ search-plain-requires : tie.Need-search-plain-requires
 search-plain-requires c κs =
     let known = c .before .before .before .before in
     let s = known .before .before .before .before .before in
-    record { opened = s .pre .opened; string = own-string _ _ (c .before .before .replaced-string .ensures) (s .pre .string); n-short = s .pre .n-short }
+    record {
+      opened = s .pre .opened;
+      string = own-string _ _ (c .before .before .replaced-string .ensures) (s .pre .string);
+      n-short = s .pre .n-short;
+    }
 
 pub search-tabled-spec : {M : Type 1} → statement M
 search-tabled-spec =
