@@ -15,7 +15,8 @@ use agreement::words::agreeing_words;
 use layout::fields::key_count;
 use width::Number;
 
-// Flags the lines of words whose keys agree with the string at the offset `key_start`. The first `word_lines` lines are those of words.
+// Flags the lines of words whose keys agree with the string at the offset `key_start`. The first `word_lines` lines are those of words; an
+// index may have none.
 fn flag_words(
     chars: &[u16],
     word_starts: &[u16],
@@ -33,6 +34,9 @@ fn flag_words(
         Offset-flagged (lexicon-at (now (chars .entry)) (now («word_starts» .entry))) (now (index .entry)) (now (string .entry)) «key_start»
         0 «word_lines» (now (flags .entry)) (now (flags .exit)) ⌝ }
 {
+    if word_lines == 0 {
+        return;
+    }
     let agreeing = agreeing_words(
         chars,
         word_starts,

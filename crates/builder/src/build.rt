@@ -10,12 +10,11 @@ ghost use Rattle.spec.specs.Replaced.{replaced};
 ghost use Rattle.spec.specs.Dictionary.{longest-text};
 ghost use Rattle.spec.specs.Calls.{Build-says};
 ghost use Rattle.models.specs.WordStarts.{lengths-of};
-ghost use Rattle.laws.specs.Match.MatchTable.{Room};
+ghost use Rattle.laws.specs.Match.MatchTable.{Tables};
 ghost use Rattle.laws.specs.Build.PostingChains.{Linkable, Fresh};
 ghost use Rattle.laws.specs.Build.Building.{early-refusal, Tokens-say, Build-puts};
 use crate::text::scan_replaced;
 use dictionary::admission::refusal_of;
-use directory::tables::fill_word_starts;
 use inversion::chains::chain_positions;
 use inversion::write::write_index;
 use layout::fields::line_start;
@@ -93,23 +92,22 @@ fn finish(text: &[u16], output: &mut [Number], work: &mut [Number]) -> Answer
     index_tokens(text, output, &mut work[..n])
 }
 
-// Fills the match table, scans the replaced text and writes the index of its tokens, where no early refusal is met.
+// Scans the replaced text by a match table and writes the index of its tokens, where no early refusal is met.
 fn index_with(
     chars: &[u16],
     word_starts: &[u16],
+    heads: &[u16],
+    links: &[u16],
     text: &[u16],
     output: &mut [Number],
     work: &mut [Number],
-    heads: &mut [u16],
-    links: &mut [u16],
 ) -> Answer
     requires { ⌜ early-refusal longest-text (now chars) (lengths-of (now «word_starts»)) (now text) (length (now work)) ≡ 0 ⌝ }
-    requires { ⌜ Room (now chars) (now «word_starts») (now heads) (now links) ⌝ }
+    requires { ⌜ Tables (now chars) (now «word_starts») (now heads) (now links) ⌝ }
     ensures { λ r. ⌜
         Build-puts longest-text (now (chars .entry)) (lengths-of (now («word_starts» .entry))) (now (text .entry))
         (length (now (work .entry))) r (now (output .entry)) (now (output .exit)) ⌝ }
 {
-    fill_match_table(chars, word_starts, heads, links);
     scan_replaced(chars, word_starts, heads, links, text, work);
     finish(text, output, work)
 }
@@ -130,16 +128,16 @@ fn index_text(
     let mut heads = [0u16; 10240];
     let mut links = [0u16; 4096];
     let mut word_starts = [0u16; 4097];
-    fill_word_starts(lengths, &mut word_starts);
+    fill_match_table(chars, lengths, &mut word_starts, &mut heads, &mut links);
     let starts = lengths.len() + 1;
     index_with(
         chars,
         &word_starts[..starts],
+        &heads,
+        &links,
         text,
         output,
         work,
-        &mut heads,
-        &mut links,
     )
 }
 

@@ -6,9 +6,10 @@
 // chain, else one more than a word's number. The cost is a few steps a word.
 ghost use mathlib.Core.Path.{_≡_};
 ghost use Prim.Native.Nat.{_+_, _≤_, _<_};
-ghost use lib.ListN.{length, getD};
+ghost use lib.ListN.{length, getD, take};
+ghost use Rattle.basics.specs.Writing.{over};
 ghost use Rattle.spec.specs.Index.{greatest-number};
-ghost use Rattle.models.specs.WordStarts.{word-len as word-length};
+ghost use Rattle.models.specs.WordStarts.{starts-from, word-len as word-length};
 ghost use Rattle.models.specs.MatchTable.{pair-bucket, char-bucket};
 ghost use Rattle.laws.specs.Match.MatchTable.{Bucket-read, Room, Tables};
 
@@ -48,19 +49,31 @@ fn bucket_of_word(chars: &[u16], at: usize, len: usize) -> usize
     bucket_of_pair(chars[at] as usize, chars[at + 1] as usize)
 }
 
-// Fills the match table of an admitted dictionary, given its word starts.
-pub fn fill_match_table(chars: &[u16], word_starts: &[u16], heads: &mut [u16], links: &mut [u16])
-    requires { ⌜ Room (now chars) (now «word_starts») (now heads) (now links) ⌝ }
-    ensures { λ r. ⌜ Tables (now (chars .entry)) (now («word_starts» .entry)) (now (heads .exit)) (now (links .exit)) ⌝ }
+// Fills the match table of an admitted dictionary, and in the same walk the table of its word starts. Two walks take longer: this one waits
+// for characters while it stores a start.
+pub fn fill_match_table(
+    chars: &[u16],
+    lengths: &[u16],
+    word_starts: &mut [u16],
+    heads: &mut [u16],
+    links: &mut [u16],
+)
+    requires { ⌜ Room (now chars) (now lengths) (now «word_starts») (now heads) (now links) ⌝ }
+    ensures starts { λ r. ⌜ now («word_starts» .exit) ≡ over (starts-from 0 (now (lengths .entry))) (now («word_starts» .entry)) ⌝ }
+    ensures table { λ r. ⌜
+        Tables (now (chars .entry)) (take (length (now (lengths .entry)) + 1) (now («word_starts» .exit))) (now (heads .exit))
+        (now (links .exit)) ⌝ }
 {
     let mut at: usize = 0;
     let mut i = 0;
-    while i + 1 < word_starts.len() {
-        let end = word_starts[i + 1] as usize;
-        let b = bucket_of_word(chars, at, end - at);
+    while i < lengths.len() {
+        let len = lengths[i] as usize;
+        let b = bucket_of_word(chars, at, len);
+        word_starts[i] = at as u16;
         links[i] = heads[b];
         heads[b] = (i + 1) as u16;
-        at = end;
+        at += len;
         i += 1;
     }
+    word_starts[i] = at as u16;
 }

@@ -15,14 +15,13 @@ ghost use Rattle.models.specs.WordStarts.{lengths-of, lexicon-at};
 ghost use Rattle.models.specs.Reception.{reconstructed-over, mapped-at, fill-line-map, verify};
 ghost use Rattle.laws.specs.Text.Facts.{Chars};
 ghost use Rattle.laws.specs.Numbers.Slices.{Fits};
-ghost use Rattle.laws.specs.Match.MatchTable.{Started, Room, Tables};
+ghost use Rattle.laws.specs.Match.MatchTable.{Started, Tables};
 ghost use Rattle.laws.specs.Receive.LineMap.{Line-map};
 ghost use Rattle.laws.specs.Receive.LineMapWalk.{Can-map};
 ghost use Rattle.laws.specs.Receive.Receiving.{delivery-refusal};
 ghost use Rattle.laws.specs.Receive.ReceivedText.{Read-back, Tried};
 ghost use Rattle.laws.specs.Receive.ReconstructionWalk.{Reconstructs};
 use crate::form_keys::has_form_key;
-use directory::tables::fill_word_starts;
 use layout::fields::text_len;
 use matching::table::fill_match_table;
 use reconstruction::entries::reconstruct_entries;
@@ -152,25 +151,6 @@ fn text_by(
     !has_form_key(index)
 }
 
-// Whether the index is received, with slices lent for a match table.
-fn text_with(
-    chars: &[u16],
-    word_starts: &[u16],
-    index: &[Number],
-    work: &mut [Number],
-    heads: &mut [u16],
-    links: &mut [u16],
-) -> bool
-    requires { ⌜ delivery-refusal longest-text (now chars) (lengths-of (now «word_starts»)) (now index) (length (now work)) ≡ 0 ⌝ }
-    requires { ⌜ Room (now chars) (now «word_starts») (now heads) (now links) ⌝ }
-    ensures { λ r. ⌜
-        Tried longest-text (lexicon-at (now (chars .entry)) (now («word_starts» .entry))) (now (index .entry)) r
-        (now (work .exit)) ⌝ }
-{
-    fill_match_table(chars, word_starts, heads, links);
-    text_by(chars, word_starts, heads, links, index, work)
-}
-
 // Whether the index is received, with local tables of word starts and matches. Where it is, its text is left in the first numbers of the
 // work slice.
 pub(crate) fn text_of(chars: &[u16], lengths: &[u16], index: &[Number], work: &mut [Number]) -> bool
@@ -180,14 +160,7 @@ pub(crate) fn text_of(chars: &[u16], lengths: &[u16], index: &[Number], work: &m
     let mut heads = [0u16; 10240];
     let mut links = [0u16; 4096];
     let mut word_starts = [0u16; 4097];
-    fill_word_starts(lengths, &mut word_starts);
+    fill_match_table(chars, lengths, &mut word_starts, &mut heads, &mut links);
     let starts = lengths.len() + 1;
-    text_with(
-        chars,
-        &word_starts[..starts],
-        index,
-        work,
-        &mut heads,
-        &mut links,
-    )
+    text_by(chars, &word_starts[..starts], &heads, &links, index, work)
 }

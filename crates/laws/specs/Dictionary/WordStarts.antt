@@ -70,6 +70,10 @@ pub record Word-starts (cs ws : List ℕ) : Type 0 where
   pub are : ws ≡ starts-from 0 (lengths-of ws)
   pub room : total (lengths-of ws) ≤ length cs
 
+pub starts-words : {cs : List ℕ} (ls : List ℕ) → total ls ≤ length cs → Word-starts cs (starts-from 0 ls)
+starts-words ls room =
+    record { are = ap (starts-from 0) (sym (lengths-of-starts ls)); room = rw (lengths-of-starts ls) room }
+
 -- word w lies between its start and the next one
 pub record Word-lies (cs ws : List ℕ) (w : ℕ) : Type 0 where
   pub known : w + 1 < length ws
@@ -79,10 +83,6 @@ pub record Word-lies (cs ws : List ℕ) (w : ℕ) : Type 0 where
 module _ {cs ws : List ℕ} (table : Word-starts cs ws) where
   pub starts-long : length ws ≡ suc (length (lengths-of ws))
   starts-long = ap length (table .are) ∙ length-starts 0 (lengths-of ws)
-
-  pub first-start : getD ws 0 0 ≡ 0
-  unfolding total
-  first-start = ap (λ (us : List ℕ). getD us 0 0) (table .are) ∙ start-at 0 (lengths-of ws) 0 (omega arith)
 
   module _ (w : ℕ) (below : w < length (lengths-of ws)) where
     start-is : getD ws w 0 ≡ word-start (lengths-of ws) w
@@ -160,6 +160,9 @@ module _ (ls old : List ℕ) where
     filling-room =
         omega (arith, h .writing .room, h .writing .len, length-starts at (drop i ls), length-drop i ls)
 
+    pub filling-is : at ≡ getD (starts-from 0 ls) i 0
+    filling-is = omega (arith, start-at 0 ls i (h .within))
+
     pub filling-at : at ≤ total ls
     filling-at = omega (arith, word-start-total ls i (h .within))
 
@@ -177,7 +180,7 @@ module _ (ls old : List ℕ) where
 
 -- a filled table: the part of it that is lent on has the starts, and no more
 module _ (ls old : List ℕ) {table : List ℕ} (filled : table ≡ over (starts-from 0 ls) old) where
-  filled-front : take (length ls + 1) table ≡ starts-from 0 ls
+  pub filled-front : take (length ls + 1) table ≡ starts-from 0 ls
   filled-front =
       let long : length (starts-from 0 ls) ≡ length ls + 1 = omega (arith, length-starts 0 ls) in
       rw filled (take-at (starts-from 0 ls) (drop (length (starts-from 0 ls)) old) (length ls + 1) long)
@@ -189,5 +192,4 @@ module _ (ls old : List ℕ) {table : List ℕ} (filled : table ≡ over (starts
   filled-lengths = ap lengths-of filled-front ∙ lengths-of-starts ls
 
   pub filled-words : {cs : List ℕ} → total ls ≤ length cs → Word-starts cs (take (length ls + 1) table)
-  filled-words room =
-      record { are = filled-front ∙ ap (starts-from 0) (sym filled-lengths); room = rw filled-lengths room }
+  filled-words room = rw filled-front (starts-words ls room)

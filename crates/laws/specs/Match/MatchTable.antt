@@ -3,7 +3,7 @@ use mathlib.Core.Path.{_≡_, refl, sym, ap, _∙_}
 use mathlib.Core.Bool.{true, false}
 use mathlib.Core.Logic.{_⊎_, inl, inr, ⊎-elim}
 use mathlib.Core.List.{List, [], _∷_}
-use Prim.Native.Nat.{ℕ, _+_, _-_, _*_, _%_, _≤_, _<_}
+use Prim.Native.Nat.{ℕ, _+_, _*_, _%_, _≤_, _<_}
 use native.Mathlib.Nat.{mod-lt}
 use native.Mathlib.Numerals.{add-one}
 use native.Mathlib.Omega.{arith}
@@ -17,8 +17,8 @@ use Rattle.spec.specs.Dictionary.{lexicon, admitted}
 use Rattle.models.specs.WordStarts.{starts-from, lengths-of, lexicon-at, word, word-len}
 use Rattle.models.specs.MatchTable.{chained, pair-bucket, char-bucket, bucket, bucket-of}
 use Rattle.laws.specs.Dictionary.Lexicon.{Is-admitted, admitted-get, length-words}
-use Rattle.laws.specs.Dictionary.WordStarts.{Word-starts, first-start, starts-long, end-is, end-room, word-long, len-is, word-char}
-use Rattle.laws.specs.Dictionary.WordStarts.{filled-lengths, filled-words}
+use Rattle.laws.specs.Dictionary.WordStarts.{Word-starts, lengths-of-starts, starts-words, end-is, end-room, word-long, len-is}
+use Rattle.laws.specs.Dictionary.WordStarts.{word-char, Filling-starts, filling-is, filled-front}
 use Rattle.laws.specs.Match.HashChains.{Chain, chained-here, chained-elsewhere}
 
 -- THE WORDS
@@ -112,32 +112,15 @@ module _ {cs ws : List ℕ} (t : Started cs ws) {i : ℕ} (below : i < length (l
       size : word-len ws i ≡ length (word cs ws i)
       size = len-is (t .words) i below
 
--- what a caller lends for the table
-pub record Room (cs ws heads links : List ℕ) : Type 0 where
-  pub words : Started cs ws
+-- what a caller lends for the table, and for the word starts that are filled with it
+pub record Room (cs ls starts heads links : List ℕ) : Type 0 where
+  pub dictionary : admitted cs ls ≡ true
+  pub starts-long : length ls < length starts
   pub heads-clear : heads ≡ replicate 10240 0
-  pub links-long : length (lengths-of ws) ≤ length links
+  pub links-long : length ls ≤ length links
 
--- the part of a filled table of word starts that is lent on, and zeros
-pub filled-room :
-    {cs : List ℕ} (ls old : List ℕ) {table : List ℕ} (n m : ℕ) → admitted cs ls ≡ true → table ≡ over (starts-from 0 ls) old →
-    n ≡ 10240 → m ≡ 4096 →
-    Room cs (take (length ls + 1) table) (replicate n 0) (replicate m 0)
-filled-room {cs} ls old n m a filled e f =
-    record {
-      words =
-          record {
-            dictionary = rw (filled-lengths ls old filled) a;
-            words = filled-words ls old filled (omega (arith, admitted-get cs ls a .sum));
-          };
-      heads-clear = rw e;
-      links-long = rw (filled-lengths ls old filled) (omega (arith, length-replicate {A = ℕ} m 0, admitted-get cs ls a .few));
-    }
-
--- the table of the first n words; the characters of the next start at `at`
-pub record Chained (cs ws heads links : List ℕ) (at n : ℕ) : Type 0 where
-  pub within : n ≤ length (lengths-of ws)
-  pub at-is : at ≡ getD ws n 0
+-- the table of the first n words
+pub record Chained (cs ws heads links : List ℕ) (n : ℕ) : Type 0 where
   pub heads-long : length heads ≡ 10240
   pub links-long : length (lengths-of ws) ≤ length links
   pub chains : (b : ℕ) → b < 10240 → Chain links (getD heads b 0) (chained (bucket-of cs ws) b n)
@@ -149,71 +132,85 @@ pub record Tables (cs ws heads links : List ℕ) : Type 0 where
   pub links-long : length (lengths-of ws) ≤ length links
   pub chains : (b : ℕ) → b < 10240 → Chain links (getD heads b 0) (chained (bucket-of cs ws) b (length (lengths-of ws)))
 
-module _ {cs ws heads links : List ℕ} where
-  pub chained-start : Room cs ws heads links → Chained cs ws heads links 0 0
-  unfolding chained
-  chained-start r =
+module _ {cs ws heads links : List ℕ} {n : ℕ} (h : Chained cs ws heads links n) (started : Started cs ws) where
+  chained-step :
+      {b : ℕ} → n < length (lengths-of ws) → Bucket-read cs (getD ws n 0) (word-len ws n) b →
+      Chained cs ws (set heads b (n + 1)) (set links n (getD heads b 0)) (n + 1)
+  chained-step {b} below read =
       record {
-        within = omega arith;
-        at-is = sym (first-start (r .words .words));
-        heads-long = ap length (r .heads-clear) ∙ length-replicate {A = ℕ} 10240 0;
-        links-long = r .links-long;
-        chains = λ b h. ap (λ (l : List ℕ). getD l b 0) (r .heads-clear) ∙ getD-replicate {A = ℕ} 10240 b 0 0 h;
+        heads-long = length-set heads b (n + 1) ∙ h .heads-long;
+        links-long = rw (length-set links n (getD heads b 0)) (h .links-long);
+        chains = λ x l. chain x l (true-or-false (eqb x b));
+      }
+    where
+      small : b < 10240
+      small = read .small
+
+      e : b ≡ bucket-of cs ws n
+      e = bucket-read started below read
+
+      room : n < length links
+      room = omega (arith, below)
+
+      chain :
+          (x : ℕ) → x < 10240 → (eqb x b ≡ true) ⊎ (eqb x b ≡ false) →
+          Chain (set links n (getD heads b 0)) (getD (set heads b (n + 1)) x 0) (chained (bucket-of cs ws) x (n + 1))
+      chain x l (inl t) =
+          let here : x ≡ b = eqb-true x b t in
+          rw (here, getD-set-same heads b (n + 1) 0 (omega arith), add-one n)
+          (chained-here (bucket-of cs ws) b links n (getD heads b 0) (h .chains b small) room (sym e))
+      chain x l (inr t) =
+          let other : x ≡ b → ⊥ = eqb-false x b t in
+          rw (getD-set-other heads b x (n + 1) 0 other, add-one n)
+          (chained-elsewhere (bucket-of cs ws) x links n (getD heads x 0) (h .chains x l) (getD heads b 0)
+          (λ (q : bucket-of cs ws n ≡ x). other (sym q ∙ sym e)))
+
+  chained-end : n ≡ length (lengths-of ws) → Tables cs ws heads links
+  chained-end all =
+      record { words = started; heads-long = h .heads-long; links-long = h .links-long; chains = λ b l. rw all at (h .chains b l) }
+
+-- FILLING THE TABLE, word starts and chains in one walk
+
+module _ {cs ls old heads₀ links₀ : List ℕ} (room : Room cs ls old heads₀ links₀) where
+  all-started : Started cs (starts-from 0 ls)
+  all-started =
+      record {
+        dictionary = rw (lengths-of-starts ls) (room .dictionary);
+        words = starts-words ls (omega (arith, admitted-get cs ls (room .dictionary) .sum));
       }
 
-  module _ {at n : ℕ} (h : Chained cs ws heads links at n) (started : Started cs ws) where
-    pub chained-known : n + 1 < length ws → n < length (lengths-of ws)
-    chained-known more = omega (arith, starts-long (started .words))
+  pub chained-start : Chained cs (starts-from 0 ls) heads₀ links₀ 0
+  unfolding chained
+  chained-start =
+      record {
+        heads-long = ap length (room .heads-clear) ∙ length-replicate {A = ℕ} 10240 0;
+        links-long = rw (lengths-of-starts ls) (room .links-long);
+        chains = λ b h. ap (λ (l : List ℕ). getD l b 0) (room .heads-clear) ∙ getD-replicate {A = ℕ} 10240 b 0 0 h;
+      }
 
-    -- the characters of the next word
-    pub chained-next : n + 1 < length ws → (at < getD ws (n + 1) 0) × (getD ws (n + 1) 0 ≤ length cs)
-    chained-next more =
-        let below : n < length (lengths-of ws) = chained-known more in
-        (omega (arith, word-long (started .words) n below, word-some started below), end-room (started .words) n below)
+  -- the next word's characters start at `at`
+  module _ {now : List ℕ} {i at : ℕ} (h : Filling-starts ls old now i at) (below : i < length ls) where
+    known : i < length (lengths-of (starts-from 0 ls))
+    known = rw (lengths-of-starts ls) below
 
-    pub chained-step :
-        {b : ℕ} → n + 1 < length ws → Bucket-read cs at (getD ws (n + 1) 0 - at) b →
-        Chained cs ws (set heads b (n + 1)) (set links n (getD heads b 0)) (getD ws (n + 1) 0) (n + 1)
-    chained-step {b} more read =
-        record {
-          within = omega (arith, below);
-          at-is = refl;
-          heads-long = length-set heads b (n + 1) ∙ h .heads-long;
-          links-long = rw (length-set links n (getD heads b 0)) (h .links-long);
-          chains = λ x l. chain x l (true-or-false (eqb x b));
-        }
-      where
-        below : n < length (lengths-of ws)
-        below = chained-known more
+    size : word-len (starts-from 0 ls) i ≡ getD ls i 0
+    size =
+        omega (arith, end-is (all-started .words) i known, ap (λ (ks : List ℕ). getD ks i 0) (lengths-of-starts ls))
 
-        small : b < 10240
-        small = read .small
+    pub next-some : 1 ≤ getD ls i 0
+    next-some = admitted-get cs ls (room .dictionary) .lengths i below .0
 
-        e : b ≡ bucket-of cs ws n
-        e = bucket-read started below (rw (h .at-is) at read)
+    pub next-room : at + getD ls i 0 ≤ length cs
+    next-room = omega (arith, end-room (all-started .words) i known, filling-is ls old h, size, end-is (all-started .words) i known)
 
-        room : n < length links
-        room = omega (arith, below)
+    pub next-chained :
+        {heads links : List ℕ} {b : ℕ} → Chained cs (starts-from 0 ls) heads links i → Bucket-read cs at (getD ls i 0) b →
+        Chained cs (starts-from 0 ls) (set heads b (i + 1)) (set links i (getD heads b 0)) (i + 1)
+    next-chained chains read = chained-step chains all-started known (rw (size, ← filling-is ls old h) read)
 
-        chain :
-            (x : ℕ) → x < 10240 → (eqb x b ≡ true) ⊎ (eqb x b ≡ false) →
-            Chain (set links n (getD heads b 0)) (getD (set heads b (n + 1)) x 0) (chained (bucket-of cs ws) x (n + 1))
-        chain x l (inl t) =
-            let here : x ≡ b = eqb-true x b t in
-            rw (here, getD-set-same heads b (n + 1) 0 (omega arith), add-one n)
-            (chained-here (bucket-of cs ws) b links n (getD heads b 0) (h .chains b small) room (sym e))
-        chain x l (inr t) =
-            let other : x ≡ b → ⊥ = eqb-false x b t in
-            rw (getD-set-other heads b x (n + 1) 0 other, add-one n)
-            (chained-elsewhere (bucket-of cs ws) x links n (getD heads x 0) (h .chains x l) (getD heads b 0)
-            (λ (q : bucket-of cs ws n ≡ x). other (sym q ∙ sym e)))
-
-    pub chained-end : length ws ≤ n + 1 → Tables cs ws heads links
-    chained-end past =
-        let all : n ≡ length (lengths-of ws) = omega (arith, starts-long (started .words)) in
-        record {
-          words = started;
-          heads-long = h .heads-long;
-          links-long = h .links-long;
-          chains = λ b l. rw all at (h .chains b l);
-        }
+  -- the part of the filled table of word starts that is lent on
+  pub chained-all :
+      {table heads links : List ℕ} → table ≡ over (starts-from 0 ls) old → {i : ℕ} → Chained cs (starts-from 0 ls) heads links i →
+      i ≡ length ls → Tables cs (take (length ls + 1) table) heads links
+  chained-all filled h all =
+      rw (filled-front ls old filled) (chained-end h all-started (all ∙ ap length (sym (lengths-of-starts ls))))

@@ -1,5 +1,4 @@
--- `index_with` meets its contract: the match table serves the scan, the scan leaves the tokens, and what is written for them
--- is the index. Assumes nothing.
+-- `index_with` meets its contract: the scan leaves the tokens, and what is written for them is the index. Assumes nothing.
 use native.Mathlib.Omega.{arith}
 use lib.ListN.{length}
 use borrow.Author.Needs.{needs}
@@ -9,17 +8,11 @@ use Rattle.laws.specs.Build.Building.{Reached, reached, front-linkable, build-t
 use Rattle.builder.proofs.build.index_with.Statement.{statement}
 use Rattle.builder.proofs.build.index_with.Tie as tie
 
-abbrev slices : tie.After-fill-match-table → tie.After-slice-known2
-slices c = c .before .before .before .before .before
+abbrev lent : tie.After-slice-known2 → tie.After-shared-slice-known5
+lent c = c .before .before
 
-abbrev start : tie.After-slice-known2 → tie.Start
+abbrev start : tie.After-shared-slice-known5 → tie.Start
 start c = c .before .before .before .before .before
-
-abbrev filled : tie.After-scan-replaced-arg → tie.After-fill-match-table
-filled c = c .before .before .before .before .before
-
-abbrev filled-before : tie.After-scan-replaced → tie.After-fill-match-table
-filled-before c = filled (c .before .before .before)
 
 met :
     (s : tie.Start) →
@@ -30,15 +23,15 @@ met s =
 
 scan-replaced-requires : tie.Need-scan-replaced-requires
 scan-replaced-requires c κs =
-    let table = filled (c .before .before) in
-    (table .fill-match-table .ensures, omega (arith, met (start (slices table)) .room))
+    let s = start (lent (c .before)) in
+    (s .pre .1, omega (arith, met s .room))
 
 finish-requires : tie.Need-finish-requires
 finish-requires c κs =
     let scanned = c .before .before .before .before in
-    let known = slices (filled-before scanned) in
-    let s = start known in
-    let first = known .before .before .before .before in (
+    let slices = lent (scanned .before .before) in
+    let s = start slices in
+    let first = slices .before .before .before .before in (
       omega (arith, met s .room, scanned .scan-replaced .kept),
       front-linkable (met s) (λ i h. omega (arith, first .shared-slice-known .given i)) (scanned .scan-replaced .ensures) (omega arith),
     )
@@ -47,17 +40,12 @@ returns : tie.Need-returns
 returns c =
     let finished = c .before .before .before .before in
     let scanned = finished .before .before .before .before .before in
-    let known = slices (filled-before scanned) in
-    let s = start known in
-    let third = known .before .before in
-    let first = third .before .before in
+    let slices = lent (scanned .before .before) in
+    let s = start slices in
+    let first = slices .before .before .before .before in
     build-tokens (met s) (λ i h. omega (arith, first .shared-slice-known .given i)) (scanned .scan-replaced .ensures)
-    (λ i h. omega (arith, third .shared-slice-known3 .given i)) (finished .finish .result) (s .args .output .now)
+    (λ i h. omega (arith, slices .shared-slice-known5 .given i)) (finished .finish .result) (s .args .output .now)
     (finished .finish .last .1 .0) (finished .finish .ensures)
 
 pub index-with-spec : {M : Type 1} → statement M
-index-with-spec =
-    tie.close
-    (tie.spec
-    (λ c κs. search needs) scan-replaced-requires finish-requires (λ c. search needs) (λ c. search needs) (λ c. search needs)
-    (λ c. search needs) returns)
+index-with-spec = tie.close (tie.spec scan-replaced-requires finish-requires (λ c. search needs) (λ c. search needs) returns)

@@ -1,5 +1,4 @@
--- `text_of` meets its contract: the part of the filled table that is lent on has the dictionary's word starts, and the slices for the
--- match table are all zeros. Assumes nothing.
+-- `text_of` meets its contract: the part of the filled table that is lent on has the dictionary's word starts. Assumes nothing.
 use mathlib.Core.Path.{_≡_, refl}
 use mathlib.Core.Bool.{true}
 use native.Mathlib.Omega.{arith}
@@ -8,19 +7,18 @@ use borrow.Author.Needs.{needs}
 use Rattle.spec.specs.Dictionary.{longest-text, admitted}
 use Rattle.laws.specs.Dictionary.Lexicon.{Is-admitted, admitted-get}
 use Rattle.laws.specs.Dictionary.WordStarts.{filled-long, filled-lengths}
-use Rattle.laws.specs.Match.MatchTable.{filled-room}
 use Rattle.laws.specs.Receive.ReceivedText.{delivered-admitted}
 use Rattle.receiver.proofs.text.text_of.Statement.{statement}
 use Rattle.receiver.proofs.text.text_of.Tie as tie
 
-abbrev slices : tie.After-fill-word-starts → tie.After-slice-known
-slices c = c .before .before
+abbrev slices : tie.After-links → tie.After-slice-known
+slices c = c .before .before .before
 
 abbrev start : tie.After-slice-known → tie.Start
 start c = c .before .before .before .before
 
-abbrev filled : tie.After-links → tie.After-fill-word-starts
-filled c = c .before .before .before .before .before
+abbrev filled : tie.After-links2 → tie.After-fill-match-table
+filled c = c .before .before .before
 
 accepted : (c : tie.After-slice-known) → admitted (start c .args .chars .now) (start c .args .lengths .now) ≡ true
 accepted c =
@@ -31,40 +29,44 @@ accepted c =
 facts : (c : tie.After-slice-known) → Is-admitted (start c .args .chars .now) (start c .args .lengths .now)
 facts c = admitted-get (start c .args .chars .now) (start c .args .lengths .now) (accepted c)
 
-fill-word-starts-requires : tie.Need-fill-word-starts-requires
-fill-word-starts-requires c κs =
-    let h = facts (c .before) in
-    (omega (arith, h .sum, h .small), omega (arith, h .few))
+fill-match-table-requires : tie.Need-fill-match-table-requires
+fill-match-table-requires c κs =
+    let h = facts (slices c) in
+    record {
+      dictionary = accepted (slices c);
+      starts-long = omega (arith, h .few);
+      heads-clear = refl;
+      links-long = omega (arith, h .few);
+    }
 
 array-share-prefix-word-starts : tie.Need-array-share-prefix-word-starts
 array-share-prefix-word-starts c =
-    let h = facts (slices (c .before)) in
-    omega (arith, h .few, c .before .fill-word-starts .kept)
+    let h = facts (slices (filled c .before)) in
+    omega (arith, h .few, c .before .before .word-starts2 .given)
 
-slice-aggregate-text-with : tie.Need-slice-aggregate-text-with
-slice-aggregate-text-with c =
-    let made = c .before .before in
-    filled-long (start (slices made) .args .lengths .now) (replicate 4097 0) (made .fill-word-starts .ensures)
+slice-aggregate-text-by : tie.Need-slice-aggregate-text-by
+slice-aggregate-text-by c =
+    let made = filled (c .before) in
+    filled-long (start (slices (made .before)) .args .lengths .now) (replicate 4097 0) (made .fill-match-table .ensures .0)
 
-text-with-requires : tie.Need-text-with-requires
-text-with-requires c κs =
-    let made = filled c in
-    let s = start (slices made) in
-    let ls = s .args .lengths .now in (
-      rw (filled-lengths ls (replicate 4097 0) (made .fill-word-starts .ensures)) (s .pre),
-      filled-room ls (replicate 4097 0) 10240 4096 (accepted (slices made)) (made .fill-word-starts .ensures) refl refl,
-    )
+text-by-requires : tie.Need-text-by-requires
+text-by-requires c κs =
+    let made = filled (c .before .before .before .before) in
+    let s = start (slices (made .before)) in
+    let table = made .fill-match-table .ensures in
+    (rw (filled-lengths (s .args .lengths .now) (replicate 4097 0) (table .0)) (s .pre), table .1)
 
 returns : tie.Need-returns
 returns c =
-    let call = c .before .before .before .before in
-    let made = filled (call .before) in
-    let lengths = filled-lengths (start (slices made) .args .lengths .now) (replicate 4097 0) (made .fill-word-starts .ensures) in
-    rw lengths at (call .text-with .ensures)
+    let tried = c .before .before in
+    let made = filled (tried .before .before .before .before .before) in
+    let ls = start (slices (made .before)) .args .lengths .now in
+    rw (filled-lengths ls (replicate 4097 0) (made .fill-match-table .ensures .0)) at (tried .text-by .ensures)
 
 pub text-of-spec : {M : Type 1} → statement M
 text-of-spec =
     tie.close
     (tie.spec
-    (λ c. search needs) fill-word-starts-requires (λ c. search needs) array-share-prefix-word-starts slice-aggregate-text-with
-    (λ c. search needs) (λ c. search needs) text-with-requires (λ c. search needs) returns)
+    (λ c. search needs) (λ c. search needs) (λ c. search needs) fill-match-table-requires (λ c. search needs)
+    array-share-prefix-word-starts slice-aggregate-text-by (λ c. search needs) (λ c. search needs) text-by-requires
+    (λ c. search needs) returns)
