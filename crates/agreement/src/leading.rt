@@ -6,11 +6,11 @@
 ghost use mathlib.Core.Path.{_≡_};
 ghost use Prim.Native.Nat.{_≤_, _<_};
 ghost use lib.ListN.{length, take};
+ghost use Rattle.basics.specs.Placed.{Wrote};
 ghost use Rattle.models.specs.Window.{agrees-leading, is-leading, leading-lines};
 ghost use Rattle.models.specs.WordStarts.{lexicon-at};
 ghost use Rattle.laws.specs.Directory.Tables.{Reads, Word-line};
 ghost use Rattle.laws.specs.Window.LineRanges.{Split};
-ghost use Rattle.laws.specs.Window.LeadingLines.{Filled};
 use crate::blocks::seen_to_lack;
 use crate::offset::agrees_at;
 use directory::lines::word_at;
@@ -76,8 +76,8 @@ fn fill_leading(
         Reads (now chars) (now «word_starts») (now index) × Split (now index) «word_lines» × (1 ≤ length (now string)) ×
         («word_lines» ≤ length (now lines)) × (least ≤ 1) ⌝ }
     ensures { λ r. ⌜
-        Filled (leading-lines least (lexicon-at (now (chars .entry)) (now («word_starts» .entry))) (now (index .entry))
-        (now (string .entry)) «word_lines») r (now (lines .entry)) (now (lines .exit)) ⌝ }
+        Wrote (leading-lines least (lexicon-at (now (chars .entry)) (now («word_starts» .entry))) (now (index .entry))
+        (now (string .entry)) «word_lines») 0 (now (lines .entry)) r (now (lines .exit)) ⌝ }
 {
     let mut count = 0;
     let mut line = 0;

@@ -177,14 +177,14 @@ module _ {A : Type 0} {before : A → A → Bool} (strict : Strict before) where
 
   -- no element is at two indexes
   pub ascend-once :
-      (xs : List A) (z : A) → Ascend before xs → (i j : ℕ) → i < length xs → j < length xs → getD xs i z ≡ getD xs j z → i ≡ j
-  ascend-once [] z p i j hi hj e = absurd (omega arith)
-  ascend-once (x ∷ xs) z p zero zero hi hj e = refl
-  ascend-once (x ∷ xs) z p zero (suc j) hi hj e =
+      (xs : List A) (z : A) → Ascend before xs → {i j : ℕ} → i < length xs → j < length xs → getD xs i z ≡ getD xs j z → i ≡ j
+  ascend-once [] z p hi hj e = absurd (omega arith)
+  ascend-once (x ∷ xs) z p {i = zero} {j = zero} hi hj e = refl
+  ascend-once (x ∷ xs) z p {i = zero} {j = suc j} hi hj e =
       not-itself x (getD xs j z) (p .0 (getD xs j z) (in-getD xs j z (omega arith))) e
-  ascend-once (x ∷ xs) z p (suc i) zero hi hj e =
+  ascend-once (x ∷ xs) z p {i = suc i} {j = zero} hi hj e =
       not-itself x (getD xs i z) (p .0 (getD xs i z) (in-getD xs i z (omega arith))) (sym e)
-  ascend-once (x ∷ xs) z p (suc i) (suc j) hi hj e = ap suc (ascend-once xs z (p .1) i j (omega arith) (omega arith) e)
+  ascend-once (x ∷ xs) z p {i = suc i} {j = suc j} hi hj e = ap suc (ascend-once xs z (p .1) (omega arith) (omega arith) e)
 
   -- inserting an element that is comparable with every other one keeps the order
   pub insert-ascends :

@@ -61,6 +61,11 @@ pub record Wrote (new : List ℕ) (at : ℕ) (old : List ℕ) (end : ℕ) (now :
 pub wrote-one : (b at : ℕ) (old : List ℕ) → at < length old → Wrote (b ∷ []) at old (at + 1) (set old at b)
 wrote-one b at old h = record { ends = refl; content = placed-one b at old h }
 
+-- what was written to the start of a slice is there
+pub wrote-taken : {new old now : List ℕ} {end : ℕ} → Wrote new 0 old end now → take end now ≡ new
+unfolding placed
+wrote-taken {new} {old} {end} w = rw (w .content) (take-at new (drop (0 + length new) old) end (omega arith))
+
 -- A RUN OF WRITES
 
 -- `all` is to be written from `start` on: `left` is still to be written, from `at` on, and `now` is the slice so far

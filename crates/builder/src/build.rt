@@ -17,6 +17,7 @@ use crate::text::scan_replaced;
 use dictionary::admission::refusal_of;
 use inversion::chains::chain_positions;
 use inversion::write::write_index;
+use layout::fields::MOST_KEYS;
 use layout::fields::line_start;
 use matching::table::fill_match_table;
 use scanning::work::clear;
@@ -75,7 +76,7 @@ fn index_tokens(text: &[u16], output: &mut [Number], tokens: &mut [Number]) -> A
     requires { ⌜ Linkable (replaced (now text)) (now tokens) ⌝ }
     ensures { λ r. ⌜ Tokens-say (now (tokens .entry)) (replaced (now (text .entry))) r (now (output .entry)) (now (output .exit)) ⌝ }
 {
-    let mut heads: [Number; 69632] = [0; 69632];
+    let mut heads: [Number; MOST_KEYS] = [0; MOST_KEYS];
     let mut pages = [0u8; 1088];
     index_by(text, output, tokens, &mut heads, &mut pages)
 }

@@ -17,12 +17,12 @@ use crate::cutting::write_cut;
 use bearing::bearing::flag_bearing;
 use directory::tables::fill_word_starts;
 use folding::forms::replaced_string;
+use layout::fields::MOST_KEYS;
 use layout::fields::key_count;
 use layout::fields::line_start;
 use opening::opened::open_index;
 use opening::string::string_refusal;
 use spec::Answer;
-use width::LONGEST;
 use width::Number;
 
 // Cuts the index down for a string taken as it is, with a cleared flag lent for each line.
@@ -101,7 +101,7 @@ fn cut_many_lines<'a>(
         Sized (cut-down (lexicon-at (now (chars .entry)) (now («word_starts» .entry))) (now (index .entry)) (now (string .entry))) r
         (now (output .entry)) (now (output .exit)) ⌝ }
 {
-    let mut flags = [0u8; LONGEST];
+    let mut flags = [0u8; MOST_KEYS];
     cut_lent(chars, word_starts, index, string, &mut flags, output)
 }
 

@@ -10,6 +10,7 @@ ghost use lib.ListN.{length};
 ghost use Rattle.basics.specs.Chain.{chain, Threaded};
 ghost use Rattle.spec.specs.Replaced.{replaced-char, replaced};
 ghost use Rattle.models.specs.Inversion.{coded};
+ghost use Rattle.models.specs.Readability.{most-keys};
 ghost use Rattle.laws.specs.Build.Pages.{Paged};
 ghost use Rattle.laws.specs.Build.PostingChains.{Linkable, Fresh, Links};
 ghost use Rattle.laws.specs.Build.CodeWalk.{Next};
@@ -27,7 +28,7 @@ pub struct Counts {
 fn code_of(token: usize, character: u16) -> usize
     requires { ⌜ (1 ≤ token) × (token ≤ 4097) ⌝ }
     ensures is { λ r. ⌜ coded token (replaced-char character) ≡ suc r ⌝ }
-    ensures small { λ r. ⌜ r < 69632 ⌝ }
+    ensures small { λ r. ⌜ r < most-keys ⌝ }
 {
     let lone = 4096 + replace(character) as usize;
     if token == 4097 { lone } else { token - 1 }

@@ -11,6 +11,7 @@ ghost use Rattle.basics.specs.Writing.{over};
 ghost use Rattle.spec.specs.Index.{header, greatest-number};
 ghost use Rattle.spec.specs.Numbers.{directory, all-positions, numbers};
 ghost use Rattle.models.specs.Inversion.{code-key};
+ghost use Rattle.models.specs.Readability.{most-keys};
 ghost use Rattle.laws.specs.Build.PostingChains.{lines-at};
 ghost use Rattle.laws.specs.Build.CodeWalk.{Listable};
 use crate::chains::chain_length;
@@ -22,7 +23,7 @@ use width::Number;
 
 // Writes the directory line of a code: kind, value, count.
 fn put_line(output: &mut [Number], line: usize, code: usize, count: usize)
-    requires { ⌜ (header + 3 * line + 3 ≤ length (now output)) × (code < 69632) × (count ≤ greatest-number) ⌝ }
+    requires { ⌜ (header + 3 * line + 3 ≤ length (now output)) × (code < most-keys) × (count ≤ greatest-number) ⌝ }
     ensures { λ _. ⌜
         now (output .exit) ≡ over (take (header + 3 * line) (now (output .entry)) ++
         (code-key code .kind ∷ code-key code .value ∷ count ∷ [])) (now (output .entry)) ⌝ }

@@ -10,6 +10,9 @@ use width::number_at;
 // How many numbers precede the directory: n and K.
 pub const HEADER: usize = 2;
 
+// The most keys that an index has, of any width: 4,096 words and 65,536 characters.
+pub const MOST_KEYS: usize = 69632;
+
 // n, the length of the text.
 pub fn text_len(index: &[Number]) -> usize
     requires { ⌜ header ≤ length (now index) ⌝ }

@@ -8,6 +8,7 @@ use Rattle.basics.specs.Steps.{those-from}
 use Rattle.spec.specs.Dictionary.{Lexicon}
 use Rattle.spec.specs.Numbers.{Line, line, numbers}
 use Rattle.spec.specs.Words.{Entry, Key, entry, key}
+use Rattle.models.specs.Readability.{most-keys}
 
 -- the entry of a token at p, c being the character there
 unfoldable pub token-entry : Lexicon → (p token c : ℕ) → List Entry
@@ -49,7 +50,7 @@ inverted-after codes ms ts p = lines-from codes 0 (postings ms ts p)
 
 -- 4,096 words and 65,536 characters
 unfoldable pub inverted : (tokens text : List ℕ) → List Line
-inverted ms ts = inverted-after 69632 ms ts 0
+inverted ms ts = inverted-after most-keys ms ts 0
 
 unfoldable pub line-numbers : Line → List ℕ
 line-numbers l = l .key-of .kind ∷ l .key-of .value ∷ length (l .positions) ∷ []

@@ -13,6 +13,10 @@ use Rattle.spec.specs.Words.{Key, spells}
 abbrev pub key-code : Key → ℕ
 key-code k = k .kind * 65536 + k .value
 
+-- the most keys that an index has, of any width: 4,096 words and 65,536 characters
+abbrev pub most-keys : ℕ
+most-keys = 69632
+
 -- a line's numbers are read as positions that ascend from 1, and the key ends at or before n
 unfoldable pub list-good : (read : List ℕ → List ℕ) → (n len : ℕ) → (numbers : List ℕ) → Bool
 list-good read n l ps = leb (last-of (read ps) + l) (suc n) && rise-from 1 (read ps)

@@ -29,6 +29,9 @@ use width::Number;
 use width::Sum;
 use width::number_at;
 
+// The greatest character, which a lone key may be. The test against it is one for wider numbers: 16-bit numbers state no greater value.
+const GREATEST_CHAR: usize = 65535;
+
 // Whether positions ascend strictly from 1 or more.
 fn rise(positions: &[Number]) -> bool
     ensures { λ r. ⌜ r ≡ rise-from 1 (now (positions .entry)) ⌝ }
@@ -209,6 +212,9 @@ fn lone_lines(
             return false;
         }
         if value < least {
+            return false;
+        }
+        if GREATEST_CHAR < value {
             return false;
         }
         words = seek(chars, lengths, words, value);

@@ -16,11 +16,11 @@ use crate::search::starts_of;
 use directory::tables::fill_list_starts;
 use directory::tables::fill_word_starts;
 use folding::forms::replaced_string;
+use layout::fields::MOST_KEYS;
 use layout::fields::key_count;
 use opening::opened::open_index;
 use opening::string::string_refusal;
 use spec::FirstAnswer;
-use width::LONGEST;
 use width::Number;
 use width::Sum;
 
@@ -106,7 +106,7 @@ fn first_many_lines(chars: &[u16], word_starts: &[u16], index: &[Number], string
         r ≡ first-position (lexicon-at (now (chars .entry)) (now («word_starts» .entry))) (now (index .entry))
         (replaced (now (string .entry))) ⌝ }
 {
-    let mut list_starts: [Sum; LONGEST] = [0; LONGEST];
+    let mut list_starts: [Sum; MOST_KEYS] = [0; MOST_KEYS];
     first_filled(chars, word_starts, index, string, &mut list_starts)
 }
 

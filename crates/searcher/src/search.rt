@@ -17,12 +17,12 @@ use crate::starts::search_starts;
 use directory::tables::fill_list_starts;
 use directory::tables::fill_word_starts;
 use folding::forms::replaced_string;
+use layout::fields::MOST_KEYS;
 use layout::fields::key_count;
 use layout::fields::text_len;
 use opening::opened::open_index;
 use opening::string::string_refusal;
 use spec::Answer;
-use width::LONGEST;
 use width::Number;
 use width::Sum;
 
@@ -150,7 +150,7 @@ fn search_many_lines(
         Sized (find (lexicon-at (now (chars .entry)) (now («word_starts» .entry))) (now (index .entry)) (replaced (now (string .entry)))) r
         (now (output .entry)) (now (output .exit)) ⌝ }
 {
-    let mut list_starts: [Sum; LONGEST] = [0; LONGEST];
+    let mut list_starts: [Sum; MOST_KEYS] = [0; MOST_KEYS];
     search_filled(chars, word_starts, index, string, &mut list_starts, output)
 }
 

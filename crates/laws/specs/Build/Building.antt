@@ -17,6 +17,7 @@ use Rattle.spec.specs.Numbers.{numbers, index-of}
 use Rattle.spec.specs.Calls.{text-too-long, work-short, output-short, or-else, build-refusal, in-front, Puts, Build-says}
 use Rattle.spec.specs.Index.{header, greatest-number}
 use Rattle.models.specs.Inversion.{inverted, token-numbers}
+use Rattle.models.specs.Readability.{most-keys}
 use Rattle.laws.specs.Text.Facts.{Chars, Good-lexicon}
 use Rattle.laws.specs.Text.WidthFolding.{length-replaced, replaced-chars}
 use Rattle.laws.specs.Text.Chars.{all-chars-put}
@@ -145,7 +146,7 @@ pub token-numbers-index :
 unfolding token-numbers
 token-numbers-index {lex} good {ts} chars {ms} tokens = token-index good chars tokens
 
-pub fresh : (n m : ℕ) → n ≡ 69632 → m ≡ 1088 → Fresh (replicate n 0) (replicate m 0)
+pub fresh : (n m : ℕ) → n ≡ most-keys → m ≡ 1088 → Fresh (replicate n 0) (replicate m 0)
 fresh n m e f =
     record {
       codes = length-replicate {A = ℕ} n 0 ∙ e;
@@ -166,7 +167,7 @@ module _ {ts ms links heads pages : List ℕ} {keys entries : ℕ} (can : Linkab
 
   lines-are : lines-at heads links 0 ≡ inverted ms ts
   unfolding inverted
-  lines-are = linked-lines (l .linked) 69632 (l .codes)
+  lines-are = linked-lines (l .linked) most-keys (l .codes)
 
   pub linked-keys : keys ≡ length (lines-at heads links 0)
   unfolding inverted

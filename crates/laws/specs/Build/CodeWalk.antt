@@ -12,6 +12,7 @@ use Rattle.basics.specs.Writing.{over, Writing, starts, appends, written}
 use Rattle.spec.specs.Numbers.{Line, line, directory, all-positions}
 use Rattle.spec.specs.Index.{greatest-number}
 use Rattle.models.specs.Inversion.{code-key, lines-from, line-numbers, line-positions}
+use Rattle.models.specs.Readability.{most-keys}
 use Rattle.laws.specs.Build.PostingLists.{lines-some, lines-skip}
 use Rattle.laws.specs.Build.Pages.{Paged}
 use Rattle.laws.specs.Build.PostingChains.{Threads, lines-at}
@@ -168,7 +169,7 @@ positions-by-line = record { none = refl; more = λ l ls. refl }
 
 -- what both walks need
 pub record Listable (heads pages links : List ℕ) : Type 0 where
-  pub codes : length heads ≡ 69632
+  pub codes : length heads ≡ most-keys
   pub paged : Paged heads pages
   pub threads : Threads heads links
   pub short : length links ≤ greatest-number

@@ -13,6 +13,7 @@ use Rattle.basics.specs.Chain.{Chained, chained-elsewhere, chained-more, chain,
 use Rattle.spec.specs.Numbers.{Line}
 use Rattle.spec.specs.Index.{greatest-number}
 use Rattle.models.specs.Inversion.{coded, lines-from, holds, postings, inverted-after}
+use Rattle.models.specs.Readability.{most-keys}
 use Rattle.laws.specs.Build.PostingLists.{lines-alike}
 use Rattle.laws.specs.Build.PostingsByKey.{those-short, postings-end, postings-here, postings-not-here, postings-range, Counted}
 use Rattle.laws.specs.Build.PostingsByKey.{counted-start, counted-passed, counted-new, counted-more}
@@ -139,16 +140,16 @@ pub record Linkable (ts ms : List ℕ) : Type 0 where
 
 -- heads and pages for every code, none in use
 pub record Fresh (heads pages : List ℕ) : Type 0 where
-  pub codes : length heads ≡ 69632
+  pub codes : length heads ≡ most-keys
   pub page-count : length pages ≡ 1088
   pub none : No-heads heads
 
 -- after the positions above p
 pub record Links (ts ms links heads pages : List ℕ) (keys entries p : ℕ) : Type 0 where
-  pub codes : length heads ≡ 69632
+  pub codes : length heads ≡ most-keys
   pub linked : Linked ms ts heads links p
   pub paged : Paged heads pages
-  pub counted : Counted 69632 ms ts p keys entries
+  pub counted : Counted most-keys ms ts p keys entries
 
 pub links-start : (ts ms : List ℕ) {heads pages : List ℕ} → Fresh heads pages → Links ts ms ms heads pages 0 0 (length ms)
 links-start ts ms {heads} {pages} f =
@@ -156,7 +157,7 @@ links-start ts ms {heads} {pages} f =
       codes = f .codes;
       linked = linked-start ms ts heads (f .none);
       paged = paged-start heads pages (f .none) (omega arith);
-      counted = counted-start 69632 ms ts;
+      counted = counted-start most-keys ms ts;
     }
 
 module _ {ts ms links heads pages : List ℕ} {keys entries q : ℕ} (p : ℕ) (s : q ≡ suc p)
@@ -181,12 +182,12 @@ module _ {ts ms links heads pages : List ℕ} {keys entries q : ℕ} (p : ℕ) (
             (coded-here 0 none);
       }
 
-  module _ (code : ℕ) (here : coded (getD links p 0) (getD ts p 0) ≡ suc code) (small : code < 69632) where
+  module _ (code : ℕ) (here : coded (getD links p 0) (getD ts p 0) ≡ suc code) (small : code < most-keys) where
     fits : code < length heads
     fits = omega arith
 
     chained :
-        {more : ℕ} → Counted 69632 ms ts p more (entries + 1) →
+        {more : ℕ} → Counted most-keys ms ts p more (entries + 1) →
         Links ts ms (set links p (getD heads code 0)) (set heads code (p + 1)) (set pages (code / 64) 1) more (entries + 1) p
     chained c =
         record {

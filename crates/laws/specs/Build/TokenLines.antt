@@ -14,6 +14,7 @@ use Rattle.spec.specs.Numbers.{Line, line, numbers, index-of}
 use Rattle.models.specs.Entries.{flat}
 use Rattle.models.specs.Scan.{make-index}
 use Rattle.models.specs.Inversion.{token-entry, entries-of-tokens, coded, code-key, holds, postings, inverted}
+use Rattle.models.specs.Readability.{most-keys}
 use Rattle.laws.specs.Text.Facts.{Chars, Good-lexicon, Sound-entry, Rise, Good-line, Good-lines}
 use Rattle.laws.specs.Dictionary.Keys.{spells-word, spells-lone}
 use Rattle.laws.specs.Entries.Sound.{entries-sound}
@@ -31,14 +32,14 @@ use Rattle.laws.specs.Build.PostingLists.{Line-of, lines-get, lines-put,
 pub record Token-at (lex : Lexicon) (ms ts : List ℕ) (p : ℕ) (e : Entry) : Type 0 where
   pub code : ℕ
   pub coded-so : coded (getD ms (p - 1) 0) (getD ts (p - 1) 0) ≡ suc code
-  pub small : code < 69632
+  pub small : code < most-keys
   pub is : e ≡ posting lex (code-key code) p
 
 module _ (lex : Lexicon) (few : length (lex .words) ≤ 4096) where
   -- the entry of a token is its code's key at that position
   token-entry-is :
       (p c : ℕ) {m i : ℕ} → m ≡ suc i → (i < length (lex .words)) ⊎ (i ≡ 4096) → c < 65536 →
-      (k : ℕ) × (coded m c ≡ suc k) × (k < 69632) × (token-entry lex p m c ≡ posting lex (code-key k) p ∷ [])
+      (k : ℕ) × (coded m c ≡ suc k) × (k < most-keys) × (token-entry lex p m c ≡ posting lex (code-key k) p ∷ [])
   unfolding token-entry entry key
   token-entry-is p c {m} {i} e (inl word) h =
       let other : i ≡ 4096 → ⊥ = λ (z : i ≡ 4096). omega arith in
@@ -158,7 +159,7 @@ module _ {lex : Lexicon} (good : Good-lexicon lex) {ts : List ℕ} (chars : Char
 
   inverted-good : Good-lines lex (length ts) (inverted ms ts)
   unfolding inverted line entry
-  inverted-good = record { each = each; order = lines-order 69632 0 (postings ms ts 0) }
+  inverted-good = record { each = each; order = lines-order most-keys 0 (postings ms ts 0) }
     where
       is : (k p : ℕ) → In p (postings ms ts 0 k) → Sound-entry lex (length ts) (posting lex (code-key k) p)
       is k p m =
@@ -167,7 +168,7 @@ module _ {lex : Lexicon} (good : Good-lexicon lex) {ts : List ℕ} (chars : Char
 
       each : (l : Line) → In l (inverted ms ts) → Good-line lex (length ts) l
       each l m =
-          let o : Line-of 69632 0 (postings ms ts 0) l = lines-get 69632 0 (postings ms ts 0) l m in
+          let o : Line-of most-keys 0 (postings ms ts 0) l = lines-get most-keys 0 (postings ms ts 0) l m in
           rw (o .is)
           (record {
             is-key = is (o .code) (getD (postings ms ts 0 (o .code)) 0 0) (in-getD (postings ms ts 0 (o .code)) 0 0 (o .some)) .is-key;
@@ -180,7 +181,7 @@ module _ {lex : Lexicon} (good : Good-lexicon lex) {ts : List ℕ} (chars : Char
   unfolding inverted line
   inverted-get e m =
       let (l, i, position, is) = flat-get lex (inverted ms ts) e m in
-      let o : Line-of 69632 0 (postings ms ts 0) l = lines-get 69632 0 (postings ms ts 0) l i in
+      let o : Line-of most-keys 0 (postings ms ts 0) l = lines-get most-keys 0 (postings ms ts 0) l i in
       let under : l .key-of ≡ code-key (o .code) = ap (λ (m : Line). m .key-of) (o .is) in
       let among : l .positions ≡ postings ms ts 0 (o .code) = ap (λ (m : Line). m .positions) (o .is) in
       rw (is ∙ ap (λ (k : Key). posting lex k (e .at)) under)
@@ -194,7 +195,7 @@ module _ {lex : Lexicon} (good : Good-lexicon lex) {ts : List ℕ} (chars : Char
       postings-put (mk .code) (e .at) lo hi (mk .coded-so) in
       subst (λ (f : Entry). In f (flat lex (inverted ms ts))) (sym (mk .is))
       (flat-put lex (inverted ms ts) (line (code-key (mk .code)) (postings ms ts 0 (mk .code))) (e .at)
-      (lines-put 69632 0 (postings ms ts 0) (mk .code) (omega arith) (omega arith)
+      (lines-put most-keys 0 (postings ms ts 0) (mk .code) (omega arith) (omega arith)
       (some-in (e .at) (postings ms ts 0 (mk .code)) here))
       here)
     where

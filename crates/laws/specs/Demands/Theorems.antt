@@ -134,7 +134,7 @@ exactly-positions s ts ps some e =
       only = λ p m. stands-put s ts p (positions-get s ts p (rw e at m));
       all = λ p t. rw e (positions-put s ts some (stands-get s ts p t));
       ascending = up;
-      once = ascend-once ltb-strict ps 0 up;
+      once = λ i j. ascend-once ltb-strict ps 0 up;
     }
 
 pub demand-three : (g : ℕ) → Demand-three g
@@ -215,8 +215,8 @@ received-by-count g cs ls xs a can = (taken, accounts)
     taken us c plain h =
         let chars = all-chars-get us c in
         received-as us plain
-        (index-taken good g xs can us chars (h .length-is)
-        (counted-index good g xs can us chars (h .length-is)
+        (index-taken good g can us chars (h .length-is)
+        (counted-index good g can us chars (h .length-is)
         (λ e m.
         rw (entry-whole good us chars e m) at
         (under-get lex xs (e .key-of) (e .at) (h .each (e .key-of) (e .at) (e, m, refl, refl))))

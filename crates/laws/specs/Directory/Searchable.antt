@@ -2,10 +2,10 @@
 -- Assumes nothing.
 use mathlib.Core.Path.{_≡_}
 use mathlib.Core.List.{List}
-use Prim.Native.Nat.{ℕ, _+_, _≤_}
-use lib.ListN.{length, getD, take}
+use Prim.Native.Nat.{ℕ, _+_, _^_, _≤_}
+use lib.ListN.{length, take}
 use Rattle.basics.specs.Writing.{over}
-use Rattle.spec.specs.Index.{greatest-number, n-of}
+use Rattle.spec.specs.Index.{n-of}
 use Rattle.spec.specs.Calls.{string-refusal}
 use Rattle.models.specs.WordStarts.{starts-from}
 use Rattle.laws.specs.Dictionary.WordCode.{Small}
@@ -32,11 +32,10 @@ pub record Search-opened (g : ℕ) (cs ws xs ts s : List ℕ) : Type 0 where
   pub n-short : n-of xs ≤ g
 
 pub can-search :
-    (g : ℕ) (cs ls xs s : List ℕ) → Small cs → ((i : ℕ) → getD xs i 0 ≤ greatest-number) → string-refusal g cs ls xs s ≡ 0 →
-    Can-search g cs ls xs s
-can-search g cs ls xs s small-chars small none =
+    (g : ℕ) → g ≤ 2 ^ 32 → (cs ls xs s : List ℕ) → Small cs → string-refusal g cs ls xs s ≡ 0 → Can-search g cs ls xs s
+can-search g small cs ls xs s small-chars none =
     let passes = string-passes g cs ls xs s none in
-    record { can = can-read g cs ls xs small-chars small (passes .0); string = passes .1; n-short = accepted-length g cs ls xs (passes .0) }
+    record { can = can-read g small cs ls xs small-chars (passes .0); string = passes .1; n-short = accepted-length g cs ls xs (passes .0) }
 
 -- a table filled from the lengths of a dictionary's words has its starts
 pub front-searches :

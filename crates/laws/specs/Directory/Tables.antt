@@ -1,35 +1,35 @@
 -- A readable index with its tables of starts: what a directory line's key spells and where its positions are. Assumes nothing.
 use mathlib.Core.Path.{_≡_, refl, sym, ap, _∙_}
-use mathlib.Core.Bool.{true, _&&_}
+use mathlib.Core.Bool.{true}
 use mathlib.Core.Logic.{inl, inr, ⊎-elim}
 use mathlib.Core.List.{List, [], _∷_}
 use Prim.Native.Nat.{ℕ, zero, suc, _+_, _*_, _-_, _^_, _≤_, _<_}
 use native.Mathlib.Omega.{arith}
-use lib.Dec.{leb}
 use lib.ListN.{length, getD, take, drop, set, length-set}
 use lib.Seq.{drop-nil, getD-take, getD-drop, getD-set-same, getD-set-other}
 use borrow.Author.Count.{below-more}
-use Rattle.basics.specs.Bools.{and-left}
 use Rattle.basics.specs.Member.{In}
 use Rattle.basics.specs.Writing.{over}
-use Rattle.spec.specs.Dictionary.{lexicon, total, ascend}
+use Rattle.spec.specs.Dictionary.{lexicon, total, ascend, admitted}
 use Rattle.spec.specs.Words.{key, spells}
 use Rattle.spec.specs.Numbers.{Line, line}
-use Rattle.spec.specs.Index.{greatest-number, header, n-of, keys-of, kind-at, value-at}
-use Rattle.spec.specs.Index.{count-at, key-at, counts-from, lines-in, kinds-good, keys-ascend}
-use Rattle.spec.specs.Index.{lines-good, lengths-fit, readable}
+use Rattle.spec.specs.Index.{header, n-of, keys-of, kind-at, value-at, count-at, key-at, counts-from, lines-in, readable}
 use Rattle.spec.specs.Calls.{index-refusal}
+use Rattle.models.specs.Readability.{most-keys}
 use Rattle.models.specs.Window.{list-start, positions-at}
 use Rattle.models.specs.WordStarts.{starts-from, lengths-of, lexicon-at}
 use Rattle.laws.specs.Text.Facts.{Good-lexicon, Is-key, Good-line, Good-lines}
 use Rattle.laws.specs.Dictionary.Keys.{Is-word-key, Is-lone-key, key-kinds, spells-word, spells-short, spells-some}
-use Rattle.laws.specs.Dictionary.Lexicon.{Is-admitted, length-words, admitted-lexicon, admitted-ascend}
+use Rattle.laws.specs.Dictionary.Lexicon.{length-words, admitted-get, admitted-lexicon, admitted-ascend}
 use Rattle.laws.specs.Dictionary.WordCode.{Small}
 use Rattle.laws.specs.Dictionary.WordStarts.{Word-starts, end-room, word-lies, word-long, filled-long, filled-lengths, filled-words}
-use Rattle.laws.specs.Readable.KeyTests.{no-refusal, dictionary-read}
-use Rattle.laws.specs.Readable.IndexRefusal.{Accepted, index-accepted}
+use Rattle.laws.specs.Numbers.KeyNumbers.{few-lines}
+use Rattle.laws.specs.Numbers.Slices.{Fits}
+use Rattle.laws.specs.Numbers.LineNumbers.{length-lines-in}
 use Rattle.laws.specs.Readable.Readable.{readable-get}
-use Rattle.laws.specs.Numbers.Slices.{Fits, lengths-fit-get}
+use Rattle.laws.specs.Readable.LineWalk.{readable-fits}
+use Rattle.laws.specs.Readable.KeyTests.{no-refusal}
+use Rattle.laws.specs.Readable.IndexRefusal.{index-accepted}
 use Rattle.laws.specs.Directory.Opened.{line-of, lines-next, list-room}
 
 -- what holds if 1, 2, 3 and 5 are not met
@@ -42,7 +42,7 @@ pub record Can-read (cs ls xs : List ℕ) : Type 0 where
   pub fits : Fits xs
   pub lines : Good-lines (lexicon cs ls) (n-of xs) (lines-in xs)
   pub n-small : n-of xs ≤ 2 ^ 32
-  pub keys-small : keys-of xs ≤ greatest-number
+  pub keys-few : keys-of xs ≤ most-keys
 
 -- a readable index, and the table of its dictionary's word starts
 pub record Reads (cs ws xs : List ℕ) : Type 0 where
@@ -169,34 +169,29 @@ pub record Opened (cs ws xs ts : List ℕ) : Type 0 where
   pub reads : Reads cs ws xs
   pub list-starts : List-starts xs (keys-of xs) ts
 
--- what holds for an accepted index
-pub can-read :
-    (g : ℕ) (cs ls xs : List ℕ) → Small cs → ((i : ℕ) → getD xs i 0 ≤ greatest-number) → index-refusal g cs ls xs ≡ 0 → Can-read cs ls xs
-unfolding readable
-can-read g cs ls xs small-chars small none =
-    record {
-      few-words = admitted .few;
-      few-chars = admitted .small;
-      sum = admitted .sum;
-      lexicon-good = admitted-lexicon cs ls (no-refusal cs ls small-chars (ok .no-refusal));
-      words-rise = admitted-ascend cs ls (no-refusal cs ls small-chars (ok .no-refusal));
-      fits = lengths-fit-get xs (and-left (lengths-fit xs) (leb (n-of xs) g) front);
-      lines = readable-get g (lexicon cs ls) xs (ok .is-readable) .lines;
-      n-small = omega (arith, small 0);
-      keys-small = omega (arith, small 1);
-    }
-  where
-    ok : Accepted g cs ls xs
-    ok = index-accepted g cs ls xs none
+-- what holds for a readable index and an admitted dictionary
+module _ (g : ℕ) (small : g ≤ 2 ^ 32) (cs ls xs : List ℕ) where
+  pub admitted-reads : admitted cs ls ≡ true → readable g (lexicon cs ls) xs ≡ true → Can-read cs ls xs
+  admitted-reads dictionary can =
+      let facts = admitted-get cs ls dictionary in
+      let good = admitted-lexicon cs ls dictionary in
+      let is = readable-get g (lexicon cs ls) xs can in
+      record {
+        few-words = facts .few;
+        few-chars = facts .small;
+        sum = facts .sum;
+        lexicon-good = good;
+        words-rise = admitted-ascend cs ls dictionary;
+        fits = readable-fits g (lexicon cs ls) xs can;
+        lines = is .lines;
+        n-small = omega (arith, is .length-allowed);
+        keys-few = omega (arith, few-lines (good .few) (is .lines), length-lines-in xs);
+      }
 
-    admitted : Is-admitted cs ls
-    admitted = dictionary-read cs ls small-chars (ok .no-refusal)
-
-    front : (lengths-fit xs && leb (n-of xs) g) ≡ true
-    front =
-        and-left (lengths-fit xs && leb (n-of xs) g)
-        (kinds-good (keys-of xs) 0 xs && (keys-ascend (lines-in xs) && lines-good (lexicon cs ls) (n-of xs) (lines-in xs)))
-        (ok .is-readable)
+  pub can-read : Small cs → index-refusal g cs ls xs ≡ 0 → Can-read cs ls xs
+  can-read chars none =
+      let passes = index-accepted g cs ls xs none in
+      admitted-reads (no-refusal cs ls chars (passes .no-refusal)) (passes .is-readable)
 
 pub key-some :
     {cs ls xs : List ℕ} → Can-read cs ls xs → (i : ℕ) → i < keys-of xs → 1 ≤ length (spells (lexicon cs ls) (key-at xs i))

@@ -10,7 +10,7 @@ use lib.Dec.{ltb, leb}
 use lib.ListN.{length, getD, take, drop, length-drop, take-append-drop}
 use lib.Seq.{getD-take, getD-drop, length-take-le}
 use Rattle.spec.specs.Dictionary.{Lexicon}
-use Rattle.spec.specs.Index.{header, n-of, keys-of, value-at, count-at, key-at, rise-from, last-of, readable}
+use Rattle.spec.specs.Index.{header, n-of, keys-of, count-at, key-at, rise-from, last-of, readable}
 use Rattle.spec.specs.Gaps.{sums-after, prefix-sums, lists-from, with-lists, restored}
 use Rattle.models.specs.Readability.{key-code, as-is, list-good, line-list-good, line-fits, rest-good, walk-good, read-as}
 use Rattle.laws.specs.Gaps.GapLists.{length-sums}
@@ -50,15 +50,13 @@ module _ (read : List ℕ → List ℕ) (keeps : Keeps-length read) where
         unreadable-directory g lex (with-lists read xs) (omega (arith, length-with read keeps xs, keys-with read keeps xs))
 
     pub walk-tells :
-        header + 3 * keys-of xs ≤ length xs → n-of xs ≤ g →
-        ((j : ℕ) → j < keys-of xs → value-at xs j < 65536) → walk-good read lex xs ≡ readable g lex (with-lists read xs)
+        length (lex .words) ≤ 4096 → header + 3 * keys-of xs ≤ length xs → n-of xs ≤ g →
+        walk-good read lex xs ≡ readable g lex (with-lists read xs)
     unfolding walk-good
-    walk-tells dir allowed chars =
+    walk-tells few dir allowed =
         whole
-        ∙ readable-walk g lex ys (omega (arith, length-with read keeps xs))
+        ∙ readable-walk g lex ys few (omega (arith, length-with read keeps xs))
         (omega (arith, length-with read keeps xs, keys-with read keeps xs)) (omega (arith, n-with read keeps xs))
-        (λ j below. let small : value-at ys j ≡ value-at xs j = same .values j (omega (arith, keys-with read keeps xs)) in
-        omega (arith, chars j (omega (arith, keys-with read keeps xs))))
       where
         ys : List ℕ
         ys = with-lists read xs

@@ -1,18 +1,23 @@
--- A key as one number: keys are ordered as their numbers, so strict ascent is one comparison for each line. Assumes nothing.
+-- A key as one number: keys are ordered as their numbers, so strict ascent is one comparison for each line, and there are at most 69,632
+-- lines. Assumes nothing.
 use mathlib.Core.Path.{_≡_, refl, ap, _∙_}
 use mathlib.Core.Bool.{Bool, true, _&&_}
 use mathlib.Core.Logic.{_⊎_, inl, inr, ⊎-elim}
 use mathlib.Core.List.{List, [], _∷_}
-use Prim.Native.Nat.{ℕ, zero, suc, _+_, _≤_, _<_}
+use Prim.Native.Nat.{ℕ, suc, _+_, _*_, _≤_, _<_}
 use native.Mathlib.Omega.{arith}
 use lib.Dec.{leb}
-use lib.ListN.{drop}
+use lib.ListN.{length}
 use borrow.Author.Tests.{le-leb, leb-true}
 use Rattle.basics.specs.Bools.{iff-eq, le-or-lt}
-use Rattle.spec.specs.Words.{Key, key}
-use Rattle.spec.specs.Numbers.{key-before, Line, line}
-use Rattle.spec.specs.Index.{value-at, count-at, lines-from, keys-ascend}
-use Rattle.models.specs.Readability.{key-code}
+use Rattle.basics.specs.Member.{In}
+use Rattle.spec.specs.Dictionary.{Lexicon}
+use Rattle.spec.specs.Words.{Key}
+use Rattle.spec.specs.Numbers.{key-before, Line}
+use Rattle.spec.specs.Index.{keys-ascend}
+use Rattle.models.specs.Readability.{key-code, most-keys}
+use Rattle.laws.specs.Text.Facts.{Is-key, Good-line, Keys-rise, Good-lines}
+use Rattle.laws.specs.Dictionary.Keys.{Is-word-key, Is-lone-key, key-kinds}
 use Rattle.laws.specs.Numbers.KeyOrder.{key-before-get, key-before-put}
 
 -- keys are ordered as their numbers
@@ -39,8 +44,7 @@ codes-ascend a [] = true
 codes-ascend a (l ∷ ls) = leb a (key-code (l .key-of)) && codes-ascend (suc (key-code (l .key-of))) ls
 
 abbrev pub Small-values : List Line → Type 0
-Small-values [] = Unit
-Small-values (l ∷ ls) = (l .key-of .value < 65536) × Small-values ls
+Small-values ls = (l : Line) → In l ls → l .key-of .value < 65536
 
 codes-keys :
     (a : ℕ) (l : Line) (ls : List Line) → Small-values (l ∷ ls) →
@@ -49,8 +53,8 @@ unfolding codes-ascend keys-ascend
 codes-keys a l [] s = refl
 codes-keys a l (m ∷ ls) s =
     ap (λ (b : Bool). leb a (key-code (l .key-of)) && b)
-    (codes-keys (suc (key-code (l .key-of))) m ls (s .1)
-    ∙ ap (λ (b : Bool). b && keys-ascend (m ∷ ls)) (before-code (l .key-of) (m .key-of) (s .0) (s .1 .0)))
+    (codes-keys (suc (key-code (l .key-of))) m ls (λ k h. s k (inr h))
+    ∙ ap (λ (b : Bool). b && keys-ascend (m ∷ ls)) (before-code (l .key-of) (m .key-of) (s l (inl refl)) (s m (inr (inl refl)))))
 
 pub codes-all : (ls : List Line) → Small-values ls → codes-ascend 0 ls ≡ keys-ascend ls
 unfolding codes-ascend keys-ascend
@@ -58,9 +62,43 @@ codes-all [] s = refl
 codes-all (l ∷ ls) s =
     codes-keys 0 l ls s ∙ ap (λ (b : Bool). b && keys-ascend (l ∷ ls)) (le-leb 0 (key-code (l .key-of)) (omega arith))
 
-pub small-lines :
-    (k i : ℕ) (xs ps : List ℕ) → ((j : ℕ) → j < i + k → value-at xs j < 65536) → Small-values (lines-from k i xs ps)
-unfolding lines-from line key
-small-lines zero i xs ps s = tt
-small-lines (suc k) i xs ps s =
-    (s i (omega arith), small-lines k (suc i) xs (drop (count-at xs i) ps) (λ j below. s j (omega arith)))
+-- THE MOST KEYS
+
+-- where a key stands among all that there may be: the words first, then the characters
+abbrev rank : Key → ℕ
+rank k = k .kind * 4096 + k .value
+
+module _ {lex : Lexicon} (few : length (lex .words) ≤ 4096) where
+  -- a key's value is a word's number or a character
+  pub key-small : {k : Key} → Is-key lex k → k .value < 65536
+  key-small {k} h =
+      ⊎-elim (λ (w : Is-word-key lex k). omega arith) (λ (l : Is-lone-key lex k). l .char) (key-kinds lex k h)
+
+  rank-small : {k : Key} → Is-key lex k → rank k < most-keys
+  rank-small {k} h =
+      ⊎-elim (λ (w : Is-word-key lex k). omega arith) (λ (l : Is-lone-key lex k). omega arith) (key-kinds lex k h)
+
+  rank-rises : {j k : Key} → Is-key lex j → Is-key lex k → key-before j k ≡ true → rank j < rank k
+  rank-rises {j} {k} hj hk t =
+      ⊎-elim
+      (λ (less : j .kind < k .kind).
+      ⊎-elim (λ (w : Is-word-key lex j). omega (arith, hk .kind-small)) (λ (l : Is-lone-key lex j). absurd (omega (arith, hk .kind-small)))
+      (key-kinds lex j hj))
+      (λ (same : (j .kind ≡ k .kind) × (j .value < k .value)). omega arith)
+      (key-before-get j k t)
+
+  -- the ranks ascend, so no more lines follow than there are ranks left
+  ranks-left :
+      {n : ℕ} (ls : List Line) → ((l : Line) → In l ls → Good-line lex n l) → Keys-rise ls → (least : ℕ) → least ≤ most-keys →
+      ((l : Line) → In l ls → least ≤ rank (l .key-of)) → length ls + least ≤ most-keys
+  ranks-left [] each order least room from = omega arith
+  ranks-left (l ∷ ls) each order least room from =
+      let here = each l (inl refl) .is-key in
+      let more =
+      ranks-left ls (λ m i. each m (inr i)) (order .1) (rank (l .key-of) + 1) (omega (arith, rank-small here))
+      (λ m i. omega (arith, rank-rises here (each m (inr i) .is-key) (order .0 m i))) in
+      omega (arith, more, from l (inl refl))
+
+  -- an index of any width has at most as many lines as there are keys
+  pub few-lines : {n : ℕ} {ls : List Line} → Good-lines lex n ls → length ls ≤ most-keys
+  few-lines {ls} good = omega (arith, ranks-left ls (good .each) (good .order) 0 (omega arith) (λ l i. omega arith))

@@ -4,13 +4,13 @@ use mathlib.Core.Bool.{true, false}
 use mathlib.Core.List.{List, [], _∷_}
 use Prim.Native.Nat.{ℕ, _+_, _≤_, _<_}
 use native.Mathlib.Omega.{arith}
-use lib.ListN.{drop}
+use lib.ListN.{length, drop}
 use Rattle.spec.specs.Dictionary.{Lexicon}
 use Rattle.spec.specs.Words.{spells, key, is-word}
-use Rattle.spec.specs.Index.{greatest-number, n-of, keys-of, kind-at, value-at, count-at, key-at}
+use Rattle.spec.specs.Index.{n-of, keys-of, kind-at, value-at, count-at, key-at}
 use Rattle.models.specs.Readability.{key-code, key-fits, line-list-good, line-fits, walk-good}
 use Rattle.laws.specs.Readable.LineSteps.{Lines-read, lines-step, lines-stop}
-use Rattle.laws.specs.Readable.KeyTests.{lone-low, lone-word, lone-fits, kind-other}
+use Rattle.laws.specs.Readable.KeyTests.{lone-low, lone-high, lone-word, lone-fits, kind-other}
 
 -- what is read of line i: n, and the line's kind, value and count
 pub record Line-read (xs : List ℕ) (i n kind value count : ℕ) : Type 0 where
@@ -18,7 +18,6 @@ pub record Line-read (xs : List ℕ) (i n kind value count : ℕ) : Type 0 where
   pub n-is : n ≡ n-of xs
   pub kind-is : kind ≡ kind-at xs i
   pub value-is : value ≡ value-at xs i
-  pub value-small : value ≤ greatest-number
   pub count-is : count ≡ count-at xs i
 
 module _ {read : List ℕ → List ℕ} {lex : Lexicon} {xs : List ℕ} {i at least n kind value count : ℕ}
@@ -58,17 +57,20 @@ module _ {read : List ℕ → List ℕ} {lex : Lexicon} {xs : List ℕ} {i at le
 
 module _ {read : List ℕ → List ℕ} {lex : Lexicon} {xs : List ℕ} {i at n kind value count : ℕ} (least : ℕ)
     (h : Lines-read read lex xs i at (65536 + least)) (l : Line-read xs i n kind value count) where
-  pub other-stop : (kind ≡ 1 → ⊥) → false ≡ walk-good read lex xs
-  other-stop other = key-stop h l (kind-other lex least value kind (omega arith) other)
+  pub other-stop : length (lex .words) ≤ 4096 → (kind ≡ 1 → ⊥) → false ≡ walk-good read lex xs
+  other-stop few other = key-stop h l (kind-other lex least value kind few other)
 
   module _ (lone : kind ≡ 1) where
     pub low-stop : value < least → false ≡ walk-good read lex xs
     low-stop low = key-stop h l (rw lone (lone-low lex least value low))
 
+    pub high-stop : 65535 < value → false ≡ walk-good read lex xs
+    high-stop high = key-stop h l (rw lone (lone-high lex least value (omega arith)))
+
     pub listed-stop : is-word lex (value ∷ []) ≡ true → false ≡ walk-good read lex xs
     listed-stop t = key-stop h l (rw lone (lone-word lex least value t))
 
-    module _ (order : least ≤ value) (free : is-word lex (value ∷ []) ≡ false) where
+    module _ (order : least ≤ value) (small : value ≤ 65535) (free : is-word lex (value ∷ []) ≡ false) where
       lone-positions :
           line-fits read lex n (65536 + least) (key kind value) count (drop at xs) ≡ line-list-good read n 1 count (drop at xs)
       unfolding line-fits key spells

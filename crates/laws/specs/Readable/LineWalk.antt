@@ -12,12 +12,12 @@ use Rattle.basics.specs.Bools.{iff-eq, false-put, and-put, and-left, and-right}
 use Rattle.spec.specs.Dictionary.{Lexicon}
 use Rattle.spec.specs.Words.{Key, key, spells}
 use Rattle.spec.specs.Numbers.{Line, line}
-use Rattle.spec.specs.Index.{header, n-of, keys-of, kind-at, count-at, value-at, key-at, counts-from, entries-of, lines-from, lines-in}
+use Rattle.spec.specs.Index.{header, n-of, keys-of, kind-at, count-at, key-at, counts-from, entries-of, lines-from, lines-in}
 use Rattle.spec.specs.Index.{kinds-good, key-good, keys-ascend, rise-from, last-of, line-good, lines-good, lengths-fit, readable}
 use Rattle.models.specs.Readability.{key-code, list-good, line-list-good, key-fits, line-fits, rest-good, as-is, walk-good}
-use Rattle.laws.specs.Numbers.KeyNumbers.{codes-ascend, codes-all, small-lines}
-use Rattle.laws.specs.Numbers.Slices.{Fits, lengths-fit-get}
-use Rattle.laws.specs.Readable.Readable.{readable-get}
+use Rattle.laws.specs.Numbers.KeyNumbers.{codes-ascend, codes-all, key-small}
+use Rattle.laws.specs.Numbers.Slices.{Fits, lengths-fit-get, kinds-good-lines-from}
+use Rattle.laws.specs.Readable.Readable.{lines-good-get, readable-get}
 
 -- ONE LINE
 
@@ -224,17 +224,24 @@ module _ (g : ℕ) (lex : Lexicon) (xs : List ℕ) where
       sym (false-put (readable g lex xs) (λ (t : readable g lex xs ≡ true). omega (arith, readable-get g lex xs t .length-allowed)))
 
   pub readable-walk :
-      header ≤ length xs → header + 3 * keys-of xs ≤ length xs → n-of xs ≤ g →
-      ((j : ℕ) → j < keys-of xs → value-at xs j < 65536) → walk-good as-is lex xs ≡ readable g lex xs
+      length (lex .words) ≤ 4096 → header ≤ length xs → header + 3 * keys-of xs ≤ length xs → n-of xs ≤ g →
+      walk-good as-is lex xs ≡ readable g lex xs
   unfolding readable lengths-fit walk-good lines-in entries-of
-  readable-walk head dir allowed chars = iff-eq (walk-good as-is lex xs) (readable g lex xs) to from
+  readable-walk few head dir allowed = iff-eq (walk-good as-is lex xs) (readable g lex xs) to from
     where
       positions : List ℕ
       positions = drop (header + 3 * keys-of xs) xs
 
-      ascends : codes-ascend 0 (lines-from (keys-of xs) 0 xs positions) ≡ keys-ascend (lines-from (keys-of xs) 0 xs positions)
-      ascends =
-          codes-all (lines-from (keys-of xs) 0 xs positions) (small-lines (keys-of xs) 0 xs positions (λ j below. chars j (omega arith)))
+      lines : List Line
+      lines = lines-from (keys-of xs) 0 xs positions
+
+      -- good keys have values below 65,536, so their codes are ordered as they are
+      ascends : kinds-good (keys-of xs) 0 xs ≡ true → lines-good lex (n-of xs) lines ≡ true → codes-ascend 0 lines ≡ keys-ascend lines
+      ascends kinds good =
+          codes-all lines
+          (λ l i.
+          key-small few
+          (lines-good-get lex (n-of xs) lines (kinds-good-lines-from (keys-of xs) 0 xs positions kinds) good l i .is-key))
 
       to : walk-good as-is lex xs ≡ true → readable g lex xs ≡ true
       to t =
@@ -246,15 +253,17 @@ module _ (g : ℕ) (lex : Lexicon) (xs : List ℕ) where
           (and-put (and-put (le-leb header (length xs) head) (le-leb (header + 3 * keys-of xs) (length xs) dir))
           (eq-eqb (length xs) (header + 3 * keys-of xs + counts-from (keys-of xs) 0 xs) whole))
           (le-leb (n-of xs) g allowed))
-          (and-put (r .kinds) (and-put (sym ascends ∙ r .order) (r .good)))
+          (and-put (r .kinds) (and-put (sym (ascends (r .kinds) (r .good)) ∙ r .order) (r .good)))
 
       from : readable g lex xs ≡ true → walk-good as-is lex xs ≡ true
       from t =
           let rest = and-right (fit && small) (kinds && (order && good)) t in
+          let are-kinds = and-left kinds (order && good) rest in
+          let are-good = and-right order good (and-right kinds (order && good) rest) in
           rest-put (keys-of xs)
           (record {
             counts = omega (arith, readable-fits t .is-long, length-drop (header + 3 * keys-of xs) xs);
-            kinds = and-left kinds (order && good) rest;
-            order = ascends ∙ and-left order good (and-right kinds (order && good) rest);
-            good = and-right order good (and-right kinds (order && good) rest);
+            kinds = are-kinds;
+            order = ascends are-kinds are-good ∙ and-left order good (and-right kinds (order && good) rest);
+            good = are-good;
           })

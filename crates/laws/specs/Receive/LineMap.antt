@@ -98,7 +98,7 @@ module _ {lex : Lexicon} (good : Good-lexicon lex) (g : ℕ) {xs : List ℕ} (ca
   pub verify-index : (us : List ℕ) → Chars us → length us ≡ n-of xs → verify lex line-for xs us ≡ true → index-of lex us ≡ xs
   unfolding verify
   verify-index us chars len t =
-      counted-index good g xs can us chars len each
+      counted-index good g can us chars len each
       (sym (scan-count good us chars)
       ∙ eqb-true (length (make-index lex us)) (entries-of xs)
       (and-right (all-mapped line-for xs (make-index lex us)) (eqb (length (make-index lex us)) (entries-of xs)) t))
@@ -114,7 +114,7 @@ module _ {lex : Lexicon} (good : Good-lexicon lex) (g : ℕ) {xs : List ℕ} (ca
   pub verify-is-index :
       (us : List ℕ) → Chars us → length us ≡ n-of xs → verify lex line-for xs us ≡ true →
       (is-index g lex xs ≡ true) × (recovered lex xs ≡ us)
-  verify-is-index us chars len t = index-taken good g xs can us chars len (verify-index us chars len t)
+  verify-is-index us chars len t = index-taken good g can us chars len (verify-index us chars len t)
 
   pub is-index-verify : is-index g lex xs ≡ true → verify lex line-for xs (recovered lex xs) ≡ true
   unfolding verify
@@ -131,7 +131,7 @@ module _ {lex : Lexicon} (good : Good-lexicon lex) (g : ℕ) {xs : List ℕ} (ca
           let i = make-index-get lex good (recovered lex xs) chars e m in
           let here = is-index-all good g xs r e i in
           mapped-right-put lex mapped e (entries-sound lex good (recovered lex xs) chars e i .from) here
-          (λ f n a. is-index-own-positions good g xs r f e n here a)
+          (λ f n a. is-index-own-positions good g xs r n here a)
 
   -- The test passes exactly if the numbers are the index of the text recovered from them, for any characters that are then the recovered
   -- text.

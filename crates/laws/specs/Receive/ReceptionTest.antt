@@ -25,10 +25,7 @@ use Rattle.laws.specs.Receive.Received.{is-index-get, readable-chars, eq
 
 -- ENTRIES AND THEIR NUMBER
 
-module _ {lex : Lexicon} (good : Good-lexicon lex) (g : ℕ) (xs : List ℕ) (can : readable g lex xs ≡ true) where
-  flat-count : length (flat lex (lines-in xs)) ≡ entries-of xs
-  flat-count = length-flat lex (lines-in xs) ∙ sym (entries-of-positions g lex xs can)
-
+module _ {lex : Lexicon} (good : Good-lexicon lex) (g : ℕ) {xs : List ℕ} (can : readable g lex xs ≡ true) where
   -- If each registered entry is a delivered one, and there are as many, the slice is the index of these characters.
   pub counted-index :
       (us : List ℕ) → Chars us → length us ≡ n-of xs → ((e : Entry) → In e (entries lex us) → In e (flat lex (lines-in xs))) →
@@ -43,7 +40,7 @@ module _ {lex : Lexicon} (good : Good-lexicon lex) (g : ℕ) (xs : List ℕ) (ca
           (sorted-entries-ascend lex us)
           (good-flat-ascends lex (n-of xs) (lines-in xs) (readable-get g lex xs can .lines))
           (λ e m. each e (in-sorted-get e (entries lex us) m))
-          (omega (arith, flat-count, length-sorted (entries lex us)))
+          (omega (arith, length-flat lex (lines-in xs), entries-of-positions g lex xs can, length-sorted (entries lex us)))
 
   -- Numbers that are the index of such a list are the index of the text recovered from them, and the list is that text.
   pub index-taken :
@@ -78,6 +75,6 @@ module _ {lex : Lexicon} (good : Good-lexicon lex) (g : ℕ) (xs : List ℕ) (ta
 
   -- no two entries of such numbers start at the same position
   pub is-index-own-positions :
-      (e f : Entry) → In e (flat lex (lines-in xs)) → In f (flat lex (lines-in xs)) → e .at ≡ f .at → e ≡ f
-  is-index-own-positions e f m n a =
+      {e f : Entry} → In e (flat lex (lines-in xs)) → In f (flat lex (lines-in xs)) → e .at ≡ f .at → e ≡ f
+  is-index-own-positions {e} {f} m n a =
       entries-own-positions lex good (recovered lex xs) text-chars e f (is-index-only e m) (is-index-only f n) a

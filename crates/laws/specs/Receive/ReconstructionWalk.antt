@@ -11,19 +11,16 @@ use Rattle.basics.specs.Member.{in-getD}
 use Rattle.spec.specs.Dictionary.{Lexicon}
 use Rattle.spec.specs.Words.{Key, key, spells, Entry, entry}
 use Rattle.spec.specs.Numbers.{Line, line}
-use Rattle.spec.specs.Index.{header, greatest-number, n-of, keys-of, kind-at, key-at, lines-in, readable}
+use Rattle.spec.specs.Index.{header, n-of, keys-of, kind-at, key-at, lines-in, readable}
 use Rattle.models.specs.Entries.{entries-at, flat}
 use Rattle.models.specs.WordStarts.{lengths-of, lexicon-at}
 use Rattle.models.specs.Reception.{reconstruct, fill-positions, reconstruct-positions}
 use Rattle.laws.specs.Text.Facts.{Good-line, Rise}
 use Rattle.laws.specs.Dictionary.Keys.{spells-lone}
 use Rattle.laws.specs.Numbers.FlatOrder.{rise-least}
-use Rattle.laws.specs.Dictionary.Lexicon.{Is-admitted, admitted-get, admitted-lexicon, admitted-ascend}
 use Rattle.laws.specs.Match.MatchTable.{Started}
-use Rattle.laws.specs.Readable.Readable.{readable-get}
-use Rattle.laws.specs.Readable.LineWalk.{readable-fits}
 use Rattle.laws.specs.Directory.Opened.{line-of, Is-line}
-use Rattle.laws.specs.Directory.Tables.{Reads, Word-line, line-is-good, key-is, line-word, line-spells}
+use Rattle.laws.specs.Directory.Tables.{Reads, Word-line, admitted-reads, line-is-good, key-is, line-word, line-spells}
 use Rattle.laws.specs.Receive.PositionWalk.{length-reconstruct-positions, reconstruct-character, Lie-within}
 use Rattle.laws.specs.Receive.EntriesMatch.{Stand-each}
 use Rattle.laws.specs.Receive.LinePass.{line-positions, Passing, passing-start, passing-step, passing-end}
@@ -38,26 +35,9 @@ pub record Reconstructs (cs ws xs text : List ℕ) : Type 0 where
 -- a readable index and an admitted dictionary, with its word starts
 module _ {cs ws : List ℕ} (started : Started cs ws) where
   pub started-reads :
-      (g : ℕ) → g ≤ 2 ^ 32 → (xs : List ℕ) → readable g (lexicon-at cs ws) xs ≡ true → keys-of xs ≤ greatest-number → Reads cs ws xs
-  started-reads g small xs can keys =
-      record {
-        can =
-            record {
-              few-words = facts .few;
-              few-chars = facts .small;
-              sum = facts .sum;
-              lexicon-good = admitted-lexicon cs (lengths-of ws) (started .dictionary);
-              words-rise = admitted-ascend cs (lengths-of ws) (started .dictionary);
-              fits = readable-fits g (lexicon-at cs ws) xs can;
-              lines = readable-get g (lexicon-at cs ws) xs can .lines;
-              n-small = omega (arith, readable-get g (lexicon-at cs ws) xs can .length-allowed);
-              keys-small = keys;
-            };
-        words = started .words;
-      }
-    where
-      facts : Is-admitted cs (lengths-of ws)
-      facts = admitted-get cs (lengths-of ws) (started .dictionary)
+      (g : ℕ) → g ≤ 2 ^ 32 → (xs : List ℕ) → readable g (lexicon-at cs ws) xs ≡ true → Reads cs ws xs
+  started-reads g small xs can =
+      record { can = admitted-reads g small cs (lengths-of ws) xs (started .dictionary) can; words = started .words }
 
 -- a good line's key fits at each of its positions
 pub good-lie :

@@ -184,7 +184,7 @@ pub record Filling (first : ℕ) (s ts : List ℕ) (P : ℕ → ℕ → Type 0) 
   pub rest : Kept-but first at old xs
   pub len : length xs ≡ length old
 
-module _ (first : ℕ) (s ts : List ℕ) (P : ℕ → ℕ → Type 0) (old : List ℕ) where
+module _ {first : ℕ} {s ts : List ℕ} {P : ℕ → ℕ → Type 0} {old : List ℕ} where
   pub filling-start : ((j : ℕ) → j < first → P j (getD old j 0)) → Filling first s ts P old old first 0 0
   filling-start h = record { from = omega arith; zbox = zbox-start; told = h; rest = λ j b. refl; len = refl }
 

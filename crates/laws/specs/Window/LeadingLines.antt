@@ -13,7 +13,7 @@ use borrow.Author.Count.{below-more}
 use Rattle.basics.specs.Bools.{clash, false-put}
 use Rattle.basics.specs.Member.{in-getD}
 use Rattle.basics.specs.Steps.{any-from, any-from-get, any-from-put, those-from, those-from-get}
-use Rattle.basics.specs.Writing.{Writing, starts, has-room, writes, written, written-length}
+use Rattle.basics.specs.Placed.{Wrote, Writing, writing-start, writing-one, writing-end}
 use Rattle.spec.specs.Dictionary.{Lexicon}
 use Rattle.spec.specs.Words.{spells}
 use Rattle.spec.specs.Index.{value-at, key-at}
@@ -21,7 +21,6 @@ use Rattle.spec.specs.Search.{agrees}
 use Rattle.models.specs.Reach.{reach-back}
 use Rattle.models.specs.Window.{back-all, run-from, run, positions-at, leading-at, agrees-leading, is-leading, leading-lines, run-list}
 use Rattle.models.specs.WordStarts.{lexicon-at}
-use Rattle.spec.specs.Calls.{in-front}
 use Rattle.laws.specs.Text.Strings.{Lacks}
 use Rattle.laws.specs.Directory.Tables.{Word-line, line-char}
 use Rattle.laws.specs.Build.PostingsByKey.{those-short}
@@ -172,20 +171,15 @@ module _ {f : ℕ → List ℕ → List ℕ} {is old : List ℕ} where
 
 -- FILLING THE LIST
 
--- the numbers are written to the start of the list, and counted
-pub record Filled (new : List ℕ) (count : ℕ) (old now : List ℕ) : Type 0 where
-  pub counted : count ≡ length new
-  pub is : now ≡ in-front new old
-
 -- of the first w lines those from i on are still to be tested, and `count` are listed
 pub record Leading (m : ℕ) (lex : Lexicon) (xs s : List ℕ) (w : ℕ) (old now : List ℕ) (count i : ℕ) : Type 0 where
-  pub writing : Writing (leading-lines m lex xs s w) old now (those-from (w - i) i (is-leading m lex xs s)) count
+  pub writing : Writing (leading-lines m lex xs s w) 0 old (those-from (w - i) i (is-leading m lex xs s)) count now
 
 module _ {m : ℕ} {lex : Lexicon} {xs s : List ℕ} {w : ℕ} {old : List ℕ} where
   pub leading-start : w ≤ length old → Leading m lex xs s w old old 0 0
   unfolding leading-lines
   leading-start room =
-      record { writing = rw (sub-zero w) (starts old (leading-lines m lex xs s w) 0 (omega (arith, leading-short m lex xs s w))) }
+      record { writing = rw (sub-zero w) (writing-start (leading-lines m lex xs s w) 0 old (omega (arith, leading-short m lex xs s w))) }
 
   module _ {now : List ℕ} {count i : ℕ} (h : Leading m lex xs s w old now count i) where
     module _ (some : i < w) where
@@ -201,28 +195,16 @@ module _ {m : ℕ} {lex : Lexicon} {xs s : List ℕ} {w : ℕ} {old : List ℕ} 
       leading-passed f = record { writing = rw (cut, ← f) at (h .writing) }
 
       module _ (t : true ≡ is-leading m lex xs s i) where
-        here : Writing (leading-lines m lex xs s w) old now (i ∷ rest) count
+        here : Writing (leading-lines m lex xs s w) 0 old (i ∷ rest) count now
         here = rw (cut, ← t) at (h .writing)
 
         pub leading-room : count < length now
-        leading-room = has-room i rest here
+        leading-room = omega (arith, here .room)
 
         pub leading-listed : Leading m lex xs s w old (set now count i) (count + 1) (i + 1)
         unfolding rest
-        leading-listed = record { writing = writes i rest here }
+        leading-listed = record { writing = writing-one i rest here }
 
-    module _ (past : w ≤ i) where
-      last : Writing (leading-lines m lex xs s w) old now [] count
-      unfolding those-from
-      last = let z : w - i ≡ 0 = omega arith in rw z at (h .writing)
-
-      pub leading-filled : Filled (leading-lines m lex xs s w) count old now
-      unfolding in-front
-      leading-filled =
-          let lines = leading-lines m lex xs s w in
-          record { counted = sym (written-length lines old now count last); is = written lines old now count last }
-
--- the start of the filled list
-pub leading-taken : {new : List ℕ} {count : ℕ} {old now : List ℕ} → Filled new count old now → take count now ≡ new
-unfolding in-front
-leading-taken {new} {count} {old} h = rw (h .is) (take-at new (drop (length new) old) count (sym (h .counted)))
+    pub leading-filled : w ≤ i → Wrote (leading-lines m lex xs s w) 0 old count now
+    unfolding those-from
+    leading-filled past = let z : w - i ≡ 0 = omega arith in writing-end (rw z at (h .writing))

@@ -28,11 +28,16 @@ use Rattle.basics.specs.LowerBound.{Rising, Lower-bound}
 abbrev pub Only-line : Lexicon → (numbers string : List ℕ) → (o a b r : ℕ) → Type 0
 Only-line lex xs s o a b r = (i : ℕ) → a ≤ i → i < b → (i ≡ r → ⊥) → agrees s 0 (spells lex (key-at xs i)) o ≡ false
 
--- the first w lines are words, the others lone characters
+-- the first w lines are words, no more than a dictionary has, the others lone characters
 pub record Split (xs : List ℕ) (w : ℕ) : Type 0 where
   pub within : w ≤ keys-of xs
+  pub few : w ≤ 4096
   pub words : (i : ℕ) → i < w → kind-at xs i ≡ 0
   pub lone : (i : ℕ) → w ≤ i → i < keys-of xs → kind-at xs i ≡ 1
+
+-- a line of a word
+pub split-line : {cs ws xs : List ℕ} {w : ℕ} → Reads cs ws xs → Split xs w → (i : ℕ) → i < w → Word-line cs ws xs i
+split-line reads split i below = record { reads = reads; below = omega (arith, split .within); kind = split .words i below }
 
 -- the index is read by the table of word starts, its first w lines are those of words, and the string may be searched for
 pub record Search-lines (cs ws xs s : List ℕ) (w : ℕ) : Type 0 where
@@ -41,7 +46,7 @@ pub record Search-lines (cs ws xs s : List ℕ) (w : ℕ) : Type 0 where
   pub string : Is-string s
 
 pub search-line : {cs ws xs s : List ℕ} {w : ℕ} → Search-lines cs ws xs s w → (i : ℕ) → i < w → Word-line cs ws xs i
-search-line h i below = record { reads = h .reads; below = omega (arith, h .split .within); kind = h .split .words i below }
+search-line h = split-line (h .reads) (h .split)
 
 -- the values of the lines from w on ascend strictly
 pub record Values-rise (xs : List ℕ) (w : ℕ) : Type 0 where
@@ -125,14 +130,31 @@ module _ {cs ls xs : List ℕ} (can : Can-read cs ls xs) where
 
   pub split-found : {w : ℕ} → Lower-bound (field-at xs 0) 0 (keys-of xs) 1 w → Split xs w
   unfolding key
-  split-found h =
+  split-found {w} h =
       record {
         within = h .to;
-        words = λ i b. omega (arith, rw (add-zero (header + 3 * i)) at (h .below i (omega arith) b));
+        few = ⊎-elim (λ (none : w ≤ 0). omega arith) (λ (some : 0 < w). last some) (le-or-lt w 0);
+        words = words;
         lone =
             λ i a b.
             omega (arith, rw (add-zero (header + 3 * i)) at (h .above i a b), key-is can i b .kind-small);
       }
+    where
+      words : (i : ℕ) → i < w → kind-at xs i ≡ 0
+      words i b = omega (arith, rw (add-zero (header + 3 * i)) at (h .below i (omega arith) b))
+
+      value-least : (i : ℕ) → i < w → i ≤ value-at xs i
+      value-least zero b = omega arith
+      value-least (suc i) b =
+          omega (
+            arith,
+            value-least i (omega arith),
+            values-before i (suc i) (omega arith) (omega (arith, h .to)) (words i (omega arith) ∙ sym (words (suc i) b)),
+          )
+
+      last : 0 < w → w ≤ 4096
+      last some =
+          omega (arith, value-least (w - 1) (omega arith), word-below can (w - 1) (omega (arith, h .to)) (words (w - 1) (omega arith)))
 
   module _ {w : ℕ} (split : Split xs w) where
     -- WORDS
@@ -148,23 +170,6 @@ module _ {cs ls xs : List ℕ} (can : Can-read cs ls xs) where
         rw (spells-word (lexicon cs ls) (key-at xs i) p, spells-word (lexicon cs ls) (key-at xs j) q)
         (ascend-get (lexicon cs ls .words) (can .words-rise) (value-at xs i) (value-at xs j) (values-before i j h r (p ∙ sym q))
         (omega (arith, word-below can j r q, length-words ls cs)))
-
-    value-least : (i : ℕ) → i < w → i ≤ value-at xs i
-    value-least zero b = omega arith
-    value-least (suc i) b =
-        omega (
-          arith,
-          value-least i (omega arith),
-          values-before i (suc i) (omega arith) (omega arith) (split .words i (omega arith) ∙ sym (split .words (suc i) b)),
-        )
-
-    -- no more than the dictionary has words
-    pub word-lines-few : w ≤ 4096
-    word-lines-few = ⊎-elim (λ (none : w ≤ 0). omega arith) (λ (some : 0 < w). last some) (le-or-lt w 0)
-      where
-        last : 0 < w → w ≤ 4096
-        last some =
-            omega (arith, value-least (w - 1) (omega arith), word-below can (w - 1) (omega arith) (split .words (w - 1) (omega arith)))
 
     -- LONE CHARACTERS
 

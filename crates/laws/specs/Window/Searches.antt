@@ -20,7 +20,7 @@ use Rattle.laws.specs.Window.LineSteps.{offset-apart}
 use Rattle.laws.specs.Window.LineSteps.{leading-single}
 use Rattle.laws.specs.Window.ListRange.{Ascending, listed-rise}
 use Rattle.laws.specs.Window.ExtendAtPositions.{Offset-fits, offset-fits}
-use Rattle.laws.specs.Window.LineRanges.{Split, Lone-line, lone-single, lone-others, lone-agrees}
+use Rattle.laws.specs.Window.LineRanges.{Split, split-line, Lone-line, lone-single, lone-others, lone-agrees}
 
 -- the index is opened, its first w lines are those of words, the string may be searched for, and q is a start
 pub record Searches (cs ws xs ts s : List ℕ) (w q : ℕ) : Type 0 where
@@ -43,7 +43,7 @@ pub record Searches-offset (cs ws xs ts s : List ℕ) (w q o m : ℕ) (rs : List
 -- a line of a word
 module _ {cs ws xs ts s : List ℕ} {w q : ℕ} (h : Searches cs ws xs ts s w q) {i : ℕ} (below : i < w) where
   pub word-line : Word-line cs ws xs i
-  word-line = record { reads = h .opened .reads; below = omega arith; kind = h .split .words i below }
+  word-line = split-line (h .opened .reads) (h .split) i below
 
   pub word-list : Fits xs × List-starts xs (keys-of xs) ts × (i < keys-of xs)
   word-list = (h .opened .reads .can .fits, h .opened .list-starts, omega arith)

@@ -20,7 +20,7 @@ use Rattle.laws.specs.Match.PrefixRanges.{prefix-not-before, next-rises}
 use Rattle.laws.specs.Dictionary.WordStarts.{starts-long}
 use Rattle.laws.specs.Directory.Tables.{Can-read, Reads, Word-line, line-room, line-word, line-end, line-char, key-short, key-some}
 use Rattle.basics.specs.LowerBound.{Rising, Lower-bound, rising-part}
-use Rattle.laws.specs.Window.LineRanges.{Split, word-lines-rise}
+use Rattle.laws.specs.Window.LineRanges.{Split, split-line, word-lines-rise}
 
 -- a key that agrees at an offset within the string has the string's characters on the overlap
 agree-deep : {s k : List ℕ} {o : ℕ} (d : ℕ) → Agree s 0 k o → d < length k → o + d < length s → getD s (o + d) 0 ≡ getD k d 0
@@ -88,7 +88,7 @@ module _
     shared-line = omega arith
 
     line : Word-line cs ws xs i
-    line = record { reads = reads; below = shared-line; kind = split .words i (omega arith) }
+    line = split-line reads split i (omega arith)
 
     pub shared-word : value-at xs i < length (lengths-of ws)
     shared-word = line-word line

@@ -6,6 +6,7 @@ use native.Mathlib.Omega.{arith}
 use borrow.Author.Needs.{needs}
 use lib.ListN.{length}
 use Rattle.models.specs.WordStarts.{lexicon-at}
+use Rattle.laws.specs.Window.LineRanges.{split-line}
 use Rattle.laws.specs.Window.LeadingLines.{Leading, leading-start, leading-passed, leading-room, leading-listed, leading-filled}
 use Rattle.agreement.proofs.leading.fill_leading.Statement.{statement}
 use Rattle.agreement.proofs.leading.fill_leading.Tie as tie
@@ -30,12 +31,7 @@ room c =
 line-leads-requires : tie.Need-line-leads-requires Inv-loop μ-loop
 line-leads-requires c κs =
     let s = start (c .before .before) in
-    let split = s .pre .1 in
-    let taken = c .loop-test .taken in (
-      record { reads = s .pre .0; below = omega (arith, split .within); kind = split .words (c .before .loop .line) taken },
-      s .pre .2,
-      s .pre .4,
-    )
+    (split-line (s .pre .0) (s .pre .1) (c .before .loop .line) (c .loop-test .taken), s .pre .2, s .pre .4)
 
 loop-again : tie.Need-loop-again Inv-loop μ-loop
 loop-again c =

@@ -1,9 +1,10 @@
 -- `list_leading` meets its contract: there is room for every line of a word, and the list is the first numbers
 -- of the slice. Assumes nothing.
 use native.Mathlib.Omega.{arith}
+use Rattle.basics.specs.Placed.{wrote-taken}
 use Rattle.models.specs.WordStarts.{lexicon-at}
-use Rattle.laws.specs.Window.LineRanges.{Split, kinds-rise, split-found, word-lines-few}
-use Rattle.laws.specs.Window.LeadingLines.{leading-short, leading-taken}
+use Rattle.laws.specs.Window.LineRanges.{Split, kinds-rise, split-found}
+use Rattle.laws.specs.Window.LeadingLines.{leading-short}
 use borrow.Author.Needs.{needs}
 use Rattle.agreement.proofs.leading.list_leading.Statement.{statement}
 use Rattle.agreement.proofs.leading.list_leading.Tie as tie
@@ -22,7 +23,7 @@ fill-leading-requires : tie.Need-fill-leading-requires
 fill-leading-requires c κs =
     let s = start (c .before .before) in
     let lines = split (c .before) in
-    (s .pre .0, lines, s .pre .1, omega (arith, word-lines-few (s .pre .0 .can) lines), s .pre .3)
+    (s .pre .0, lines, s .pre .1, omega (arith, lines .few), s .pre .3)
 
 returns : tie.Need-returns
 returns c =
@@ -33,8 +34,8 @@ returns c =
     let lexicon = lexicon-at (a .chars .now) (a .word-starts .now) in
     let words = ended .count-word-lines .result in (
       split ended,
-      omega (arith, leading-short (a .least) lexicon (a .index .now) (a .string .now) words, word-lines-few (s .pre .0 .can) (split ended)),
-      leading-taken (filled .ensures),
+      omega (arith, leading-short (a .least) lexicon (a .index .now) (a .string .now) words, split ended .few),
+      wrote-taken (filled .ensures),
     )
 
 pub list-leading-spec : {M : Type 1} → statement M

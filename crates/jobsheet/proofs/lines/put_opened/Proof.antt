@@ -1,6 +1,7 @@
 -- `put_opened` meets its contract: an accepted index is readable, and the table has room for its lines. Assumes nothing.
 use native.Mathlib.Omega.{arith}
 use borrow.Author.Needs.{needs}
+use Rattle.spec.specs.Dictionary.{longest-text}
 use Rattle.laws.specs.Directory.Tables.{can-read}
 use Rattle.jobsheet.proofs.lines.put_opened.Statement.{statement}
 use Rattle.jobsheet.proofs.lines.put_opened.Tie as tie
@@ -8,11 +9,10 @@ use Rattle.jobsheet.proofs.lines.put_opened.Tie as tie
 put-filled-requires : tie.Need-put-filled-requires
 put-filled-requires c κs =
     let known = c .before .before .before .before .before in
-    let index = known .before .before in
-    let chars = index .before .before in
+    let chars = known .before .before .before .before in
     let s = chars .before in
-    let can = can-read _ _ _ _ (λ i. omega (arith, chars .shared-slice-known .given i))
-    (λ i. omega (arith, index .shared-slice-known3 .given i)) (s .pre .0 .usable .accepts) in
+    let can =
+    can-read longest-text (omega arith) _ _ _ (λ i. omega (arith, chars .shared-slice-known .given i)) (s .pre .0 .usable .accepts) in
     (s .pre .0, (can, s .pre .1, omega arith))
 
 pub put-opened-spec : {M : Type 1} → statement M

@@ -1,11 +1,10 @@
 -- `readable` meets its contract: a slice without its header or directory, or with a length that no text has, is not readable, and of any
 -- other the walk decides. Assumes nothing.
 use mathlib.Core.Path.{_∙_}
-use Prim.Native.Nat.{ℕ, _+_, _*_}
 use native.Mathlib.Omega.{arith}
 use Rattle.spec.specs.Dictionary.{longest-text, lexicon}
-use Rattle.spec.specs.Index.{header}
 use Rattle.models.specs.Readability.{read-as}
+use Rattle.laws.specs.Readable.KeyTests.{word-count}
 use Rattle.laws.specs.Gaps.ReadLists.{read-keeps, header-missing, text-too-long, directory-missing, walk-tells}
 use borrow.Author.Needs.{needs}
 use Rattle.readability.proofs.readability.readable.Statement.{statement}
@@ -42,12 +41,12 @@ returns-3 c =
 returns-4 : tie.Need-returns-4
 returns-4 c =
     let short = sized (c .before .before) in
-    let known = slices (short .before) in
-    let args = start known .args in
+    let s = start (slices (short .before)) in
+    let args = s .args in
     c .lines-good .ensures
     ∙ walk-tells (read-as (args .as-gaps)) (read-keeps (args .as-gaps)) longest-text (lexicon (args .chars .now) (args .lengths .now))
-    (args .index .now) (omega arith) (omega (arith, short .before .text-len .ensures .0, short .if2 .left))
-    (λ (j : ℕ) below. omega (arith, known .shared-slice-known3 .given (header + 3 * j + 1)))
+    (args .index .now) (omega (arith, word-count (s .pre), s .pre .few)) (omega arith)
+    (omega (arith, short .before .text-len .ensures .0, short .if2 .left))
 
 pub readable-spec : {M : Type 1} → statement M
 readable-spec =

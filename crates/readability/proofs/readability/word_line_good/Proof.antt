@@ -15,15 +15,14 @@ returns : tie.Need-returns
 returns c =
     let start = c .before .before .before .before in
     let args = start .args in
-    word-low (read-as (args .as-gaps)) (start .pre .0) (args .n) (args .least) (args .value)
-    (args .count) (drop (args .at) (args .index .now)) (c .if1 .taken)
+    word-low (read-as (args .as-gaps)) (start .pre .0) (args .n) (args .count) (drop (args .at) (args .index .now)) (c .if1 .taken)
 
 returns-2 : tie.Need-returns-2
 returns-2 c =
     let start = c .before .before .before .before .before in
     let args = start .args in
-    word-high (read-as (args .as-gaps)) (start .pre .0) (args .n) (args .least) (args .value)
-    (args .count) (drop (args .at) (args .index .now)) (c .if2 .taken)
+    word-high (read-as (args .as-gaps)) (start .pre .0) (args .n) (args .count) (drop (args .at) (args .index .now)) (args .least)
+    (c .if2 .taken)
 
 cast-line-list-good : tie.Need-cast-line-list-good
 cast-line-list-good c = omega (arith, c .shared-slice-known4 .given (start (c .before) .args .value))
@@ -38,8 +37,8 @@ returns-3 c =
     let s = start (c .before .before) in
     let args = s .args in
     c .line-list-good .ensures
-    ∙ word-fits (read-as (args .as-gaps)) (s .pre .0) (args .n) (args .least) (args .value)
-    (args .count) (drop (args .at) (args .index .now)) (c .before .before .before .if1 .left) (c .before .before .if2 .left)
+    ∙ word-fits (read-as (args .as-gaps)) (s .pre .0) (args .n) (args .count) (drop (args .at) (args .index .now))
+    (c .before .before .before .if1 .left) (c .before .before .if2 .left)
 
 pub word-line-good-spec : {M : Type 1} → statement M
 word-line-good-spec =

@@ -24,8 +24,7 @@ reconstruct-afresh-requires c κs =
     let a = s .args in
     record {
       reads =
-          started-reads (s .pre .0) longest-text (omega arith) (a .index .now) (s .pre .1)
-          (omega (arith, c .before .before .shared-slice-known3 .given 1));
+          started-reads (s .pre .0) longest-text (omega arith) (a .index .now) (s .pre .1);
       long = length-take-le (a .n) (a .work .now) (s .pre .3) ∙ s .pre .2;
     }
 

@@ -7,7 +7,7 @@ use lib.ListN.{length}
 use lib.Seq.{length-take-le}
 use borrow.Author.Needs.{needs}
 use Rattle.laws.specs.Window.AgreeingLines.{listed-few}
-use Rattle.laws.specs.Window.LineRanges.{search-line, word-lines-few}
+use Rattle.laws.specs.Window.LineRanges.{search-line}
 use Rattle.laws.specs.Cut.Flagging.{agreeing-below}
 use Rattle.searcher.proofs.estimate.estimate_words.Statement.{statement}
 use Rattle.searcher.proofs.estimate.estimate_words.Tie as tie
@@ -35,7 +35,7 @@ loop-holds : tie.Need-loop-holds Inv-loop μ-loop Inv-loop2 μ-loop2
 loop-holds c =
     let words = c .before .before in
     let h = start (words .before) .pre .0 in
-    (omega (arith, word-lines-few (h .reads .can) (h .split), listed-few (words .agreeing-words .ensures .listed)), omega arith)
+    (omega (arith, h .split .few, listed-few (words .agreeing-words .ensures .listed)), omega arith)
 
 estimate-line-requires : tie.Need-estimate-line-requires Inv-loop μ-loop Inv-loop2 μ-loop2
 estimate-line-requires c κs =

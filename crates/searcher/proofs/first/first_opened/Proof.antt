@@ -23,8 +23,8 @@ number c = string-number _ _ _ _ _ (c .before .before .before .before .before .p
 first-words-requires : tie.Need-first-words-requires
 first-words-requires c κs =
     let tested = c .before in
-    can-search _ _ _ _ _ (λ i. omega (arith, tested .before .before .before .before .shared-slice-known .given i))
-    (λ i. omega (arith, tested .before .before .shared-slice-known3 .given i)) (sym (number tested) ∙ c .if1 .left)
+    can-search longest-text (omega arith) _ _ _ _
+    (λ i. omega (arith, tested .before .before .before .before .shared-slice-known .given i)) (sym (number tested) ∙ c .if1 .left)
 
 cast-position : tie.Need-cast-position
 cast-position c =

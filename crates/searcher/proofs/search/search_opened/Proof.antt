@@ -21,8 +21,9 @@ number c = string-number _ _ _ _ _ (start (c .before) .pre) (c .string-refusal .
 search-words-requires : tie.Need-search-words-requires
 search-words-requires c κs =
     let tested = c .before .before in
-    can-search _ _ _ _ _ (λ i. omega (arith, tested .before .before .before .before .before .shared-slice-known .given i))
-    (λ i. omega (arith, tested .before .before .before .shared-slice-known3 .given i)) (sym (number tested) ∙ c .before .if1 .left)
+    can-search longest-text (omega arith) _ _ _ _
+    (λ i. omega (arith, tested .before .before .before .before .before .shared-slice-known .given i))
+    (sym (number tested) ∙ c .before .if1 .left)
 
 returns-2 : tie.Need-returns-2
 returns-2 c =

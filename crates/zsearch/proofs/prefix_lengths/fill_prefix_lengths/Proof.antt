@@ -19,10 +19,7 @@ abbrev start : tie.At-loop Inv-loop μ-loop → tie.Start Inv-loop μ-loop
 start c = c .before .before .before .before .before
 
 loop-holds : tie.Need-loop-holds Inv-loop μ-loop
-loop-holds c =
-    let a = c .before .before .before .before .args in
-    filling-start 0 (a .string .now) (a .text .now) (Prefix-length (a .string .now) (a .text .now)) (a .reach .now)
-    (λ j b. absurd (omega arith))
+loop-holds c = filling-start (λ j b. absurd (omega arith))
 
 known-from-requires : tie.Need-known-from-requires Inv-loop μ-loop
 known-from-requires c κs =
@@ -49,10 +46,7 @@ loop-again c =
     let len = c .before .extend .result in
     let end = c .before .extend .ensures in
     let below = c .before .before .before .loop-test .taken in
-    filling-new 0 (s .args .string .now) (s .args .text .now) (Prefix-length (s .args .string .now) (s .args .text .now))
-    (s .args .reach .now)
-    len (l .inv) (omega (arith, below))
-    end (end .lies)
+    filling-new len (l .inv) (omega (arith, below)) end (end .lies)
 
 loop-again-2 : tie.Need-loop-again-2 Inv-loop μ-loop
 loop-again-2 c =
@@ -61,10 +55,7 @@ loop-again-2 c =
     let len = c .before .extend .result in
     let end = c .before .extend .ensures in
     let below = c .before .before .before .loop-test .taken in
-    filling-on 0 (s .args .string .now) (s .args .text .now) (Prefix-length (s .args .string .now) (s .args .text .now))
-    (s .args .reach .now)
-    len (l .inv) (omega (arith, below))
-    end
+    filling-on len (l .inv) (omega (arith, below)) end
 
 pub fill-prefix-lengths-spec : {M : Type 1} → statement M
 fill-prefix-lengths-spec =

@@ -21,11 +21,7 @@ abbrev start : tie.At-loop Inv-loop μ-loop → tie.Start Inv-loop μ-loop
 start turn = turn .before .before .before
 
 loop-holds : tie.Need-loop-holds Inv-loop μ-loop
-loop-holds c =
-    let a = c .before .before .args in (
-      filling-start 1 (a .string .now) (a .string .now) (Z-value (a .string .now)) (a .zarray .now) (λ j b from. absurd (omega arith)),
-      λ more. omega arith,
-    )
+loop-holds c = (filling-start (λ j b from. absurd (omega arith)), λ more. omega arith)
 
 known-from-requires : tie.Need-known-from-requires Inv-loop μ-loop
 known-from-requires c κs =
@@ -47,26 +43,20 @@ extend-own-requires c κs =
 loop-again : tie.Need-loop-again Inv-loop μ-loop
 loop-again c =
     let turn = c .before .before .before .before .before in
-    let a = start turn .args in
     let l = turn .loop in
     let end = c .before .extend-own .ensures in
     let below = c .before .before .before .before .loop-test .taken in (
-      filling-new 1 (a .string .now) (a .string .now) (Z-value (a .string .now)) (a .zarray .now) (c .before .extend-own .result)
-          (l .inv .0) (omega (arith, below))
-          (λ from. end) (end .lies),
+      filling-new (c .before .extend-own .result) (l .inv .0) (omega (arith, below)) (λ from. end) (end .lies),
       λ more. omega (arith, below),
     )
 
 loop-again-2 : tie.Need-loop-again-2 Inv-loop μ-loop
 loop-again-2 c =
     let turn = c .before .before .before .before .before in
-    let a = start turn .args in
     let l = turn .loop in
     let end = c .before .extend-own .ensures in
     let below = c .before .before .before .before .loop-test .taken in (
-      filling-on 1 (a .string .now) (a .string .now) (Z-value (a .string .now)) (a .zarray .now) (c .before .extend-own .result)
-          (l .inv .0) (omega (arith, below))
-          (λ from. end),
+      filling-on (c .before .extend-own .result) (l .inv .0) (omega (arith, below)) (λ from. end),
       λ more. omega (arith, below),
     )
 
