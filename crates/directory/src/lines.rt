@@ -14,6 +14,7 @@ use layout::fields::line_start;
 use layout::fields::value_at;
 use width::Number;
 use width::Sum;
+use width::from_sum;
 
 // The word of a line, which has one.
 pub fn word_at<'a>(
@@ -34,7 +35,7 @@ pub fn positions_of<'a>(index: &'a [Number], list_starts: &[Sum], line: usize) -
     requires { ⌜ Fits (now index) × List-starts (now index) (keys-of (now index)) (now «list_starts») × (line < keys-of (now index)) ⌝ }
     ensures { λ r. ⌜ now r ≡ positions-at (now (index .entry)) line ⌝ }
 {
-    let start = line_start(key_count(index)) + list_starts[line] as usize;
+    let start = line_start(key_count(index)) + from_sum(list_starts[line]);
     let end = start + count_at(index, line);
     &index[start..end]
 }

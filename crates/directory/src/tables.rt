@@ -14,6 +14,7 @@ ghost use Rattle.laws.specs.Directory.Tables.{List-starts};
 use layout::fields::count_at;
 use width::Number;
 use width::Sum;
+use width::to_sum;
 
 // Fills the table of where each word's characters start, and where the last ends.
 pub fn fill_word_starts(lengths: &[u16], word_starts: &mut [u16])
@@ -39,7 +40,7 @@ pub fn fill_list_starts(index: &[Number], keys: usize, list_starts: &mut [Sum])
     let mut at: usize = 0;
     let mut i = 0;
     while i < keys {
-        list_starts[i] = at as Sum;
+        list_starts[i] = to_sum(at);
         at += count_at(index, i);
         i += 1;
     }

@@ -27,6 +27,7 @@ use layout::fields::value_at;
 use width::LONGEST;
 use width::Number;
 use width::Sum;
+use width::from_sum;
 use width::number_at;
 
 // The greatest character, which a lone key may be. The test against it is one for wider numbers: 16-bit numbers state no greater value.
@@ -75,7 +76,7 @@ fn gaps_good(gaps: &[Number], n: usize, len: usize) -> bool
         sum += gap as Sum;
         i += 1;
     }
-    if n + 1 < sum as usize + len {
+    if n + 1 < from_sum(sum) + len {
         return false;
     }
     good

@@ -2,7 +2,7 @@
 //
 // An index's number is a `usize` where it is read, and cast where it is stored. What differs between widths stands here alone.
 ghost use mathlib.Core.Path.{_≡_};
-ghost use Prim.Native.Nat.{_≤_, _<_};
+ghost use Prim.Native.Nat.{_*_, _≤_, _<_};
 ghost use lib.ListN.{length, getD};
 ghost use Rattle.spec.specs.Index.{greatest-number};
 
@@ -20,6 +20,21 @@ pub fn from_char(character: u16) -> Number
     ensures { λ r. ⌜ r ≡ character ⌝ }
 {
     character as Number
+}
+
+// A sum of no more counts than a number can state, kept in a table.
+pub fn to_sum(sum: usize) -> Sum
+    requires { ⌜ sum ≤ greatest-number * greatest-number ⌝ }
+    ensures { λ r. ⌜ r ≡ sum ⌝ }
+{
+    sum as Sum
+}
+
+// A sum as an index of a slice.
+pub fn from_sum(sum: Sum) -> usize
+    ensures { λ r. ⌜ r ≡ sum ⌝ }
+{
+    sum as usize
 }
 
 // The number at an index of a slice.

@@ -19,8 +19,9 @@ room c = positions-room (start c .pre .0) (start c .args .line) (start c .pre .2
 
 returns : tie.Need-returns
 returns c =
-    let s = start (c .before .before) in
-    let start = c .before .before .before .line-start .result + getD (s .args .list-starts .now) (s .args .line) 0 in
+    let offset = c .before .before in
+    let s = start (offset .before) in
+    let start = offset .before .before .line-start .result + offset .from-sum .result in
     positions-are (s .pre .0) (s .args .line) (s .pre .2) (s .pre .1) {start = start} {end = start + c .before .count-at .result}
     (omega arith)
     (omega arith)
@@ -30,6 +31,6 @@ positions-of-spec =
     tie.close
     (tie.spec
     (λ c κs. search needs) (λ c κs. search needs) (λ c. search needs) (λ c. search needs)
-    (λ c. omega (arith, c .shared-slice-known3 .given (start c .args .line))) (λ c. omega (arith, room c)) (λ c κs. search needs)
-    (λ c. omega (arith, room (c .before))) (λ c. omega (arith, room (c .before))) (λ c. search needs) (λ c. search needs)
-    (λ c. omega (arith, room (c .before))) returns)
+    (λ c κs. search needs) (λ c. omega (arith, room (c .before))) (λ c κs. search needs) (λ c. omega (arith, room (c .before .before)))
+    (λ c. omega (arith, room (c .before .before))) (λ c. search needs) (λ c. search needs) (λ c. omega (arith, room (c .before .before)))
+    returns)

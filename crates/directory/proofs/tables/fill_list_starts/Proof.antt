@@ -35,10 +35,12 @@ loop-holds c =
 
 loop-again : tie.Need-loop-again Inv-loop μ-loop
 loop-again c =
-    let a = c .before .before .before .before .before .args in
-    let l = c .before .before .loop in (
-      list-starts-next (a .index .now) (l .inv .0) (omega arith) (l .at) (l .inv .2),
-      length-set (l .list-starts) (l .i) (l .at) ∙ l .inv .1,
+    let stored = c .before in
+    let turn = stored .before .before in
+    let a = turn .before .before .before .args in
+    let l = turn .loop in (
+      list-starts-next (a .index .now) (l .inv .0) (omega arith) (stored .to-sum .result) (stored .to-sum .ensures ∙ l .inv .2),
+      length-set (l .list-starts) (l .i) (stored .to-sum .result) ∙ l .inv .1,
       omega (arith, counts-next (l .i) (a .index .now)),
       omega arith,
       l .inv .4,
@@ -50,6 +52,6 @@ pub fill-list-starts-spec : {M : Type 1} → statement M
 fill-list-starts-spec =
     tie.close
     (tie.spec
-    Inv-loop μ-loop loop-holds (λ c. omega arith) (λ c. search needs) (λ c. omega arith) (λ c κs. omega arith) (λ c. omega arith)
+    Inv-loop μ-loop loop-holds (λ c κs. omega arith) (λ c. search needs) (λ c. omega arith) (λ c κs. omega arith) (λ c. omega arith)
     (λ c. omega arith) (λ c. omega arith) loop-again (λ c. c .before .loop .inv .1)
     (λ c. list-starts-all (c .before .loop .inv .0) (omega arith)))
