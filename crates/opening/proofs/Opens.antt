@@ -38,21 +38,25 @@ use denote.Triple.Spec.{tripleOf}
 use denote.Triple.Clauses.{ensured, lasts}
 use Rattle.spec.specs.Dictionary.{longest-text}
 use Rattle.laws.specs.Readable.Opening.{Bounded}
+use Rattle.width.specs.Element.{number}
 use Rattle.opening.specs.declared.opened.Opened.{Opened}
 use Rattle.opening.proofs.opened.Opened as T
 use Rattle.opening.proofs.opened.Opened.Laws as T′
 use Rattle.opening.proofs.opened.open_index as opener
 use Rattle.opening.proofs.opened.open_index.Symbol.{name as #open-index}
 
--- the machine value of a slice, and the type of a shared one at the first lifetime of a signature
+-- the machine value of a slice, and the types of shared ones at the first lifetime of a signature: characters, and an index
 abbrev pub val : RefT (List ℕ) → Val
 val s = sliceVal (s .ptr) (length (s .now))
 
 abbrev pub Shr : Lft → RattleType
 Shr κ = ShrSlice (named 0) κ u16
 
+abbrev pub Index : Lft → RattleType
+Index κ = ShrSlice (named 0) κ number
+
 abbrev pub Lent : Lft → (x y z : RefT (List ℕ)) → Fml
-Lent κ x y z = owns (Shr κ ∷ Shr κ ∷ Shr κ ∷ []) (x, (y, (z, tt))) (val x ∷ [], (val y ∷ [], (val z ∷ [], tt)))
+Lent κ x y z = owns (Shr κ ∷ Shr κ ∷ Index κ ∷ []) (x, (y, (z, tt))) (val x ∷ [], (val y ∷ [], (val z ∷ [], tt)))
 
 abbrev pub of : RefT (List ℕ) → (refusal keys first : ℕ) → Opened
 of z a k f = record { numbers = z; refusal = a; keys = k; first = f }
@@ -72,6 +76,9 @@ module _ {M : Type 1} (𝓤 : URA M) (H : Heap 𝓤) (A : Atoms 𝓤) where
     abbrev own : RefT (List ℕ) → Fml
     own s = Shr κ .own s (val s ∷ [])
 
+    abbrev OwnZ : Fml
+    OwnZ = Index κ .own z (val z ∷ [])
+
     pub twice : ent 𝓤 (sem 𝓤 H A (Lent κ x y z)) (sep 𝓤 (sem 𝓤 H A (Lent κ x y z)) (sem 𝓤 H A (Lent κ x y z)))
     twice =
         qed W (‵ (Lent κ x y z) ∷ []) ∵ fsplit ! $ use1 W (‵ (own x) ⊛ ‵ (own x))
@@ -80,8 +87,8 @@ module _ {M : Type 1} (𝓤 : URA M) (H : Heap 𝓤) (A : Atoms 𝓤) where
         move ! (2 ∷ []) $ fsplit ! $ use1 W (‵ (own y) ⊛ ‵ (own y))
         (shr-slice-copy 𝓤 H A W (named 0) κ u16 .twice y (val y ∷ [])) $ split ! $
         -- [y; y; z; x; x]
-        move ! (2 ∷ []) $ fsplit ! $ use1 W (‵ (own z) ⊛ ‵ (own z))
-        (shr-slice-copy 𝓤 H A W (named 0) κ u16 .twice z (val z ∷ [])) $ split ! $
+        move ! (2 ∷ []) $ fsplit ! $ use1 W (‵ OwnZ ⊛ ‵ OwnZ)
+        (shr-slice-copy 𝓤 H A W (named 0) κ number .twice z (val z ∷ [])) $ split ! $
         -- [z; z; true; y; y; x; x]
         move ! (0 ∷ 2 ∷ []) $ fjoin ! $ move ! (2 ∷ 0 ∷ []) $ fjoin ! $ move ! (3 ∷ 0 ∷ []) $ fjoin ! $ frame ! $
         -- [z; y; x]

@@ -5,10 +5,12 @@ use mathlib.Core.List.{List, [], _∷_}
 use Prim.Native.Nat.{ℕ, _+_, _≤_, _<_}
 use native.Mathlib.Omega.{arith}
 use lib.ListN.{length, drop}
+use borrow.Author.Tests.{ltb-true}
 use Rattle.spec.specs.Dictionary.{Lexicon}
 use Rattle.spec.specs.Words.{spells, key, is-word}
-use Rattle.spec.specs.Index.{n-of, keys-of, kind-at, value-at, count-at, key-at}
+use Rattle.spec.specs.Index.{n-of, keys-of, kind-at, value-at, count-at, key-at, key-good}
 use Rattle.models.specs.Readability.{key-code, key-fits, line-list-good, line-fits, walk-good}
+use Rattle.laws.specs.Readable.LineWalk.{fits-get}
 use Rattle.laws.specs.Readable.LineSteps.{Lines-read, lines-step, lines-stop}
 use Rattle.laws.specs.Readable.KeyTests.{lone-low, lone-high, lone-word, lone-fits, kind-other}
 
@@ -45,6 +47,12 @@ module _ {read : List ℕ → List ℕ} {lex : Lexicon} {xs : List ℕ} {i at le
     (h : Lines-read read lex xs i at least) (l : Line-read xs i n kind value count) (word : kind ≡ 0) where
   pub word-stop : line-fits read lex n least (key 0 value) count (drop at xs) ≡ false → false ≡ walk-good read lex xs
   word-stop f = stop h l (rw word f)
+
+  -- the value is a word's number
+  pub word-known : line-fits read lex n least (key 0 value) count (drop at xs) ≡ true → value < length (lex .words)
+  unfolding key key-good
+  word-known t =
+      ltb-true value (length (lex .words)) (fits-get read lex n least (key 0 value) count (drop at xs) t .is-good)
 
   pub word-step :
       line-fits read lex n least (key 0 value) count (drop at xs) ≡ true → Lines-read read lex xs (i + 1) (at + count) (value + 1)

@@ -6,7 +6,6 @@ use Prim.Native.Nat.{ℕ, _+_, _-_, _^_, _≤_, _<_, max}
 use native.Mathlib.Omega.{arith}
 use lib.ListN.{length, getD, drop, set, length-set}
 use Rattle.basics.specs.Bools.{clash}
-use Rattle.spec.specs.Index.{greatest-number}
 use Rattle.models.specs.Window.{extend-all, positions-all}
 use Rattle.laws.specs.Window.Window.{Within, within-more, within-set, Reaches, Progress, progress-start, progress-step, progress-pass}
 use Rattle.laws.specs.Window.Window.{progress-end, reaches-same}
@@ -14,10 +13,11 @@ use Rattle.laws.specs.Window.WindowSearch.{Own-start, Outside-window, ex
 use Rattle.laws.specs.Window.WindowSearch.{positions-next, positions-skip}
 use Rattle.laws.specs.Window.ListRange.{Window-range}
 
--- a key of this length shares a position with the string at the offset, and the numbers that the pass computes are small
+-- a key of this length shares a position with the string at the offset, ends where one of 32 characters after a string of 256 does, or
+-- before, and the window's first start is small
 pub record Offset-fits (len i o q : ℕ) : Type 0 where
   pub shared : i ≤ o + len
-  pub end-small : o + len ≤ greatest-number
+  pub end-small : o + len ≤ 288
   pub first-small : q ≤ 2 ^ 32
 
 -- a key of an index that starts within the string

@@ -48,7 +48,8 @@ use Rattle.spec.specs.Calls.{index-refusal, Cut-says}
 use Rattle.spec.specs.declared.Answer.{Answer}
 use Rattle.spec.proofs.Answer as R
 use Rattle.spec.proofs.Answer.Laws as R′
-use Rattle.opening.proofs.Opens.{val, Shr, Lent, Open, twice, to-open, asks-open, opens}
+use Rattle.width.specs.Element.{number}
+use Rattle.opening.proofs.Opens.{val, Shr, Index, Lent, Open, twice, to-open, asks-open, opens}
 use Rattle.opening.proofs.opened.open_index.Symbol as opener-def
 use Rattle.opening.proofs.opened.open_index.Symbol.{name as #open-index}
 use Rattle.opening.proofs.opened.open_index.Met as opener-thm
@@ -64,7 +65,8 @@ use Rattle.cutter.proofs.cut.cut_index.Code as code
 abbrev stayed : Stays (itself.ended .signature .params) (itself.ended .kept)
 stayed =
     let shr = stay-none-slice (0 ∷ []) tt (plain (λ _. u16)) yes in
-    (shr, (shr, (shr, (shr, (gave-slice (1 ∷ []) tt (plain (λ _. u16)), tt)))))
+    let numbers = stay-none-slice (0 ∷ []) tt (plain (λ _. number)) yes in
+    (shr, (shr, (numbers, (shr, (gave-slice (1 ∷ []) tt (plain (λ _. number)), tt)))))
 
 module _ {M : Type 1} (𝓤 : URA M) (H : Heap 𝓤) (A : Atoms 𝓤) (mem : Memory → SProp 𝓤) (run : Routine → Fun 𝓤) where
   -- the contract of the covered function
@@ -96,7 +98,7 @@ module _ {M : Type 1} (𝓤 : URA M) (H : Heap 𝓤) (A : Atoms 𝓤) (W : Given
   own v = Shr κ .own v (val v ∷ [])
 
   abbrev OwnT : Fml
-  OwnT = MutSlice (named 1) ν u16 .own t (val t ∷ [])
+  OwnT = MutSlice (named 1) ν number .own t (val t ∷ [])
 
   -- what is put aside for the second call, and what is kept for the exit
   abbrev Aside : Fml
@@ -108,7 +110,7 @@ module _ {M : Type 1} (𝓤 : URA M) (H : Heap 𝓤) (A : Atoms 𝓤) (W : Given
   goes-open : ent 𝓤 (onEntry 𝓤 H A itself.signature κs qs a at) (sep 𝓤 (Open 𝓤 H A mem run .pre (to-open 𝓤 H A W κ x y z q mem run))
       (sep 𝓤 (sem 𝓤 H A Aside) (sem 𝓤 H A Kept)))
   goes-open =
-      qed W ((‵ (flft κ q) ⊛ ‵ (flft ν p) ⊛ ‵ ftrue) ∷ ‵ (owns (Shr κ ∷ Shr κ ∷ Shr κ ∷ Shr κ ∷ MutSlice (named 1) ν u16 ∷ []) a at) ∷ []) ∵
+      qed W ((‵ (flft κ q) ⊛ ‵ (flft ν p) ⊛ ‵ ftrue) ∷ ‵ (owns (Shr κ ∷ Shr κ ∷ Index κ ∷ Shr κ ∷ MutSlice (named 1) ν number ∷ []) a at) ∷ []) ∵
       move ! (1 ∷ []) $ fsplit ! $ move ! (1 ∷ []) $ fsplit ! $ move ! (1 ∷ []) $ fsplit ! $
       -- [z; the others; y; x; the tokens]
       nothing ! $ move ! (1 ∷ 0 ∷ []) $ fjoin ! $ move ! (2 ∷ 0 ∷ []) $ fjoin ! $ move ! (2 ∷ 0 ∷ []) $ fjoin ! $ use1 W
@@ -151,20 +153,20 @@ module _ {M : Type 1} (𝓤 : URA M) (H : Heap 𝓤) (A : Atoms 𝓤) (W : Given
 
   -- of the callee's `ensured`: the output's last list, and what is said of it
   answered : (refusal : ℕ) (c : Answer) → ent 𝓤 (ensured 𝓤 H A callee.ended (callee.clauses 𝓤 H A mem run) κs
-      (args refusal) tt c) (ex 𝓤 (λ (ws : List ℕ). sep 𝓤 (sem 𝓤 H A (finally u16 γ ws)) (fact 𝓤 (Answered c ws))))
+      (args refusal) tt c) (ex 𝓤 (λ (ws : List ℕ). sep 𝓤 (sem 𝓤 H A (finally number γ ws)) (fact 𝓤 (Answered c ws))))
   answered refusal c =
       exE 𝓤 _ (λ fins. qed W (‵ (lasts callee.ended κs (args refusal) fins) ∷ raw
       (fact 𝓤 (Cut-says longest-text (now x) (now y) (now z) (now s) c old (fins .1 .1 .1 .1 .1 .0))) ∷ []) ∵
-      show ! (λ (ws : List ℕ). sep 𝓤 (sem 𝓤 H A (finally u16 γ ws)) (fact 𝓤 (Answered c ws))) (fins .1 .1 .1 .1 .1 .0) $
+      show ! (λ (ws : List ℕ). sep 𝓤 (sem 𝓤 H A (finally number γ ws)) (fact 𝓤 (Answered c ws))) (fins .1 .1 .1 .1 .1 .0) $
       move ! (1 ∷ []) $ heard ! (Cut-says longest-text (now x) (now y) (now z) (now s) c old (fins .1 .1 .1 .1 .1 .0)) (λ e.
       fsplit ! $ drop ! $ fsplit ! $ drop ! $ fsplit ! $ drop ! $ fsplit ! $ drop ! $ fsplit ! $ drop ! $ fsplit ! $
       fsplit ! $ move ! (1 ∷ []) $ feqL ! (λ l. says ! (e, l) $ keep ! (0 ∷ []) $ done !)))
 
   exits : (c : Answer) (u : Val) (ws : List ℕ) → Answered c ws →
-      ent 𝓤 (⋆ 𝓤 H A (‵ (R.the-row .own c (u ∷ [])) ∷ (‵ (flft κ q) ⊛ ‵ (flft ν p) ⊛ ‵ ftrue) ∷ ‵ (finally u16 γ ws) ∷ ‵ Kept ∷ []))
+      ent 𝓤 (⋆ 𝓤 H A (‵ (R.the-row .own c (u ∷ [])) ∷ (‵ (flft κ q) ⊛ ‵ (flft ν p) ⊛ ‵ ftrue) ∷ ‵ (finally number γ ws) ∷ ‵ Kept ∷ []))
       (Post u)
   exits c u ws h =
-      qed W (‵ (R.the-row .own c (u ∷ [])) ∷ (‵ (flft κ q) ⊛ ‵ (flft ν p) ⊛ ‵ ftrue) ∷ ‵ (finally u16 γ ws) ∷ ‵ Kept ∷ []) ∵
+      qed W (‵ (R.the-row .own c (u ∷ [])) ∷ (‵ (flft κ q) ⊛ ‵ (flft ν p) ⊛ ‵ ftrue) ∷ ‵ (finally number γ ws) ∷ ‵ Kept ∷ []) ∵
       suffices ! _ (ends-at 𝓤 H A itself.ended stayed (itself.clauses 𝓤 H A mem run) W ((κs, qs, tt, a, at), tt) u c
       (tt, (tt, (tt, (tt, (ws, tt))))) (tt, (tt, (tt, (tt, (h .1, tt)))))) $ says ! (h .0) $
       move ! (1 ∷ []) $ frame ! $ move ! (2 ∷ []) $ fsplit ! $ fsplit ! $ move ! (1 ∷ []) $ fsplit ! $ move ! (1 ∷ []) $ fsplit ! $
@@ -174,8 +176,8 @@ module _ {M : Type 1} (𝓤 : URA M) (H : Heap 𝓤) (A : Atoms 𝓤) (W : Given
 
   module _ (C : Calls 𝓤 H) (Λ : Loops 𝓤 H) (fm : FmC 𝓤 H (W .laws) C) (known-open : Triple 𝓤 (C #open-index) (Open 𝓤 H A mem run))
       (known-callee : Triple 𝓤 (C #callee) (Callee 𝓤 H A mem run)) where
-    walk : Is (Shr κ) x (val x ∷ []) → Is (Shr κ) y (val y ∷ []) → Is (Shr κ) z (val z ∷ []) → Is (Shr κ) s (val s ∷ []) →
-        Room u16 (length old) → ent 𝓤 (onEntry 𝓤 H A itself.signature κs qs a at)
+    walk : Is (Shr κ) x (val x ∷ []) → Is (Shr κ) y (val y ∷ []) → Is (Index κ) z (val z ∷ []) → Is (Shr κ) s (val s ∷ []) →
+        Room number (length old) → ent 𝓤 (onEntry 𝓤 H A itself.signature κs qs a at)
         (WpFn 𝓤 H C Λ code.function (val x ∷ val y ∷ val z ∷ val s ∷ val t ∷ []) Post)
     walk px py pz ps room =
         qed W (raw (onEntry 𝓤 H A itself.signature κs qs a at) ∷ []) ∵ enter ! C Λ code.function
@@ -185,7 +187,7 @@ module _ {M : Type 1} (𝓤 : URA M) (H : Heap 𝓤) (A : Atoms 𝓤) (W : Given
         (λ l₇. alloc1 ! (λ l₈. alloc1 ! (λ l₉. alloc1 ! (λ l₁₀. alloc0 ! $ params1 ! $
         pass1 ! (init ! 18 refl (shr-slice-lawful 𝓤 H A W (named 0) κ u16 .typed x (val x ∷ []) px .0)) $ pass1 !
         (init ! 16 refl (shr-slice-lawful 𝓤 H A W (named 0) κ u16 .typed y (val y ∷ []) py .0)) $ pass1 !
-        (init ! 14 refl (shr-slice-lawful 𝓤 H A W (named 0) κ u16 .typed z (val z ∷ []) pz .0)) $
+        (init ! 14 refl (shr-slice-lawful 𝓤 H A W (named 0) κ number .typed z (val z ∷ []) pz .0)) $
         pass1 ! (init ! 12 refl (shr-slice-lawful 𝓤 H A W (named 0) κ u16 .typed s (val s ∷ []) ps .0)) $ pass1 !
         (init ! 10 refl (tt, (tt, (record { fits = room .0 }, tt)))) $ pass0 ! $
         move ! (22 ∷ []) $ use1 W (raw (Open 𝓤 H A mem run .pre (to-open 𝓤 H A W κ x y z q mem run)) ⊛
@@ -218,7 +220,7 @@ module _ {M : Type 1} (𝓤 : URA M) (H : Heap 𝓤) (A : Atoms 𝓤) (W : Given
         use1 W (later (some (λ (c : Answer). ((‵ (flft κ q) ⊛ ‵ (flft ν p) ⊛ ‵ ftrue) ⊛ ‵ (R.the-row .own c (v ∷ []))) ⊛ raw
         (ensured 𝓤 H A callee.ended (callee.clauses 𝓤 H A mem run) κs (args refusal) tt c))))
         (id⊢ 𝓤 _) $ await ! tt $ pick ! (λ c.
-        split ! $ move ! (1 ∷ []) $ use1 W (some (λ (ws : List ℕ). ‵ (finally u16 γ ws) ⊛ raw (fact 𝓤 (Answered c ws))))
+        split ! $ move ! (1 ∷ []) $ use1 W (some (λ (ws : List ℕ). ‵ (finally number γ ws) ⊛ raw (fact 𝓤 (Answered c ws))))
         (answered refusal c) $ pick ! (λ ws.
         split ! $ move ! (1 ∷ []) $ heard ! (Answered c ws) (λ e. move ! (1 ∷ []) $ split ! $ move ! (1 ∷ []) $
         -- [the result; the tokens; what is last; kept; _10; …; _0; …]
@@ -240,7 +242,8 @@ module _ {M : Type 1} (𝓤 : URA M) (H : Heap 𝓤) (A : Atoms 𝓤) (W : Given
       (λ κs. (slice-vals, (slice-vals, (slice-vals, (slice-vals, (slice-vals, tt))))))
       (λ κs.
       let shr = shr-slice-tells (named 0) (κs .0) u16 in
-      (shr, (shr, (shr, (shr, (mut-slice-tells (named 1) (κs .1 .0) u16, tt))))))
+      let numbers = shr-slice-tells (named 0) (κs .0) number in
+      (shr, (shr, (numbers, (shr, (mut-slice-tells (named 1) (κs .1 .0) number, tt))))))
       (λ κs qs bounds a g are. via 𝓤 _ (fst∗ 𝓤 _ (emp 𝓤)) (walk 𝓤 H A W mem run (κs .0) (κs .1 .0) (qs .0) (qs .1 .0) (a .0) (a .1 .0)
       (a .1 .1 .0) (a .1 .1 .1 .0) (a .1 .1 .1 .1 .0 .ptr .0) (a .1 .1 .1 .1 .0 .ptr .1) (a .1 .1 .1 .1 .0 .name)
       (a .1 .1 .1 .1 .0 .now)
@@ -250,7 +253,8 @@ module _ {M : Type 1} (𝓤 : URA M) (H : Heap 𝓤) (A : Atoms 𝓤) (W : Given
       Meets 𝓤 H A itself.signature (WpFn 𝓤 H (𝓣 .C) (𝓣 .Λ) code.function) (itself.spec 𝓤 H A mem run)
   meets 𝓣 known-open known-callee =
       let shr = goes-none-slice 𝓤 H A W 2 (0 ∷ []) tt (plain (λ _. u16)) yes in
-      walk-meets 𝓤 H A itself.ended stayed W (shr, (shr, (shr, (shr, (goes-gave-slice 𝓤 H A W 2 1 tt (plain (λ _. u16)), tt)))))
+      let numbers = goes-none-slice 𝓤 H A W 2 (0 ∷ []) tt (plain (λ _. number)) yes in
+      walk-meets 𝓤 H A itself.ended stayed W (shr, (shr, (numbers, (shr, (goes-gave-slice 𝓤 H A W 2 1 tt (plain (λ _. number)), tt)))))
       (itself.clauses 𝓤 H A mem run) (WpFn 𝓤 H (𝓣 .C) (𝓣 .Λ) code.function) (WpFn-mono 𝓤 H (W .laws) 𝓣 code.function)
       (walks (𝓣 .C) (𝓣 .Λ) (fmOf 𝓤 H (W .laws) 𝓣) known-open known-callee)
 

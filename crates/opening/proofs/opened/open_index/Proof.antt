@@ -41,6 +41,7 @@ use denote.Exit.{yes}
 use denote.Triple.Clauses.{ensured, lasts}
 use Rattle.spec.specs.Dictionary.{longest-text}
 use Rattle.laws.specs.Readable.Opening.{Bounded}
+use Rattle.width.specs.Element.{number}
 use Rattle.opening.specs.declared.opened.Opened.{Opened}
 use Rattle.opening.specs.declared.opened.Bounds.{Bounds}
 use Rattle.opening.proofs.opened.Opened as T
@@ -74,7 +75,7 @@ stayed = (
   stay-none-slice (0 ∷ []) tt (plain (λ _. u16)) yes,
   (
     stay-none-slice (0 ∷ []) tt (plain (λ _. u16)) yes,
-    (stay-none-slice (0 ∷ []) tt (plain (λ _. u16)) yes, tt),
+    (stay-none-slice (0 ∷ []) tt (plain (λ _. number)) yes, tt),
   ),
 )
 
@@ -111,10 +112,10 @@ module _ {M : Type 1} (𝓤 : URA M) (H : Heap 𝓤) (A : Atoms 𝓤) (W : Given
   OwnY = ShrSlice (named 0) κ u16 .own y (vy ∷ [])
 
   abbrev OwnZ : Fml
-  OwnZ = ShrSlice (named 0) κ u16 .own z (vz ∷ [])
+  OwnZ = ShrSlice (named 0) κ number .own z (vz ∷ [])
 
   abbrev Kept : Fml
-  Kept = owns (ShrSlice (named 0) κ u16 ∷ ShrSlice (named 0) κ u16 ∷ ShrSlice (named 0) κ u16 ∷ []) (x, (y, (z, tt))) at
+  Kept = owns (ShrSlice (named 0) κ u16 ∷ ShrSlice (named 0) κ u16 ∷ ShrSlice (named 0) κ number ∷ []) (x, (y, (z, tt))) at
 
   -- the call of `bounds_of`: what it is passed, what it asks, and what is known of its result
   abbrev to-test : Test 𝓤 H A mem run .Ghost
@@ -128,8 +129,8 @@ module _ {M : Type 1} (𝓤 : URA M) (H : Heap 𝓤) (A : Atoms 𝓤) (W : Given
       -- [x; x; y and z; the token]
       move ! (2 ∷ []) $ fsplit ! $ use1 W (‵ OwnY ⊛ ‵ OwnY) (shr-slice-copy 𝓤 H A W (named 0) κ u16 .twice y (vy ∷ [])) $ split ! $
       -- [y; y; z; x; x; the token]
-      move ! (2 ∷ []) $ fsplit ! $ use1 W (‵ OwnZ ⊛ ‵ OwnZ) (shr-slice-copy 𝓤 H A W (named 0) κ u16 .twice z (vz ∷ [])) $ split ! $ use1 W
-      (‵ OwnZ ⊛ ‵ OwnZ) (shr-slice-copy 𝓤 H A W (named 0) κ u16 .twice z (vz ∷ [])) $ split ! $
+      move ! (2 ∷ []) $ fsplit ! $ use1 W (‵ OwnZ ⊛ ‵ OwnZ) (shr-slice-copy 𝓤 H A W (named 0) κ number .twice z (vz ∷ [])) $ split ! $ use1 W
+      (‵ OwnZ ⊛ ‵ OwnZ) (shr-slice-copy 𝓤 H A W (named 0) κ number .twice z (vz ∷ [])) $ split ! $
       -- [z; z; z; true; y; y; x; x; the token]
       move ! (0 ∷ 3 ∷ []) $ fjoin ! $ move ! (3 ∷ 0 ∷ []) $ fjoin ! $ move ! (4 ∷ 0 ∷ []) $ fjoin ! $
       -- [the three; z; z; y; x; the token]
@@ -150,8 +151,8 @@ module _ {M : Type 1} (𝓤 : URA M) (H : Heap 𝓤) (A : Atoms 𝓤) (W : Given
   to-make b u = (((κ, tt), (q, tt), tt, (z, (b, tt)), (vz ∷ [], (u ∷ [], tt))), tt)
 
   goes-make : (b : Bounds) (u : Val) → ent 𝓤 (⋆ 𝓤 H A ((‵ (flft κ q) ⊛ ‵ ftrue) ∷ ‵
-      (owns (ShrSlice (named 0) κ u16 ∷ S.the-row ∷ []) (z, (b, tt)) (vz ∷ [], (u ∷ [], tt))) ∷ [])) (Make 𝓤 H A mem run .pre (to-make b u))
-  goes-make b u = qed W ((‵ (flft κ q) ⊛ ‵ ftrue) ∷ ‵ (owns (ShrSlice (named 0) κ u16 ∷ S.the-row ∷ []) (z, (b, tt))
+      (owns (ShrSlice (named 0) κ number ∷ S.the-row ∷ []) (z, (b, tt)) (vz ∷ [], (u ∷ [], tt))) ∷ [])) (Make 𝓤 H A mem run .pre (to-make b u))
+  goes-make b u = qed W ((‵ (flft κ q) ⊛ ‵ ftrue) ∷ ‵ (owns (ShrSlice (named 0) κ number ∷ S.the-row ∷ []) (z, (b, tt))
       (vz ∷ [], (u ∷ [], tt))) ∷ []) ∵ join ! $ frame ! $ done !
 
   abbrev Made : Bounds → Opened → Type 0
@@ -176,7 +177,7 @@ module _ {M : Type 1} (𝓤 : URA M) (H : Heap 𝓤) (A : Atoms 𝓤) (W : Given
   module _ (C : Calls 𝓤 H) (Λ : Loops 𝓤 H) (fm : FmC 𝓤 H (W .laws) C) (known-test : Triple 𝓤 (C #bounds-of) (Test 𝓤 H A mem run))
       (known-make : Triple 𝓤 (C #with-bounds) (Make 𝓤 H A mem run)) where
     walk : Is (ShrSlice (named 0) κ u16) x (vx ∷ []) → Is (ShrSlice (named 0) κ u16) y (vy ∷ []) →
-        Is (ShrSlice (named 0) κ u16) z (vz ∷ []) → ent 𝓤 (onEntry 𝓤 H A opener.signature (κ, tt) (q, tt) (x, (y, (z, tt))) at)
+        Is (ShrSlice (named 0) κ number) z (vz ∷ []) → ent 𝓤 (onEntry 𝓤 H A opener.signature (κ, tt) (q, tt) (x, (y, (z, tt))) at)
         (WpFn 𝓤 H C Λ code.function (vx ∷ vy ∷ vz ∷ []) Post)
     walk px py pz =
         qed W (raw (onEntry 𝓤 H A opener.signature (κ, tt) (q, tt) (x, (y, (z, tt))) at) ∷ []) ∵ enter ! C Λ code.function
@@ -185,7 +186,7 @@ module _ {M : Type 1} (𝓤 : URA M) (H : Heap 𝓤) (A : Atoms 𝓤) (W : Given
         (λ l₃. alloc1 ! (λ l₄. alloc0 ! $ params1 ! $ pass1 !
         (init ! 6 refl (shr-slice-lawful 𝓤 H A W (named 0) κ u16 .typed x (vx ∷ []) px .0)) $ pass1 !
         (init ! 4 refl (shr-slice-lawful 𝓤 H A W (named 0) κ u16 .typed y (vy ∷ []) py .0)) $ pass1 !
-        (init ! 2 refl (shr-slice-lawful 𝓤 H A W (named 0) κ u16 .typed z (vz ∷ []) pz .0)) $ pass0 ! $
+        (init ! 2 refl (shr-slice-lawful 𝓤 H A W (named 0) κ number .typed z (vz ∷ []) pz .0)) $ pass0 ! $
         move ! (10 ∷ []) $ use1 W (raw (Test 𝓤 H A mem run .pre to-test) ⊛ (‵ Kept ⊛ ‵ OwnZ)) goes-test $ split ! $ move !
         (1 ∷ []) $ split ! $ move ! (2 ∷ []) $
         -- [what the call asks; the three; z; _4; …; _3; …; _2; …; _1; …; room for _0; …]
@@ -221,7 +222,7 @@ module _ {M : Type 1} (𝓤 : URA M) (H : Heap 𝓤) (A : Atoms 𝓤) (W : Given
       → Walks 𝓤 H A opener.ended stayed (WpFn 𝓤 H C Λ code.function) (opener.clauses 𝓤 H A mem run)
   open-index-walks C Λ fm known-test known-make = walked 𝓤 H A opener.ended stayed (opener.clauses 𝓤 H A mem run)
       (WpFn 𝓤 H C Λ code.function) (λ κs. (slice-vals, (slice-vals, (slice-vals, tt))))
-      (λ κs. (shr-slice-tells (named 0) (κs .0) u16, (shr-slice-tells (named 0) (κs .0) u16, (shr-slice-tells (named 0) (κs .0) u16, tt))))
+      (λ κs. (shr-slice-tells (named 0) (κs .0) u16, (shr-slice-tells (named 0) (κs .0) u16, (shr-slice-tells (named 0) (κs .0) number, tt))))
       (λ κs qs bounds a g are. via 𝓤 _ (fst∗ 𝓤 _ (emp 𝓤)) (walk 𝓤 H A W mem run (κs .0) (qs .0) (a .0) (a .1 .0)
       (a .1 .1 .0) C Λ fm known-test known-make (are .0) (are .1 .0) (are .1 .1 .0)))
 
@@ -231,7 +232,7 @@ open-index-meets : {M : Type 1} (𝓤 : URA M) (H : Heap 𝓤) (A : Atoms 𝓤) 
     → Meets 𝓤 H A opener.signature (WpFn 𝓤 H (𝓣 .C) (𝓣 .Λ) code.function) (opener.spec 𝓤 H A mem run)
 open-index-meets 𝓤 H A W mem run 𝓣 known-test known-make = walk-meets 𝓤 H A opener.ended stayed W (
   goes-none-slice 𝓤 H A W 1 (0 ∷ []) tt (plain (λ _. u16)) yes,
-  (goes-none-slice 𝓤 H A W 1 (0 ∷ []) tt (plain (λ _. u16)) yes, (goes-none-slice 𝓤 H A W 1 (0 ∷ []) tt (plain (λ _. u16)) yes, tt)),
+  (goes-none-slice 𝓤 H A W 1 (0 ∷ []) tt (plain (λ _. u16)) yes, (goes-none-slice 𝓤 H A W 1 (0 ∷ []) tt (plain (λ _. number)) yes, tt)),
 ) (opener.clauses 𝓤 H A mem run) (WpFn 𝓤 H (𝓣 .C) (𝓣 .Λ) code.function) (WpFn-mono 𝓤 H (W .laws) 𝓣 code.function)
     (open-index-walks 𝓤 H A W mem run (𝓣 .C) (𝓣 .Λ) (fmOf 𝓤 H (W .laws) 𝓣) known-test known-make)
 

@@ -44,7 +44,8 @@ use Rattle.spec.specs.declared.TallyAnswer.{TallyAnswer}
 use Rattle.spec.proofs.TallyAnswer as S
 use Rattle.spec.proofs.TallyAnswer.Laws as S′
 use Rattle.laws.specs.Readable.Opening.{Bounded}
-use Rattle.opening.proofs.Opens.{val, Shr, Lent, Open, twice, to-open, asks-open, opens}
+use Rattle.width.specs.Element.{number}
+use Rattle.opening.proofs.Opens.{val, Shr, Index, Lent, Open, twice, to-open, asks-open, opens}
 use Rattle.opening.proofs.opened.open_index.Symbol as opener-def
 use Rattle.opening.proofs.opened.open_index.Symbol.{name as #open-index}
 use Rattle.opening.proofs.opened.open_index.Met as opener-thm
@@ -62,7 +63,7 @@ stayed = (
   stay-none-slice (0 ∷ []) tt (plain (λ _. u16)) yes,
   (
     stay-none-slice (0 ∷ []) tt (plain (λ _. u16)) yes,
-    (stay-none-slice (0 ∷ []) tt (plain (λ _. u16)) yes, tt),
+    (stay-none-slice (0 ∷ []) tt (plain (λ _. number)) yes, tt),
   ),
 )
 
@@ -119,7 +120,7 @@ module _ {M : Type 1} (𝓤 : URA M) (H : Heap 𝓤) (A : Atoms 𝓤) (W : Given
 
   module _ (C : Calls 𝓤 H) (Λ : Loops 𝓤 H) (fm : FmC 𝓤 H (W .laws) C) (known-open : Triple 𝓤 (C #open-index) (Open 𝓤 H A mem run))
       (known-call : Triple 𝓤 (C #tally-opened) (Call 𝓤 H A mem run)) where
-    walk : Is (Shr κ) x (val x ∷ []) → Is (Shr κ) y (val y ∷ []) → Is (Shr κ) z (val z ∷ []) →
+    walk : Is (Shr κ) x (val x ∷ []) → Is (Shr κ) y (val y ∷ []) → Is (Index κ) z (val z ∷ []) →
         ent 𝓤 (onEntry 𝓤 H A taker.signature (κ, tt) (q, tt) (x, (y, (z, tt))) at)
         (WpFn 𝓤 H C Λ code.function (val x ∷ val y ∷ val z ∷ []) Post)
     walk px py pz =
@@ -128,7 +129,7 @@ module _ {M : Type 1} (𝓤 : URA M) (H : Heap 𝓤) (A : Atoms 𝓤) (W : Given
         (λ l₃. alloc1 ! (λ l₄. alloc1 ! (λ l₅. alloc1 ! (λ l₆. alloc1 ! (λ l₇. alloc1 ! (λ l₈. alloc0 ! $ params1 ! $
         pass1 ! (init ! 14 refl (shr-slice-lawful 𝓤 H A W (named 0) κ u16 .typed x (val x ∷ []) px .0)) $ pass1 !
         (init ! 12 refl (shr-slice-lawful 𝓤 H A W (named 0) κ u16 .typed y (val y ∷ []) py .0)) $ pass1 !
-        (init ! 10 refl (shr-slice-lawful 𝓤 H A W (named 0) κ u16 .typed z (val z ∷ []) pz .0)) $ pass0 ! $
+        (init ! 10 refl (shr-slice-lawful 𝓤 H A W (named 0) κ number .typed z (val z ∷ []) pz .0)) $ pass0 ! $
         -- [_8; …; _7; …; _6; …; _5; …; _4; …; _3; …; _2; …; _1; …; room for _0; …; the token; the three]
         move ! (19 ∷ []) $ use1 W (‵ (Lent κ x y z) ⊛ ‵ (Lent κ x y z)) (twice 𝓤 H A W κ x y z) $ split ! $ move ! (20 ∷ 0 ∷ []) $ use2 W
         (raw (Open 𝓤 H A mem run .pre (to-open 𝓤 H A W κ x y z q mem run))) (asks-open 𝓤 H A W κ x y z q mem run) $
@@ -177,7 +178,7 @@ module _ {M : Type 1} (𝓤 : URA M) (H : Heap 𝓤) (A : Atoms 𝓤) (W : Given
       → Walks 𝓤 H A taker.ended stayed (WpFn 𝓤 H C Λ code.function) (taker.clauses 𝓤 H A mem run)
   tally-walks C Λ fm known-open known-call = walked 𝓤 H A taker.ended stayed (taker.clauses 𝓤 H A mem run) (WpFn 𝓤 H C Λ code.function)
       (λ κs. (slice-vals, (slice-vals, (slice-vals, tt)))) (λ κs.
-      (shr-slice-tells (named 0) (κs .0) u16, (shr-slice-tells (named 0) (κs .0) u16, (shr-slice-tells (named 0) (κs .0) u16, tt))))
+      (shr-slice-tells (named 0) (κs .0) u16, (shr-slice-tells (named 0) (κs .0) u16, (shr-slice-tells (named 0) (κs .0) number, tt))))
       (λ κs qs bounds a g are. via 𝓤 _ (fst∗ 𝓤 _ (emp 𝓤)) (walk 𝓤 H A W mem run (κs .0) (qs .0) (a .0) (a .1 .0)
       (a .1 .1 .0) C Λ fm known-open known-call (are .0) (are .1 .0) (are .1 .1 .0)))
 
@@ -187,7 +188,7 @@ tally-meets : {M : Type 1} (𝓤 : URA M) (H : Heap 𝓤) (A : Atoms 𝓤) (W : 
     → Meets 𝓤 H A taker.signature (WpFn 𝓤 H (𝓣 .C) (𝓣 .Λ) code.function) (taker.spec 𝓤 H A mem run)
 tally-meets 𝓤 H A W mem run 𝓣 known-open known-call = walk-meets 𝓤 H A taker.ended stayed W (
   goes-none-slice 𝓤 H A W 1 (0 ∷ []) tt (plain (λ _. u16)) yes,
-  (goes-none-slice 𝓤 H A W 1 (0 ∷ []) tt (plain (λ _. u16)) yes, (goes-none-slice 𝓤 H A W 1 (0 ∷ []) tt (plain (λ _. u16)) yes, tt)),
+  (goes-none-slice 𝓤 H A W 1 (0 ∷ []) tt (plain (λ _. u16)) yes, (goes-none-slice 𝓤 H A W 1 (0 ∷ []) tt (plain (λ _. number)) yes, tt)),
 ) (taker.clauses 𝓤 H A mem run) (WpFn 𝓤 H (𝓣 .C) (𝓣 .Λ) code.function) (WpFn-mono 𝓤 H (W .laws) 𝓣 code.function)
     (tally-walks 𝓤 H A W mem run (𝓣 .C) (𝓣 .Λ) (fmOf 𝓤 H (W .laws) 𝓣) known-open known-call)
 

@@ -7,8 +7,9 @@ use borrow.Author.Needs.{needs}
 use borrow.Author.Tests.{not-true, not-false}
 use Rattle.spec.specs.Dictionary.{lexicon}
 use Rattle.models.specs.Readability.{read-as}
+use Rattle.laws.specs.Readable.KeyTests.{word-count}
 use Rattle.laws.specs.Readable.LineSteps.{Lines-read, lines-start, lines-end, lines-extend}
-use Rattle.laws.specs.Readable.LineKinds.{Line-read, word-stop, word-step}
+use Rattle.laws.specs.Readable.LineKinds.{Line-read, word-stop, word-known, word-step}
 use Rattle.readability.proofs.readability.lines_good.Statement.{statement}
 use Rattle.readability.proofs.readability.lines_good.Tie as tie
 
@@ -62,11 +63,20 @@ next-lines c =
     word-step (word .before .before .before .loop .inv .0) (is-line (c .before .before)) (word .if1 .left)
     (sym (c .before .word-line-good .ensures) ∙ not-false (c .before .word-line-good .result) (c .if2 .left))
 
+loop-again : tie.Need-loop-again Inv-loop μ-loop
+loop-again c =
+    let word = c .before .before .before .before in
+    let admitted = start (word .before .before .before .before .before) .pre .0 in
+    let known =
+    word-known (word .before .before .before .loop .inv .0) (is-line (c .before .before)) (word .if1 .left)
+    (sym (c .before .word-line-good .ensures) ∙ not-false (c .before .word-line-good .result) (c .if2 .left)) in
+    (next-lines c, omega (arith, known, word-count admitted, admitted .few))
+
 pub lines-good-spec : {M : Type 1} → statement M
 lines-good-spec =
     tie.close
     (tie.spec
     Inv-loop μ-loop (λ c κs. omega arith) (λ c κs. omega arith) (λ c κs. omega arith) loop-holds (λ c κs. omega arith) lone-lines-requires
     (λ c. c .lone-lines .ensures) (λ c κs. omega arith) (λ c κs. omega arith) word-line-good-requires returns-2
-    (λ c. omega (arith, next-lines c .room)) (λ c. omega arith) (λ c. omega arith) (λ c. omega arith) (λ c. (next-lines c, omega arith))
+    (λ c. omega (arith, next-lines c .room)) (λ c. omega arith) (λ c. omega arith) (λ c. omega arith) loop-again
     (λ c. lines-end (c .before .loop .inv .0) (omega arith)))

@@ -48,7 +48,8 @@ use Rattle.spec.specs.Calls.{index-refusal, Receive-says}
 use Rattle.spec.specs.declared.Answer.{Answer}
 use Rattle.spec.proofs.Answer as S
 use Rattle.spec.proofs.Answer.Laws as S′
-use Rattle.opening.proofs.Opens.{val, Shr, Lent, Open, twice, to-open, asks-open, opens}
+use Rattle.width.specs.Element.{number}
+use Rattle.opening.proofs.Opens.{val, Shr, Index, Lent, Open, twice, to-open, asks-open, opens}
 use Rattle.opening.proofs.opened.open_index.Symbol as opener-def
 use Rattle.opening.proofs.opened.open_index.Symbol.{name as #open-index}
 use Rattle.opening.proofs.opened.open_index.Met as opener-thm
@@ -66,7 +67,7 @@ stayed = (
   stay-none-slice (0 ∷ []) tt (plain (λ _. u16)) yes,
   (
     stay-none-slice (0 ∷ []) tt (plain (λ _. u16)) yes,
-    (stay-none-slice (0 ∷ []) tt (plain (λ _. u16)) yes, (gave-slice (1 ∷ []) tt (plain (λ _. u16)), tt)),
+    (stay-none-slice (0 ∷ []) tt (plain (λ _. number)) yes, (gave-slice (1 ∷ []) tt (plain (λ _. number)), tt)),
   ),
 )
 
@@ -97,10 +98,10 @@ module _ {M : Type 1} (𝓤 : URA M) (H : Heap 𝓤) (A : Atoms 𝓤) (W : Given
 
   -- what is given to the second call
   abbrev Gives : Fml
-  Gives = owns (MutSlice (named 1) ν u16 ∷ []) (w, tt) (val w ∷ [], tt)
+  Gives = owns (MutSlice (named 1) ν number ∷ []) (w, tt) (val w ∷ [], tt)
 
   abbrev Owned : Fml
-  Owned = owns (Shr κ ∷ Shr κ ∷ Shr κ ∷ MutSlice (named 1) ν u16 ∷ []) a at
+  Owned = owns (Shr κ ∷ Shr κ ∷ Index κ ∷ MutSlice (named 1) ν number ∷ []) a at
 
   apart : ent 𝓤 (sem 𝓤 H A Owned) (sep 𝓤 (sem 𝓤 H A (Lent κ x y z)) (sem 𝓤 H A Gives))
   apart =
@@ -110,7 +111,7 @@ module _ {M : Type 1} (𝓤 : URA M) (H : Heap 𝓤) (A : Atoms 𝓤) (W : Given
 
   -- what the lists of the last values are, and what is said of them
   abbrev Last : List ℕ → Fml
-  Last l = fsep (finally u16 γ l) ftrue
+  Last l = fsep (finally number γ l) ftrue
 
   abbrev Said : Answer → List ℕ → Type 0
   Said c l = (Receive-says longest-text (now x) (now y) (now z) c ws l) × (length l ≡ length ws)
@@ -153,7 +154,7 @@ module _ {M : Type 1} (𝓤 : URA M) (H : Heap 𝓤) (A : Atoms 𝓤) (W : Given
 
   module _ (C : Calls 𝓤 H) (Λ : Loops 𝓤 H) (fm : FmC 𝓤 H (W .laws) C) (known-open : Triple 𝓤 (C #open-index) (Open 𝓤 H A mem run))
       (known-call : Triple 𝓤 (C #receive-opened) (Call 𝓤 H A mem run)) where
-    walk : Is (Shr κ) x (val x ∷ []) → Is (Shr κ) y (val y ∷ []) → Is (Shr κ) z (val z ∷ []) → Room u16 (length ws) →
+    walk : Is (Shr κ) x (val x ∷ []) → Is (Shr κ) y (val y ∷ []) → Is (Index κ) z (val z ∷ []) → Room number (length ws) →
         ent 𝓤 (onEntry 𝓤 H A taker.signature κs qs a at) (WpFn 𝓤 H C Λ code.function (val x ∷ val y ∷ val z ∷ val w ∷ []) Post)
     walk px py pz room =
         qed W ((‵ (flft κ q) ⊛ ‵ (flft ν p) ⊛ ‵ ftrue) ∷ ‵ Owned ∷ []) ∵ enter ! C Λ code.function (val x ∷ val y ∷ val z ∷ val w ∷ []) _ $
@@ -161,7 +162,7 @@ module _ {M : Type 1} (𝓤 : URA M) (H : Heap 𝓤) (A : Atoms 𝓤) (W : Given
         (λ l₃. alloc1 ! (λ l₄. alloc1 ! (λ l₅. alloc1 ! (λ l₆. alloc1 ! (λ l₇. alloc1 ! (λ l₈. alloc1 ! (λ l₉. alloc0 ! $ params1 ! $
         pass1 ! (init ! 16 refl (shr-slice-lawful 𝓤 H A W (named 0) κ u16 .typed x (val x ∷ []) px .0)) $ pass1 !
         (init ! 14 refl (shr-slice-lawful 𝓤 H A W (named 0) κ u16 .typed y (val y ∷ []) py .0)) $ pass1 !
-        (init ! 12 refl (shr-slice-lawful 𝓤 H A W (named 0) κ u16 .typed z (val z ∷ []) pz .0)) $ pass1 !
+        (init ! 12 refl (shr-slice-lawful 𝓤 H A W (named 0) κ number .typed z (val z ∷ []) pz .0)) $ pass1 !
         (init ! 10 refl (tt, (tt, (record { fits = room .0 }, tt)))) $ pass0 ! $
         -- [_9; …; _1; …; room for _0; …; the tokens; what the slices own]
         move ! (21 ∷ []) $ use1 W (‵ (Lent κ x y z) ⊛ ‵ Gives) apart $ split ! $ use1 W (‵ (Lent κ x y z) ⊛ ‵ (Lent κ x y z))
@@ -220,7 +221,7 @@ module _ {M : Type 1} (𝓤 : URA M) (H : Heap 𝓤) (A : Atoms 𝓤) (W : Given
         shr-slice-tells (named 0) (κs .0) u16,
         (
           shr-slice-tells (named 0) (κs .0) u16,
-          (shr-slice-tells (named 0) (κs .0) u16, (mut-slice-tells (named 1) (κs .1 .0) u16, tt)),
+          (shr-slice-tells (named 0) (κs .0) number, (mut-slice-tells (named 1) (κs .1 .0) number, tt)),
         ),
       ))
       (λ κs qs bounds a g are. via 𝓤 _ (fst∗ 𝓤 _ (emp 𝓤)) (walk 𝓤 H A W mem run (κs .0) (κs .1 .0) (qs .0) (qs .1 .0) (a .0) (a .1 .0)
@@ -234,7 +235,7 @@ module _ {M : Type 1} (𝓤 : URA M) (H : Heap 𝓤) (A : Atoms 𝓤) (W : Given
         goes-none-slice 𝓤 H A W 2 (0 ∷ []) tt (plain (λ _. u16)) yes,
         (
           goes-none-slice 𝓤 H A W 2 (0 ∷ []) tt (plain (λ _. u16)) yes,
-          (goes-none-slice 𝓤 H A W 2 (0 ∷ []) tt (plain (λ _. u16)) yes, (goes-gave-slice 𝓤 H A W 2 1 tt (plain (λ _. u16)), tt)),
+          (goes-none-slice 𝓤 H A W 2 (0 ∷ []) tt (plain (λ _. number)) yes, (goes-gave-slice 𝓤 H A W 2 1 tt (plain (λ _. number)), tt)),
         ),
       )
       (taker.clauses 𝓤 H A mem run) (WpFn 𝓤 H (𝓣 .C) (𝓣 .Λ) code.function) (WpFn-mono 𝓤 H (W .laws) 𝓣 code.function)

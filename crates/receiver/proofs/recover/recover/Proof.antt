@@ -48,7 +48,8 @@ use Rattle.spec.specs.Calls.{index-refusal, Recover-says}
 use Rattle.spec.specs.declared.Answer.{Answer}
 use Rattle.spec.proofs.Answer as S
 use Rattle.spec.proofs.Answer.Laws as S′
-use Rattle.opening.proofs.Opens.{val, Shr, Lent, Open, twice, to-open, asks-open, opens}
+use Rattle.width.specs.Element.{number}
+use Rattle.opening.proofs.Opens.{val, Shr, Index, Lent, Open, twice, to-open, asks-open, opens}
 use Rattle.opening.proofs.opened.open_index.Symbol as opener-def
 use Rattle.opening.proofs.opened.open_index.Symbol.{name as #open-index}
 use Rattle.opening.proofs.opened.open_index.Met as opener-thm
@@ -64,7 +65,8 @@ use Rattle.receiver.proofs.recover.recover.Code as code
 abbrev stayed : Stays (taker.ended .signature .params) (taker.ended .kept)
 stayed =
     let shared = stay-none-slice (0 ∷ []) tt (plain (λ _. u16)) yes in
-    (shared, (shared, (shared, (gave-slice (1 ∷ []) tt (plain (λ _. u16)), (gave-slice (2 ∷ []) tt (plain (λ _. u16)), tt)))))
+    let numbers = stay-none-slice (0 ∷ []) tt (plain (λ _. number)) yes in
+    (shared, (shared, (numbers, (gave-slice (1 ∷ []) tt (plain (λ _. u16)), (gave-slice (2 ∷ []) tt (plain (λ _. number)), tt)))))
 
 module _ {M : Type 1} (𝓤 : URA M) (H : Heap 𝓤) (A : Atoms 𝓤) (mem : Memory → SProp 𝓤) (run : Routine → Fun 𝓤) where
   -- the contract of the covered function
@@ -96,10 +98,10 @@ module _ {M : Type 1} (𝓤 : URA M) (H : Heap 𝓤) (A : Atoms 𝓤) (W : Given
 
   -- what is given to the second call
   abbrev Gives : Fml
-  Gives = owns (MutSlice (named 1) ν u16 ∷ MutSlice (named 2) ν′ u16 ∷ []) (o, (w, tt)) (val o ∷ [], (val w ∷ [], tt))
+  Gives = owns (MutSlice (named 1) ν u16 ∷ MutSlice (named 2) ν′ number ∷ []) (o, (w, tt)) (val o ∷ [], (val w ∷ [], tt))
 
   abbrev Owned : Fml
-  Owned = owns (Shr κ ∷ Shr κ ∷ Shr κ ∷ MutSlice (named 1) ν u16 ∷ MutSlice (named 2) ν′ u16 ∷ []) a at
+  Owned = owns (Shr κ ∷ Shr κ ∷ Index κ ∷ MutSlice (named 1) ν u16 ∷ MutSlice (named 2) ν′ number ∷ []) a at
 
   apart : ent 𝓤 (sem 𝓤 H A Owned) (sep 𝓤 (sem 𝓤 H A (Lent κ x y z)) (sem 𝓤 H A Gives))
   apart =
@@ -109,7 +111,7 @@ module _ {M : Type 1} (𝓤 : URA M) (H : Heap 𝓤) (A : Atoms 𝓤) (W : Given
 
   -- what the lists of the last values are, and what is said of them
   abbrev Last : List ℕ × List ℕ → Fml
-  Last l = fsep (finally u16 γ (l .0)) (fsep (finally u16 γ′ (l .1)) ftrue)
+  Last l = fsep (finally u16 γ (l .0)) (fsep (finally number γ′ (l .1)) ftrue)
 
   abbrev Said : Answer → List ℕ × List ℕ → Type 0
   Said c l =
@@ -171,8 +173,8 @@ module _ {M : Type 1} (𝓤 : URA M) (H : Heap 𝓤) (A : Atoms 𝓤) (W : Given
 
   module _ (C : Calls 𝓤 H) (Λ : Loops 𝓤 H) (fm : FmC 𝓤 H (W .laws) C) (known-open : Triple 𝓤 (C #open-index) (Open 𝓤 H A mem run))
       (known-call : Triple 𝓤 (C #recover-opened) (Call 𝓤 H A mem run)) where
-    walk : Is (Shr κ) x (val x ∷ []) → Is (Shr κ) y (val y ∷ []) → Is (Shr κ) z (val z ∷ []) → Room u16 (length os) →
-        Room u16 (length ws) → ent 𝓤 (onEntry 𝓤 H A taker.signature κs qs a at)
+    walk : Is (Shr κ) x (val x ∷ []) → Is (Shr κ) y (val y ∷ []) → Is (Index κ) z (val z ∷ []) → Room u16 (length os) →
+        Room number (length ws) → ent 𝓤 (onEntry 𝓤 H A taker.signature κs qs a at)
         (WpFn 𝓤 H C Λ code.function (val x ∷ val y ∷ val z ∷ val o ∷ val w ∷ []) Post)
     walk px py pz room room′ =
         qed W ((‵ (flft κ q) ⊛ ‵ (flft ν p) ⊛ ‵ (flft ν′ p′) ⊛ ‵ ftrue) ∷ ‵ Owned ∷ []) ∵ enter ! C Λ code.function
@@ -182,7 +184,7 @@ module _ {M : Type 1} (𝓤 : URA M) (H : Heap 𝓤) (A : Atoms 𝓤) (W : Given
         (λ l₇. alloc1 ! (λ l₈. alloc1 ! (λ l₉. alloc1 ! (λ l₁₀. alloc1 ! (λ l₁₁. alloc1 ! (λ l₁₂. alloc0 ! $ params1 ! $
         pass1 ! (init ! 22 refl (shr-slice-lawful 𝓤 H A W (named 0) κ u16 .typed x (val x ∷ []) px .0)) $ pass1 !
         (init ! 20 refl (shr-slice-lawful 𝓤 H A W (named 0) κ u16 .typed y (val y ∷ []) py .0)) $ pass1 !
-        (init ! 18 refl (shr-slice-lawful 𝓤 H A W (named 0) κ u16 .typed z (val z ∷ []) pz .0)) $ pass1 !
+        (init ! 18 refl (shr-slice-lawful 𝓤 H A W (named 0) κ number .typed z (val z ∷ []) pz .0)) $ pass1 !
         (init ! 16 refl (tt, (tt, (record { fits = room .0 }, tt)))) $ pass1 !
         (init ! 14 refl (tt, (tt, (record { fits = room′ .0 }, tt)))) $ pass0 ! $
         -- [_12; …; _1; …; room for _0; …; the tokens; what the slices own]
@@ -251,10 +253,10 @@ module _ {M : Type 1} (𝓤 : URA M) (H : Heap 𝓤) (A : Atoms 𝓤) (W : Given
         (
           shr-slice-tells (named 0) (κs .0) u16,
           (
-            shr-slice-tells (named 0) (κs .0) u16,
+            shr-slice-tells (named 0) (κs .0) number,
             (
               mut-slice-tells (named 1) (κs .1 .0) u16,
-              (mut-slice-tells (named 2) (κs .1 .1 .0) u16, tt),
+              (mut-slice-tells (named 2) (κs .1 .1 .0) number, tt),
             ),
           ),
         ),
@@ -273,8 +275,8 @@ module _ {M : Type 1} (𝓤 : URA M) (H : Heap 𝓤) (A : Atoms 𝓤) (W : Given
         (
           goes-none-slice 𝓤 H A W 3 (0 ∷ []) tt (plain (λ _. u16)) yes,
           (
-            goes-none-slice 𝓤 H A W 3 (0 ∷ []) tt (plain (λ _. u16)) yes,
-            (goes-gave-slice 𝓤 H A W 3 1 tt (plain (λ _. u16)), (goes-gave-slice 𝓤 H A W 3 2 tt (plain (λ _. u16)), tt)),
+            goes-none-slice 𝓤 H A W 3 (0 ∷ []) tt (plain (λ _. number)) yes,
+            (goes-gave-slice 𝓤 H A W 3 1 tt (plain (λ _. u16)), (goes-gave-slice 𝓤 H A W 3 2 tt (plain (λ _. number)), tt)),
           ),
         ),
       )

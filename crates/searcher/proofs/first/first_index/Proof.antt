@@ -44,7 +44,8 @@ use Rattle.spec.specs.Calls.{index-refusal, First-says}
 use Rattle.spec.specs.declared.FirstAnswer.{FirstAnswer}
 use Rattle.spec.proofs.FirstAnswer as R
 use Rattle.spec.proofs.FirstAnswer.Laws as R′
-use Rattle.opening.proofs.Opens.{val, Shr, Lent, Open, twice, to-open, asks-open, opens}
+use Rattle.width.specs.Element.{number}
+use Rattle.opening.proofs.Opens.{val, Shr, Index, Lent, Open, twice, to-open, asks-open, opens}
 use Rattle.opening.proofs.opened.open_index.Symbol as opener-def
 use Rattle.opening.proofs.opened.open_index.Symbol.{name as #open-index}
 use Rattle.opening.proofs.opened.open_index.Met as opener-thm
@@ -60,7 +61,8 @@ use Rattle.searcher.proofs.first.first_index.Code as code
 abbrev stayed : Stays (itself.ended .signature .params) (itself.ended .kept)
 stayed =
     let shr = stay-none-slice (0 ∷ []) tt (plain (λ _. u16)) yes in
-    (shr, (shr, (shr, (shr, tt))))
+    let numbers = stay-none-slice (0 ∷ []) tt (plain (λ _. number)) yes in
+    (shr, (shr, (numbers, (shr, tt))))
 
 module _ {M : Type 1} (𝓤 : URA M) (H : Heap 𝓤) (A : Atoms 𝓤) (mem : Memory → SProp 𝓤) (run : Routine → Fun 𝓤) where
   -- the contract of the covered function
@@ -92,7 +94,7 @@ module _ {M : Type 1} (𝓤 : URA M) (H : Heap 𝓤) (A : Atoms 𝓤) (W : Given
   goes-open : ent 𝓤 (onEntry 𝓤 H A itself.signature (κ, tt) (q, tt) a at)
       (sep 𝓤 (Open 𝓤 H A mem run .pre (to-open 𝓤 H A W κ x y z q mem run)) (sep 𝓤 (sem 𝓤 H A Aside) (sem 𝓤 H A Kept)))
   goes-open =
-      qed W ((‵ (flft κ q) ⊛ ‵ ftrue) ∷ ‵ (owns (Shr κ ∷ Shr κ ∷ Shr κ ∷ Shr κ ∷ []) a at) ∷ []) ∵
+      qed W ((‵ (flft κ q) ⊛ ‵ ftrue) ∷ ‵ (owns (Shr κ ∷ Shr κ ∷ Index κ ∷ Shr κ ∷ []) a at) ∷ []) ∵
       move ! (1 ∷ []) $ fsplit ! $ move ! (1 ∷ []) $ fsplit ! $ move ! (1 ∷ []) $ fsplit ! $
       -- [z; the string; y; x; the token]
       nothing ! $ move ! (1 ∷ 0 ∷ []) $ fjoin ! $ move ! (2 ∷ 0 ∷ []) $ fjoin ! $ move ! (2 ∷ 0 ∷ []) $ fjoin ! $ use1 W
@@ -145,7 +147,7 @@ module _ {M : Type 1} (𝓤 : URA M) (H : Heap 𝓤) (A : Atoms 𝓤) (W : Given
 
   module _ (C : Calls 𝓤 H) (Λ : Loops 𝓤 H) (fm : FmC 𝓤 H (W .laws) C) (known-open : Triple 𝓤 (C #open-index) (Open 𝓤 H A mem run))
       (known-callee : Triple 𝓤 (C #callee) (Callee 𝓤 H A mem run)) where
-    walk : Is (Shr κ) x (val x ∷ []) → Is (Shr κ) y (val y ∷ []) → Is (Shr κ) z (val z ∷ []) → Is (Shr κ) s (val s ∷ []) →
+    walk : Is (Shr κ) x (val x ∷ []) → Is (Shr κ) y (val y ∷ []) → Is (Index κ) z (val z ∷ []) → Is (Shr κ) s (val s ∷ []) →
         ent 𝓤 (onEntry 𝓤 H A itself.signature (κ, tt) (q, tt) a at) (WpFn 𝓤 H C Λ code.function (val x ∷ val y ∷ val z ∷ val s ∷ []) Post)
     walk px py pz ps =
         qed W (raw (onEntry 𝓤 H A itself.signature (κ, tt) (q, tt) a at) ∷ []) ∵ enter ! C Λ code.function
@@ -154,7 +156,7 @@ module _ {M : Type 1} (𝓤 : URA M) (H : Heap 𝓤) (A : Atoms 𝓤) (W : Given
         (λ l₃. alloc1 ! (λ l₄. alloc1 ! (λ l₅. alloc1 ! (λ l₆. alloc1 ! (λ l₇. alloc0 ! $ params1 ! $
         pass1 ! (init ! 12 refl (shr-slice-lawful 𝓤 H A W (named 0) κ u16 .typed x (val x ∷ []) px .0)) $ pass1 !
         (init ! 10 refl (shr-slice-lawful 𝓤 H A W (named 0) κ u16 .typed y (val y ∷ []) py .0)) $ pass1 !
-        (init ! 8 refl (shr-slice-lawful 𝓤 H A W (named 0) κ u16 .typed z (val z ∷ []) pz .0)) $
+        (init ! 8 refl (shr-slice-lawful 𝓤 H A W (named 0) κ number .typed z (val z ∷ []) pz .0)) $
         pass1 ! (init ! 6 refl (shr-slice-lawful 𝓤 H A W (named 0) κ u16 .typed s (val s ∷ []) ps .0)) $ pass0 ! $
         move ! (16 ∷ []) $ use1 W (raw (Open 𝓤 H A mem run .pre (to-open 𝓤 H A W κ x y z q mem run)) ⊛
         (‵ Aside ⊛ ‵ Kept)) goes-open $ split ! $ move ! (1 ∷ []) $ split ! $ move ! (2 ∷ []) $
@@ -198,7 +200,7 @@ module _ {M : Type 1} (𝓤 : URA M) (H : Heap 𝓤) (A : Atoms 𝓤) (W : Given
       → Walks 𝓤 H A itself.ended stayed (WpFn 𝓤 H C Λ code.function) (itself.clauses 𝓤 H A mem run)
   walks C Λ fm known-open known-callee = walked 𝓤 H A itself.ended stayed (itself.clauses 𝓤 H A mem run) (WpFn 𝓤 H C Λ code.function)
       (λ κs. (slice-vals, (slice-vals, (slice-vals, (slice-vals, tt)))))
-      (λ κs. let shr = shr-slice-tells (named 0) (κs .0) u16 in (shr, (shr, (shr, (shr, tt)))))
+      (λ κs. let shr = shr-slice-tells (named 0) (κs .0) u16 in (shr, (shr, (shr-slice-tells (named 0) (κs .0) number, (shr, tt)))))
       (λ κs qs bounds a g are. via 𝓤 _ (fst∗ 𝓤 _ (emp 𝓤)) (walk 𝓤 H A W mem run (κs .0) (qs .0) (a .0) (a .1 .0) (a .1 .1 .0)
       (a .1 .1 .1 .0) C Λ fm known-open known-callee (are .0) (are .1 .0) (are .1 .1 .0) (are .1 .1 .1 .0)))
 
@@ -206,7 +208,8 @@ module _ {M : Type 1} (𝓤 : URA M) (H : Heap 𝓤) (A : Atoms 𝓤) (W : Given
       Meets 𝓤 H A itself.signature (WpFn 𝓤 H (𝓣 .C) (𝓣 .Λ) code.function) (itself.spec 𝓤 H A mem run)
   meets 𝓣 known-open known-callee =
       let shr = goes-none-slice 𝓤 H A W 1 (0 ∷ []) tt (plain (λ _. u16)) yes in
-      walk-meets 𝓤 H A itself.ended stayed W (shr, (shr, (shr, (shr, tt))))
+      let numbers = goes-none-slice 𝓤 H A W 1 (0 ∷ []) tt (plain (λ _. number)) yes in
+      walk-meets 𝓤 H A itself.ended stayed W (shr, (shr, (numbers, (shr, tt))))
       (itself.clauses 𝓤 H A mem run) (WpFn 𝓤 H (𝓣 .C) (𝓣 .Λ) code.function) (WpFn-mono 𝓤 H (W .laws) 𝓣 code.function)
       (walks (𝓣 .C) (𝓣 .Λ) (fmOf 𝓤 H (W .laws) 𝓣) known-open known-callee)
 

@@ -1,0 +1,2 @@
+-- What proofs know of the width. Assumes nothing.
+pub mod Element
