@@ -4,8 +4,8 @@ pub mod Entries
 pub mod Scan
 pub mod Reach
 pub mod MatchTable
-pub mod Inversion
 pub mod Readability
+pub mod Inversion
 pub mod Reception
 pub mod Window
 pub mod Tally
