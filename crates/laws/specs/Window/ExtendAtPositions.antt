@@ -13,8 +13,8 @@ use Rattle.laws.specs.Window.WindowSearch.{Own-start, Outside-window, ex
 use Rattle.laws.specs.Window.WindowSearch.{positions-next, positions-skip}
 use Rattle.laws.specs.Window.ListRange.{Window-range}
 
--- a key of this length shares a position with the string at the offset, ends where one of 32 characters after a string of 256 does, or
--- before, and the window's first start is small
+-- a key of this length shares a position with the string at the offset and ends by 288, since a string has at most 256 characters and a
+-- key at most 32; and the window's first start is small
 pub record Offset-fits (len i o q : ℕ) : Type 0 where
   pub shared : i ≤ o + len
   pub end-small : o + len ≤ 288
