@@ -129,8 +129,8 @@ module _ {M : Type 1} (𝓤 : URA M) (H : Heap 𝓤) (A : Atoms 𝓤) (W : Given
       -- [x; x; y and z; the token]
       move ! (2 ∷ []) $ fsplit ! $ use1 W (‵ OwnY ⊛ ‵ OwnY) (shr-slice-copy 𝓤 H A W (named 0) κ u16 .twice y (vy ∷ [])) $ split ! $
       -- [y; y; z; x; x; the token]
-      move ! (2 ∷ []) $ fsplit ! $ use1 W (‵ OwnZ ⊛ ‵ OwnZ) (shr-slice-copy 𝓤 H A W (named 0) κ number .twice z (vz ∷ [])) $ split ! $ use1 W
-      (‵ OwnZ ⊛ ‵ OwnZ) (shr-slice-copy 𝓤 H A W (named 0) κ number .twice z (vz ∷ [])) $ split ! $
+      move ! (2 ∷ []) $ fsplit ! $ use1 W (‵ OwnZ ⊛ ‵ OwnZ) (shr-slice-copy 𝓤 H A W (named 0) κ number .twice z (vz ∷ [])) $ split ! $
+      use1 W (‵ OwnZ ⊛ ‵ OwnZ) (shr-slice-copy 𝓤 H A W (named 0) κ number .twice z (vz ∷ [])) $ split ! $
       -- [z; z; z; true; y; y; x; x; the token]
       move ! (0 ∷ 3 ∷ []) $ fjoin ! $ move ! (3 ∷ 0 ∷ []) $ fjoin ! $ move ! (4 ∷ 0 ∷ []) $ fjoin ! $
       -- [the three; z; z; y; x; the token]
@@ -151,7 +151,8 @@ module _ {M : Type 1} (𝓤 : URA M) (H : Heap 𝓤) (A : Atoms 𝓤) (W : Given
   to-make b u = (((κ, tt), (q, tt), tt, (z, (b, tt)), (vz ∷ [], (u ∷ [], tt))), tt)
 
   goes-make : (b : Bounds) (u : Val) → ent 𝓤 (⋆ 𝓤 H A ((‵ (flft κ q) ⊛ ‵ ftrue) ∷ ‵
-      (owns (ShrSlice (named 0) κ number ∷ S.the-row ∷ []) (z, (b, tt)) (vz ∷ [], (u ∷ [], tt))) ∷ [])) (Make 𝓤 H A mem run .pre (to-make b u))
+      (owns (ShrSlice (named 0) κ number ∷ S.the-row ∷ []) (z, (b, tt)) (vz ∷ [], (u ∷ [], tt))) ∷ []))
+      (Make 𝓤 H A mem run .pre (to-make b u))
   goes-make b u = qed W ((‵ (flft κ q) ⊛ ‵ ftrue) ∷ ‵ (owns (ShrSlice (named 0) κ number ∷ S.the-row ∷ []) (z, (b, tt))
       (vz ∷ [], (u ∷ [], tt))) ∷ []) ∵ join ! $ frame ! $ done !
 
@@ -222,7 +223,7 @@ module _ {M : Type 1} (𝓤 : URA M) (H : Heap 𝓤) (A : Atoms 𝓤) (W : Given
       → Walks 𝓤 H A opener.ended stayed (WpFn 𝓤 H C Λ code.function) (opener.clauses 𝓤 H A mem run)
   open-index-walks C Λ fm known-test known-make = walked 𝓤 H A opener.ended stayed (opener.clauses 𝓤 H A mem run)
       (WpFn 𝓤 H C Λ code.function) (λ κs. (slice-vals, (slice-vals, (slice-vals, tt))))
-      (λ κs. (shr-slice-tells (named 0) (κs .0) u16, (shr-slice-tells (named 0) (κs .0) u16, (shr-slice-tells (named 0) (κs .0) number, tt))))
+      (λ κs. let shared = shr-slice-tells (named 0) (κs .0) u16 in (shared, (shared, (shr-slice-tells (named 0) (κs .0) number, tt))))
       (λ κs qs bounds a g are. via 𝓤 _ (fst∗ 𝓤 _ (emp 𝓤)) (walk 𝓤 H A W mem run (κs .0) (qs .0) (a .0) (a .1 .0)
       (a .1 .1 .0) C Λ fm known-test known-make (are .0) (are .1 .0) (are .1 .1 .0)))
 

@@ -48,5 +48,5 @@ pub gaps-good-spec : {M : Type 1} → statement M
 gaps-good-spec =
     tie.close
     (tie.spec
-    Inv-loop μ-loop (λ c. summed-start (c .before .args .gaps .now)) (λ c. search needs) (λ c. search needs) cast-sum add-sum (λ c. search needs)
-    (λ c. search needs) loop-again (λ c. search needs) (λ c κs. search needs) (λ c. search needs) returns returns-2)
+    Inv-loop μ-loop (λ c. summed-start (c .before .args .gaps .now)) (λ c. search needs) (λ c. search needs) cast-sum add-sum
+    (λ c. search needs) (λ c. search needs) loop-again (λ c. search needs) (λ c κs. search needs) (λ c. search needs) returns returns-2)

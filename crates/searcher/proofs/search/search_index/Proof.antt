@@ -110,7 +110,8 @@ module _ {M : Type 1} (𝓤 : URA M) (H : Heap 𝓤) (A : Atoms 𝓤) (W : Given
   goes-open : ent 𝓤 (onEntry 𝓤 H A itself.signature κs qs a at) (sep 𝓤 (Open 𝓤 H A mem run .pre (to-open 𝓤 H A W κ x y z q mem run))
       (sep 𝓤 (sem 𝓤 H A Aside) (sem 𝓤 H A Kept)))
   goes-open =
-      qed W ((‵ (flft κ q) ⊛ ‵ (flft ν p) ⊛ ‵ ftrue) ∷ ‵ (owns (Shr κ ∷ Shr κ ∷ Index κ ∷ Shr κ ∷ MutSlice (named 1) ν number ∷ []) a at) ∷ []) ∵
+      qed W ((‵ (flft κ q) ⊛ ‵ (flft ν p) ⊛ ‵ ftrue) ∷ ‵
+      (owns (Shr κ ∷ Shr κ ∷ Index κ ∷ Shr κ ∷ MutSlice (named 1) ν number ∷ []) a at) ∷ []) ∵
       move ! (1 ∷ []) $ fsplit ! $ move ! (1 ∷ []) $ fsplit ! $ move ! (1 ∷ []) $ fsplit ! $
       -- [z; the others; y; x; the tokens]
       nothing ! $ move ! (1 ∷ 0 ∷ []) $ fjoin ! $ move ! (2 ∷ 0 ∷ []) $ fjoin ! $ move ! (2 ∷ 0 ∷ []) $ fjoin ! $ use1 W
