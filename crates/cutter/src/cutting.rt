@@ -16,12 +16,9 @@ ghost use Rattle.models.specs.WordStarts.{lexicon-at};
 ghost use Rattle.laws.specs.Cut.ExactFlags.{Flagged-lines, Is-size};
 ghost use Rattle.laws.specs.Cut.Cutting.{Cuts};
 use copying::slices::write_list;
-use layout::fields::count_at;
 use layout::fields::key_count;
-use layout::fields::kind_at;
 use layout::fields::line_start;
 use layout::fields::text_len;
-use layout::fields::value_at;
 use layout::lines::next_line;
 use layout::write::write_header;
 use layout::write::write_line;
@@ -49,13 +46,13 @@ pub(crate) fn size_flagged(
     let count = key_count(index);
     let mut keys = 0;
     let mut entries = 0;
-    let mut line = 0;
-    while line < count {
-        let here = line;
-        line += 1;
+    let mut number = 0;
+    while number < count {
+        let here = number;
+        number += 1;
         if flags[here] != 0 {
             keys += 1;
-            entries += count_at(index, here);
+            entries = next_line(index, here, entries).to;
         }
     }
     Size { keys, entries }
@@ -81,18 +78,14 @@ fn write_directory(
 {
     let count = key_count(index);
     let mut keys = 0;
-    let mut line = 0;
-    while line < count {
-        let here = line;
-        line += 1;
+    let mut number = 0;
+    while number < count {
+        let here = number;
+        number += 1;
         if flags[here] != 0 {
-            write_line(
-                output,
-                keys,
-                kind_at(index, here),
-                value_at(index, here),
-                count_at(index, here),
-            );
+            // Counted from 0, its positions go to its count.
+            let line = next_line(index, here, 0);
+            write_line(output, keys, line.kind, line.value, line.to);
             keys += 1;
         }
     }

@@ -11,7 +11,7 @@ ghost use Rattle.spec.specs.Index.{greatest-number, keys-of};
 ghost use Rattle.models.specs.WordStarts.{starts-from};
 ghost use Rattle.laws.specs.Numbers.Slices.{Fits};
 ghost use Rattle.laws.specs.Directory.Tables.{List-starts};
-use layout::fields::count_at;
+use layout::lines::next_line;
 use width::Number;
 use width::Sum;
 use width::to_sum;
@@ -40,8 +40,9 @@ pub fn fill_list_starts(index: &[Number], keys: usize, list_starts: &mut [Sum])
     let mut at: usize = 0;
     let mut i = 0;
     while i < keys {
-        list_starts[i] = to_sum(at);
-        at += count_at(index, i);
+        let line = next_line(index, i, at);
+        list_starts[i] = to_sum(line.from);
+        at = line.to;
         i += 1;
     }
 }

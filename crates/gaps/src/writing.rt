@@ -12,8 +12,8 @@ ghost use Rattle.spec.specs.Gaps.{gaps-after, gaps, prefix-sums, lists-from};
 ghost use Rattle.models.specs.Gaps.{by-pairs, first-apart, masked-sums, carry, pair-as, first-as};
 ghost use Rattle.laws.specs.Gaps.GapParts.{Writable};
 use copying::slices::fill;
-use layout::fields::count_at;
 use layout::fields::key_count;
+use layout::lines::next_line;
 use width::Number;
 
 // The mask that lets a sum through: every bit is set.
@@ -62,8 +62,9 @@ fn put_firsts(index: &[Number], first: usize, restore: bool, part: &mut [Number]
     let mut at = 0;
     let mut i = 0;
     while i < keys {
+        let line = next_line(index, i, at);
         part[at] = first_number(restore, index[first + at]);
-        at += count_at(index, i);
+        at = line.to;
         i += 1;
     }
 }

@@ -5,5 +5,6 @@ pub mod FlatOrder
 pub mod KeyNumbers
 pub mod Slices
 pub mod LineNumbers
+pub mod DirectoryWalk
 pub mod Lines
 pub mod Sorted

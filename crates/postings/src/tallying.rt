@@ -13,9 +13,7 @@ ghost use Rattle.models.specs.Tally.{added};
 ghost use Rattle.laws.specs.Text.Facts.{Is-key};
 ghost use Rattle.laws.specs.Dictionary.Lexicon.{Is-admitted};
 ghost use Rattle.laws.specs.Readable.Opening.{Bounded};
-use layout::fields::count_at;
-use layout::fields::kind_at;
-use layout::fields::value_at;
+use layout::lines::next_line;
 use opening::opened::open_index;
 use spec::TallyAnswer;
 use width::Number;
@@ -48,9 +46,10 @@ fn raised(
     let mut counts = counts;
     let mut i = 0;
     while i < keys {
-        let count = count_at(index, i) as u64;
-        let position = key_length(chars, lengths, kind_at(index, i), value_at(index, i)) - 1;
-        counts[position] = counts[position] + count;
+        // Counted from 0, its positions go to its count.
+        let line = next_line(index, i, 0);
+        let position = key_length(chars, lengths, line.kind, line.value) - 1;
+        counts[position] = counts[position] + line.to as u64;
         i += 1;
     }
     counts

@@ -1,2 +1,4 @@
 // Whether delivered numbers are a readable index.
+mod lines;
+mod lists;
 pub mod readability;

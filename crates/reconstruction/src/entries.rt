@@ -12,7 +12,7 @@ ghost use Rattle.spec.specs.Index.{key-at, lines-in};
 ghost use Rattle.models.specs.Entries.{flat};
 ghost use Rattle.models.specs.WordStarts.{lexicon-at};
 ghost use Rattle.models.specs.Reception.{reconstruct, reconstruct-positions};
-ghost use Rattle.laws.specs.Directory.Opened.{Is-line};
+ghost use Rattle.laws.specs.Numbers.DirectoryWalk.{Is-line};
 ghost use Rattle.laws.specs.Receive.PositionWalk.{Lie-within};
 ghost use Rattle.laws.specs.Receive.ReconstructionWalk.{Reconstructs};
 use crate::line_map::fill_at;

@@ -15,7 +15,7 @@ ghost use Rattle.spec.specs.Index.{key-at, lines-in};
 ghost use Rattle.models.specs.WordStarts.{lexicon-at};
 ghost use Rattle.laws.specs.Text.Strings.{Stand};
 ghost use Rattle.laws.specs.Text.Facts.{Rise, All-stand};
-ghost use Rattle.laws.specs.Directory.Opened.{Is-line};
+ghost use Rattle.laws.specs.Numbers.DirectoryWalk.{Is-line};
 ghost use Rattle.laws.specs.Receive.PositionWalk.{Lie-within};
 ghost use Rattle.laws.specs.Receive.EntriesMatch.{Equal-part, Period, Stand-each};
 ghost use Rattle.laws.specs.Receive.ReconstructionWalk.{Reconstructs};

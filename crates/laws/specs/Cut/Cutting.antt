@@ -14,7 +14,7 @@ use Rattle.spec.specs.Cut.{bearing, cut-down}
 use Rattle.spec.specs.Calls.{in-front}
 use Rattle.models.specs.Window.{list-start}
 use Rattle.laws.specs.Numbers.Slices.{length-numbers}
-use Rattle.laws.specs.Directory.Opened.{counts-next, Is-line}
+use Rattle.laws.specs.Numbers.DirectoryWalk.{counts-next, Is-line}
 use Rattle.laws.specs.Build.IndexWriting.{directory-room, directory-written}
 use Rattle.basics.specs.Writing.{over, Writing, starts, has-room, writes, appends, written, lent-tail, tail-back, tail-written}
 use Rattle.laws.specs.Cut.ExactFlags.{bearing-from, bearing-done, Flagged-lines, flagged-next, unflagged-next, positions-length}

@@ -14,7 +14,7 @@ use Rattle.spec.specs.Cut.{bears, bearing}
 use Rattle.models.specs.Window.{list-start}
 use Rattle.laws.specs.Numbers.Slices.{Fits, length-numbers, numbers-lines-in}
 use Rattle.laws.specs.Numbers.LineNumbers.{length-lines-in}
-use Rattle.laws.specs.Directory.Opened.{line-of, lines-next, lines-none, list-room}
+use Rattle.laws.specs.Numbers.DirectoryWalk.{line-of, lines-next, lines-none, list-room}
 
 module _ (lex : Lexicon) (xs s : List ℕ) where
   -- the bearing lines from line i on

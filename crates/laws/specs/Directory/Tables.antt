@@ -30,7 +30,7 @@ use Rattle.laws.specs.Readable.Readable.{readable-get}
 use Rattle.laws.specs.Readable.LineWalk.{readable-fits}
 use Rattle.laws.specs.Readable.KeyTests.{no-refusal}
 use Rattle.laws.specs.Readable.IndexRefusal.{index-accepted}
-use Rattle.laws.specs.Directory.Opened.{line-of, lines-next, list-room}
+use Rattle.laws.specs.Numbers.DirectoryWalk.{line-of, lines-next, list-room}
 
 -- what holds if 1, 2, 3 and 5 are not met
 pub record Can-read (cs ls xs : List ℕ) : Type 0 where

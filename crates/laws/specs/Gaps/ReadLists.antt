@@ -119,22 +119,22 @@ module _ (b : Bool) (n l : ℕ) (ps : List ℕ) where
       by-list (p ∷ []) one = by-read b p
       by-list (p ∷ q ∷ ps) one = absurd (omega arith)
 
--- one number from `at` on
+-- one number, at `from`
 pub positions-only :
-    (b : Bool) (xs : List ℕ) (at n l : ℕ) {c : ℕ} → at ≤ length xs → c ≤ length xs - at → c ≡ 1 →
-    (leb (getD xs at 0 + l) (n + 1) && ltb 0 (getD xs at 0)) ≡ line-list-good (read-as b) n l c (drop at xs)
-positions-only b xs at n l {c} room present one =
+    (b : Bool) (xs : List ℕ) (n l from : ℕ) {to : ℕ} → to - from ≡ 1 → to ≤ length xs →
+    (leb (getD xs from 0 + l) (n + 1) && ltb 0 (getD xs from 0)) ≡ line-list-good (read-as b) n l (to - from) (drop from xs)
+positions-only b xs n l from {to} one present =
     ap (λ (p : ℕ). leb (p + l) (n + 1) && ltb 0 p) (sym first)
     ∙ good-only b n l only len
-    ∙ positions-there (read-as b) xs at n l room present (λ (none : c ≡ 0). omega arith)
+    ∙ positions-there (read-as b) xs n l (omega arith) present
   where
     only : List ℕ
-    only = take (at + c - at) (drop at xs)
+    only = take (to - from) (drop from xs)
 
     len : length only ≡ 1
-    len = length-take-le (at + c - at) (drop at xs) (omega (arith, length-drop at xs)) ∙ omega arith
+    len = length-take-le (to - from) (drop from xs) (omega (arith, length-drop from xs)) ∙ omega arith
 
-    first : getD only 0 0 ≡ getD xs at 0
+    first : getD only 0 0 ≡ getD xs from 0
     first =
-        let here : at + 0 ≡ at = omega arith in
-        getD-take (at + c - at) (drop at xs) 0 0 (omega arith) ∙ getD-drop at xs 0 0 ∙ ap (λ (j : ℕ). getD xs j 0) here
+        let here : from + 0 ≡ from = omega arith in
+        getD-take (to - from) (drop from xs) 0 0 (omega arith) ∙ getD-drop from xs 0 0 ∙ ap (λ (j : ℕ). getD xs j 0) here

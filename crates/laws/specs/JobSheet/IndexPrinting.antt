@@ -11,7 +11,7 @@ use Rattle.spec.specs.Index.{header, n-of, keys-of, count-at, counts-from, entr
 use Rattle.spec.specs.JobAnswer.{index-line, key-line, key-lines, index-lines}
 use Rattle.models.specs.Window.{list-start}
 use Rattle.laws.specs.Numbers.Slices.{Fits}
-use Rattle.laws.specs.Directory.Opened.{Is-line, counts-next, lines-next, lines-none}
+use Rattle.laws.specs.Numbers.DirectoryWalk.{Is-line, counts-next, lines-next, lines-none}
 
 -- the numbers are header, directory and positions, as in every readable index
 pub record Whole (xs : List ℕ) : Type 0 where

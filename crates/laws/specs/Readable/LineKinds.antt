@@ -2,34 +2,35 @@
 use mathlib.Core.Path.{_≡_, _∙_}
 use mathlib.Core.Bool.{true, false}
 use mathlib.Core.List.{List, [], _∷_}
-use Prim.Native.Nat.{ℕ, _+_, _≤_, _<_}
+use Prim.Native.Nat.{ℕ, _+_, _-_, _≤_, _<_}
 use native.Mathlib.Omega.{arith}
 use lib.ListN.{length, drop}
 use borrow.Author.Tests.{ltb-true}
 use Rattle.spec.specs.Dictionary.{Lexicon}
 use Rattle.spec.specs.Words.{spells, key, is-word}
-use Rattle.spec.specs.Index.{n-of, keys-of, kind-at, value-at, count-at, key-at, key-good}
+use Rattle.spec.specs.Index.{n-of, keys-of, count-at, key-at, key-good}
 use Rattle.models.specs.Readability.{key-code, key-fits, line-list-good, line-fits, walk-good}
+use Rattle.laws.specs.Numbers.DirectoryWalk.{Line-at}
 use Rattle.laws.specs.Readable.LineWalk.{fits-get}
 use Rattle.laws.specs.Readable.LineSteps.{Lines-read, lines-step, lines-stop}
 use Rattle.laws.specs.Readable.KeyTests.{lone-low, lone-high, lone-word, lone-fits, kind-other}
 
--- what is read of line i: n, and the line's kind, value and count
-pub record Line-read (xs : List ℕ) (i n kind value count : ℕ) : Type 0 where
+-- what is read of line i, whose positions start at `at`: n, and the line by value
+pub record Line-read (xs : List ℕ) (i at n kind value from to : ℕ) : Type 0 where
   pub below : i < keys-of xs
   pub n-is : n ≡ n-of xs
-  pub kind-is : kind ≡ kind-at xs i
-  pub value-is : value ≡ value-at xs i
-  pub count-is : count ≡ count-at xs i
+  pub line : Line-at xs i at kind value from to
 
-module _ {read : List ℕ → List ℕ} {lex : Lexicon} {xs : List ℕ} {i at least n kind value count : ℕ}
-    (h : Lines-read read lex xs i at least) (l : Line-read xs i n kind value count) where
+module _ {read : List ℕ → List ℕ} {lex : Lexicon} {xs : List ℕ} {i at least n kind value from to : ℕ}
+    (h : Lines-read read lex xs i at least) (l : Line-read xs i at n kind value from to) where
   same-line :
       line-fits read lex (n-of xs) least (key-at xs i) (count-at xs i) (drop at xs)
-      ≡ line-fits read lex n least (key kind value) count (drop at xs)
-  same-line = rw (l .n-is, l .kind-is, l .value-is, l .count-is)
+      ≡ line-fits read lex n least (key kind value) (to - from) (drop from xs)
+  same-line =
+      let count : to - from ≡ count-at xs i = omega arith in
+      rw (l .n-is, l .line .kind-is, l .line .value-is, count, l .line .from-is)
 
-  stop : line-fits read lex n least (key kind value) count (drop at xs) ≡ false → false ≡ walk-good read lex xs
+  stop : line-fits read lex n least (key kind value) (to - from) (drop from xs) ≡ false → false ≡ walk-good read lex xs
   stop f = lines-stop h (l .below) (same-line ∙ f)
 
   key-stop : key-fits lex least (key kind value) ≡ false → false ≡ walk-good read lex xs
@@ -37,25 +38,25 @@ module _ {read : List ℕ → List ℕ} {lex : Lexicon} {xs : List ℕ} {i at le
   key-stop f = stop (rw f)
 
   step :
-      line-fits read lex n least (key kind value) count (drop at xs) ≡ true →
-      Lines-read read lex xs (i + 1) (at + count) (key-code (key kind value) + 1)
-  step t = rw (l .kind-is, l .value-is, l .count-is) (lines-step h (l .below) (same-line ∙ t))
+      line-fits read lex n least (key kind value) (to - from) (drop from xs) ≡ true →
+      Lines-read read lex xs (i + 1) to (key-code (key kind value) + 1)
+  step t = rw (l .line .kind-is, l .line .value-is, l .line .to-is) (lines-step h (l .below) (same-line ∙ t))
 
 -- A WORD'S LINE
 
-module _ {read : List ℕ → List ℕ} {lex : Lexicon} {xs : List ℕ} {i at least n kind value count : ℕ}
-    (h : Lines-read read lex xs i at least) (l : Line-read xs i n kind value count) (word : kind ≡ 0) where
-  pub word-stop : line-fits read lex n least (key 0 value) count (drop at xs) ≡ false → false ≡ walk-good read lex xs
+module _ {read : List ℕ → List ℕ} {lex : Lexicon} {xs : List ℕ} {i at least n kind value from to : ℕ}
+    (h : Lines-read read lex xs i at least) (l : Line-read xs i at n kind value from to) (word : kind ≡ 0) where
+  pub word-stop : line-fits read lex n least (key 0 value) (to - from) (drop from xs) ≡ false → false ≡ walk-good read lex xs
   word-stop f = stop h l (rw word f)
 
   -- the value is a word's number
-  pub word-known : line-fits read lex n least (key 0 value) count (drop at xs) ≡ true → value < length (lex .words)
+  pub word-known : line-fits read lex n least (key 0 value) (to - from) (drop from xs) ≡ true → value < length (lex .words)
   unfolding key key-good
   word-known t =
-      ltb-true value (length (lex .words)) (fits-get read lex n least (key 0 value) count (drop at xs) t .is-good)
+      ltb-true value (length (lex .words)) (fits-get read lex n least (key 0 value) (to - from) (drop from xs) t .is-good)
 
   pub word-step :
-      line-fits read lex n least (key 0 value) count (drop at xs) ≡ true → Lines-read read lex xs (i + 1) (at + count) (value + 1)
+      line-fits read lex n least (key 0 value) (to - from) (drop from xs) ≡ true → Lines-read read lex xs (i + 1) to (value + 1)
   unfolding key
   word-step t =
       let code : key-code (key kind value) + 1 ≡ value + 1 = omega arith in
@@ -63,8 +64,8 @@ module _ {read : List ℕ → List ℕ} {lex : Lexicon} {xs : List ℕ} {i at le
 
 -- A LONE CHARACTER'S LINE
 
-module _ {read : List ℕ → List ℕ} {lex : Lexicon} {xs : List ℕ} {i at n kind value count : ℕ} (least : ℕ)
-    (h : Lines-read read lex xs i at (65536 + least)) (l : Line-read xs i n kind value count) where
+module _ {read : List ℕ → List ℕ} {lex : Lexicon} {xs : List ℕ} {i at n kind value from to : ℕ} (least : ℕ)
+    (h : Lines-read read lex xs i at (65536 + least)) (l : Line-read xs i at n kind value from to) where
   pub other-stop : length (lex .words) ≤ 4096 → (kind ≡ 1 → ⊥) → false ≡ walk-good read lex xs
   other-stop few other = key-stop h l (kind-other lex least value kind few other)
 
@@ -80,16 +81,17 @@ module _ {read : List ℕ → List ℕ} {lex : Lexicon} {xs : List ℕ} {i at n 
 
     module _ (order : least ≤ value) (small : value ≤ 65535) (free : is-word lex (value ∷ []) ≡ false) where
       lone-positions :
-          line-fits read lex n (65536 + least) (key kind value) count (drop at xs) ≡ line-list-good read n 1 count (drop at xs)
+          line-fits read lex n (65536 + least) (key kind value) (to - from) (drop from xs)
+          ≡ line-list-good read n 1 (to - from) (drop from xs)
       unfolding line-fits key spells
       lone-positions = rw (lone, lone-fits lex least value order (omega arith) free)
 
-      pub lone-stop : line-list-good read n 1 count (drop at xs) ≡ false → false ≡ walk-good read lex xs
+      pub lone-stop : line-list-good read n 1 (to - from) (drop from xs) ≡ false → false ≡ walk-good read lex xs
       lone-stop f = stop h l (lone-positions ∙ f)
 
       pub lone-step :
-          line-list-good read n 1 count (drop at xs) ≡ true →
-          Lines-read read lex xs (i + 1) (at + count) (65536 + (value + 1))
+          line-list-good read n 1 (to - from) (drop from xs) ≡ true →
+          Lines-read read lex xs (i + 1) to (65536 + (value + 1))
       unfolding key
       lone-step t =
           let code : key-code (key kind value) + 1 ≡ 65536 + (value + 1) = omega arith in

@@ -143,20 +143,19 @@ module _ (ps : List ℕ) (n l : ℕ) (some : 1 ≤ length ps) where
   unfolding list-good
   list-rises h = rw (le-leb (last-of ps + l) (suc n) (omega (arith, last-read)))
 
--- c numbers from `at` on
-module _ (read : List ℕ → List ℕ) (xs : List ℕ) (at n l : ℕ) {c : ℕ} where
-  pub positions-missing : length xs - at < c → false ≡ line-list-good read n l c (drop at xs)
+-- the numbers between `from` and `to`
+module _ (read : List ℕ → List ℕ) (xs : List ℕ) (n l : ℕ) {from to : ℕ} where
+  pub positions-missing : from ≤ length xs → length xs < to → false ≡ line-list-good read n l (to - from) (drop from xs)
   unfolding line-list-good
-  positions-missing h = rw (lt-leb c (length (drop at xs)) (omega (arith, length-drop at xs)))
+  positions-missing room h = rw (lt-leb (to - from) (length (drop from xs)) (omega (arith, length-drop from xs)))
 
-  pub positions-none : c ≡ 0 → false ≡ line-list-good read n l c (drop at xs)
+  pub positions-none : to ≡ from → false ≡ line-list-good read n l (to - from) (drop from xs)
   unfolding line-list-good
-  positions-none h = rw (lt-leb 1 c (omega arith), and-false (leb c (length (drop at xs))))
+  positions-none h = rw (lt-leb 1 (to - from) (omega arith), and-false (leb (to - from) (length (drop from xs))))
 
   pub positions-there :
-      at ≤ length xs → c ≤ length xs - at → (c ≡ 0 → ⊥) →
-      list-good read n l (take (at + c - at) (drop at xs)) ≡ line-list-good read n l c (drop at xs)
+      from < to → to ≤ length xs →
+      list-good read n l (take (to - from) (drop from xs)) ≡ line-list-good read n l (to - from) (drop from xs)
   unfolding line-list-good
-  positions-there room present some =
-      let len : at + c - at ≡ c = omega arith in
-      rw (len, le-leb c (length (drop at xs)) (omega (arith, length-drop at xs)), le-leb 1 c (omega arith))
+  positions-there some present =
+      rw (le-leb (to - from) (length (drop from xs)) (omega (arith, length-drop from xs)), le-leb 1 (to - from) (omega arith))

@@ -19,7 +19,7 @@ use Rattle.laws.specs.Text.Strings.{Stand}
 use Rattle.laws.specs.Text.Overlaps.{stand-at, stand-put, stand-char}
 use Rattle.laws.specs.Text.Facts.{Rise, All-stand}
 use Rattle.laws.specs.Numbers.Flat.{posting, entries-at-get, flat-put}
-use Rattle.laws.specs.Directory.Opened.{line-of, lines-next, lines-none, counts-next, Is-line}
+use Rattle.laws.specs.Numbers.DirectoryWalk.{line-of, lines-next, lines-none, counts-next, Is-line}
 use Rattle.laws.specs.Numbers.LineNumbers.{line-of-is, line-of-in}
 use Rattle.laws.specs.Receive.LinePass.{line-positions}
 

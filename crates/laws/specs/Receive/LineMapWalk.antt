@@ -17,7 +17,7 @@ use Rattle.laws.specs.Numbers.Slices.{Fits}
 use Rattle.laws.specs.Readable.Readable.{readable-get}
 use Rattle.laws.specs.Readable.LineWalk.{readable-fits}
 use Rattle.laws.specs.Numbers.LineNumbers.{line-of-is, line-of-in}
-use Rattle.laws.specs.Directory.Opened.{line-of, Is-line}
+use Rattle.laws.specs.Numbers.DirectoryWalk.{line-of, Is-line}
 use Rattle.laws.specs.Receive.LineMapFill.{length-fill-positions}
 use Rattle.laws.specs.Receive.PositionWalk.{Lie-within}
 use Rattle.laws.specs.Receive.ReconstructionWalk.{good-lie}

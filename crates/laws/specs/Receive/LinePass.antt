@@ -8,7 +8,7 @@ use lib.ListN.{length, take, drop}
 use Rattle.spec.specs.Numbers.{Line, line}
 use Rattle.spec.specs.Index.{header, keys-of, count-at, counts-from, lines-in}
 use Rattle.models.specs.Window.{list-start}
-use Rattle.laws.specs.Directory.Opened.{line-of, lines-next, lines-none, counts-next, Is-line}
+use Rattle.laws.specs.Numbers.DirectoryWalk.{line-of, lines-next, lines-none, counts-next, Is-line}
 
 -- ONE LINE
 

@@ -19,7 +19,7 @@ use Rattle.laws.specs.Text.Facts.{Good-line, Rise}
 use Rattle.laws.specs.Dictionary.Keys.{spells-lone}
 use Rattle.laws.specs.Numbers.FlatOrder.{rise-least}
 use Rattle.laws.specs.Match.MatchTable.{Started}
-use Rattle.laws.specs.Directory.Opened.{line-of, Is-line}
+use Rattle.laws.specs.Numbers.DirectoryWalk.{line-of, Is-line}
 use Rattle.laws.specs.Directory.Tables.{Reads, Word-line, admitted-reads, line-is-good, key-is, line-word, line-spells}
 use Rattle.laws.specs.Receive.PositionWalk.{length-reconstruct-positions, reconstruct-character, Lie-within}
 use Rattle.laws.specs.Receive.EntriesMatch.{Stand-each}

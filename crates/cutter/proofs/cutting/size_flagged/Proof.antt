@@ -1,5 +1,6 @@
--- `size_flagged` meets its contract. The invariant: the flagged lines before `line` are counted. The measure is how many
+-- `size_flagged` meets its contract. The invariant: the flagged lines before line `number` are counted. The measure is how many
 -- lines are left. Assumes nothing.
+use mathlib.Core.Path.{refl}
 use Prim.Native.Nat.{_-_}
 use native.Mathlib.Omega.{arith}
 use borrow.Author.Needs.{needs}
@@ -9,24 +10,20 @@ use Rattle.cutter.proofs.cutting.size_flagged.Statement.{statement}
 use Rattle.cutter.proofs.cutting.size_flagged.Tie as tie
 
 abbrev Inv-loop : tie.InvT-loop
-Inv-loop chars word-starts index string flags count keys₀ entries₀ line₀ keys entries line =
-    Counting (lexicon-at chars word-starts) index string flags keys entries line
+Inv-loop chars word-starts index string flags count keys₀ entries₀ number₀ keys entries number =
+    Counting (lexicon-at chars word-starts) index string flags keys entries number
 
 abbrev μ-loop : tie.MeasureT-loop
-μ-loop chars word-starts index string flags count keys₀ entries₀ line₀ keys entries line = count - line
+μ-loop chars word-starts index string flags count keys₀ entries₀ number₀ keys entries number = count - number
 
+next-line-requires : tie.Need-next-line-requires Inv-loop μ-loop
+next-line-requires c κs = let few = c .before .before .before .loop .inv .entries-few in (omega arith, omega arith)
+
+-- the positions of the flagged lines before start at 0, those of this line at `entries`
 loop-again : tie.Need-loop-again Inv-loop μ-loop
 loop-again c =
-    counting-step (c .before .before .before .before .loop .inv) (omega arith) (c .before .if1 .taken) (c .count-at .ensures .0)
-
--- the sum of the counts does not wrap: the index holds as many positions
-add-entries : tie.Need-add-entries Inv-loop μ-loop
-add-entries c =
-    omega (
-      arith,
-      counting-step (c .before .before .before .before .loop .inv) (omega arith) (c .before .if1 .taken) (c .count-at .ensures .0)
-          .entries-few,
-    )
+    rw (c .next-line .ensures .to-is)
+    (counting-step (c .before .before .before .before .loop .inv) (omega arith) (c .before .if1 .taken) refl)
 
 pub size-flagged-spec : {M : Type 1} → statement M
 size-flagged-spec =
@@ -34,6 +31,6 @@ size-flagged-spec =
     (tie.spec
     Inv-loop μ-loop (λ c κs. omega arith)
     (λ c. let known = c .before in counting-start (known .before .before .before .before .before .pre)) (λ c. omega arith)
-    (λ c. search needs) (λ c. omega arith) (λ c κs. omega arith) add-entries (λ c. search needs) loop-again (λ c. search needs)
+    (λ c. search needs) (λ c. omega arith) next-line-requires (λ c. search needs) loop-again (λ c. search needs)
     (λ c. counting-pass (c .before .before .before .loop .inv) (omega arith) (c .if1 .left))
     (λ c. counting-end (c .before .loop .inv) (omega arith) (omega arith)))

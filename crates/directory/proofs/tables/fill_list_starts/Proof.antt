@@ -7,7 +7,7 @@ use lib.ListN.{length, length-set}
 use borrow.Author.Needs.{needs}
 use Rattle.spec.specs.Index.{greatest-number, keys-of, counts-from}
 use Rattle.laws.specs.Numbers.Slices.{Fits}
-use Rattle.laws.specs.Directory.Opened.{counts-next}
+use Rattle.laws.specs.Numbers.DirectoryWalk.{counts-next, list-room}
 use Rattle.laws.specs.Directory.Tables.{List-starts, list-starts-none, list-starts-first, list-starts-next, list-starts-all}
 use Rattle.directory.proofs.tables.fill_list_starts.Statement.{statement}
 use Rattle.directory.proofs.tables.fill_list_starts.Tie as tie
@@ -33,14 +33,19 @@ loop-holds c =
       s .pre .0,
     )
 
+next-line-requires : tie.Need-next-line-requires Inv-loop μ-loop
+next-line-requires c κs =
+    let l = c .before .loop in
+    let index = c .before .before .before .before .args .index .now in
+    (omega arith, omega (arith, list-room index (l .i) (omega arith) (l .inv .6)))
+
 loop-again : tie.Need-loop-again Inv-loop μ-loop
 loop-again c =
-    let stored = c .before in
-    let turn = stored .before .before in
+    let turn = c .before .before .before in
     let a = turn .before .before .before .args in
     let l = turn .loop in (
-      list-starts-next (a .index .now) (l .inv .0) (omega arith) (stored .to-sum .result) (stored .to-sum .ensures ∙ l .inv .2),
-      length-set (l .list-starts) (l .i) (stored .to-sum .result) ∙ l .inv .1,
+      list-starts-next (a .index .now) (l .inv .0) (omega arith) (c .to-sum .result) (omega arith),
+      length-set (l .list-starts) (l .i) (c .to-sum .result) ∙ l .inv .1,
       omega (arith, counts-next (l .i) (a .index .now)),
       omega arith,
       l .inv .4,
@@ -52,6 +57,6 @@ pub fill-list-starts-spec : {M : Type 1} → statement M
 fill-list-starts-spec =
     tie.close
     (tie.spec
-    Inv-loop μ-loop loop-holds (λ c κs. omega arith) (λ c. search needs) (λ c. omega arith) (λ c κs. omega arith) (λ c. omega arith)
-    (λ c. omega arith) (λ c. omega arith) loop-again (λ c. c .before .loop .inv .1)
+    Inv-loop μ-loop loop-holds next-line-requires (λ c κs. omega arith) (λ c. search needs) (λ c. omega arith) (λ c. omega arith)
+    (λ c. omega arith) loop-again (λ c. c .before .loop .inv .1)
     (λ c. list-starts-all (c .before .loop .inv .0) (omega arith)))

@@ -36,16 +36,16 @@ loop-holds c =
 
 loop-again : tie.Need-loop-again Inv-loop μ-loop
 loop-again c =
-    let at-loop = c .before .before .before .before in
-    let s = at-loop .before .before .before .before in
-    let walk = at-loop .loop in
+    let in-loop = c .before .before .before in
+    let s = in-loop .before .before .before .before .before in
+    let walk = in-loop .before .loop in
     let xs = s .args .index .now in
     let start = header + 3 * keys-of xs in
     let f = first-as (s .args .restore) in
-    let line = below (c .before .before .before) in
-    let first : c .before .first-number .result ≡ f (getD (drop start xs) (walk .at) 0) =
-    c .before .first-number .ensures ∙ ap f (rw (s .pre .1) (sym (getD-drop start xs (walk .at) 0))) in
-    rw (first, c .count-at .ensures .0) (firsts-step (walk .inv) line (s .pre .0 .some (walk .i) line))
+    let line = below in-loop in
+    let first : c .first-number .result ≡ f (getD (drop start xs) (walk .at) 0) =
+    c .first-number .ensures ∙ ap f (rw (s .pre .1) (sym (getD-drop start xs (walk .at) 0))) in
+    rw (first, c .before .before .next-line .ensures .to-is) (firsts-step (walk .inv) line (s .pre .0 .some (walk .i) line))
 
 same-length : tie.Need-same-length Inv-loop μ-loop
 same-length c = c .before .loop .inv .len ∙ sym (loop-holds (c .before .before) .len)
@@ -57,9 +57,10 @@ pub put-firsts-spec : {M : Type 1} → statement M
 put-firsts-spec =
     tie.close
     (tie.spec
-    Inv-loop μ-loop (λ c κs. search needs) loop-holds (λ c. let t = there c in omega arith) (λ c. let t = there c in omega arith)
-    (λ c. let t = there (c .before) in omega arith) (λ c κs. search needs)
-    (λ c. let at-loop = c .before .before .before in let xs = at-loop .before .before .before .before .args .index .now in
-    omega (arith, there (c .before .before) .write, length-drop (header + 3 * keys-of xs) xs))
-    (λ c. there (c .before .before) .write) (λ c κs. search needs) (λ c. let t = there (c .before .before .before) in omega arith)
+    Inv-loop μ-loop (λ c κs. search needs) loop-holds (λ c κs. let t = there c in omega arith)
+    (λ c. let t = there (c .before) in omega arith) (λ c. let t = there (c .before) in omega arith)
+    (λ c. let t = there (c .before .before) in omega arith) (λ c κs. search needs)
+    (λ c. let in-loop = c .before .before .before in let xs = in-loop .before .before .before .before .before .args .index .now in
+    omega (arith, there in-loop .write, length-drop (header + 3 * keys-of xs) xs))
+    (λ c. there (c .before .before .before) .write)
     (λ c. search needs) (λ c. search needs) loop-again same-length returns)

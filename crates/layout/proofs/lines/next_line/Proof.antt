@@ -1,27 +1,22 @@
--- `next_line` meets its contract: the positions of a line lie within the slice. Assumes nothing.
+-- `next_line` meets its contract: each field is read. Assumes nothing.
 use native.Mathlib.Omega.{arith}
 use borrow.Author.Needs.{needs}
-use Rattle.laws.specs.Directory.Opened.{list-room}
 use Rattle.layout.proofs.lines.next_line.Statement.{statement}
 use Rattle.layout.proofs.lines.next_line.Tie as tie
 
 add-t7 : tie.Need-add-t7
-add-t7 c =
-    let s = c .before .before .before .before in
-    omega (arith, list-room (s .args .index .now) (s .args .number) (s .pre .1) (s .pre .0))
+add-t7 c = let s = c .before .before .before .before in omega (arith, s .pre .1, s .good)
 
 returns : tie.Need-returns
 returns c =
-    let s = c .before .before .before .before in
-    let room = list-room (s .args .index .now) (s .args .number) (s .pre .1) (s .pre .0) in
     record {
-      below = s .pre .1;
       kind-is = omega arith;
+      kind-small = omega arith;
       value-is = omega arith;
       value-small = omega arith;
-      from-is = s .pre .2;
+      from-is = omega arith;
       to-is = omega arith;
-      room = omega arith;
+      count-small = omega arith;
     }
 
 pub next-line-spec : {M : Type 1} → statement M

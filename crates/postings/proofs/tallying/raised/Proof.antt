@@ -1,11 +1,13 @@
 -- `raised` meets its contract. The invariant: the counts, with what the lines from i on add, are the counts given with the tally added. The
 -- measure is how many lines are left. Assumes nothing.
+use mathlib.Core.Path.{_≡_}
 use Prim.Native.Nat.{_-_, _≤_}
 use native.Mathlib.Omega.{arith}
 use mir.Syntax.{w64}
 use borrow.Kind.Array.{eInt, good-length}
 use Rattle.spec.specs.Dictionary.{longest-text, lexicon}
 use Rattle.spec.specs.Words.{key}
+use Rattle.spec.specs.Index.{count-at}
 use Rattle.laws.specs.Text.Facts.{Is-key}
 use Rattle.laws.specs.Readable.KeyLengths.{key-sizes}
 use Rattle.laws.specs.Tally.Walk.{Tallied, tally-start, tally-step, tally-end, line-key}
@@ -28,30 +30,32 @@ loop-holds c =
     (good-length (eInt w64) 32 (s .args .counts) _ (s .good .1 .1 .1 .1 .0)) (s .pre .4)
 
 -- the line has a key of the lexicon
-is-key : (c : tie.After-value-at Inv-loop μ-loop) → let a = start (c .before .before .before) .args in
-    Is-key (lexicon (a .chars .now) (a .lengths .now)) (key (c .before .kind-at .result) (c .value-at .result))
+is-key : (c : tie.After-next-line Inv-loop μ-loop) → let a = start (c .before) .args in
+    Is-key (lexicon (a .chars .now) (a .lengths .now)) (key (c .next-line .result .kind) (c .next-line .result .value))
 is-key c =
-    let s = start (c .before .before .before) in
-    rw (c .before .kind-at .ensures .0, c .value-at .ensures .0)
+    let s = start (c .before) in
+    rw (c .next-line .ensures .kind-is, c .next-line .ensures .value-is)
     (line-key longest-text (lexicon (s .args .chars .now) (s .args .lengths .now)) (s .args .index .now) (s .pre .1)
-    (c .before .before .before .before .loop .i) (omega arith))
+    (c .before .before .loop .i) (omega arith))
 
 -- which spells 1 to 32 characters
 sizes : (c : tie.After-key-length Inv-loop μ-loop) → (1 ≤ c .key-length .result) × (c .key-length .result ≤ 32)
 sizes c =
-    let is = key-sizes (start (c .before .before .before .before) .pre .0) (is-key (c .before)) in
+    let is = key-sizes (start (c .before .before) .pre .0) (is-key (c .before)) in
     (omega arith, omega arith)
 
 add-counts : tie.Need-add-counts Inv-loop μ-loop
 add-counts c =
-    let l = c .before .before .before .before .before in
+    let l = c .before .before .before in
     omega (arith, sizes c, l .loop .inv .bounded (c .key-length .result - 1), l .before .shared-slice-known3 .given 1)
 
 loop-again : tie.Need-loop-again Inv-loop μ-loop
 loop-again c =
-    let len = rw (c .before .before .kind-at .ensures .0, c .before .value-at .ensures .0) at (c .key-length .ensures) in
-    rw (← c .before .before .before .count-at .ensures .0) at
-    (tally-step (c .before .before .before .before .before .loop .inv) (c .key-length .result - 1) (omega arith) (omega arith)
+    let line = c .before .next-line in
+    let count : line .result .to ≡ count-at (start (c .before .before) .args .index .now) (c .before .before .before .loop .i) = omega arith in
+    let len = rw (line .ensures .kind-is, line .ensures .value-is) at (c .key-length .ensures) in
+    rw (← count) at
+    (tally-step (c .before .before .before .loop .inv) (c .key-length .result - 1) (omega arith) (omega arith)
     (omega (arith, sizes c)) (omega (arith, sizes c)))
 
 returns : tie.Need-returns Inv-loop μ-loop
@@ -64,7 +68,6 @@ pub raised-spec : {M : Type 1} → statement M
 raised-spec =
     tie.close
     (tie.spec
-    Inv-loop μ-loop loop-holds (λ c κs. omega arith) (λ c κs. omega arith) (λ c κs. omega arith)
-    (λ c κs. (start (c .before .before .before) .pre .0, is-key c)) (λ c. omega (arith, sizes c))
+    Inv-loop μ-loop loop-holds (λ c κs. omega arith) (λ c κs. (start (c .before) .pre .0, is-key c)) (λ c. omega (arith, sizes c))
     (λ c. omega (arith, sizes c)) (λ c. omega (arith, sizes c)) add-counts (λ c. omega (arith, sizes c)) (λ c. omega (arith, sizes c))
     (λ c. omega arith) (λ c. omega arith) loop-again returns)

@@ -5,6 +5,8 @@ use Prim.Native.Nat.{_-_}
 use native.Mathlib.Omega.{arith}
 use borrow.Author.Needs.{needs}
 use Rattle.models.specs.WordStarts.{lexicon-at}
+use Rattle.laws.specs.Numbers.Slices.{Fits}
+use Rattle.laws.specs.Numbers.DirectoryWalk.{Is-line, line-within, is-line}
 use Rattle.laws.specs.Receive.ReconstructionWalk.{Reconstructing-lines, reconstructing-start, reconstructing-step, reconstructing-end}
 use Rattle.reconstruction.proofs.entries.reconstruct_entries.Statement.{statement}
 use Rattle.reconstruction.proofs.entries.reconstruct_entries.Tie as tie
@@ -24,11 +26,24 @@ loop-holds c =
     let a = start (c .before) .args in
     reconstructing-start (lexicon-at (a .chars .now) (a .word-starts .now)) (omega arith)
 
+abbrev fits-at : (c : tie.In-loop Inv-loop μ-loop) → Fits (start (c .before .before .before) .args .index .now)
+fits-at c = start (c .before .before .before) .pre .reads .can .fits
+
+next-line-requires : tie.Need-next-line-requires Inv-loop μ-loop
+next-line-requires c κs = line-within (fits-at c) (omega arith) (c .before .loop .inv .at-is)
+
+-- the line as it is read
+here :
+    (c : tie.After-next-line Inv-loop μ-loop) → let line = c .next-line .result in
+    Is-line (start (c .before .before .before .before) .args .index .now) (c .before .before .loop .number) (line .kind) (line .value)
+    (line .from) (line .to)
+here c = is-line (fits-at (c .before)) (omega arith) (c .before .before .loop .inv .at-is) (c .next-line .ensures)
+
 reconstruct-line-requires : tie.Need-reconstruct-line-requires Inv-loop μ-loop
 reconstruct-line-requires c κs =
     let turn = c .before .before .before in
     let s = start (turn .before .before) in
-    (record { reads = s .pre .reads; long = turn .loop .inv .len ∙ s .pre .long }, c .before .next-line .ensures)
+    (record { reads = s .pre .reads; long = turn .loop .inv .len ∙ s .pre .long }, here (c .before))
 
 loop-again : tie.Need-loop-again Inv-loop μ-loop
 loop-again c =
@@ -36,7 +51,7 @@ loop-again c =
     let turn = read .before .before in
     let a = start (turn .before .before) .args in
     reconstructing-step (lexicon-at (a .chars .now) (a .word-starts .now)) (turn .loop .inv)
-    (read .next-line .ensures) (c .before .before .reconstruct-line .ensures)
+    (here read) (c .before .before .reconstruct-line .ensures)
 
 returns : tie.Need-returns Inv-loop μ-loop
 returns c =
@@ -47,5 +62,5 @@ pub reconstruct-entries-spec : {M : Type 1} → statement M
 reconstruct-entries-spec =
     tie.close
     (tie.spec
-    Inv-loop μ-loop (λ c κs. omega arith) (λ c κs. omega arith) loop-holds (λ c κs. search needs) reconstruct-line-requires
+    Inv-loop μ-loop (λ c κs. omega arith) (λ c κs. omega arith) loop-holds next-line-requires reconstruct-line-requires
     (λ c. omega arith) (λ c. omega arith) loop-again (λ c. c .before .loop .inv .len) returns)

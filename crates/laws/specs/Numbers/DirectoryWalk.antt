@@ -1,4 +1,4 @@
--- An index read by a table of where each directory line's positions start. Assumes nothing.
+-- Walks over the directory: the next line, where its positions start, and a line by value. Assumes nothing.
 use mathlib.Core.Path.{_≡_, ap, _∙_}
 use mathlib.Core.List.{List, [], _∷_}
 use Prim.Native.Nat.{ℕ, zero, suc, _+_, _*_, _-_, _≤_, _<_}
@@ -77,7 +77,17 @@ pub lines-none : (xs : List ℕ) (i : ℕ) → keys-of xs ≤ i → drop i (line
 lines-none xs i past =
     let h : length (lines-in xs) ≤ i = omega (arith, length-lines-in xs) in drop-of-length-le (lines-in xs) h
 
--- line i by value: its key, and from where to where its positions lie
+-- line i by value: its key, and to where its positions go that start at `start`, counted from wherever a walk counts
+pub record Line-at (xs : List ℕ) (i start kind value from to : ℕ) : Type 0 where
+  pub kind-is : kind ≡ kind-at xs i
+  pub kind-small : kind ≤ greatest-number
+  pub value-is : value ≡ value-at xs i
+  pub value-small : value ≤ greatest-number
+  pub from-is : from ≡ start
+  pub to-is : to ≡ start + count-at xs i
+  pub count-small : count-at xs i ≤ greatest-number
+
+-- line i by value: its key, and from where to where its positions lie in the index
 pub record Is-line (xs : List ℕ) (i kind value from to : ℕ) : Type 0 where
   pub below : i < keys-of xs
   pub kind-is : kind ≡ kind-at xs i
@@ -86,3 +96,21 @@ pub record Is-line (xs : List ℕ) (i kind value from to : ℕ) : Type 0 where
   pub from-is : from ≡ list-start xs i
   pub to-is : to ≡ from + count-at xs i
   pub room : to ≤ length xs
+
+-- in a walk that counts from the start of the index, line i and where its positions start lie within the slice
+module _ {xs : List ℕ} {i start : ℕ} (fits : Fits xs) (below : i < keys-of xs) (e : start ≡ list-start xs i) where
+  pub line-within : (header + 3 * i + 2 < length xs) × (start ≤ length xs)
+  line-within = (omega arith, omega (arith, list-room xs i below fits))
+
+  -- and so do its positions
+  pub is-line : {kind value from to : ℕ} → Line-at xs i start kind value from to → Is-line xs i kind value from to
+  is-line l =
+      record {
+        below = below;
+        kind-is = l .kind-is;
+        value-is = l .value-is;
+        value-small = l .value-small;
+        from-is = omega arith;
+        to-is = omega arith;
+        room = omega (arith, list-room xs i below fits);
+      }

@@ -5,8 +5,8 @@ use native.Mathlib.Omega.{arith}
 use lib.ListN.{length}
 use borrow.Author.Needs.{needs}
 use Rattle.laws.specs.Readable.LoneWords.{Passed, passed-step, passed-other, passed-same, passed-none, word-some, word-room}
-use Rattle.readability.proofs.readability.seek.Statement.{statement}
-use Rattle.readability.proofs.readability.seek.Tie as tie
+use Rattle.readability.proofs.lines.seek.Statement.{statement}
+use Rattle.readability.proofs.lines.seek.Tie as tie
 
 abbrev Inv-loop : tie.InvT-loop
 Inv-loop chars lengths value word₀ at₀ word at = Passed chars lengths word at value

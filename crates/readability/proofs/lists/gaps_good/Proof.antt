@@ -5,8 +5,8 @@ use native.Mathlib.Omega.{arith}
 use lib.ListN.{length}
 use Rattle.laws.specs.Gaps.GapLists.{Summed, summed-start, summed-step, summed-late, summed-end}
 use borrow.Author.Needs.{needs}
-use Rattle.readability.proofs.readability.gaps_good.Statement.{statement}
-use Rattle.readability.proofs.readability.gaps_good.Tie as tie
+use Rattle.readability.proofs.lists.gaps_good.Statement.{statement}
+use Rattle.readability.proofs.lists.gaps_good.Tie as tie
 
 abbrev Inv-loop : tie.InvT-loop
 Inv-loop gaps n len good₀ sum₀ i₀ good sum i = Summed gaps good sum i

@@ -4,8 +4,8 @@ use Prim.Native.Nat.{_-_}
 use lib.ListN.{length}
 use Rattle.laws.specs.Readable.LineSteps.{Rises, rises-start, rises-step, rises-end}
 use borrow.Author.Needs.{needs}
-use Rattle.readability.proofs.readability.rise.Statement.{statement}
-use Rattle.readability.proofs.readability.rise.Tie as tie
+use Rattle.readability.proofs.lists.rise.Statement.{statement}
+use Rattle.readability.proofs.lists.rise.Tie as tie
 
 abbrev Inv-loop : tie.InvT-loop
 Inv-loop positions good₀ last₀ i₀ good last i = Rises positions good last i

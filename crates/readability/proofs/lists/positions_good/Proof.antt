@@ -3,8 +3,8 @@ use mathlib.Core.Path.{_∙_}
 use native.Mathlib.Omega.{arith}
 use Rattle.laws.specs.Readable.LineSteps.{list-late, list-rises}
 use borrow.Author.Needs.{needs}
-use Rattle.readability.proofs.readability.positions_good.Statement.{statement}
-use Rattle.readability.proofs.readability.positions_good.Tie as tie
+use Rattle.readability.proofs.lists.positions_good.Statement.{statement}
+use Rattle.readability.proofs.lists.positions_good.Tie as tie
 
 returns : tie.Need-returns
 returns c =
