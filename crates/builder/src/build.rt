@@ -56,15 +56,14 @@ fn index_by(
     ensures { λ r. ⌜ Tokens-say (now (tokens .entry)) (replaced (now (text .entry))) r (now (output .entry)) (now (output .exit)) ⌝ }
 {
     let counts = chain_positions(text, tokens, heads, pages);
-    let keys = counts.keys;
-    let size = line_start(keys) + counts.entries;
+    let size = line_start(counts.keys) + counts.entries;
     if output.len() < size {
         return Answer {
             refusal: 8,
             count: 0,
         };
     }
-    write_index(heads, pages, tokens, keys, output);
+    write_index(heads, pages, tokens, counts, output);
     Answer {
         refusal: 0,
         count: size,

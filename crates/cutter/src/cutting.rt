@@ -20,15 +20,10 @@ use layout::fields::key_count;
 use layout::fields::line_start;
 use layout::fields::text_len;
 use layout::lines::next_line;
+use layout::write::Size;
 use layout::write::write_header;
 use layout::write::write_line;
 use width::Number;
-
-// How many keys bear on a string, and how many positions they have.
-pub struct Size {
-    pub keys: usize,
-    pub entries: usize,
-}
 
 // How many lines are flagged, and how many positions they have.
 pub(crate) fn size_flagged(
@@ -144,7 +139,7 @@ pub(crate) fn write_cut(
         (now (string .entry))) (now (output .entry)) ⌝ }
 {
     let keys = size.keys;
-    write_header(output, text_len(index), keys);
+    write_header(output, text_len(index), size);
     write_directory(chars, word_starts, index, string, flags, output);
     let after = line_start(keys);
     write_positions(

@@ -15,14 +15,9 @@ ghost use Rattle.laws.specs.Build.Pages.{Paged};
 ghost use Rattle.laws.specs.Build.PostingChains.{Linkable, Fresh, Links};
 ghost use Rattle.laws.specs.Build.CodeWalk.{Next};
 use folding::forms::replace;
+use layout::write::Size;
 use width::Number;
 use width::number_at;
-
-// How many keys and entries there are.
-pub struct Counts {
-    pub keys: usize,
-    pub entries: usize,
-}
 
 // The code of a token, where `character` is the text's as lent. Both codes are computed, so that no branch has to be predicted.
 fn code_of(token: usize, character: u16) -> usize
@@ -40,7 +35,7 @@ pub fn chain_positions(
     tokens: &mut [Number],
     heads: &mut [Number],
     pages: &mut [u8],
-) -> Counts
+) -> Size
     requires { ⌜ Linkable (replaced (now text)) (now tokens) ⌝ }
     requires { ⌜ Fresh (now heads) (now pages) ⌝ }
     ensures { λ r. ⌜
@@ -65,7 +60,7 @@ pub fn chain_positions(
             }
         }
     }
-    Counts { keys, entries }
+    Size { keys, entries }
 }
 
 // The first code from `from` on that has a chain, or the number of codes.

@@ -12,11 +12,13 @@ ghost use Rattle.spec.specs.Index.{header, greatest-number};
 ghost use Rattle.spec.specs.Numbers.{directory, all-positions, numbers};
 ghost use Rattle.models.specs.Inversion.{code-key};
 ghost use Rattle.models.specs.Readability.{most-keys};
+ghost use Rattle.laws.specs.Numbers.Slices.{Size-of};
 ghost use Rattle.laws.specs.Build.PostingChains.{lines-at};
 ghost use Rattle.laws.specs.Build.CodeWalk.{Listable};
 use crate::chains::chain_length;
 use crate::chains::next_code;
 use layout::fields::line_start;
+use layout::write::Size;
 use layout::write::write_header;
 use layout::write::write_line;
 use width::Number;
@@ -90,17 +92,18 @@ pub fn write_index(
     heads: &[Number],
     pages: &[u8],
     links: &[Number],
-    keys: usize,
+    size: Size,
     output: &mut [Number],
 )
     requires { ⌜ Listable (now heads) (now pages) (now links) ⌝ }
-    requires { ⌜ (keys ≡ length (lines-at (now heads) (now links) 0)) × (keys ≤ greatest-number) ⌝ }
+    requires { ⌜ Size-of (lines-at (now heads) (now links) 0) (size .keys) (size .entries) ⌝ }
     requires { ⌜ length (numbers (length (now links)) (lines-at (now heads) (now links) 0)) ≤ length (now output) ⌝ }
     ensures { λ _. ⌜
         now (output .exit) ≡ over (numbers (length (now (links .entry))) (lines-at (now (heads .entry)) (now (links .entry)) 0))
         (now (output .entry)) ⌝ }
 {
-    write_header(output, links.len(), keys);
+    let keys = size.keys;
+    write_header(output, links.len(), size);
     write_directory(heads, pages, links, output);
     let after = line_start(keys);
     write_positions(heads, pages, links, &mut output[after..]);

@@ -1,10 +1,10 @@
-// The lines of an accepted job: those of the text's index, then those of the finds. A text of at most 2,000 characters has an index of at
-// most 8,002 numbers; the index and the found positions are local, so that only the buffer for the lines is lent.
+// The lines of an accepted job: those of the text's index, then those of the finds. The index and the found positions are local, so that
+// only the buffer for the lines is lent.
 ghost use mathlib.Core.Path.{_≡_};
-ghost use Prim.Native.Nat.{_≤_};
+ghost use Prim.Native.Nat.{_+_, _*_, _≤_};
 ghost use lib.ListN.{length};
 ghost use Rattle.basics.specs.Placed.{Wrote};
-ghost use Rattle.spec.specs.Index.{keys-of};
+ghost use Rattle.spec.specs.Index.{header, keys-of};
 ghost use Rattle.models.specs.JobSheet.{shown, printed-of};
 ghost use Rattle.laws.specs.Directory.Tables.{Can-read};
 ghost use Rattle.laws.specs.JobSheet.JobAnswering.{Parts-good, Prints};
@@ -12,10 +12,14 @@ use crate::finds::put_finds;
 use builder::build::build;
 use directory::tables::fill_list_starts;
 use directory::tables::fill_word_starts;
+use layout::fields::HEADER;
 use opening::opened::open_index;
 use printer::print::put_index_lines;
 use width::Number;
 use width::Sum;
+
+// The most numbers that the index of a text of at most 2,000 characters has.
+const LONGEST_INDEX: usize = HEADER + 4 * 2000;
 
 // Writes the lines of a readable index and of all finds, with a table lent for the starts of the `keys` lines.
 fn put_filled<'a>(
@@ -127,7 +131,9 @@ fn put_built<'a>(
     out: &mut [u8],
 ) -> usize
     requires { ⌜ Parts-good (now chars) (now lengths) (now text) (now strings) (now counts) ⌝ }
-    requires { ⌜ (8002 ≤ length (now index)) × (16000 ≤ length (now work)) × (2000 ≤ length (now found)) × (700000 ≤ length (now out)) ⌝ }
+    requires { ⌜
+        (header + 4 * 2000 ≤ length (now index)) × (16000 ≤ length (now work)) × (2000 ≤ length (now found)) ×
+        (700000 ≤ length (now out)) ⌝ }
     ensures { λ r. ⌜
         Wrote (printed-of (now (chars .entry)) (now (lengths .entry)) (now (text .entry)) (now (strings .entry)) (now (counts .entry))) 0
         (now (out .entry)) r (now (out .exit)) ⌝ }
@@ -151,7 +157,7 @@ pub(crate) fn put_printed<'a>(
         Wrote (printed-of (now (chars .entry)) (now (lengths .entry)) (now (text .entry)) (now (strings .entry)) (now (counts .entry))) 0
         (now (out .entry)) r (now (out .exit)) ⌝ }
 {
-    let mut index: [Number; 8002] = [0; 8002];
+    let mut index: [Number; LONGEST_INDEX] = [0; LONGEST_INDEX];
     let mut work: [Number; 16000] = [0; 16000];
     let mut found: [Number; 2000] = [0; 2000];
     put_built(

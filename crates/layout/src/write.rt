@@ -5,16 +5,23 @@ ghost use Prim.Native.Nat.{_+_, _*_, _≤_};
 ghost use lib.ListN.{length, take};
 ghost use Rattle.basics.specs.Writing.{over};
 ghost use Rattle.spec.specs.Index.{header, greatest-number};
+ghost use Rattle.laws.specs.Numbers.Slices.{header-sized};
 use crate::fields::HEADER;
 use width::Number;
 
-// Writes n and K.
-pub fn write_header(output: &mut [Number], n: usize, keys: usize)
-    requires { ⌜ (header ≤ length (now output)) × (n ≤ greatest-number) × (keys ≤ greatest-number) ⌝ }
-    ensures { λ _. ⌜ now (output .exit) ≡ over (n ∷ keys ∷ []) (now (output .entry)) ⌝ }
+// How many keys and entries an index has.
+pub struct Size {
+    pub keys: usize,
+    pub entries: usize,
+}
+
+// Writes the header of an index of this size.
+pub fn write_header(output: &mut [Number], n: usize, size: Size)
+    requires { ⌜ (header ≤ length (now output)) × (n ≤ greatest-number) × (size .keys ≤ greatest-number) ⌝ }
+    ensures { λ _. ⌜ now (output .exit) ≡ over (header-sized n (size .keys) (size .entries)) (now (output .entry)) ⌝ }
 {
     output[0] = n as Number;
-    output[1] = keys as Number;
+    output[1] = size.keys as Number;
 }
 
 // Writes the kind, value and count of a line.

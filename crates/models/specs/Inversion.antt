@@ -1,7 +1,7 @@
 -- Tokens of the scan, their key codes, and the posting lists by key. Assumes nothing.
 use mathlib.Core.Bool.{Bool, cond}
 use mathlib.Core.List.{List, [], _++_, _∷_}
-use Prim.Native.Nat.{suc, zero, ℕ, _+_, _-_}
+use Prim.Native.Nat.{suc, zero, ℕ, _+_, _*_, _-_}
 use lib.Dec.{eqb, ltb}
 use lib.ListN.{getD, length}
 use Rattle.basics.specs.Steps.{those-from}
@@ -24,6 +24,11 @@ entries-of-tokens lex p (m ∷ ms) (c ∷ cs) = token-entry lex p m c ++ entries
 unfoldable pub coded : (token c : ℕ) → ℕ
 coded m c = cond (eqb m 0) 0 (cond (eqb m 4097) (4097 + c) m)
 
+-- the code of a key: where it stands among all that there may be, the words first, then the characters
+abbrev pub key-code : Key → ℕ
+key-code k = k .kind * 4096 + k .value
+
+-- the key of a code
 unfoldable pub code-key : (code : ℕ) → Key
 code-key k = cond (ltb k 4096) (key 0 k) (key 1 (k - 4096))
 

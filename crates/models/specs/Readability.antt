@@ -10,8 +10,8 @@ use Rattle.spec.specs.Index.{count-at, header, key-at, key-good, keys-of, last-
 use Rattle.spec.specs.Words.{Key, spells}
 
 -- kind and value as one number
-abbrev pub key-code : Key → ℕ
-key-code k = k .kind * 65536 + k .value
+abbrev pub key-number : Key → ℕ
+key-number k = k .kind * 65536 + k .value
 
 -- the most keys that an index has, of any width: 4,096 words and 65,536 characters
 abbrev pub most-keys : ℕ
@@ -27,7 +27,7 @@ line-list-good read n l c ps = (leb c (length ps) && leb 1 c) && list-good read 
 
 -- a good key whose code is `least` or more
 unfoldable pub key-fits : Lexicon → (least : ℕ) → Key → Bool
-key-fits lex a k = (leb (k .kind) 1 && leb a (key-code k)) && key-good lex k
+key-fits lex a k = (leb (k .kind) 1 && leb a (key-number k)) && key-good lex k
 
 unfoldable pub line-fits : (read : List ℕ → List ℕ) → Lexicon → (n least : ℕ) → Key → (count : ℕ) → (positions : List ℕ) → Bool
 line-fits read lex n a k c ps = key-fits lex a k && line-list-good read n (length (spells lex k)) c ps
@@ -36,7 +36,7 @@ unfoldable pub rest-good : (read : List ℕ → List ℕ) → Lexicon → (n lef
 rest-good read lex n zero i a xs ps = eqb (length ps) 0
 rest-good read lex n (suc k) i a xs ps =
     line-fits read lex n a (key-at xs i) (count-at xs i) ps
-    && rest-good read lex n k (suc i) (suc (key-code (key-at xs i))) xs (drop (count-at xs i) ps)
+    && rest-good read lex n k (suc i) (suc (key-number (key-at xs i))) xs (drop (count-at xs i) ps)
 
 -- numbers that are the positions themselves
 abbrev pub as-is : List ℕ → List ℕ

@@ -11,7 +11,7 @@ ghost use Rattle.spec.specs.Index.{lines-in};
 ghost use Rattle.spec.specs.JobAnswer.{decimal, digit-byte, hexadecimal, gap, spaced, index-line, found-line, refused-line, key-name};
 ghost use Rattle.spec.specs.JobAnswer.{key-line, key-lines, index-lines};
 ghost use Rattle.models.specs.JobSheet.{each-spaced, listed};
-ghost use Rattle.laws.specs.JobSheet.IndexPrinting.{Whole};
+ghost use Rattle.laws.specs.Numbers.Slices.{Fits};
 use layout::fields::key_count;
 use layout::fields::line_start;
 use layout::fields::text_len;
@@ -182,7 +182,7 @@ fn put_key_line(out: &mut [u8], at: usize, kind: usize, value: usize, positions:
 
 // Writes a line for each key of an index, in order.
 fn put_key_lines(out: &mut [u8], at: usize, numbers: &[Number]) -> usize
-    requires { ⌜ Whole (now numbers) × (at + length (key-lines (lines-in (now numbers))) ≤ length (now out)) ⌝ }
+    requires { ⌜ Fits (now numbers) × (at + length (key-lines (lines-in (now numbers))) ≤ length (now out)) ⌝ }
     ensures { λ r. ⌜ Wrote (key-lines (lines-in (now (numbers .entry)))) at (now (out .entry)) r (now (out .exit)) ⌝ }
 {
     let keys = key_count(numbers);
@@ -201,7 +201,7 @@ fn put_key_lines(out: &mut [u8], at: usize, numbers: &[Number]) -> usize
 
 // Writes the lines of an index: its three numbers, then its keys.
 pub fn put_index_lines(out: &mut [u8], at: usize, numbers: &[Number]) -> usize
-    requires { ⌜ Whole (now numbers) × (at + length (index-lines (now numbers)) ≤ length (now out)) ⌝ }
+    requires { ⌜ Fits (now numbers) × (at + length (index-lines (now numbers)) ≤ length (now out)) ⌝ }
     ensures { λ r. ⌜ Wrote (index-lines (now (numbers .entry))) at (now (out .entry)) r (now (out .exit)) ⌝ }
 {
     let keys = key_count(numbers);

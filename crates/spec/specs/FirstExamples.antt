@@ -25,7 +25,7 @@ use Rattle.spec.specs.Dictionary.{
 use Rattle.spec.specs.Words.{key, same, listed, is-word, spells, stands, entry, contains, same-key, same-entry, key-entries}
 use Rattle.spec.specs.Words.{word-entries, lone-entries, complete, in-another, maximal, entries}
 use Rattle.spec.specs.Numbers.{index-of, key-before, entry-before, into, sorted, line, with-entry, lines-of, directory, all-positions}
-use Rattle.spec.specs.Numbers.{numbers}
+use Rattle.spec.specs.Numbers.{header-numbers, numbers}
 use Rattle.spec.specs.Index.{entries-of, readable, counts-from, lines-from, lines-in, kinds-good, key-good, keys-ascend, rise-from}
 use Rattle.spec.specs.Index.{last-of, line-good, lines-good, lengths-fit}
 use Rattle.spec.specs.Reception.{lies-on, shown-by, or-shown, shown, char-or, recovered-from, recovered, is-index, received}
@@ -78,11 +78,11 @@ pub first-tried : First-tried
 unfolding is-char words-from lexicon total too-large length-good lengths-good lengths-wrong word-before ascend disordered is-full-width
     replaced-char replaced holds-full-width some-full-width unreplaced dictionary-refusal key same listed is-word spells stands entry
     contains same-key same-entry key-entries word-entries lone-entries complete in-another maximal entries key-before entry-before into
-    sorted line with-entry lines-of directory all-positions numbers index-of counts-from entries-of lines-from lines-in kinds-good key-good
-    keys-ascend rise-from last-of line-good lines-good lengths-fit readable lies-on shown-by or-shown shown char-or recovered-from
-    recovered is-index received overlaps equal-from agrees covers covered all-covered found-from find first-of first-position positions-to
-    with-line lines-to index-to lies-from lies-in joins-from joins bears bearing cut-down string-wrong unreadable or-else index-refusal
-    string-refusal
+    sorted line with-entry lines-of directory all-positions header-numbers numbers index-of counts-from entries-of lines-from lines-in
+    kinds-good key-good keys-ascend rise-from last-of line-good lines-good lengths-fit readable lies-on shown-by or-shown shown char-or
+    recovered-from recovered is-index received overlaps equal-from agrees covers covered all-covered found-from find first-of first-position
+    positions-to with-line lines-to index-to lies-from lies-in joins-from joins bears bearing cut-down string-wrong unreadable or-else
+    index-refusal string-refusal
 first-tried =
     record {
       of-two = refl;

@@ -10,7 +10,7 @@ use Rattle.spec.specs.Numbers.{key-before, Line, line}
 
 -- THE PARTS
 
--- how many numbers precede the directory: n and K
+-- how many numbers precede the directory, those of `header-numbers`
 abbrev pub header : ℕ
 header = 2
 

@@ -11,7 +11,7 @@ use Rattle.spec.specs.Dictionary.{word-before, ascend, disordered, some-
 use Rattle.spec.specs.Words.{key, same, listed, is-word, spells, stands, entry, contains, same-key, same-entry, key-entries}
 use Rattle.spec.specs.Words.{word-entries, lone-entries, complete, in-another, maximal, entries}
 use Rattle.spec.specs.Numbers.{index-of, key-before, entry-before, into, sorted, line, with-entry, lines-of, directory, all-positions}
-use Rattle.spec.specs.Numbers.{numbers}
+use Rattle.spec.specs.Numbers.{header-numbers, numbers}
 use Rattle.spec.specs.Index.{entries-of, counts-from, lines-from, lines-in}
 use Rattle.spec.specs.Reception.{lies-on}
 use Rattle.spec.specs.Search.{find, overlaps, equal-from, agrees, covers, covered, all-covered, found-from}
@@ -130,11 +130,11 @@ pub job-examples : Job-examples
 unfolding bytes words-from lexicon total too-large length-good lengths-good lengths-wrong word-before ascend disordered is-full-width
     replaced-char replaced holds-full-width some-full-width unreplaced dictionary-refusal key same listed is-word spells stands entry
     contains same-key same-entry key-entries word-entries lone-entries complete in-another maximal entries key-before entry-before into
-    sorted line with-entry lines-of directory all-positions numbers index-of counts-from entries-of lines-from lines-in lies-on overlaps
-    equal-from agrees covers covered all-covered found-from find string-wrong or-else accepted digit is-digit character is-spaced
-    ends-well characters is-form string-in onto-first lines forms after nothing-left words-on texts-on finds-on left-on text-on in-form
-    in-counts sheet-too-long sheet-wrong run-together lengths-of some-string-wrong contents-refusal sheet-refusal decimal-within decimal
-    digit-byte hexadecimal spaced index-line key-name key-line key-lines index-lines found-line found-lines refused-line lexicon-on
+    sorted line with-entry lines-of directory all-positions header-numbers numbers index-of counts-from entries-of lines-from lines-in
+    lies-on overlaps equal-from agrees covers covered all-covered found-from find string-wrong or-else accepted digit is-digit character
+    is-spaced ends-well characters is-form string-in onto-first lines forms after nothing-left words-on texts-on finds-on left-on text-on
+    in-form in-counts sheet-too-long sheet-wrong run-together lengths-of some-string-wrong contents-refusal sheet-refusal decimal-within
+    decimal digit-byte hexadecimal spaced index-line key-name key-line key-lines index-lines found-line found-lines refused-line lexicon-on
     printed job-answer
 job-examples =
     record {

@@ -56,9 +56,13 @@ unfoldable pub all-positions : List Line → List ℕ
 all-positions [] = []
 all-positions (l ∷ ls) = l .positions ++ all-positions ls
 
+-- "n; K, the number of keys"
+unfoldable pub header-numbers : (n : ℕ) → List Line → List ℕ
+header-numbers n ls = n ∷ length ls ∷ []
+
 -- "An index is a slice of 16-bit numbers: n; K, the number of keys; K directory lines of kind, value, count; then all positions"
 unfoldable pub numbers : (n : ℕ) → List Line → List ℕ
-numbers n ls = (n ∷ length ls ∷ []) ++ directory ls ++ all-positions ls
+numbers n ls = header-numbers n ls ++ (directory ls ++ all-positions ls)
 
 -- "As numbers, a text's index is the one readable slice [..] with the text's n and exactly the entries of its complete maximal
 -- word index"

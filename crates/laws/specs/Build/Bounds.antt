@@ -9,7 +9,8 @@ use lib.ListN.{length, getD, length-append}
 use Rattle.basics.specs.Member.{In, in-append-get, in-getD}
 use Rattle.spec.specs.Dictionary.{Lexicon}
 use Rattle.spec.specs.Words.{entries}
-use Rattle.spec.specs.Numbers.{Line, sorted, lines-of, directory, all-positions, numbers, index-of}
+use Rattle.spec.specs.Numbers.{Line, sorted, lines-of, directory, all-positions, header-numbers, numbers, index-of}
+use Rattle.spec.specs.Index.{header}
 use Rattle.models.specs.Entries.{longest-at}
 use Rattle.models.specs.Scan.{make-index}
 use Rattle.laws.specs.Text.Facts.{Chars, Good-lexicon, Good-line, Good-lines}
@@ -33,8 +34,8 @@ lines-few lex n [] each = omega arith
 lines-few lex n (l ∷ ls) each =
     omega (arith, each l (inl refl) .some, lines-few lex n ls (λ m i. each m (inr i)), length-append (l .positions) (all-positions ls))
 
--- so n, K, three numbers for each key and one for each entry are at most 2 + 4n
-pub index-short : (lex : Lexicon) (ts : List ℕ) → Good-lexicon lex → Chars ts → length (index-of lex ts) ≤ 2 + 4 * length ts
+-- so an index has at most 4n numbers after its header
+pub index-short : (lex : Lexicon) (ts : List ℕ) → Good-lexicon lex → Chars ts → length (index-of lex ts) ≤ header + 4 * length ts
 unfolding index-of
 index-short lex ts good chars =
     let lines : List Line = lines-of (sorted (entries lex ts)) in
@@ -89,12 +90,16 @@ module _ {lex : Lexicon} (good : Good-lexicon lex) (bound : ℕ) (n : ℕ) (shor
         (below-cons bound (length (l .positions)) (directory ls) (omega arith)
         (directory-below ls (λ m i. each m (inr i)) (omega arith))))
 
+    header-below : (ls : List Line) → length ls < bound → Below bound (header-numbers n ls)
+    unfolding header-numbers
+    header-below ls few = below-cons bound n (length ls ∷ []) short (below-cons bound (length ls) [] few (λ x m. absurd m))
+
     pub numbers-below : {ls : List Line} → Good-lines lex n ls → length (all-positions ls) < bound → Below bound (numbers n ls)
     unfolding numbers
     numbers-below {ls} lines few =
-        below-cons bound n (length ls ∷ (directory ls ++ all-positions ls)) short
-        (below-cons bound (length ls) (directory ls ++ all-positions ls) (omega (arith, lines-few lex n ls (lines .each)))
-        (below-append bound (directory ls) (all-positions ls) (directory-below ls (lines .each) few) (positions-below ls (lines .each))))
+        below-append bound (header-numbers n ls) (directory ls ++ all-positions ls)
+        (header-below ls (omega (arith, lines-few lex n ls (lines .each))))
+        (below-append bound (directory ls) (all-positions ls) (directory-below ls (lines .each) few) (positions-below ls (lines .each)))
 
 -- THE INDEX OF A TEXT
 

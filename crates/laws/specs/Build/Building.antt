@@ -23,7 +23,7 @@ use Rattle.laws.specs.Text.WidthFolding.{length-replaced, replaced-chars
 use Rattle.laws.specs.Text.Chars.{all-chars-put}
 use Rattle.laws.specs.Dictionary.Lexicon.{admitted-lexicon}
 use Rattle.laws.specs.Dictionary.Answering.{accepted-yes, accepted-no, answers-accepted, answers-refused, Refuses}
-use Rattle.laws.specs.Numbers.Slices.{length-numbers}
+use Rattle.laws.specs.Numbers.Slices.{length-numbers, Size-of}
 use Rattle.laws.specs.Build.Tokens.{Tokens}
 use Rattle.laws.specs.Build.TokenLines.{token-index}
 use Rattle.laws.specs.Build.PostingChains.{lines-at, linked-threads, linked-lines, Linkable, Fresh, Links}
@@ -169,32 +169,31 @@ module _ {ts ms links heads pages : List ℕ} {keys entries : ℕ} (can : Linkab
   unfolding inverted
   lines-are = linked-lines (l .linked) most-keys (l .codes)
 
-  pub linked-keys : keys ≡ length (lines-at heads links 0)
+  pub linked-size : Size-of (lines-at heads links 0) keys entries
   unfolding inverted
-  linked-keys = l .counted .keys-are ∙ ap length (sym lines-are)
-
-  pub few-keys : keys ≤ greatest-number
-  few-keys = omega arith
+  linked-size =
+      rw lines-are
+      (record { keys-are = l .counted .keys-are; entries-are = l .counted .entries-are; keys-small = omega arith })
 
   pub linked-numbers : numbers (length links) (lines-at heads links 0) ≡ token-numbers ms ts
   unfolding token-numbers
   linked-numbers = rw (lines-are, l .linked .len, can .len)
 
-  pub linked-size : header + 3 * keys + entries ≡ length (token-numbers ms ts)
+  pub linked-length : header + 3 * keys + entries ≡ length (token-numbers ms ts)
   unfolding token-numbers inverted
-  linked-size =
+  linked-length =
       omega (arith, length-numbers (length ts) (inverted ms ts))
 
   -- the answer: 8 if the output is shorter than the size, else the numbers
   module _ (o : List ℕ) where
     pub linked-room : header + 3 * keys + entries ≤ length o → length (numbers (length links) (lines-at heads links 0)) ≤ length o
-    linked-room h = rw (linked-numbers, ← linked-size) h
+    linked-room h = rw (linked-numbers, ← linked-length) h
 
     pub token-entry-refused :
         length o < header + 3 * keys + entries → Tokens-say ms ts (record { refusal = 8; count = 0 }) o o
     token-entry-refused h =
         let eight : output-refusal (length (token-numbers ms ts)) (length o) ≡ 8 =
-        output-refused (length (token-numbers ms ts)) (length o) (rw (← linked-size) h) in
+        output-refused (length (token-numbers ms ts)) (length o) (rw (← linked-length) h) in
         puts-refused (output-refusal (length (token-numbers ms ts)) (length o)) (token-numbers ms ts)
         (record { refusal = 8; count = 0 }) o (sym eight)
         (λ (z : output-refusal (length (token-numbers ms ts)) (length o) ≡ 0). omega arith) refl refl
@@ -204,9 +203,9 @@ module _ {ts ms links heads pages : List ℕ} {keys entries : ℕ} (can : Linkab
         Tokens-say ms ts (record { refusal = 0; count = header + 3 * keys + entries }) o z
     token-entry-put z h e =
         let none : output-refusal (length (token-numbers ms ts)) (length o) ≡ 0 =
-        output-fits (length (token-numbers ms ts)) (length o) (rw (← linked-size) h) in
+        output-fits (length (token-numbers ms ts)) (length o) (rw (← linked-length) h) in
         puts-accepted (output-refusal (length (token-numbers ms ts)) (length o)) (token-numbers ms ts)
-        (record { refusal = 0; count = header + 3 * keys + entries }) o (sym none) none linked-size
+        (record { refusal = 0; count = header + 3 * keys + entries }) o (sym none) none linked-length
         (e ∙ ap (λ (xs : List ℕ). over xs o) linked-numbers)
 
 -- THE WHOLE CALL

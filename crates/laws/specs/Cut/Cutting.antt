@@ -13,7 +13,7 @@ use Rattle.spec.specs.Index.{header, n-of, keys-of, kind-at, value-at, count-at
 use Rattle.spec.specs.Cut.{bearing, cut-down}
 use Rattle.spec.specs.Calls.{in-front}
 use Rattle.models.specs.Window.{list-start}
-use Rattle.laws.specs.Numbers.Slices.{length-numbers}
+use Rattle.laws.specs.Numbers.Slices.{length-numbers, header-sized}
 use Rattle.laws.specs.Numbers.DirectoryWalk.{counts-next, Is-line}
 use Rattle.laws.specs.Build.IndexWriting.{directory-room, directory-written}
 use Rattle.basics.specs.Writing.{over, Writing, starts, has-room, writes, appends, written, lent-tail, tail-back, tail-written}
@@ -201,21 +201,21 @@ pub record Cuts (lex : Lexicon) (xs s fs : List ℕ) (keys entries : ℕ) (out :
   pub room : length (cut-down lex xs s) ≤ length out
 
 module _ {lex : Lexicon} {xs s fs : List ℕ} {keys entries : ℕ} {old : List ℕ} (cuts : Cuts lex xs s fs keys entries old) {n : ℕ}
-    (is : n ≡ n-of xs) {head : List ℕ} (e : head ≡ over (n ∷ keys ∷ []) old) where
-  headed : head ≡ over (n-of xs ∷ keys ∷ []) old
+    (is : n ≡ n-of xs) {head : List ℕ} (e : head ≡ over (header-sized n keys entries) old) where
+  headed : head ≡ over (header-sized (n-of xs) keys entries) old
   headed = rw is at e
 
   pub cut-directory-room : header + length (directory (bearing lex s (lines-in xs))) ≤ length head
   unfolding cut-down
-  cut-directory-room = rw headed (directory-room (n-of xs) (bearing lex s (lines-in xs)) keys (cuts .size .keys-are) old (cuts .room))
+  cut-directory-room =
+      directory-room (n-of xs) (cuts .size .counts) old (cuts .room) headed
 
   pub cut-listed :
       {now : List ℕ} → now ≡ over (take header head ++ directory (bearing lex s (lines-in xs))) head → {at : ℕ} → at ≡ header + 3 * keys →
       Cut-listed lex xs s old now at
   unfolding cut-down
-  cut-listed {now} d a =
-      rw a
-      (directory-written (n-of xs) (bearing lex s (lines-in xs)) keys (cuts .size .keys-are) old (cuts .room) now (rw headed at d))
+  cut-listed d a =
+      rw a (directory-written (n-of xs) (cuts .size .counts) old (cuts .room) headed d)
 
 -- the positions, written through the part of the slice from `at` on
 pub cut-written :

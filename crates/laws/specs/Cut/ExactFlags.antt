@@ -12,7 +12,7 @@ use Rattle.spec.specs.Numbers.{Line, line, all-positions}
 use Rattle.spec.specs.Index.{header, greatest-number, n-of, keys-of, count-at, key-at, lines-in}
 use Rattle.spec.specs.Cut.{bears, bearing}
 use Rattle.models.specs.Window.{list-start}
-use Rattle.laws.specs.Numbers.Slices.{Fits, length-numbers, numbers-lines-in}
+use Rattle.laws.specs.Numbers.Slices.{Size-of, Fits, length-numbers, numbers-lines-in}
 use Rattle.laws.specs.Numbers.LineNumbers.{length-lines-in}
 use Rattle.laws.specs.Numbers.DirectoryWalk.{line-of, lines-next, lines-none, list-room}
 
@@ -118,10 +118,8 @@ counting-start lines =
 
 -- the number of bearing keys and of their positions, which with the header take no more numbers than the index
 pub record Is-size (lex : Lexicon) (xs s : List ℕ) (keys entries : ℕ) : Type 0 where
-  pub keys-are : keys ≡ length (bearing lex s (lines-in xs))
-  pub entries-are : entries ≡ length (all-positions (bearing lex s (lines-in xs)))
-  pub keys-small : keys ≤ greatest-number
-  pub entries-small : header + 3 * keys + entries ≤ length xs
+  pub counts : Size-of (bearing lex s (lines-in xs)) keys entries
+  pub within : header + 3 * keys + entries ≤ length xs
 
 module _ {lex : Lexicon} {xs s fs : List ℕ} {keys entries i : ℕ} (h : Counting lex xs s fs keys entries i) where
   pub counting-step :
@@ -164,8 +162,11 @@ module _ {lex : Lexicon} {xs s fs : List ℕ} {keys entries i : ℕ} (h : Counti
   counting-end past few =
       let none : bearing-from lex xs s i ≡ [] = bearing-done lex xs s i past in
       record {
-        keys-are = omega (arith, ap length none);
-        entries-are = omega (arith, ap (λ (l : List Line). length (all-positions l)) none);
-        keys-small = omega arith;
-        entries-small = omega arith;
+        counts =
+            record {
+              keys-are = omega (arith, ap length none);
+              entries-are = omega (arith, ap (λ (l : List Line). length (all-positions l)) none);
+              keys-small = omega arith;
+            };
+        within = omega arith;
       }

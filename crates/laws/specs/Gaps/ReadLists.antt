@@ -12,7 +12,7 @@ use lib.Seq.{getD-take, getD-drop, length-take-le}
 use Rattle.spec.specs.Dictionary.{Lexicon}
 use Rattle.spec.specs.Index.{header, n-of, keys-of, count-at, key-at, rise-from, last-of, readable}
 use Rattle.spec.specs.Gaps.{sums-after, prefix-sums, lists-from, with-lists, restored}
-use Rattle.models.specs.Readability.{key-code, as-is, list-good, line-list-good, line-fits, rest-good, walk-good, read-as}
+use Rattle.models.specs.Readability.{key-number, as-is, list-good, line-list-good, line-fits, rest-good, walk-good, read-as}
 use Rattle.laws.specs.Gaps.GapLists.{length-sums}
 use Rattle.laws.specs.Gaps.WithLists.{Keeps-length, Same-lines, length-lists, front-list, later-lists, length-with, same-with}
 use Rattle.laws.specs.Gaps.WithLists.{positions-with, n-with, keys-with}
@@ -35,7 +35,7 @@ module _ (read : List ℕ → List ℕ) (keeps : Keeps-length read) where
         length-lists read keeps (suc k) i xs ps,
         front-list read keeps k i xs ps,
         later-lists read keeps k i xs ps,
-        rest-read lex n k (suc i) (suc (key-code (key-at xs i))) (drop (count-at xs i) ps) (rw next at same),
+        rest-read lex n k (suc i) (suc (key-number (key-at xs i))) (drop (count-at xs i) ps) (rw next at same),
       )
 
   module _ (g : ℕ) (lex : Lexicon) (xs : List ℕ) where

@@ -144,15 +144,17 @@ module _ (f : List ℕ → List ℕ) (keeps : Keeps-length f) where
         drop-of-length-le (lists-from f (keys-of xs) 0 xs []) {i = 0} (omega (arith, length-lists (keys-of xs) 0 xs [])) in
         rw (none, take-all first xs (omega arith), nothing, append-nil xs)
 
+    -- the numbers of the header are kept
+    header-with : (j : ℕ) → j < header → getD ys j 0 ≡ getD xs j 0
+    header-with j below =
+        ⊎-elim (λ (dir : first ≤ length xs). directory-with dir j (omega arith))
+        (λ (short : length xs < first). ap (λ (l : List ℕ). getD l j 0) (without short)) (le-or-lt first (length xs))
+
     pub n-with : n-of ys ≡ n-of xs
-    n-with =
-        ⊎-elim (λ (dir : first ≤ length xs). directory-with dir 0 (omega arith)) (λ (short : length xs < first). ap n-of (without short))
-        (le-or-lt first (length xs))
+    n-with = header-with 0 (omega arith)
 
     pub keys-with : keys-of ys ≡ keys-of xs
-    keys-with =
-        ⊎-elim (λ (dir : first ≤ length xs). directory-with dir 1 (omega arith)) (λ (short : length xs < first). ap keys-of (without short))
-        (le-or-lt first (length xs))
+    keys-with = header-with 1 (omega arith)
 
     pub lines-in-with : first ≤ length xs → lines-in ys ≡ lines-with f (lines-in xs)
     unfolding lines-in

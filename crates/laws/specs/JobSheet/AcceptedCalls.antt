@@ -1,7 +1,7 @@
 -- Calls that cannot be refused: a text's index and a string's positions are at the start of the slice lent for them. Assumes nothing.
 use mathlib.Core.Path.{_≡_, refl, sym, ap, _∙_}
 use mathlib.Core.List.{List, _++_}
-use Prim.Native.Nat.{ℕ, _≤_}
+use Prim.Native.Nat.{ℕ, _+_, _*_, _≤_}
 use native.Mathlib.Omega.{arith}
 use lib.ListN.{length, take, drop, length-append}
 use lib.Seq.{take-at}
@@ -10,7 +10,7 @@ use Rattle.spec.specs.declared.Answer.{Answer}
 use Rattle.spec.specs.Replaced.{replaced}
 use Rattle.spec.specs.Dictionary.{Lexicon, longest-text, lexicon, dictionary-refusal}
 use Rattle.spec.specs.Numbers.{index-of}
-use Rattle.spec.specs.Index.{n-of}
+use Rattle.spec.specs.Index.{header, n-of}
 use Rattle.spec.specs.Search.{find}
 use Rattle.spec.specs.Calls.{output-short, index-refusal, build-refusal, in-front, Answers, Puts, Build-says}
 use Rattle.laws.specs.Text.WidthFolding.{length-replaced, replaced-chars}
@@ -20,7 +20,6 @@ use Rattle.laws.specs.Numbers.Slices.{Fits}
 use Rattle.laws.specs.Readable.LineWalk.{readable-fits}
 use Rattle.laws.specs.Readable.IndexOf.{n-of-index, index-readable}
 use Rattle.laws.specs.Readable.IndexRefusal.{accepts-index, index-accepted}
-use Rattle.laws.specs.JobSheet.IndexPrinting.{Whole}
 use Rattle.laws.specs.Search.Sizing.{Is-string, Sized}
 use Rattle.laws.specs.Build.Building.{output-fits, build-late, reached-lexicon}
 use Rattle.laws.specs.Build.Bounds.{index-short}
@@ -63,12 +62,11 @@ found-in-hand lex xs {s} r o z is room =
 pub record Usable (cs ls xs : List ℕ) : Type 0 where
   pub accepts : index-refusal longest-text cs ls xs ≡ 0
   pub short : n-of xs ≤ 2000
-  pub few : length xs ≤ 8002
+  pub few : length xs ≤ header + 4 * 2000
 
-pub usable-whole : {cs ls xs : List ℕ} → Usable cs ls xs → Whole xs
-usable-whole {cs} {ls} {xs} u =
-    let fits : Fits xs = readable-fits longest-text (lexicon cs ls) xs (index-accepted longest-text cs ls xs (u .accepts) .is-readable) in
-    record { headed = fits .has-header; exact = fits .is-long }
+pub usable-fits : {cs ls xs : List ℕ} → Usable cs ls xs → Fits xs
+usable-fits {cs} {ls} {xs} u =
+    readable-fits longest-text (lexicon cs ls) xs (index-accepted longest-text cs ls xs (u .accepts) .is-readable)
 
 -- an admitted dictionary and a text as short as one of a job sheet
 pub record Buildable (cs ls ts : List ℕ) : Type 0 where
@@ -96,7 +94,7 @@ module _ {cs ls ts : List ℕ} (h : Buildable cs ls ts) where
       }
 
   pub build-accepted :
-      (r : Answer) (o : List ℕ) {z : List ℕ} (w v : List ℕ) → 8002 ≤ length o → 16000 ≤ length w →
+      (r : Answer) (o : List ℕ) {z : List ℕ} (w v : List ℕ) → header + 4 * 2000 ≤ length o → 16000 ≤ length w →
       Build-says longest-text cs ls ts r o z w v →
       In-hand (index-of (lexicon cs ls) (replaced ts)) (r .count) z
   unfolding Build-says

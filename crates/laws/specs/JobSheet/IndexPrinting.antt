@@ -13,14 +13,6 @@ use Rattle.models.specs.Window.{list-start}
 use Rattle.laws.specs.Numbers.Slices.{Fits}
 use Rattle.laws.specs.Numbers.DirectoryWalk.{Is-line, counts-next, lines-next, lines-none}
 
--- the numbers are header, directory and positions, as in every readable index
-pub record Whole (xs : List ℕ) : Type 0 where
-  pub headed : header ≤ length xs
-  pub exact : length xs ≡ header + 3 * keys-of xs + entries-of xs
-
-pub whole-fits : {xs : List ℕ} → Whole xs → Fits xs
-whole-fits whole = record { has-header = whole .headed; has-directory = omega arith; is-long = whole .exact }
-
 -- i lines are printed; `position` is the index at which the positions of line i start
 pub record Keys-printed (xs : List ℕ) (start : ℕ) (old : List ℕ) (position end i : ℕ) (now : List ℕ) : Type 0 where
   pub within : i ≤ keys-of xs
@@ -69,7 +61,7 @@ module _ {xs : List ℕ} {start : ℕ} {old : List ℕ} {position end i : ℕ} {
         }
 
 pub index-lines-parts :
-    {xs : List ℕ} {n k m : ℕ} → Whole xs → n ≡ n-of xs → k ≡ keys-of xs → m ≡ length xs - (header + 3 * k) →
+    {xs : List ℕ} {n k m : ℕ} → Fits xs → n ≡ n-of xs → k ≡ keys-of xs → m ≡ length xs - (header + 3 * k) →
     index-lines xs ≡ index-line n k m ++ key-lines (lines-in xs)
 unfolding index-lines
 index-lines-parts {xs} {m = m} whole is-n is-k is-m =

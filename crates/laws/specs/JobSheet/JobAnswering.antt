@@ -20,7 +20,7 @@ use Rattle.laws.specs.Dictionary.Answering.{accepted-no}
 use Rattle.laws.specs.Dictionary.WordCode.{Small}
 use Rattle.laws.specs.Dictionary.Lexicon.{length-words}
 use Rattle.laws.specs.JobSheet.PrintedBounds.{refused-line-short, index-lines-short, found-lines-short}
-use Rattle.laws.specs.JobSheet.AcceptedCalls.{In-hand, in-hand, Usable, usable-whole}
+use Rattle.laws.specs.JobSheet.AcceptedCalls.{In-hand, in-hand, Usable, usable-fits}
 use Rattle.laws.specs.Search.Sizing.{Sized, sized-written}
 
 -- A REFUSED SHEET
@@ -81,7 +81,7 @@ shown-short {cs} {ls} {xs} ss u small few =
     omega (
       arith,
       length-append (index-lines xs) (found-lines (lexicon cs ls) xs ss),
-      index-lines-short xs (usable-whole u) small (omega arith),
+      index-lines-short xs (usable-fits u) small (omega arith),
       found-lines-short (lexicon cs ls) xs (u .short) ss,
     )
 

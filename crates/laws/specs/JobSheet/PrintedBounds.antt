@@ -21,7 +21,7 @@ use Rattle.models.specs.JobSheet.{each-spaced, listed}
 use Rattle.laws.specs.Dictionary.WordCode.{Small, small-drop, small-take}
 use Rattle.laws.specs.JobSheet.Printing.{decimal-small, decimal-large, length-hexadecimal, spaced-first, index-line-parts}
 use Rattle.laws.specs.JobSheet.Printing.{found-line-parts, refused-line-parts, key-line-parts}
-use Rattle.laws.specs.JobSheet.IndexPrinting.{Whole}
+use Rattle.laws.specs.Numbers.Slices.{Fits}
 
 -- NUMBERS
 
@@ -98,7 +98,7 @@ key-lines-short (suc k) i xs ps all small =
 
 -- the lines of an index, by the length of its numbers
 pub index-lines-short :
-    (xs : List ℕ) → Whole xs → Small xs → length xs ≤ 65535 → length (index-lines xs) ≤ 12 + 7 * length xs
+    (xs : List ℕ) → Fits xs → Small xs → length xs ≤ 65535 → length (index-lines xs) ≤ 12 + 7 * length xs
 unfolding index-lines lines-in
 index-lines-short xs whole small few =
     omega (

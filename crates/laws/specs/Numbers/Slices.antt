@@ -12,9 +12,9 @@ use borrow.Author.Tests.{le-leb, leb-true, eq-eqb, eqb-true}
 use Rattle.basics.specs.Bools.{and-put, and-left, and-right}
 use Rattle.basics.specs.Member.{In}
 use Rattle.spec.specs.Words.{key}
-use Rattle.spec.specs.Numbers.{Line, line, directory, all-positions, numbers}
+use Rattle.spec.specs.Numbers.{Line, line, directory, all-positions, header-numbers, numbers}
 use Rattle.spec.specs.Index.{header, n-of, keys-of, kind-at, value-at, count-at, counts-from, entries-of, lines-from, lines-in, kinds-good}
-use Rattle.spec.specs.Index.{lengths-fit}
+use Rattle.spec.specs.Index.{greatest-number, lengths-fit}
 
 -- FROM LINES TO NUMBERS AND BACK
 
@@ -77,22 +77,26 @@ counts-from-directory (l ∷ ls) i xs more e =
     let at = line-at xs i l ls more e in
     rw (at .count-is, counts-from-directory ls (suc i) xs more (at .next), length-append (l .positions) (all-positions ls))
 
+pub length-header : (n : ℕ) (ls : List Line) → length (header-numbers n ls) ≡ header
+unfolding header-numbers
+length-header n ls = refl
+
 pub n-of-numbers : (n : ℕ) (ls : List Line) → n-of (numbers n ls) ≡ n
-unfolding numbers
+unfolding numbers header-numbers
 n-of-numbers n ls = refl
 
 pub keys-of-numbers : (n : ℕ) (ls : List Line) → keys-of (numbers n ls) ≡ length ls
-unfolding numbers
+unfolding numbers header-numbers
 keys-of-numbers n ls = refl
 
 pub directory-starts : (n : ℕ) (ls : List Line) → drop (header + 3 * 0) (numbers n ls) ≡ directory ls ++ all-positions ls
 unfolding numbers
-directory-starts n ls = refl
+directory-starts n ls = drop-at (header-numbers n ls) (directory ls ++ all-positions ls) header (length-header n ls)
 
 pub positions-start : (n : ℕ) (ls : List Line) → drop (header + 3 * length ls) (numbers n ls) ≡ all-positions ls
-unfolding numbers
 positions-start n ls =
     sym (drop-drop (3 * length ls) header (numbers n ls))
+    ∙ ap (λ (l : List ℕ). drop (3 * length ls) l) (directory-starts n ls)
     ∙ drop-at (directory ls) (all-positions ls) (3 * length ls) (length-directory ls)
 
 pub lines-in-numbers : (n : ℕ) (ls : List Line) → lines-in (numbers n ls) ≡ ls
@@ -104,10 +108,17 @@ pub entries-of-numbers : (n : ℕ) (ls : List Line) → entries-of (numbers n ls
 unfolding entries-of
 entries-of-numbers n ls = rw keys-of-numbers (counts-from-directory ls 0 (numbers n ls) (all-positions ls) (directory-starts n ls))
 
--- the length of the numbers: n, K, three for each line, one for each position
+-- the length of the numbers: the header, three for each line, one for each position
 pub length-numbers : (n : ℕ) (ls : List Line) → length (numbers n ls) ≡ header + 3 * length ls + length (all-positions ls)
 unfolding numbers
-length-numbers n ls = omega (arith, length-append (directory ls) (all-positions ls), length-directory ls)
+length-numbers n ls =
+    omega (
+      arith,
+      length-header n ls,
+      length-append (header-numbers n ls) (directory ls ++ all-positions ls),
+      length-append (directory ls) (all-positions ls),
+      length-directory ls,
+    )
 
 pub kinds-good-directory :
     (ls : List Line) (i : ℕ) (xs more : List ℕ) → drop (header + 3 * i) xs ≡ directory ls ++ more →
@@ -185,6 +196,20 @@ positions-lines-from (suc k) i xs ps e =
     rw (positions-lines-from k (suc i) xs (drop (count-at xs i) ps) (simp length-drop (omega arith)))
     (take-append-drop (count-at xs i) ps)
 
+-- there are `keys` lines with `entries` positions in all, and what the header says of them is within a number of the index
+pub record Size-of (ls : List Line) (keys entries : ℕ) : Type 0 where
+  pub keys-are : keys ≡ length ls
+  pub entries-are : entries ≡ length (all-positions ls)
+  pub keys-small : keys ≤ greatest-number
+
+-- the numbers of the header, by the size of what follows
+unfoldable pub header-sized : (n keys entries : ℕ) → List ℕ
+header-sized n keys entries = n ∷ keys ∷ []
+
+pub header-is : (n : ℕ) {ls : List Line} {keys entries : ℕ} → Size-of ls keys entries → header-sized n keys entries ≡ header-numbers n ls
+unfolding header-sized header-numbers
+header-is n size = rw (size .keys-are)
+
 -- the lengths in a slice fit together
 pub record Fits (xs : List ℕ) : Type 0 where
   pub has-header : header ≤ length xs
@@ -212,15 +237,19 @@ lengths-fit-get xs t =
     front : (head && dir) ≡ true
     front = and-left (head && dir) whole t
 
-header-of : (xs : List ℕ) → header ≤ length xs → xs ≡ n-of xs ∷ keys-of xs ∷ drop header xs
-header-of [] h = absurd (omega arith)
-header-of (x ∷ []) h = absurd (omega arith)
-header-of (x ∷ y ∷ xs) h = refl
+header-of : (xs : List ℕ) → Fits xs → take header xs ≡ header-numbers (n-of xs) (lines-in xs)
+unfolding header-numbers lines-in
+header-of xs fits = rw (length-lines-from) (two xs (fits .has-header))
+  where
+    two : (xs : List ℕ) → header ≤ length xs → take header xs ≡ n-of xs ∷ keys-of xs ∷ []
+    two [] h = absurd (omega arith)
+    two (x ∷ []) h = absurd (omega arith)
+    two (x ∷ y ∷ xs) h = refl
 
 pub numbers-lines-in : (xs : List ℕ) → Fits xs → numbers (n-of xs) (lines-in xs) ≡ xs
 unfolding numbers lines-in entries-of
 numbers-lines-in xs fits =
-    rw (length-lines-from, positions-lines-from (keys-of xs) 0 xs positions counts, two) (sym (header-of xs (fits .has-header)))
+    rw (← header-of xs fits, positions-lines-from (keys-of xs) 0 xs positions counts, rest) (take-append-drop header xs)
   where
     positions : List ℕ
     positions = drop (header + 3 * keys-of xs) xs
@@ -228,7 +257,7 @@ numbers-lines-in xs fits =
     counts : counts-from (keys-of xs) 0 xs ≡ length positions
     counts = simp length-drop (omega arith)
 
-    two : directory (lines-from (keys-of xs) 0 xs positions) ++ positions ≡ drop header xs
-    two =
+    rest : directory (lines-from (keys-of xs) 0 xs positions) ++ positions ≡ drop header xs
+    rest =
         let z : 0 + keys-of xs ≡ keys-of xs = omega arith in
         rw z at (directory-lines-from (keys-of xs) 0 xs positions (omega arith) (omega (arith, counts)))

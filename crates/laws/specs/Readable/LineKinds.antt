@@ -9,7 +9,7 @@ use borrow.Author.Tests.{ltb-true}
 use Rattle.spec.specs.Dictionary.{Lexicon}
 use Rattle.spec.specs.Words.{spells, key, is-word}
 use Rattle.spec.specs.Index.{n-of, keys-of, count-at, key-at, key-good}
-use Rattle.models.specs.Readability.{key-code, key-fits, line-list-good, line-fits, walk-good}
+use Rattle.models.specs.Readability.{key-number, key-fits, line-list-good, line-fits, walk-good}
 use Rattle.laws.specs.Numbers.DirectoryWalk.{Line-at}
 use Rattle.laws.specs.Readable.LineWalk.{fits-get}
 use Rattle.laws.specs.Readable.LineSteps.{Lines-read, lines-step, lines-stop}
@@ -39,7 +39,7 @@ module _ {read : List ℕ → List ℕ} {lex : Lexicon} {xs : List ℕ} {i at le
 
   step :
       line-fits read lex n least (key kind value) (to - from) (drop from xs) ≡ true →
-      Lines-read read lex xs (i + 1) to (key-code (key kind value) + 1)
+      Lines-read read lex xs (i + 1) to (key-number (key kind value) + 1)
   step t = rw (l .line .kind-is, l .line .value-is, l .line .to-is) (lines-step h (l .below) (same-line ∙ t))
 
 -- A WORD'S LINE
@@ -59,7 +59,7 @@ module _ {read : List ℕ → List ℕ} {lex : Lexicon} {xs : List ℕ} {i at le
       line-fits read lex n least (key 0 value) (to - from) (drop from xs) ≡ true → Lines-read read lex xs (i + 1) to (value + 1)
   unfolding key
   word-step t =
-      let code : key-code (key kind value) + 1 ≡ value + 1 = omega arith in
+      let code : key-number (key kind value) + 1 ≡ value + 1 = omega arith in
       rw code at (step h l (rw word t))
 
 -- A LONE CHARACTER'S LINE
@@ -94,5 +94,5 @@ module _ {read : List ℕ → List ℕ} {lex : Lexicon} {xs : List ℕ} {i at n 
           Lines-read read lex xs (i + 1) to (65536 + (value + 1))
       unfolding key
       lone-step t =
-          let code : key-code (key kind value) + 1 ≡ 65536 + (value + 1) = omega arith in
+          let code : key-number (key kind value) + 1 ≡ 65536 + (value + 1) = omega arith in
           rw code at (step h l (lone-positions ∙ t))

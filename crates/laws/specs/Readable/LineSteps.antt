@@ -14,7 +14,7 @@ use Rattle.basics.specs.Bools.{iff-eq}
 use Rattle.spec.specs.Dictionary.{Lexicon}
 use Rattle.spec.specs.Words.{key}
 use Rattle.spec.specs.Index.{header, n-of, keys-of, kind-at, value-at, count-at, key-at, rise-from, last-of}
-use Rattle.models.specs.Readability.{key-code, as-is, list-good, line-list-good, key-fits, line-fits, rest-good, walk-good}
+use Rattle.models.specs.Readability.{key-number, as-is, list-good, line-list-good, key-fits, line-fits, rest-good, walk-good}
 use Rattle.laws.specs.Readable.LineWalk.{fits-get}
 
 -- THE LINES
@@ -46,7 +46,7 @@ module _ {read : List ℕ → List ℕ} {lex : Lexicon} {xs : List ℕ} {i at le
   module _ (below : i < keys-of xs) where
     cut :
         (line-fits read lex (n-of xs) least (key-at xs i) (count-at xs i) (drop at xs)
-        && rest-good read lex (n-of xs) (keys-of xs - (i + 1)) (i + 1) (suc (key-code (key-at xs i))) xs (drop (at + count-at xs i) xs))
+        && rest-good read lex (n-of xs) (keys-of xs - (i + 1)) (i + 1) (suc (key-number (key-at xs i))) xs (drop (at + count-at xs i) xs))
         ≡ walk-good read lex xs
     unfolding rest-good
     cut =
@@ -59,13 +59,13 @@ module _ {read : List ℕ → List ℕ} {lex : Lexicon} {xs : List ℕ} {i at le
 
     pub lines-step :
         line-fits read lex (n-of xs) least (key-at xs i) (count-at xs i) (drop at xs) ≡ true →
-        Lines-read read lex xs (i + 1) (at + count-at xs i) (key-code (key-at xs i) + 1)
+        Lines-read read lex xs (i + 1) (at + count-at xs i) (key-number (key-at xs i) + 1)
     lines-step t =
         record {
           within = omega arith;
           room =
               omega (arith, fits-get read lex (n-of xs) least (key-at xs i) (count-at xs i) (drop at xs) t .present, length-drop at xs);
-          tested = rw (add-one (key-code (key-at xs i))) (rw t at cut);
+          tested = rw (add-one (key-number (key-at xs i))) (rw t at cut);
         }
 
     -- if the line has no word key, the least number may be that of a lone key
@@ -78,19 +78,22 @@ module _ {read : List ℕ → List ℕ} {lex : Lexicon} {xs : List ℕ} {i at le
           room = h .room;
           tested =
               let rest =
-              rest-good read lex (n-of xs) (keys-of xs - (i + 1)) (suc i) (suc (key-code (key-at xs i))) xs
+              rest-good read lex (n-of xs) (keys-of xs - (i + 1)) (suc i) (suc (key-number (key-at xs i))) xs
               (drop (count-at xs i) (drop at xs)) in
               rw z (ap (λ (b : Bool). b && rest) (sym alike) ∙ rw z at (h .tested));
         }
       where
-        code : key-code (key-at xs i) ≡ kind-at xs i * 65536 + value-at xs i
+        code : key-number (key-at xs i) ≡ kind-at xs i * 65536 + value-at xs i
         code = refl
 
         alike :
             line-fits read lex (n-of xs) least (key-at xs i) (count-at xs i) (drop at xs)
             ≡ line-fits read lex (n-of xs) 65536 (key-at xs i) (count-at xs i) (drop at xs)
         alike =
-            rw (le-leb least (key-code (key-at xs i)) (omega (arith, code)), le-leb 65536 (key-code (key-at xs i)) (omega (arith, code)))
+            rw (
+              le-leb least (key-number (key-at xs i)) (omega (arith, code)),
+              le-leb 65536 (key-number (key-at xs i)) (omega (arith, code)),
+            )
 
 -- THE POSITIONS OF ONE LINE
 

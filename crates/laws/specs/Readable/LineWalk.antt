@@ -14,8 +14,8 @@ use Rattle.spec.specs.Words.{Key, key, spells}
 use Rattle.spec.specs.Numbers.{Line, line}
 use Rattle.spec.specs.Index.{header, n-of, keys-of, kind-at, count-at, key-at, counts-from, entries-of, lines-from, lines-in}
 use Rattle.spec.specs.Index.{kinds-good, key-good, keys-ascend, rise-from, last-of, line-good, lines-good, lengths-fit, readable}
-use Rattle.models.specs.Readability.{key-code, list-good, line-list-good, key-fits, line-fits, rest-good, as-is, walk-good}
-use Rattle.laws.specs.Numbers.KeyNumbers.{codes-ascend, codes-all, key-small}
+use Rattle.models.specs.Readability.{key-number, list-good, line-list-good, key-fits, line-fits, rest-good, as-is, walk-good}
+use Rattle.laws.specs.Numbers.KeyNumbers.{key-numbers-ascend, key-numbers-all, key-small}
 use Rattle.laws.specs.Numbers.Slices.{Fits, lengths-fit-get, kinds-good-lines-from}
 use Rattle.laws.specs.Readable.Readable.{lines-good-get, readable-get}
 
@@ -27,13 +27,13 @@ use Rattle.laws.specs.Readable.Readable.{lines-good-get, readable-get}
 record Rest (lex : Lexicon) (n k i a : ℕ) (xs ps : List ℕ) : Type 0 where
   counts : counts-from k i xs ≡ length ps
   kinds : kinds-good k i xs ≡ true
-  order : codes-ascend a (lines-from k i xs ps) ≡ true
+  order : key-numbers-ascend a (lines-from k i xs ps) ≡ true
   good : lines-good lex n (lines-from k i xs ps) ≡ true
 
 -- the tests of one line, one by one
 pub record Line-fits (read : List ℕ → List ℕ) (lex : Lexicon) (n a : ℕ) (k : Key) (c : ℕ) (ps : List ℕ) : Type 0 where
   pub kind-small : k .kind ≤ 1
-  pub code-least : a ≤ key-code k
+  pub code-least : a ≤ key-number k
   pub is-good : key-good lex k ≡ true
   pub present : c ≤ length ps
   pub some : 1 ≤ c
@@ -46,7 +46,7 @@ module _ (read : List ℕ → List ℕ) (lex : Lexicon) (n a : ℕ) (k : Key) (c
   fits-get t =
       record {
         kind-small = leb-true (k .kind) 1 (and-left kind code (and-left (kind && code) is front));
-        code-least = leb-true a (key-code k) (and-right kind code (and-left (kind && code) is front));
+        code-least = leb-true a (key-number k) (and-right kind code (and-left (kind && code) is front));
         is-good = and-right (kind && code) is front;
         present = leb-true c (length ps) (and-left there one (and-left (there && one) (end && rise) back));
         some = leb-true 1 c (and-right there one (and-left (there && one) (end && rise) back));
@@ -60,7 +60,7 @@ module _ (read : List ℕ → List ℕ) (lex : Lexicon) (n a : ℕ) (k : Key) (c
       kind = leb (k .kind) 1
 
       code : Bool
-      code = leb a (key-code k)
+      code = leb a (key-number k)
 
       is : Bool
       is = key-good lex k
@@ -86,7 +86,7 @@ module _ (read : List ℕ → List ℕ) (lex : Lexicon) (n a : ℕ) (k : Key) (c
   pub fits-put : Line-fits read lex n a k c ps → line-fits read lex n a k c ps ≡ true
   unfolding line-fits key-fits line-list-good list-good
   fits-put h =
-      and-put (and-put (and-put (le-leb (k .kind) 1 (h .kind-small)) (le-leb a (key-code k) (h .code-least))) (h .is-good))
+      and-put (and-put (and-put (le-leb (k .kind) 1 (h .kind-small)) (le-leb a (key-number k) (h .code-least))) (h .is-good))
       (and-put (and-put (le-leb c (length ps) (h .present)) (le-leb 1 c (h .some)))
       (and-put (le-leb (last-of (read (take c ps)) + length (spells lex k)) (suc n) (h .ends)) (h .rises)))
 
@@ -102,7 +102,7 @@ module _ {lex : Lexicon} {n a : ℕ} {k : Key} {c : ℕ} {ps : List ℕ} where
       (and-put (h .rises) (le-leb (last-of (take c ps) + length (spells lex k)) (suc n) (h .ends)))
 
   line-fit :
-      k .kind ≤ 1 → a ≤ key-code k → c ≤ length ps → line-good lex n (line k (take c ps)) ≡ true → Line-fits as-is lex n a k c ps
+      k .kind ≤ 1 → a ≤ key-number k → c ≤ length ps → line-good lex n (line k (take c ps)) ≡ true → Line-fits as-is lex n a k c ps
   unfolding line-good line
   line-fit small least present t =
       let len : length (take c ps) ≡ c = length-take-le c ps present in
@@ -130,33 +130,33 @@ module _ {lex : Lexicon} {n a : ℕ} {k : Key} {c : ℕ} {ps : List ℕ} where
       rise = rise-from 1 (take c ps)
 
 rest-get : (lex : Lexicon) (n k i a : ℕ) (xs ps : List ℕ) → rest-good as-is lex n k i a xs ps ≡ true → Rest lex n k i a xs ps
-unfolding rest-good counts-from kinds-good lines-from codes-ascend lines-good key line
+unfolding rest-good counts-from kinds-good lines-from key-numbers-ascend lines-good key line
 rest-get lex n zero i a xs ps t =
     record { counts = sym (eqb-true (length ps) 0 t); kinds = refl; order = refl; good = refl }
 rest-get lex n (suc k) i a xs ps t =
     step
     (fits-get as-is lex n a (key-at xs i) (count-at xs i) ps (and-left here next t))
-    (rest-get lex n k (suc i) (suc (key-code (key-at xs i))) xs (drop (count-at xs i) ps) (and-right here next t))
+    (rest-get lex n k (suc i) (suc (key-number (key-at xs i))) xs (drop (count-at xs i) ps) (and-right here next t))
   where
     here : Bool
     here = line-fits as-is lex n a (key-at xs i) (count-at xs i) ps
 
     next : Bool
-    next = rest-good as-is lex n k (suc i) (suc (key-code (key-at xs i))) xs (drop (count-at xs i) ps)
+    next = rest-good as-is lex n k (suc i) (suc (key-number (key-at xs i))) xs (drop (count-at xs i) ps)
 
     step :
         Line-fits as-is lex n a (key-at xs i) (count-at xs i) ps →
-        Rest lex n k (suc i) (suc (key-code (key-at xs i))) xs (drop (count-at xs i) ps) → Rest lex n (suc k) i a xs ps
+        Rest lex n k (suc i) (suc (key-number (key-at xs i))) xs (drop (count-at xs i) ps) → Rest lex n (suc k) i a xs ps
     step f r =
         record {
           counts = omega (arith, length-drop (count-at xs i) ps);
           kinds = and-put (le-leb (kind-at xs i) 1 (f .kind-small)) (r .kinds);
-          order = and-put (le-leb a (key-code (key-at xs i)) (f .code-least)) (r .order);
+          order = and-put (le-leb a (key-number (key-at xs i)) (f .code-least)) (r .order);
           good = and-put (fits-line f) (r .good);
         }
 
 rest-put : {lex : Lexicon} {n : ℕ} (k : ℕ) {i a : ℕ} {xs ps : List ℕ} → Rest lex n k i a xs ps → rest-good as-is lex n k i a xs ps ≡ true
-unfolding rest-good counts-from kinds-good lines-from codes-ascend lines-good key line
+unfolding rest-good counts-from kinds-good lines-from key-numbers-ascend lines-good key line
 rest-put zero {ps} h = eq-eqb (length ps) 0 (sym (h .counts))
 rest-put {lex} {n} (suc k) {i} {a} {xs} {ps} h =
     and-put (fits-put as-is lex n a (key-at xs i) (count-at xs i) ps fit) (rest-put k next)
@@ -165,7 +165,7 @@ rest-put {lex} {n} (suc k) {i} {a} {xs} {ps} h =
     small = leb (kind-at xs i) 1
 
     least : Bool
-    least = leb a (key-code (key-at xs i))
+    least = leb a (key-number (key-at xs i))
 
     good : Bool
     good = line-good lex n (line (key-at xs i) (take (count-at xs i) ps))
@@ -176,16 +176,16 @@ rest-put {lex} {n} (suc k) {i} {a} {xs} {ps} h =
     fit : Line-fits as-is lex n a (key-at xs i) (count-at xs i) ps
     fit =
         line-fit (leb-true (kind-at xs i) 1 (and-left small (kinds-good k (suc i) xs) (h .kinds)))
-        (leb-true a (key-code (key-at xs i)) (and-left least (codes-ascend (suc (key-code (key-at xs i))) rest) (h .order)))
+        (leb-true a (key-number (key-at xs i)) (and-left least (key-numbers-ascend (suc (key-number (key-at xs i))) rest) (h .order)))
         (omega arith)
         (and-left good (lines-good lex n rest) (h .good))
 
-    next : Rest lex n k (suc i) (suc (key-code (key-at xs i))) xs (drop (count-at xs i) ps)
+    next : Rest lex n k (suc i) (suc (key-number (key-at xs i))) xs (drop (count-at xs i) ps)
     next =
         record {
           counts = omega (arith, length-drop (count-at xs i) ps);
           kinds = and-right small (kinds-good k (suc i) xs) (h .kinds);
-          order = and-right least (codes-ascend (suc (key-code (key-at xs i))) rest) (h .order);
+          order = and-right least (key-numbers-ascend (suc (key-number (key-at xs i))) rest) (h .order);
           good = and-right good (lines-good lex n rest) (h .good);
         }
 
@@ -236,9 +236,9 @@ module _ (g : ℕ) (lex : Lexicon) (xs : List ℕ) where
       lines = lines-from (keys-of xs) 0 xs positions
 
       -- good keys have values below 65,536, so their codes are ordered as they are
-      ascends : kinds-good (keys-of xs) 0 xs ≡ true → lines-good lex (n-of xs) lines ≡ true → codes-ascend 0 lines ≡ keys-ascend lines
+      ascends : kinds-good (keys-of xs) 0 xs ≡ true → lines-good lex (n-of xs) lines ≡ true → key-numbers-ascend 0 lines ≡ keys-ascend lines
       ascends kinds good =
-          codes-all lines
+          key-numbers-all lines
           (λ l i.
           key-small few
           (lines-good-get lex (n-of xs) lines (kinds-good-lines-from (keys-of xs) 0 xs positions kinds) good l i .is-key))

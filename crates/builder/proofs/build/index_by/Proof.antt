@@ -1,7 +1,7 @@
 -- `index_by` meets its contract: the counts give the size, and the chains give the numbers that the tokens stand for. Assumes nothing.
 use native.Mathlib.Omega.{arith}
 use borrow.Author.Needs.{needs}
-use Rattle.laws.specs.Build.Building.{linked-listable, linked-keys, few-keys, linked-room, token-entry-refused, token-entry-put}
+use Rattle.laws.specs.Build.Building.{linked-listable, linked-size, linked-room, token-entry-refused, token-entry-put}
 use Rattle.builder.proofs.build.index_by.Statement.{statement}
 use Rattle.builder.proofs.build.index_by.Tie as tie
 
@@ -28,7 +28,7 @@ write-index-requires c κs =
     let links = k .chain-positions .ensures in (
       linked-listable can links,
       (
-        (linked-keys can links, few-keys can links),
+        linked-size can links,
         linked-room can links (s .args .output .now) (omega (arith, at)),
       ),
     )

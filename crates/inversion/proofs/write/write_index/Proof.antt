@@ -29,16 +29,16 @@ written c =
     let s = start (headed (c .before .before) .before) in
     let a = s .args in
     rw (c .line-start .ensures)
-    (directory-written (length (a .links .now)) (lines s) (a .keys) (s .pre .1 .0 .0) (a .output .now) (s .pre .1 .1) _
-    (rw (headed (c .before .before) .write-header .ensures) at (c .before .before .before .write-directory .ensures)))
+    (directory-written (length (a .links .now)) (s .pre .1 .0) (a .output .now) (s .pre .1 .1)
+    (headed (c .before .before) .write-header .ensures) (c .before .before .before .write-directory .ensures))
 
 write-header-requires : tie.Need-write-header-requires
 write-header-requires c κs =
     let s = start c in
     let a = s .args in (
-      omega (arith, room-is (length (a .links .now)) (lines s) (a .keys) (s .pre .1 .0 .0) (a .output .now) (s .pre .1 .1)),
+      omega (arith, room-is (length (a .links .now)) (s .pre .1 .0) (a .output .now) (s .pre .1 .1)),
       s .pre .0 .short,
-      s .pre .1 .0 .1,
+      s .pre .1 .0 .keys-small,
     )
 
 write-directory-requires : tie.Need-write-directory-requires
@@ -46,8 +46,8 @@ write-directory-requires c κs =
     let s = start (c .before .before .before .before) in
     let a = s .args in (
       s .pre .0,
-      rw (c .before .before .before .write-header .ensures)
-          (directory-room (length (a .links .now)) (lines s) (a .keys) (s .pre .1 .0 .0) (a .output .now) (s .pre .1 .1)),
+      directory-room (length (a .links .now)) (s .pre .1 .0) (a .output .now) (s .pre .1 .1)
+          (c .before .before .before .write-header .ensures),
     )
 
 write-positions-requires : tie.Need-write-positions-requires

@@ -8,7 +8,7 @@ use Rattle.spec.specs.Dictionary.{lexicon, words-from}
 use Rattle.spec.specs.JobAnswer.{found-lines}
 use Rattle.models.specs.JobSheet.{shown}
 use Rattle.laws.specs.Directory.Tables.{front-long, front-lengths, front-reads}
-use Rattle.laws.specs.JobSheet.AcceptedCalls.{usable-whole}
+use Rattle.laws.specs.JobSheet.AcceptedCalls.{usable-fits}
 use Rattle.laws.specs.JobSheet.JobAnswering.{index-lines-fit, then-finds}
 use Rattle.jobsheet.proofs.lines.put_filled.Statement.{statement}
 use Rattle.jobsheet.proofs.lines.put_filled.Tie as tie
@@ -29,7 +29,7 @@ put-index-lines-requires : tie.Need-put-index-lines-requires
 put-index-lines-requires c κs =
     let f = filled (c .before) in
     let s = start f in (
-      usable-whole (s .pre .0 .usable),
+      usable-fits (s .pre .0 .usable),
       index-lines-fit (s .pre .0) (λ i. omega (arith, known f .before .before .shared-slice-known3 .given i)),
     )
 

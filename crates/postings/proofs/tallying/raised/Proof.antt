@@ -52,7 +52,8 @@ add-counts c =
 loop-again : tie.Need-loop-again Inv-loop μ-loop
 loop-again c =
     let line = c .before .next-line in
-    let count : line .result .to ≡ count-at (start (c .before .before) .args .index .now) (c .before .before .before .loop .i) = omega arith in
+    let index = start (c .before .before) .args .index .now in
+    let count : line .result .to ≡ count-at index (c .before .before .before .loop .i) = omega arith in
     let len = rw (line .ensures .kind-is, line .ensures .value-is) at (c .key-length .ensures) in
     rw (← count) at
     (tally-step (c .before .before .before .loop .inv) (c .key-length .result - 1) (omega arith) (omega arith)

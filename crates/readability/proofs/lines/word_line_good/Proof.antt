@@ -16,13 +16,15 @@ returns : tie.Need-returns
 returns c =
     let start = c .before .before .before .before in
     let args = start .args in
-    word-low (read-as (args .as-gaps)) (start .pre .0) (args .n) (args .line .to - args .line .from) (drop (args .line .from) (args .index .now)) (c .if1 .taken)
+    let l = args .line in
+    word-low (read-as (args .as-gaps)) (start .pre .0) (args .n) (l .to - l .from) (drop (l .from) (args .index .now)) (c .if1 .taken)
 
 returns-2 : tie.Need-returns-2
 returns-2 c =
     let start = c .before .before .before .before .before in
     let args = start .args in
-    word-high (read-as (args .as-gaps)) (start .pre .0) (args .n) (args .line .to - args .line .from) (drop (args .line .from) (args .index .now)) (args .least)
+    let l = args .line in
+    word-high (read-as (args .as-gaps)) (start .pre .0) (args .n) (l .to - l .from) (drop (l .from) (args .index .now)) (args .least)
     (c .if2 .taken)
 
 cast-line-list-good : tie.Need-cast-line-list-good
@@ -37,8 +39,9 @@ returns-3 : tie.Need-returns-3
 returns-3 c =
     let s = start (c .before .before) in
     let args = s .args in
+    let l = args .line in
     c .line-list-good .ensures
-    ∙ word-fits (read-as (args .as-gaps)) (s .pre .0) (args .n) (args .line .to - args .line .from) (drop (args .line .from) (args .index .now))
+    ∙ word-fits (read-as (args .as-gaps)) (s .pre .0) (args .n) (l .to - l .from) (drop (l .from) (args .index .now))
     (c .before .before .before .if1 .left) (c .before .before .if2 .left)
 
 pub word-line-good-spec : {M : Type 1} → statement M
