@@ -1,18 +1,18 @@
 -- Copying the members of a chain into a slice, one after the other. Assumes nothing.
 use mathlib.Core.Path.{_≡_}
-use mathlib.Core.List.{List, [], _∷_, _++_}
+use mathlib.Core.List.{List, [], _∷_}
 use Prim.Native.Nat.{ℕ, _+_, _-_, _≤_, _<_}
 use native.Mathlib.Omega.{arith}
-use lib.ListN.{length, getD, set, take, drop, drop-of-length-le}
+use lib.ListN.{length, getD, set, drop, drop-of-length-le}
 use Rattle.basics.specs.Member.{in-getD}
 use Rattle.basics.specs.Chain.{chain, Threaded, Walking, walk-starts, Member-in-hand, walk-member, walk-ends}
-use Rattle.basics.specs.Writing.{over, Writing, starts, has-room, writes, written}
+use Rattle.basics.specs.Placed.{Wrote, Writing, writing-start, writing-one, writing-end}
 
 -- the chain of `head` is written from `start` on; the members before `here` are written, and `member` is the next one, or 0
 pub record Copying (links : List ℕ) (head : ℕ) (old now : List ℕ) (start here member : ℕ) : Type 0 where
   pub from : start ≤ here
   pub walking : Walking links (chain links head) member (here - start)
-  pub writing : Writing (take start old ++ chain links head) old now (drop (here - start) (chain links head)) here
+  pub writing : Writing (chain links head) start old (drop (here - start) (chain links head)) here now
 
 pub copy-start :
     {links : List ℕ} {head : ℕ} (old : List ℕ) (start : ℕ) → Threaded links head → start + length (chain links head) ≤ length old →
@@ -22,7 +22,7 @@ copy-start {links} {head} old start t room =
     record {
       from = omega arith;
       walking = rw none (walk-starts links head t);
-      writing = rw none (starts old (chain links head) start room);
+      writing = rw none (writing-start (chain links head) start old room);
     }
 
 -- what holds while a member is at hand
@@ -38,7 +38,7 @@ module _ {links : List ℕ} {head : ℕ} {old now : List ℕ} {start here member
   copy-member t some =
       record {
         left = m .below;
-        room = has-room member (drop (here - start + 1) (chain links head)) w;
+        room = omega (arith, w .room);
         linked =
             omega (
               arith,
@@ -50,28 +50,22 @@ module _ {links : List ℕ} {head : ℕ} {old now : List ℕ} {start here member
             record {
               from = omega (arith, k .from);
               walking = rw on (m .next);
-              writing = rw on (writes member (drop (here - start + 1) (chain links head)) w);
+              writing = rw on (writing-one member (drop (here - start + 1) (chain links head)) w);
             };
       }
     where
       m : Member-in-hand links (chain links head) member (here - start)
       m = walk-member links (chain links head) member (here - start) (k .walking) some
 
-      w : Writing (take start old ++ chain links head) old now (member ∷ drop (here - start + 1) (chain links head)) here
+      w : Writing (chain links head) start old (member ∷ drop (here - start + 1) (chain links head)) here now
       w = rw (m .cut) at (k .writing)
 
       on : here + 1 - start ≡ here - start + 1
       on = omega arith
 
-  module _ (none : member ≡ 0) where
-    all-passed : here - start ≡ length (chain links head)
-    all-passed = walk-ends links (chain links head) member (here - start) (k .walking) none
-
-    pub copy-end-at : here ≡ start + length (chain links head)
-    copy-end-at = omega (arith, all-passed)
-
-    pub copy-end : now ≡ over (take start old ++ chain links head) old
-    copy-end =
-        let past : length (chain links head) ≤ here - start = omega (arith, all-passed) in
-        let nothing : drop (here - start) (chain links head) ≡ [] = drop-of-length-le (chain links head) past in
-        written (take start old ++ chain links head) old now here (rw nothing at (k .writing))
+  pub copy-end : member ≡ 0 → Wrote (chain links head) start old here now
+  copy-end none =
+      let past : length (chain links head) ≤ here - start =
+      omega (arith, walk-ends links (chain links head) member (here - start) (k .walking) none) in
+      let nothing : drop (here - start) (chain links head) ≡ [] = drop-of-length-le (chain links head) past in
+      writing-end (rw nothing at (k .writing))

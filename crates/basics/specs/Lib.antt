@@ -6,9 +6,9 @@ pub mod Absent
 pub mod Order
 pub mod Steps
 pub mod Stores
+pub mod Placed
+pub mod PlacedCopies
 pub mod Writing
 pub mod Wrapping
 pub mod Chain
 pub mod Copying
-pub mod Placed
-pub mod PlacedCopies

@@ -61,11 +61,11 @@ module _ {A : Type 0} where
   in-getD (x ∷ xs) (suc i) z h = inr (in-getD xs i z (omega arith))
 
   -- a member has an index
-  pub in-place : (a : A) (xs : List A) (z : A) → In a xs → (i : ℕ) × (i < length xs) × (getD xs i z ≡ a)
-  in-place a [] z m = absurd m
-  in-place a (x ∷ xs) z (inl e) = (0, omega arith, sym e)
-  in-place a (x ∷ xs) z (inr m) =
-      let more : (i : ℕ) × (i < length xs) × (getD xs i z ≡ a) = in-place a xs z m in
+  pub member-index : (a : A) (xs : List A) (z : A) → In a xs → (i : ℕ) × (i < length xs) × (getD xs i z ≡ a)
+  member-index a [] z m = absurd m
+  member-index a (x ∷ xs) z (inl e) = (0, omega arith, sym e)
+  member-index a (x ∷ xs) z (inr m) =
+      let more : (i : ℕ) × (i < length xs) × (getD xs i z ≡ a) = member-index a xs z m in
       (suc (more .0), omega arith, more .2)
 
   -- what holds for the head and for the members of the tail holds for every member

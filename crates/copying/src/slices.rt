@@ -1,8 +1,8 @@
 // Copies a list into a slice, and fills a slice with one number. Each is one loop of one store a number.
 ghost use mathlib.Core.Path.{_≡_};
-ghost use mathlib.Core.List.{_++_};
 ghost use Prim.Native.Nat.{_+_, _≤_};
-ghost use lib.ListN.{length, take, replicate};
+ghost use lib.ListN.{length, replicate};
+ghost use Rattle.basics.specs.Placed.{placed};
 ghost use Rattle.basics.specs.Writing.{over};
 ghost use Rattle.laws.specs.Text.Facts.{Chars};
 use width::Number;
@@ -11,7 +11,7 @@ use width::number_at;
 // Writes a list into the output, from the index `from` on.
 pub fn write_list(list: &[Number], from: usize, output: &mut [Number])
     requires { ⌜ from + length (now list) ≤ length (now output) ⌝ }
-    ensures { λ r. ⌜ now (output .exit) ≡ over (take from (now (output .entry)) ++ now (list .entry)) (now (output .entry)) ⌝ }
+    ensures { λ r. ⌜ now (output .exit) ≡ placed (now (list .entry)) from (now (output .entry)) ⌝ }
 {
     let mut i = 0;
     while i < list.len() {

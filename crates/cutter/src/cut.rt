@@ -1,6 +1,6 @@
 // The cut-down index for one string, as a call: refusals, size, and what is written.
 //
-// Each line has a flag in a local array. A local array is cleared when it is made, so it comes in two sizes.
+// Each line has a flag in a local array. A local array is cleared when it is made, so it comes in three sizes.
 ghost use mathlib.Core.Path.{_≡_};
 ghost use Prim.Native.Nat.{_≤_};
 ghost use lib.ListN.{length, replicate};
@@ -54,8 +54,25 @@ fn cut_lent<'a>(
     Answer { refusal: 0, count }
 }
 
-// Cuts down an index of at most 8,192 lines, with local flags.
+// Cuts down an index of at most 1,024 lines, with local flags.
 fn cut_few_lines<'a>(
+    chars: &'a [u16],
+    word_starts: &[u16],
+    index: &'a [Number],
+    string: &[u16],
+    output: &mut [Number],
+) -> Answer
+    requires { ⌜ Search-reads longest-text (now chars) (now «word_starts») (now index) (now string) × (keys-of (now index) ≤ 1024) ⌝ }
+    ensures { λ r. ⌜
+        Sized (cut-down (lexicon-at (now (chars .entry)) (now («word_starts» .entry))) (now (index .entry)) (now (string .entry))) r
+        (now (output .entry)) (now (output .exit)) ⌝ }
+{
+    let mut flags = [0u8; 1024];
+    cut_lent(chars, word_starts, index, string, &mut flags, output)
+}
+
+// Cuts down an index of at most 8,192 lines, with local flags.
+fn cut_some_lines<'a>(
     chars: &'a [u16],
     word_starts: &[u16],
     index: &'a [Number],
@@ -102,8 +119,11 @@ fn cut_lines<'a>(
         (now (output .entry)) (now (output .exit)) ⌝ }
 {
     let keys = key_count(index);
-    if keys <= 8192 {
+    if keys <= 1024 {
         return cut_few_lines(chars, word_starts, index, string, output);
+    }
+    if keys <= 8192 {
+        return cut_some_lines(chars, word_starts, index, string, output);
     }
     cut_many_lines(chars, word_starts, index, string, output)
 }

@@ -4,9 +4,9 @@
 // Two more walks write the flagged directory lines and their positions, the positions through the part of the output that begins after the
 // directory. The cost is linear in the directory and in the positions written.
 ghost use mathlib.Core.Path.{_≡_};
-ghost use mathlib.Core.List.{_++_};
 ghost use Prim.Native.Nat.{_+_, _≤_};
-ghost use lib.ListN.{length, take};
+ghost use lib.ListN.{length};
+ghost use Rattle.basics.specs.Placed.{placed};
 ghost use Rattle.basics.specs.Writing.{over};
 ghost use Rattle.spec.specs.Numbers.{directory, all-positions};
 ghost use Rattle.spec.specs.Index.{header, lines-in};
@@ -67,9 +67,8 @@ fn write_directory(
         (header + length (directory (bearing (lexicon-at (now chars) (now «word_starts»)) (now string) (lines-in (now index)))) ≤ length
         (now output)) ⌝ }
     ensures { λ r. ⌜
-        now (output .exit) ≡ over (take header (now (output .entry)) ++
-        directory (bearing (lexicon-at (now (chars .entry)) (now («word_starts» .entry))) (now (string .entry))
-        (lines-in (now (index .entry))))) (now (output .entry)) ⌝ }
+        now (output .exit) ≡ placed (directory (bearing (lexicon-at (now (chars .entry)) (now («word_starts» .entry)))
+        (now (string .entry)) (lines-in (now (index .entry))))) header (now (output .entry)) ⌝ }
 {
     let count = key_count(index);
     let mut keys = 0;

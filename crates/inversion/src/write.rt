@@ -3,16 +3,17 @@
 // Two walks over the codes, in the order of the keys: the first writes a directory line for each chain, the second the positions of each.
 // The positions go through the part of the output that begins after the directory.
 ghost use mathlib.Core.Path.{_≡_};
-ghost use mathlib.Core.List.{[], _∷_, _++_};
+ghost use mathlib.Core.List.{[], _∷_};
 ghost use Prim.Native.Nat.{_+_, _*_, _≤_, _<_};
-ghost use lib.ListN.{length, take};
+ghost use lib.ListN.{length};
 ghost use Rattle.basics.specs.Chain.{chain, Threaded};
+ghost use Rattle.basics.specs.Placed.{placed, Wrote};
 ghost use Rattle.basics.specs.Writing.{over};
 ghost use Rattle.spec.specs.Index.{header, greatest-number};
 ghost use Rattle.spec.specs.Numbers.{directory, all-positions, numbers};
 ghost use Rattle.models.specs.Inversion.{code-key};
 ghost use Rattle.models.specs.Readability.{most-keys};
-ghost use Rattle.laws.specs.Numbers.Slices.{Size-of};
+ghost use Rattle.laws.specs.Numbers.Header.{Size-of};
 ghost use Rattle.laws.specs.Build.PostingChains.{lines-at};
 ghost use Rattle.laws.specs.Build.CodeWalk.{Listable};
 use crate::chains::chain_length;
@@ -27,8 +28,8 @@ use width::Number;
 fn put_line(output: &mut [Number], line: usize, code: usize, count: usize)
     requires { ⌜ (header + 3 * line + 3 ≤ length (now output)) × (code < most-keys) × (count ≤ greatest-number) ⌝ }
     ensures { λ _. ⌜
-        now (output .exit) ≡ over (take (header + 3 * line) (now (output .entry)) ++
-        (code-key code .kind ∷ code-key code .value ∷ count ∷ [])) (now (output .entry)) ⌝ }
+        now (output .exit) ≡ placed (code-key code .kind ∷ code-key code .value ∷ count ∷ []) (header + 3 * line)
+        (now (output .entry)) ⌝ }
 {
     if code < 4096 {
         write_line(output, line, 0, code, count);
@@ -42,8 +43,7 @@ fn write_directory(heads: &[Number], pages: &[u8], links: &[Number], output: &mu
     requires { ⌜ Listable (now heads) (now pages) (now links) ⌝ }
     requires { ⌜ header + length (directory (lines-at (now heads) (now links) 0)) ≤ length (now output) ⌝ }
     ensures { λ _. ⌜
-        now (output .exit) ≡ over (take header (now (output .entry)) ++ directory (lines-at (now (heads .entry)) (now (links .entry)) 0))
-        (now (output .entry)) ⌝ }
+        now (output .exit) ≡ placed (directory (lines-at (now (heads .entry)) (now (links .entry)) 0)) header (now (output .entry)) ⌝ }
 {
     let mut line = 0;
     let mut code = next_code(heads, pages, 0);
@@ -59,9 +59,7 @@ fn write_directory(heads: &[Number], pages: &[u8], links: &[Number], output: &mu
 fn write_chain(links: &[Number], head: Number, part: &mut [Number], at: usize) -> usize
     requires { ⌜ Threaded (now links) head ⌝ }
     requires { ⌜ at + length (chain (now links) head) ≤ length (now part) ⌝ }
-    ensures end { λ r. ⌜ r ≡ at + length (chain (now (links .entry)) head) ⌝ }
-    ensures members { λ r. ⌜
-        now (part .exit) ≡ over (take at (now (part .entry)) ++ chain (now (links .entry)) head) (now (part .entry)) ⌝ }
+    ensures { λ r. ⌜ Wrote (chain (now (links .entry)) head) at (now (part .entry)) r (now (part .exit)) ⌝ }
 {
     let mut here = at;
     let mut member = head;

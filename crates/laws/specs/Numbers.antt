@@ -3,6 +3,7 @@ pub mod Flat
 pub mod KeyOrder
 pub mod FlatOrder
 pub mod KeyNumbers
+pub mod Header
 pub mod Slices
 pub mod LineNumbers
 pub mod DirectoryWalk

@@ -3,9 +3,8 @@ use mathlib.Core.Bool.{cond, _&&_}
 use mathlib.Core.List.{List, [], _++_, _∷_}
 use Prim.Native.Nat.{ℕ}
 use lib.Dec.{eqb, ltb}
-use lib.ListN.{getD, length}
+use lib.ListN.{length}
 use Rattle.spec.specs.Dictionary.{Lexicon}
-use Rattle.spec.specs.Index.{lines-in}
 use Rattle.spec.specs.Numbers.{Line, line}
 use Rattle.spec.specs.Words.{Entry, Key, complete, entry, key, spells}
 
@@ -20,10 +19,6 @@ flat lex (l ∷ ls) = entries-at lex (l .key-of) (l .positions) ++ flat lex ls
 
 unfoldable pub no-line : Line
 no-line = line (key 0 0) []
-
--- line i, if there is one
-unfoldable pub line-of : (numbers : List ℕ) → (i : ℕ) → Line
-line-of xs i = getD (lines-in xs) i no-line
 
 -- the longest of `best` and the entries of a list that start at p
 unfoldable pub longest-of : (p : ℕ) (best : Entry) → List Entry → Entry

@@ -7,7 +7,7 @@ use lib.ListN.{drop, getD, length, take}
 use Rattle.basics.specs.Steps.{any-from, those-from}
 use Rattle.spec.specs.Dictionary.{Lexicon}
 use Rattle.spec.specs.Index.{count-at, counts-from, header, key-at, keys-of}
-use Rattle.spec.specs.Numbers.{Line}
+use Rattle.spec.specs.Numbers.{Line, line}
 use Rattle.spec.specs.Search.{agrees}
 use Rattle.spec.specs.Words.{spells}
 use Rattle.models.specs.Reach.{extend, reach-back, reach-key, reach-leading, reach-offset, reach-offsets, reach-positions}
@@ -56,6 +56,14 @@ field-at xs f i = getD xs (header + 3 * i + f) 0
 abbrev pub list-start : (numbers : List ℕ) → (i : ℕ) → ℕ
 list-start xs i = header + 3 * keys-of xs + counts-from i 0 xs
 
+-- the positions of line i
+abbrev pub positions-at : (numbers : List ℕ) → (i : ℕ) → List ℕ
+positions-at xs i = take (count-at xs i) (drop (list-start xs i) xs)
+
+-- line i, its key with its positions
+abbrev pub line-of : (numbers : List ℕ) → (i : ℕ) → Line
+line-of xs i = line (key-at xs i) (positions-at xs i)
+
 unfoldable pub run-from : (step : ℕ → List ℕ → List ℕ) → (left i : ℕ) → (reaches : List ℕ) → List ℕ
 run-from f zero i rs = rs
 run-from f (suc n) i rs = run-from f n (suc i) (f i rs)
@@ -63,10 +71,6 @@ run-from f (suc n) i rs = run-from f n (suc i) (f i rs)
 -- the steps a to b − 1
 abbrev pub run : (step : ℕ → List ℕ → List ℕ) → (a b : ℕ) → (reaches : List ℕ) → List ℕ
 run f a b = run-from f (b - a) a
-
--- the positions of line i
-abbrev pub positions-at : (numbers : List ℕ) → (i : ℕ) → List ℕ
-positions-at xs i = take (count-at xs i) (drop (list-start xs i) xs)
 
 -- the key of line i at the offset o
 unfoldable pub offset-at : (o : ℕ) → Lexicon → (numbers string : List ℕ) → (first i : ℕ) → (reaches : List ℕ) → List ℕ

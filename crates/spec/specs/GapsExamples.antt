@@ -78,7 +78,7 @@ pub record Gaps-tried : Type 0 where
   pub five-first : gaps-refusal longest-text A-chars A-lengths [] 13 0 ≡ 5
   pub refuses-short : gaps-refusal longest-text A-chars A-lengths xaxxa-index 13 12 ≡ 8
   pub accepts-long : gaps-refusal longest-text A-chars A-lengths xaxxa-index 13 13 ≡ 0
-  pub as-long : length xaxxa-gaps ≡ 13
+  pub same-len : length xaxxa-gaps ≡ 13
 
 pub gaps-tried : Gaps-tried
 unfolding is-char words-from lexicon total too-large length-good lengths-good lengths-wrong word-before ascend disordered is-full-width
@@ -112,5 +112,5 @@ gaps-tried =
       five-first = refl;
       refuses-short = refl;
       accepts-long = refl;
-      as-long = refl;
+      same-len = refl;
     }

@@ -19,7 +19,7 @@ pub record Gap-list : Type 0 where
   pub first : (ps : List ℕ) → getD (gaps ps) 0 0 ≡ getD ps 0 0
   -- "each later one becomes its distance from the one before"
   pub later : (ps : List ℕ) (i : ℕ) → suc i < length ps → getD (gaps ps) (suc i) 0 ≡ getD ps (suc i) 0 - getD ps i 0
-  pub as-long : (ps : List ℕ) → length (gaps ps) ≡ length ps
+  pub same-len : (ps : List ℕ) → length (gaps ps) ≡ length ps
 
 -- THE FORM OF AN INDEX
 
@@ -37,8 +37,8 @@ Gaps-under-keys g =
 
 pub record Gaps-there-and-back (g : ℕ) : Type 0 where
   -- "The rearranged slice has the same length."
-  pub as-long : (xs : List ℕ) → length (gap-form xs) ≡ length xs
-  pub as-long-back : (ds : List ℕ) → length (restored ds) ≡ length ds
+  pub same-len : (xs : List ℕ) → length (gap-form xs) ≡ length xs
+  pub same-len-back : (ds : List ℕ) → length (restored ds) ≡ length ds
   -- "The inverse restores the index exactly"
   pub exactly : (lex : Lexicon) (xs : List ℕ) → readable g lex xs ≡ true → restored (gap-form xs) ≡ xs
   -- "every gap form whose restored form is readable comes back unchanged": so do all numbers, readable or not

@@ -15,6 +15,7 @@ use Rattle.models.specs.Entries.{longest-at}
 use Rattle.models.specs.Scan.{make-index}
 use Rattle.laws.specs.Text.Facts.{Chars, Good-lexicon, Good-line, Good-lines}
 use Rattle.laws.specs.Dictionary.Keys.{spells-some, value-below}
+use Rattle.laws.specs.Numbers.Header.{header-law}
 use Rattle.laws.specs.Numbers.Slices.{entries-of-numbers, length-numbers}
 use Rattle.laws.specs.Readable.IndexOf.{lines-in-index, index-lines-good, entries-of-index}
 use Rattle.laws.specs.Entries.Scan.{length-scan}
@@ -90,15 +91,11 @@ module _ {lex : Lexicon} (good : Good-lexicon lex) (bound : ℕ) (n : ℕ) (shor
         (below-cons bound (length (l .positions)) (directory ls) (omega arith)
         (directory-below ls (λ m i. each m (inr i)) (omega arith))))
 
-    header-below : (ls : List Line) → length ls < bound → Below bound (header-numbers n ls)
-    unfolding header-numbers
-    header-below ls few = below-cons bound n (length ls ∷ []) short (below-cons bound (length ls) [] few (λ x m. absurd m))
-
     pub numbers-below : {ls : List Line} → Good-lines lex n ls → length (all-positions ls) < bound → Below bound (numbers n ls)
     unfolding numbers
     numbers-below {ls} lines few =
         below-append bound (header-numbers n ls) (directory ls ++ all-positions ls)
-        (header-below ls (omega (arith, lines-few lex n ls (lines .each))))
+        (header-law n ls .below bound short (omega (arith, lines-few lex n ls (lines .each))) few)
         (below-append bound (directory ls) (all-positions ls) (directory-below ls (lines .each) few) (positions-below ls (lines .each)))
 
 -- THE INDEX OF A TEXT

@@ -23,7 +23,8 @@ use Rattle.laws.specs.Text.WidthFolding.{length-replaced, replaced-chars
 use Rattle.laws.specs.Text.Chars.{all-chars-put}
 use Rattle.laws.specs.Dictionary.Lexicon.{admitted-lexicon}
 use Rattle.laws.specs.Dictionary.Answering.{accepted-yes, accepted-no, answers-accepted, answers-refused, Refuses}
-use Rattle.laws.specs.Numbers.Slices.{length-numbers, Size-of}
+use Rattle.laws.specs.Numbers.Header.{Size-of}
+use Rattle.laws.specs.Numbers.Slices.{length-numbers}
 use Rattle.laws.specs.Build.Tokens.{Tokens}
 use Rattle.laws.specs.Build.TokenLines.{token-index}
 use Rattle.laws.specs.Build.PostingChains.{lines-at, linked-threads, linked-lines, Linkable, Fresh, Links}

@@ -5,10 +5,10 @@ use mathlib.Core.List.{List, [], _∷_, _++_}
 use Prim.Native.Nat.{ℕ, suc, _+_, _-_, _/_, _%_, _≤_, _<_}
 use native.Mathlib.Numerals.{add-one}
 use native.Mathlib.Omega.{arith}
-use lib.ListN.{length, getD, take, length-append}
+use lib.ListN.{length, getD}
 use Rattle.basics.specs.Bools.{le-or-lt}
 use Rattle.basics.specs.Chain.{chain, chain-none, chained-some}
-use Rattle.basics.specs.Writing.{over, Writing, starts, appends, written}
+use Rattle.basics.specs.Placed.{Wrote, Writing, writing-start, writing-as, writing-room, writing-step, writing-end}
 use Rattle.spec.specs.Numbers.{Line, line, directory, all-positions}
 use Rattle.spec.specs.Index.{greatest-number}
 use Rattle.models.specs.Inversion.{code-key, lines-from, line-numbers, line-positions}
@@ -92,8 +92,8 @@ module _ (heads links : List ℕ) where
 -- WRITING WHAT THE LINES GIVE
 
 -- before `code`: the numbers of the lines from it on are to come, and it has a chain or is past the last
-pub record Listing (give : List Line → List ℕ) (heads links all old now : List ℕ) (code at : ℕ) : Type 0 where
-  pub writing : Writing all old now (give (lines-at heads links code)) at
+pub record Listing (give : List Line → List ℕ) (heads links : List ℕ) (start : ℕ) (old now : List ℕ) (code at : ℕ) : Type 0 where
+  pub writing : Writing (give (lines-at heads links 0)) start old (give (lines-at heads links code)) at now
   pub within : code ≤ length heads
   pub used : code < length heads → getD heads code 0 ≡ 0 → ⊥
 
@@ -105,57 +105,49 @@ pub record Line-by-line (give : List Line → List ℕ) (each : Line → List �
 module _ {give : List Line → List ℕ} {each : Line → List ℕ} (by : Line-by-line give each) where
   pub listing-start :
       (heads links old : List ℕ) (at : ℕ) {code : ℕ} → at + length (give (lines-at heads links 0)) ≤ length old → Next heads 0 code →
-      Listing give heads links (take at old ++ give (lines-at heads links 0)) old old code at
+      Listing give heads links at old old code at
   listing-start heads links old at {code} room next =
       record {
         writing =
-            rw (← lines-next heads links (next .passed)) (starts old (give (lines-at heads links 0)) at room);
+            writing-as (ap give (lines-next heads links (next .passed))) (writing-start (give (lines-at heads links 0)) at old room);
         within = next .passed .within;
         used = next .used;
       }
 
-  module _ {heads links all old now : List ℕ} {code at : ℕ} (l : Listing give heads links all old now code at) where
+  module _ {heads links : List ℕ} {start : ℕ} {old now : List ℕ} {code at : ℕ} (l : Listing give heads links start old now code at) where
     pub listing-line :
         Threads heads links → (b : code < length heads) →
-        Writing all old now
-        (each (line (code-key code) (chain links (getD heads code 0))) ++ give (lines-at heads links (code + 1))) at
+        Writing (give (lines-at heads links 0)) start old
+        (each (line (code-key code) (chain links (getD heads code 0))) ++ give (lines-at heads links (code + 1))) at now
     listing-line threads b =
-        let split :
-        give (lines-at heads links code)
-        ≡ each (line (code-key code) (chain links (getD heads code 0))) ++ give (lines-at heads links (code + 1)) =
-        ap give (lines-here heads links threads code b (l .used b))
-        ∙ by .more (line (code-key code) (chain links (getD heads code 0))) (lines-at heads links (code + 1)) in
-        rw split at (l .writing)
+        writing-as
+        (ap give (lines-here heads links threads code b (l .used b))
+        ∙ by .more (line (code-key code) (chain links (getD heads code 0))) (lines-at heads links (code + 1)))
+        (l .writing)
 
     -- there is room for the line's numbers
     pub listing-room :
         Threads heads links → code < length heads →
         at + length (each (line (code-key code) (chain links (getD heads code 0)))) ≤ length now
     listing-room threads b =
-        let w = listing-line threads b in
-        omega (
-          arith,
-          length-append (each (line (code-key code) (chain links (getD heads code 0))))
-              (give (lines-at heads links (code + 1))),
-        )
+        writing-room (each (line (code-key code) (chain links (getD heads code 0)))) (give (lines-at heads links (code + 1)))
+        (listing-line threads b)
 
     pub listing-step :
-        Threads heads links → code < length heads → {next : ℕ} → Next heads (code + 1) next → {xs later : List ℕ} →
-        xs ≡ each (line (code-key code) (chain links (getD heads code 0))) → later ≡ over (take at now ++ xs) now →
-        Listing give heads links all old later next (at + length xs)
-    listing-step threads b n {xs} e f =
+        Threads heads links → code < length heads → {next : ℕ} → Next heads (code + 1) next → {xs later : List ℕ} {end : ℕ} →
+        xs ≡ each (line (code-key code) (chain links (getD heads code 0))) → Wrote xs at now end later →
+        Listing give heads links start old later next end
+    listing-step threads b n {xs} e w =
         record {
           writing =
-              rw (f, ← lines-next heads links (n .passed))
-              (appends xs (give (lines-at heads links (code + 1))) (rw e (listing-line threads b)));
+              rw (← lines-next heads links (n .passed))
+              (writing-step xs (give (lines-at heads links (code + 1))) (rw e (listing-line threads b)) w);
           within = n .passed .within;
           used = n .used;
         }
 
-    pub listing-end : length heads ≤ code → now ≡ over all old
-    listing-end past =
-        written all old now at
-        (rw (← (ap give (lines-over heads links code past) ∙ by .none)) (l .writing))
+    pub listing-end : length heads ≤ code → Wrote (give (lines-at heads links 0)) start old at now
+    listing-end past = writing-end (writing-as (ap give (lines-over heads links code past) ∙ by .none) (l .writing))
 
 -- THE DIRECTORY AND THE POSITIONS
 

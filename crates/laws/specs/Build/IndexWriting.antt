@@ -1,20 +1,15 @@
 -- Header, directory and positions written one after the other are the numbers of an index. Assumes nothing.
-use mathlib.Core.Path.{_≡_}
-use mathlib.Core.List.{List, [], _∷_, _++_}
+use mathlib.Core.Path.{_≡_, sym, _∙_}
+use mathlib.Core.List.{List, _++_}
 use Prim.Native.Nat.{ℕ, _+_, _*_, _≤_}
 use native.Mathlib.Omega.{arith}
-use lib.ListN.{length, take, set, length-append}
-use Rattle.basics.specs.Writing.{over, Writing, starts, writes, appends, written}
+use lib.ListN.{length}
+use Rattle.basics.specs.Placed.{placed, Writing, writing-start, writing-room, writing-step}
+use Rattle.basics.specs.Writing.{over, placed-over}
 use Rattle.spec.specs.Numbers.{Line, directory, all-positions, header-numbers, numbers}
 use Rattle.spec.specs.Index.{header}
-use Rattle.laws.specs.Numbers.Slices.{length-header, length-directory, length-numbers, Size-of, header-sized, header-is}
-
--- the numbers of the header, stored one after the other
-pub header-stored :
-    (n keys entries : ℕ) (old : List ℕ) → header ≤ length old → set (set old 0 n) 1 keys ≡ over (header-sized n keys entries) old
-unfolding header-sized
-header-stored n keys entries old room =
-    written (n ∷ keys ∷ []) old _ header (writes keys [] (writes n (keys ∷ []) (starts old (n ∷ keys ∷ []) 0 room)))
+use Rattle.laws.specs.Numbers.Header.{Size-of, header-law}
+use Rattle.laws.specs.Numbers.Slices.{length-directory, length-numbers}
 
 module _ (n : ℕ) {ls : List Line} {keys entries : ℕ} (size : Size-of ls keys entries) (old : List ℕ)
     (room : length (numbers n ls) ≤ length old) where
@@ -22,20 +17,17 @@ module _ (n : ℕ) {ls : List Line} {keys entries : ℕ} (size : Size-of ls keys
   room-is = omega (arith, length-numbers n ls)
 
   -- the slice once the header is written
-  module _ {headed : List ℕ} (h : headed ≡ over (header-sized n keys entries) old) where
-    pub header-written : Writing (numbers n ls) old headed (directory ls ++ all-positions ls) header
+  module _ {headed : List ℕ} (h : headed ≡ over (header-numbers n ls) old) where
+    pub header-written : Writing (numbers n ls) 0 old (directory ls ++ all-positions ls) header headed
     unfolding numbers
     header-written =
-        let at : header ≡ 0 + length (header-numbers n ls) = omega (arith, length-header n ls) in
-        rw (h, header-is n size, at)
-        (appends (header-numbers n ls) (directory ls ++ all-positions ls) (starts old (numbers n ls) 0 (omega (arith, room))))
+        writing-step (header-numbers n ls) (directory ls ++ all-positions ls) (writing-start (numbers n ls) 0 old (omega (arith, room)))
+        (record { ends = omega (arith, header-law n ls .len); content = h ∙ sym (placed-over (header-numbers n ls) old) })
 
     pub directory-room : header + length (directory ls) ≤ length headed
-    directory-room = omega (arith, header-written .room, header-written .len, length-append (directory ls) (all-positions ls))
+    directory-room = writing-room (directory ls) (all-positions ls) header-written
 
     pub directory-written :
-        {now : List ℕ} → now ≡ over (take header headed ++ directory ls) headed →
-        Writing (numbers n ls) old now (all-positions ls) (header + 3 * keys)
+        {now : List ℕ} → now ≡ placed (directory ls) header headed → Writing (numbers n ls) 0 old (all-positions ls) (header + 3 * keys) now
     directory-written e =
-        let len : 3 * keys ≡ length (directory ls) = omega (arith, length-directory ls) in
-        rw (e, len) (appends (directory ls) (all-positions ls) header-written)
+        writing-step (directory ls) (all-positions ls) header-written (record { ends = omega (arith, length-directory ls); content = e })

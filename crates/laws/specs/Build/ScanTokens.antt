@@ -49,9 +49,9 @@ token-entry-none : (lex : Lexicon) (p c : ℕ) → token-entry lex p 0 c ≡ []
 unfolding token-entry
 token-entry-none lex p c = refl
 
-entry-long : (k : Key) (p l : ℕ) → entry k p l .len ≡ l
+entry-len : (k : Key) (p l : ℕ) → entry k p l .len ≡ l
 unfolding entry
-entry-long k p l = refl
+entry-len k p l = refl
 
 -- a character of a text to be scanned
 pub record Scannable (lex : Lexicon) (ts : List ℕ) (q : ℕ) : Type 0 where
@@ -92,7 +92,7 @@ module _ {lex : Lexicon} {ts : List ℕ} {q : ℕ} (here : Scannable lex ts q) w
         size : longest-at lex ts (q + 1) .len ≡ length (getD (lex .words) (number - 1) [])
         size =
             sym (ap (λ (x : Entry). x .len) same)
-            ∙ entry-long (key 0 (number - 1)) (q + 1) (length (getD (lex .words) (number - 1) []))
+            ∙ entry-len (key 0 (number - 1)) (q + 1) (length (getD (lex .words) (number - 1) []))
 
         token : token-entry lex (q + 1) number (getD ts (q + 1 - 1) 0) ≡ longest-at lex ts (q + 1) ∷ []
         token =
@@ -117,7 +117,7 @@ module _ {lex : Lexicon} {ts : List ℕ} {q : ℕ} (here : Scannable lex ts q) w
             (none-after-lone lex (here .good) ts (here .chars) (omega arith) (omega arith) (omega arith) (f .none none))
 
         size : longest-at lex ts (q + 1) .len ≡ 1
-        size = sym (ap (λ (x : Entry). x .len) same) ∙ entry-long (key 1 (getD ts (q + 1 - 1) 0)) (q + 1) 1
+        size = sym (ap (λ (x : Entry). x .len) same) ∙ entry-len (key 1 (getD ts (q + 1 - 1) 0)) (q + 1) 1
 
     -- no word was found, and the character is covered
     pub step-none : number ≡ 0 → q < e → e ≤ length ts → Stepped lex ts (q + 1) (e + 1) 0 (e + 1)

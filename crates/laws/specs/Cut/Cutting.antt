@@ -2,21 +2,21 @@
 use mathlib.Core.Path.{_≡_, ap, _∙_}
 use mathlib.Core.List.{List, [], _∷_, _++_}
 use Prim.Native.Nat.{ℕ, _+_, _*_, _-_, _≤_, _<_}
-use native.Mathlib.Numerals.{add-one}
 use native.Mathlib.Omega.{arith}
-use lib.ListN.{length, getD, take, drop, set, length-append, length-drop, drop-of-length-le}
-use lib.Seq.{drop-cons, length-take-le}
+use lib.ListN.{length, getD, take, drop, length-drop}
+use lib.Seq.{length-take-le}
 use Rattle.spec.specs.Dictionary.{Lexicon}
 use Rattle.spec.specs.Words.{key}
-use Rattle.spec.specs.Numbers.{line, directory, all-positions}
+use Rattle.spec.specs.Numbers.{line, directory, all-positions, header-numbers}
 use Rattle.spec.specs.Index.{header, n-of, keys-of, kind-at, value-at, count-at, counts-from, lines-in}
 use Rattle.spec.specs.Cut.{bearing, cut-down}
 use Rattle.spec.specs.Calls.{in-front}
 use Rattle.models.specs.Window.{list-start}
-use Rattle.laws.specs.Numbers.Slices.{length-numbers, header-sized}
+use Rattle.laws.specs.Numbers.Slices.{length-numbers}
 use Rattle.laws.specs.Numbers.DirectoryWalk.{counts-next, Is-line}
 use Rattle.laws.specs.Build.IndexWriting.{directory-room, directory-written}
-use Rattle.basics.specs.Writing.{over, Writing, starts, has-room, writes, appends, written, lent-tail, tail-back, tail-written}
+use Rattle.basics.specs.Placed.{placed, Writing, writing-start, writing-room, writing-step, writing-end}
+use Rattle.basics.specs.Writing.{over, written, lent-tail, tail-back, tail-written}
 use Rattle.laws.specs.Cut.ExactFlags.{bearing-from, bearing-done, Flagged-lines, flagged-next, unflagged-next, positions-length}
 use Rattle.laws.specs.Cut.ExactFlags.{Is-size}
 
@@ -27,21 +27,19 @@ pub record Listing (lex : Lexicon) (xs s fs old out : List ℕ) (keys i : ℕ) :
   pub lines : Flagged-lines lex xs s fs
   pub within : i ≤ keys-of xs
   pub few : keys ≤ i
-  pub way :
-      Writing (take header old ++ directory (bearing-from lex xs s 0)) old out (directory (bearing-from lex xs s i)) (header + 3 * keys)
+  pub way : Writing (directory (bearing-from lex xs s 0)) header old (directory (bearing-from lex xs s i)) (header + 3 * keys) out
 
 pub listing-start :
     {lex : Lexicon} {xs s fs : List ℕ} → Flagged-lines lex xs s fs → (out : List ℕ) →
     header + length (directory (bearing-from lex xs s 0)) ≤ length out → Listing lex xs s fs out out 0 0
 listing-start {lex} {xs} {s} lines out room =
-    record { lines = lines; within = omega arith; few = omega arith; way = starts out (directory (bearing-from lex xs s 0)) header room }
+    let way = writing-start (directory (bearing-from lex xs s 0)) header out room in
+    record { lines = lines; within = omega arith; few = omega arith; way = way }
 
 module _ {lex : Lexicon} {xs s fs old out : List ℕ} {keys i : ℕ} (h : Listing lex xs s fs old out keys i) where
-  pub listing-end : keys-of xs ≤ i → out ≡ over (take header old ++ directory (bearing-from lex xs s 0)) old
+  pub listing-end : keys-of xs ≤ i → out ≡ placed (directory (bearing-from lex xs s 0)) header old
   unfolding directory
-  listing-end past =
-      written (take header old ++ directory (bearing-from lex xs s 0)) old out (header + 3 * keys)
-      (rw (bearing-done lex xs s i past) at (h .way))
+  listing-end past = writing-end (rw (bearing-done lex xs s i past) at (h .way)) .content
 
   module _ (below : i < keys-of xs) where
     module _ (some : getD fs i 0 ≡ 0 → ⊥) where
@@ -60,17 +58,15 @@ module _ {lex : Lexicon} {xs s fs old out : List ℕ} {keys i : ℕ} (h : Listin
 
       pub listing-step :
           {kind value count : ℕ} → kind ≡ kind-at xs i → value ≡ value-at xs i → count ≡ count-at xs i → {now : List ℕ} →
-          now ≡ over (take (header + 3 * keys) out ++ (kind ∷ value ∷ count ∷ [])) out → Listing lex xs s fs old now (keys + 1) (i + 1)
+          now ≡ placed (kind ∷ value ∷ count ∷ []) (header + 3 * keys) out → Listing lex xs s fs old now (keys + 1) (i + 1)
       listing-step {kind} {value} {count} k v n e =
-          let next : header + 3 * (keys + 1) ≡ header + 3 * keys + 3 = omega arith in
           record {
             lines = h .lines;
             within = omega arith;
             few = omega arith;
             way =
-                rw (e, next)
-                (appends (kind ∷ value ∷ count ∷ []) (directory (bearing-from lex xs s (i + 1)))
-                (rw (k, v, n) (rw three at (h .way))));
+                writing-step (kind ∷ value ∷ count ∷ []) (directory (bearing-from lex xs s (i + 1)))
+                (rw (k, v, n) (rw three at (h .way))) (record { ends = omega arith; content = e });
           }
 
     pub listing-pass : getD fs i 0 ≡ 0 → Listing lex xs s fs old out keys (i + 1)
@@ -84,41 +80,11 @@ module _ {lex : Lexicon} {xs s fs old out : List ℕ} {keys i : ℕ} (h : Listin
 
 -- THE POSITIONS
 
--- one list copied
-pub record Copying (bs : List ℕ) (from : ℕ) (old out : List ℕ) (j : ℕ) : Type 0 where
-  pub within : j ≤ length bs
-  pub way : Writing (take from old ++ bs) old out (drop j bs) (from + j)
-
-module _ (bs : List ℕ) (from : ℕ) where
-  pub copying-start : (out : List ℕ) → from + length bs ≤ length out → Copying bs from out out 0
-  copying-start out room =
-      let z : from + 0 ≡ from = omega arith in
-      record { within = omega arith; way = rw z (starts out bs from room) }
-
-  module _ (old out : List ℕ) (j : ℕ) (h : Copying bs from old out j) where
-    pub copying-end : length bs ≤ j → out ≡ over (take from old ++ bs) old
-    copying-end past = written (take from old ++ bs) old out (from + j) (rw (drop-of-length-le bs past) at (h .way))
-
-    module _ (below : j < length bs) where
-      cut : drop j bs ≡ getD bs j 0 ∷ drop (j + 1) bs
-      cut = rw (add-one j, drop-cons bs j 0)
-
-      pub copying-room : from + j < length out
-      copying-room = has-room (getD bs j 0) (drop (j + 1) bs) (rw cut at (h .way))
-
-      pub copying-step : Copying bs from old (set out (from + j) (getD bs j 0)) (j + 1)
-      copying-step =
-          let z : from + j + 1 ≡ from + (j + 1) = omega arith in
-          record {
-            within = omega arith;
-            way = rw z at (writes (getD bs j 0) (drop (j + 1) bs) (rw cut at (h .way)));
-          }
-
 -- the positions of the bearing lines before line i are written; those of line i start at `from` in the index
 pub record Placing (lex : Lexicon) (xs s fs old out : List ℕ) (from at i : ℕ) : Type 0 where
   pub lines : Flagged-lines lex xs s fs
   pub from-is : from ≡ list-start xs i
-  pub way : Writing (all-positions (bearing-from lex xs s 0)) old out (all-positions (bearing-from lex xs s i)) at
+  pub way : Writing (all-positions (bearing-from lex xs s 0)) 0 old (all-positions (bearing-from lex xs s i)) at out
 
 pub placing-start :
     {lex : Lexicon} {xs s fs : List ℕ} → Flagged-lines lex xs s fs → (out : List ℕ) →
@@ -129,51 +95,44 @@ placing-start {lex} {xs} {s} lines out room is =
     record {
       lines = lines;
       from-is = omega arith;
-      way = starts out (all-positions (bearing-from lex xs s 0)) 0 (omega (arith, room));
+      way = writing-start (all-positions (bearing-from lex xs s 0)) 0 out (omega (arith, room));
     }
 
 module _ {lex : Lexicon} {xs s fs old out : List ℕ} {from at i : ℕ} (h : Placing lex xs s fs old out from at i) where
   pub placing-end : keys-of xs ≤ i → out ≡ over (all-positions (bearing-from lex xs s 0)) old
   unfolding all-positions
-  placing-end past =
-      written (all-positions (bearing-from lex xs s 0)) old out at (rw (bearing-done lex xs s i past) at (h .way))
+  placing-end past = written (rw (bearing-done lex xs s i past) at (h .way))
 
   -- line i, as the walk has it
   module _ {kind value begin end : ℕ} (here : Is-line xs i kind value begin end) where
     next-from : end ≡ list-start xs (i + 1)
     next-from = omega (arith, counts-next i xs)
 
-    part-long : length (take (end - begin) (drop begin xs)) ≡ end - begin
-    part-long = length-take-le (end - begin) (drop begin xs) (omega (arith, length-drop begin xs))
+    part-len : length (take (end - begin) (drop begin xs)) ≡ end - begin
+    part-len = length-take-le (end - begin) (drop begin xs) (omega (arith, length-drop begin xs))
 
     module _ (some : getD fs i 0 ≡ 0 → ⊥) where
       way-here :
-          Writing (all-positions (bearing-from lex xs s 0)) old out
-          (take (end - begin) (drop begin xs) ++ all-positions (bearing-from lex xs s (i + 1))) at
+          Writing (all-positions (bearing-from lex xs s 0)) 0 old
+          (take (end - begin) (drop begin xs) ++ all-positions (bearing-from lex xs s (i + 1))) at out
       unfolding all-positions line
       way-here =
           let size : end - begin ≡ count-at xs i = omega arith in
-          rw (size, here .from-is) (rw (flagged-next (h .lines) i (here .below) some) at (h .way))
+          rw (size, here .line .from-is) (rw (flagged-next (h .lines) i (here .below) some) at (h .way))
 
       pub placing-room : at + length (take (end - begin) (drop begin xs)) ≤ length out
-      placing-room =
-          omega (
-            arith,
-            way-here .room,
-            length-append (take (end - begin) (drop begin xs)) (all-positions (bearing-from lex xs s (i + 1))),
-          )
+      placing-room = writing-room (take (end - begin) (drop begin xs)) (all-positions (bearing-from lex xs s (i + 1))) way-here
 
       pub placing-step :
-          {now : List ℕ} → now ≡ over (take at out ++ take (end - begin) (drop begin xs)) out →
+          {now : List ℕ} → now ≡ placed (take (end - begin) (drop begin xs)) at out →
           Placing lex xs s fs old now end (at + (end - begin)) (i + 1)
       placing-step e =
           record {
             lines = h .lines;
             from-is = next-from;
             way =
-                rw e
-                (rw part-long at
-                (appends (take (end - begin) (drop begin xs)) (all-positions (bearing-from lex xs s (i + 1))) way-here));
+                writing-step (take (end - begin) (drop begin xs)) (all-positions (bearing-from lex xs s (i + 1))) way-here
+                (record { ends = omega (arith, part-len); content = e });
           }
 
     pub placing-pass : getD fs i 0 ≡ 0 → Placing lex xs s fs old out end at (i + 1)
@@ -183,16 +142,16 @@ module _ {lex : Lexicon} {xs s fs old out : List ℕ} {from at i : ℕ} (h : Pla
 -- THE WHOLE
 
 -- the length of the cut-down index
-pub cut-long :
+pub cut-len :
     {lex : Lexicon} {xs s : List ℕ} {keys entries : ℕ} → Is-size lex xs s keys entries →
     header + 3 * keys + entries ≡ length (cut-down lex xs s)
 unfolding cut-down
-cut-long {lex} {xs} {s} size =
+cut-len {lex} {xs} {s} size =
     omega (arith, length-numbers (n-of xs) (bearing lex s (lines-in xs)))
 
 -- the header and the directory are written; the positions follow from `at` on
 abbrev pub Cut-listed : (lex : Lexicon) → (xs s old now : List ℕ) → (at : ℕ) → Type 0
-Cut-listed lex xs s old now at = Writing (cut-down lex xs s) old now (all-positions (bearing lex s (lines-in xs))) at
+Cut-listed lex xs s old now at = Writing (cut-down lex xs s) 0 old (all-positions (bearing lex s (lines-in xs))) at now
 
 -- the bearing lines are flagged, how many keys and entries they have is known, and the slice has room for them
 pub record Cuts (lex : Lexicon) (xs s fs : List ℕ) (keys entries : ℕ) (out : List ℕ) : Type 0 where
@@ -201,8 +160,8 @@ pub record Cuts (lex : Lexicon) (xs s fs : List ℕ) (keys entries : ℕ) (out :
   pub room : length (cut-down lex xs s) ≤ length out
 
 module _ {lex : Lexicon} {xs s fs : List ℕ} {keys entries : ℕ} {old : List ℕ} (cuts : Cuts lex xs s fs keys entries old) {n : ℕ}
-    (is : n ≡ n-of xs) {head : List ℕ} (e : head ≡ over (header-sized n keys entries) old) where
-  headed : head ≡ over (header-sized (n-of xs) keys entries) old
+    (is : n ≡ n-of xs) {head : List ℕ} (e : head ≡ over (header-numbers n (bearing lex s (lines-in xs))) old) where
+  headed : head ≡ over (header-numbers (n-of xs) (bearing lex s (lines-in xs))) old
   headed = rw is at e
 
   pub cut-directory-room : header + length (directory (bearing lex s (lines-in xs))) ≤ length head
@@ -211,7 +170,7 @@ module _ {lex : Lexicon} {xs s fs : List ℕ} {keys entries : ℕ} {old : List �
       directory-room (n-of xs) (cuts .size .counts) old (cuts .room) headed
 
   pub cut-listed :
-      {now : List ℕ} → now ≡ over (take header head ++ directory (bearing lex s (lines-in xs))) head → {at : ℕ} → at ≡ header + 3 * keys →
+      {now : List ℕ} → now ≡ placed (directory (bearing lex s (lines-in xs))) header head → {at : ℕ} → at ≡ header + 3 * keys →
       Cut-listed lex xs s old now at
   unfolding cut-down
   cut-listed d a =
@@ -219,7 +178,7 @@ module _ {lex : Lexicon} {xs s fs : List ℕ} {keys entries : ℕ} {old : List �
 
 -- the positions, written through the part of the slice from `at` on
 pub cut-written :
-    {all old now todo : List ℕ} {at : ℕ} → Writing all old now todo at → {part : List ℕ} → part ≡ over todo (lent-tail at now) →
+    {all old now todo : List ℕ} {at : ℕ} → Writing all 0 old todo at now → {part : List ℕ} → part ≡ over todo (lent-tail at now) →
     tail-back at now part ≡ in-front all old
 unfolding in-front
-cut-written w {part} e = tail-written part w e
+cut-written w e = tail-written w e

@@ -4,17 +4,18 @@ use mathlib.Core.Bool.{Bool, true, false, cond}
 use mathlib.Core.List.{List, [], _∷_, _++_}
 use Prim.Native.Nat.{ℕ, _+_, _*_, _≤_, _<_}
 use native.Mathlib.Omega.{arith}
-use lib.ListN.{length, getD, take, drop, length-append, length-drop}
+use lib.ListN.{length, getD, drop, length-append, length-drop}
 use lib.Seq.{length-take-le}
 use Rattle.spec.specs.Dictionary.{Lexicon}
 use Rattle.spec.specs.Words.{spells}
 use Rattle.spec.specs.Numbers.{Line, line, all-positions}
 use Rattle.spec.specs.Index.{header, greatest-number, n-of, keys-of, count-at, key-at, lines-in}
 use Rattle.spec.specs.Cut.{bears, bearing}
-use Rattle.models.specs.Window.{list-start}
-use Rattle.laws.specs.Numbers.Slices.{Size-of, Fits, length-numbers, numbers-lines-in}
+use Rattle.models.specs.Window.{list-start, line-of, positions-at}
+use Rattle.laws.specs.Numbers.Header.{Size-of}
+use Rattle.laws.specs.Numbers.Slices.{Fits, length-numbers, numbers-lines-in}
 use Rattle.laws.specs.Numbers.LineNumbers.{length-lines-in}
-use Rattle.laws.specs.Numbers.DirectoryWalk.{line-of, lines-next, lines-none, list-room}
+use Rattle.laws.specs.Numbers.DirectoryWalk.{lines-next, lines-none, list-room}
 
 module _ (lex : Lexicon) (xs s : List ℕ) where
   -- the bearing lines from line i on
@@ -63,7 +64,7 @@ module _ {lex : Lexicon} {xs s fs : List ℕ} (lines : Flagged-lines lex xs s fs
       by-test true e = let one : getD fs i 0 ≡ 1 = lines .exact .at i below ∙ rw e in absurd (omega arith)
       by-test false e = rw e at (bearing-cut lex xs s i below)
 
-  pub positions-length : length (take (count-at xs i) (drop (list-start xs i) xs)) ≡ count-at xs i
+  pub positions-length : length (positions-at xs i) ≡ count-at xs i
   positions-length =
       length-take-le (count-at xs i) (drop (list-start xs i) xs)
       (omega (arith, length-drop (list-start xs i) xs, list-room xs i below (lines .fits)))
@@ -133,7 +134,7 @@ module _ {lex : Lexicon} {xs s fs : List ℕ} {keys entries i : ℕ} (h : Counti
       omega (
         arith,
         ap (λ (l : List Line). length (all-positions l)) kept,
-        length-append (take (count-at xs i) (drop (list-start xs i) xs)) (all-positions (bearing-from lex xs s (i + 1))),
+        length-append (positions-at xs i) (all-positions (bearing-from lex xs s (i + 1))),
         positions-length (h .lines) i below,
       ) in
       record {

@@ -9,7 +9,7 @@ use lib.Dec.{ltb, eqb}
 use lib.ListN.{length, getD}
 use borrow.Author.Tests.{lt-ltb, ltb-true, eq-eqb, ne-eqb, eqb-true, eqb-false}
 use Rattle.basics.specs.Bools.{clash, false-put, not-put, not-get, and-put, and-left, and-right, or-left, or-right, or-get}
-use Rattle.basics.specs.Member.{In, in-getD, in-place}
+use Rattle.basics.specs.Member.{In, in-getD, member-index}
 use Rattle.spec.specs.Dictionary.{Lexicon, is-char}
 use Rattle.spec.specs.Words.{Key, key, same, listed, is-word, spells}
 use Rattle.spec.specs.Index.{key-good}
@@ -148,7 +148,7 @@ module _ {lex : Lexicon} (good : Good-lexicon lex) where
 pub word-spelt : (lex : Lexicon) (w : List ℕ) → In w (lex .words) → (k : Key) × Is-key lex k × (spells lex k ≡ w)
 unfolding key
 word-spelt lex w m =
-    let (i, b, e) = in-place w (lex .words) [] m in
+    let (i, b, e) = member-index w (lex .words) [] m in
     (key 0 i, word-is-key lex (key 0 i) (record { kind-is = refl; below = b }), spells-word lex (key 0 i) refl ∙ e)
 
 -- and so is every single character

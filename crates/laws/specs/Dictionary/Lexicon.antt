@@ -109,12 +109,12 @@ length-words [] cs = refl
 length-words (l ∷ ls) cs = ap suc (length-words ls (drop l cs))
 
 -- if there are enough characters, each word has its full length
-pub words-long :
+pub words-len :
     (ls cs : List ℕ) (i : ℕ) → total ls ≤ length cs → i < length ls → length (getD (words-from ls cs) i []) ≡ getD ls i 0
 unfolding words-from total
-words-long [] cs i h b = absurd (omega arith)
-words-long (l ∷ ls) cs zero h b = length-take-le l cs (omega arith)
-words-long (l ∷ ls) cs (suc i) h b = words-long ls (drop l cs) i (omega (arith, length-drop l cs)) (omega arith)
+words-len [] cs i h b = absurd (omega arith)
+words-len (l ∷ ls) cs zero h b = length-take-le l cs (omega arith)
+words-len (l ∷ ls) cs (suc i) h b = words-len ls (drop l cs) i (omega (arith, length-drop l cs)) (omega arith)
 
 pub word-lengths :
     (ls cs : List ℕ) → lengths-good ls ≡ true → total ls ≤ length cs → (w : List ℕ) → In w (words-from ls cs) →

@@ -6,7 +6,8 @@ use native.Mathlib.Numerals.{add-one}
 use native.Mathlib.Omega.{arith}
 use lib.ListN.{length, getD, take, drop, set, length-drop, drop-of-length-le}
 use lib.Seq.{drop-cons, drop-drop, getD-take, getD-drop, take-at, length-take-le}
-use Rattle.basics.specs.Writing.{over, Writing, starts, writes, written}
+use Rattle.basics.specs.Placed.{Writing, writing-start, writing-one}
+use Rattle.basics.specs.Writing.{over, written}
 use Rattle.spec.specs.Dictionary.{lexicon, words-from, total}
 use Rattle.models.specs.WordStarts.{starts-from, lengths-from, lengths-of, word, word-len}
 
@@ -81,8 +82,8 @@ pub record Word-lies (cs ws : List ℕ) (w : ℕ) : Type 0 where
   pub room : getD ws (w + 1) 0 ≤ length cs
 
 module _ {cs ws : List ℕ} (table : Word-starts cs ws) where
-  pub starts-long : length ws ≡ suc (length (lengths-of ws))
-  starts-long = ap length (table .are) ∙ length-starts 0 (lengths-of ws)
+  pub starts-len : length ws ≡ suc (length (lengths-of ws))
+  starts-len = ap length (table .are) ∙ length-starts 0 (lengths-of ws)
 
   module _ (w : ℕ) (below : w < length (lengths-of ws)) where
     start-is : getD ws w 0 ≡ word-start (lengths-of ws) w
@@ -100,7 +101,7 @@ module _ {cs ws : List ℕ} (table : Word-starts cs ws) where
     end-room = omega (arith, end-is, start-is, word-start-room (lengths-of ws) w below)
 
     pub lies : Word-lies cs ws w
-    lies = record { known = omega (arith, starts-long); order = omega (arith, end-is); room = end-room }
+    lies = record { known = omega (arith, starts-len); order = omega (arith, end-is); room = end-room }
 
     pub word-lies : take (word-len ws w) (drop (getD ws w 0) cs) ≡ word cs ws w
     unfolding lexicon
@@ -108,8 +109,8 @@ module _ {cs ws : List ℕ} (table : Word-starts cs ws) where
         let size : word-len ws w ≡ getD (lengths-of ws) w 0 = omega (arith, end-is) in
         rw (size, start-is) (sym (word-there (lengths-of ws) cs w below))
 
-    pub word-long : getD ws (w + 1) 0 ≡ getD ws w 0 + length (word cs ws w)
-    word-long =
+    pub word-end : getD ws (w + 1) 0 ≡ getD ws w 0 + length (word cs ws w)
+    word-end =
         omega (
           arith,
           end-is,
@@ -119,7 +120,7 @@ module _ {cs ws : List ℕ} (table : Word-starts cs ws) where
         )
 
     pub len-is : word-len ws w ≡ length (word cs ws w)
-    len-is = omega (arith, word-long)
+    len-is = omega (arith, word-end)
 
     pub word-char : (d : ℕ) → d < length (word cs ws w) → getD cs (getD ws w 0 + d) 0 ≡ getD (word cs ws w) d 0
     word-char d h =
@@ -137,7 +138,7 @@ word-start-total (l ∷ ls) (suc w) h = omega (arith, word-start-total ls w (ome
 
 -- the starts of the first i words are written; word i starts at `at`
 pub record Filling-starts (ls old now : List ℕ) (i at : ℕ) : Type 0 where
-  pub writing : Writing (starts-from 0 ls) old now (starts-from at (drop i ls)) i
+  pub writing : Writing (starts-from 0 ls) 0 old (starts-from at (drop i ls)) i now
   pub at-is : at ≡ word-start ls i
   pub within : i ≤ length ls
 
@@ -145,7 +146,7 @@ module _ (ls old : List ℕ) where
   pub filling-start : length ls < length old → Filling-starts ls old old 0 0
   unfolding total
   filling-start room =
-      record { writing = starts old (starts-from 0 ls) 0 (omega (arith, length-starts 0 ls)); at-is = refl; within = omega arith }
+      record { writing = writing-start (starts-from 0 ls) 0 old (omega (arith, length-starts 0 ls)); at-is = refl; within = omega arith }
 
   module _ {now : List ℕ} {i at : ℕ} (h : Filling-starts ls old now i at) where
     next-starts : i < length ls → starts-from at (drop i ls) ≡ at ∷ starts-from (at + getD ls i 0) (drop (i + 1) ls)
@@ -169,24 +170,23 @@ module _ (ls old : List ℕ) where
     pub filling-step : i < length ls → Filling-starts ls old (set now i at) (i + 1) (at + getD ls i 0)
     filling-step below =
         record {
-          writing = writes at (starts-from (at + getD ls i 0) (drop (i + 1) ls)) (rw (next-starts below) at (h .writing));
+          writing = writing-one at (starts-from (at + getD ls i 0) (drop (i + 1) ls)) (rw (next-starts below) at (h .writing));
           at-is = omega (arith, word-start-next ls i below);
           within = omega arith;
         }
 
     pub filling-end : length ls ≤ i → set now i at ≡ over (starts-from 0 ls) old
-    filling-end past =
-        written (starts-from 0 ls) old (set now i at) (i + 1) (writes at [] (rw (last-start past) at (h .writing)))
+    filling-end past = written (writing-one at [] (rw (last-start past) at (h .writing)))
 
 -- a filled table: the part of it that is lent on has the starts, and no more
 module _ (ls old : List ℕ) {table : List ℕ} (filled : table ≡ over (starts-from 0 ls) old) where
   pub filled-front : take (length ls + 1) table ≡ starts-from 0 ls
   filled-front =
-      let long : length (starts-from 0 ls) ≡ length ls + 1 = omega (arith, length-starts 0 ls) in
-      rw filled (take-at (starts-from 0 ls) (drop (length (starts-from 0 ls)) old) (length ls + 1) long)
+      let len : length (starts-from 0 ls) ≡ length ls + 1 = omega (arith, length-starts 0 ls) in
+      rw filled (take-at (starts-from 0 ls) (drop (length (starts-from 0 ls)) old) (length ls + 1) len)
 
-  pub filled-long : length ls + 1 ≡ length (take (length ls + 1) table)
-  filled-long = omega (arith, ap length filled-front, length-starts 0 ls)
+  pub filled-len : length ls + 1 ≡ length (take (length ls + 1) table)
+  filled-len = omega (arith, ap length filled-front, length-starts 0 ls)
 
   pub filled-lengths : lengths-of (take (length ls + 1) table) ≡ ls
   filled-lengths = ap lengths-of filled-front ∙ lengths-of-starts ls

@@ -1,36 +1,35 @@
 -- A readable index with its tables of starts: what a directory line's key spells and where its positions are. Assumes nothing.
 use mathlib.Core.Path.{_≡_, refl, sym, ap, _∙_}
 use mathlib.Core.Bool.{true}
-use mathlib.Core.Logic.{inl, inr, ⊎-elim}
-use mathlib.Core.List.{List, [], _∷_}
-use Prim.Native.Nat.{ℕ, zero, suc, _+_, _*_, _-_, _^_, _≤_, _<_}
+use mathlib.Core.Logic.{⊎-elim}
+use mathlib.Core.List.{List, []}
+use Prim.Native.Nat.{ℕ, _+_, _*_, _-_, _^_, _≤_, _<_}
 use native.Mathlib.Omega.{arith}
 use lib.ListN.{length, getD, take, drop, set, length-set}
-use lib.Seq.{drop-nil, getD-take, getD-drop, getD-set-same, getD-set-other}
+use lib.Seq.{getD-take, getD-drop, getD-set-same, getD-set-other}
 use borrow.Author.Count.{below-more}
-use Rattle.basics.specs.Member.{In}
 use Rattle.basics.specs.Writing.{over}
 use Rattle.spec.specs.Dictionary.{lexicon, total, ascend, admitted}
 use Rattle.spec.specs.Words.{key, spells}
-use Rattle.spec.specs.Numbers.{Line, line}
+use Rattle.spec.specs.Numbers.{line}
 use Rattle.spec.specs.Index.{header, n-of, keys-of, kind-at, value-at, count-at, key-at, counts-from, lines-in, readable}
 use Rattle.spec.specs.Calls.{index-refusal}
 use Rattle.models.specs.Readability.{most-keys}
-use Rattle.models.specs.Window.{list-start, positions-at}
+use Rattle.models.specs.Window.{list-start, positions-at, line-of}
 use Rattle.models.specs.WordStarts.{starts-from, lengths-of, lexicon-at}
 use Rattle.laws.specs.Text.Facts.{Good-lexicon, Is-key, Good-line, Good-lines}
 use Rattle.laws.specs.Dictionary.Keys.{Is-word-key, Is-lone-key, key-kinds, spells-word, spells-short, spells-some}
 use Rattle.laws.specs.Dictionary.Lexicon.{length-words, admitted-get, admitted-lexicon, admitted-ascend}
 use Rattle.laws.specs.Dictionary.WordCode.{Small}
-use Rattle.laws.specs.Dictionary.WordStarts.{Word-starts, end-room, word-lies, word-long, filled-long, filled-lengths, filled-words}
+use Rattle.laws.specs.Dictionary.WordStarts.{Word-starts, end-room, word-lies, word-end, filled-len, filled-lengths, filled-words}
 use Rattle.laws.specs.Numbers.KeyNumbers.{few-lines}
 use Rattle.laws.specs.Numbers.Slices.{Fits}
-use Rattle.laws.specs.Numbers.LineNumbers.{length-lines-in}
+use Rattle.laws.specs.Numbers.LineNumbers.{length-lines-in, line-of-in}
 use Rattle.laws.specs.Readable.Readable.{readable-get}
 use Rattle.laws.specs.Readable.LineWalk.{readable-fits}
 use Rattle.laws.specs.Readable.KeyTests.{no-refusal}
 use Rattle.laws.specs.Readable.IndexRefusal.{index-accepted}
-use Rattle.laws.specs.Numbers.DirectoryWalk.{line-of, lines-next, list-room}
+use Rattle.laws.specs.Numbers.DirectoryWalk.{list-room}
 
 -- what holds if 1, 2, 3 and 5 are not met
 pub record Can-read (cs ls xs : List ℕ) : Type 0 where
@@ -55,20 +54,13 @@ pub record List-starts (xs : List ℕ) (n : ℕ) (ts : List ℕ) : Type 0 where
   pub room : keys-of xs ≤ length ts
   pub at : (i : ℕ) → i < n → getD ts i 0 ≡ counts-from i 0 xs
 
-pub in-front-of : (xs : List Line) (i : ℕ) (l : Line) (more : List Line) → drop i xs ≡ l ∷ more → In l xs
-in-front-of [] i l more e = absurd (omega (arith, sym (ap length (drop-nil i)) ∙ ap length e))
-in-front-of (x ∷ xs) zero l more e = inl (sym (ap (λ (ys : List Line). getD ys 0 l) e))
-in-front-of (x ∷ xs) (suc i) l more e = inr (in-front-of xs i l more e)
-
 module _ {cs ls xs : List ℕ} (can : Can-read cs ls xs) (i : ℕ) (below : i < keys-of xs) where
   -- the numbers of line i lie within the slice
   pub line-room : header + 3 * i + 2 < length xs
   line-room = omega arith
 
   pub line-is-good : Good-line (lexicon cs ls) (n-of xs) (line-of xs i)
-  line-is-good =
-      can .lines .each (line-of xs i)
-      (in-front-of (lines-in xs) i (line-of xs i) (drop (i + 1) (lines-in xs)) (lines-next xs i below))
+  line-is-good = can .lines .each (line-of xs i) (line-of-in xs i below)
 
   pub key-is : Is-key (lexicon cs ls) (key-at xs i)
   unfolding line
@@ -107,11 +99,11 @@ module _ {cs ws xs : List ℕ} {i : ℕ} (line : Word-line cs ws xs i) where
   unfolding key
   line-spells = sym (spells-word (lexicon-at cs ws) (key-at xs i) (line .kind))
 
-  pub line-long : getD ws (value-at xs i + 1) 0 ≡ getD ws (value-at xs i) 0 + length word
-  line-long = omega (arith, word-long (line .reads .words) (value-at xs i) line-word, ap length line-spells)
+  pub line-len : getD ws (value-at xs i + 1) 0 ≡ getD ws (value-at xs i) 0 + length word
+  line-len = omega (arith, word-end (line .reads .words) (value-at xs i) line-word, ap length line-spells)
 
   pub line-end : getD ws (value-at xs i) 0 + length word ≤ length cs
-  line-end = omega (arith, line-long, end-room (line .reads .words) (value-at xs i) line-word)
+  line-end = omega (arith, line-len, end-room (line .reads .words) (value-at xs i) line-word)
 
   -- its characters lie among the dictionary's
   pub line-char : (j : ℕ) → j < length word → getD cs (getD ws (value-at xs i) 0 + j) 0 ≡ getD word j 0
@@ -119,7 +111,7 @@ module _ {cs ws xs : List ℕ} {i : ℕ} (line : Word-line cs ws xs i) where
       sym (getD-drop (getD ws (value-at xs i) 0) cs j 0)
       ∙ sym
       (getD-take (getD ws (value-at xs i + 1) 0 - getD ws (value-at xs i) 0) (drop (getD ws (value-at xs i) 0) cs) j 0
-      (omega (arith, line-long)))
+      (omega (arith, line-len)))
       ∙ ap (λ (k : List ℕ). getD k j 0) (word-lies (line .reads .words) (value-at xs i) line-word ∙ line-spells)
 
 -- FILLING THE TABLE OF LISTS
@@ -199,8 +191,8 @@ key-some {cs} {ls} {xs} can i below = spells-some (can .lexicon-good) (key-at xs
 
 -- a table filled from the lengths of a dictionary's words: the part of it that is lent on has the starts, and no more
 module _ {cs ls xs : List ℕ} (can : Can-read cs ls xs) (old : List ℕ) {table : List ℕ} (filled : table ≡ over (starts-from 0 ls) old) where
-  pub front-long : length ls + 1 ≡ length (take (length ls + 1) table)
-  front-long = filled-long ls old filled
+  pub front-len : length ls + 1 ≡ length (take (length ls + 1) table)
+  front-len = filled-len ls old filled
 
   pub front-lengths : lengths-of (take (length ls + 1) table) ≡ ls
   front-lengths = filled-lengths ls old filled

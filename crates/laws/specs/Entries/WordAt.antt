@@ -5,7 +5,7 @@ use mathlib.Core.List.{List, [], _∷_}
 use Prim.Native.Nat.{ℕ, suc, _+_, _-_, _≤_, _<_}
 use native.Mathlib.Omega.{arith}
 use lib.ListN.{length, getD}
-use Rattle.basics.specs.Member.{In, in-getD, in-place}
+use Rattle.basics.specs.Member.{In, in-getD, member-index}
 use Rattle.spec.specs.Dictionary.{Lexicon}
 use Rattle.spec.specs.Words.{key, spells, Entry, entry}
 use Rattle.laws.specs.Text.Strings.{Stand}
@@ -101,7 +101,7 @@ module _ (lex : Lexicon) (good : Good-lexicon lex) (ts : List ℕ) (chars : Char
 
       no-word : In (getD ts (p - 1) 0 ∷ []) (lex .words) → ⊥
       no-word m =
-          let (j, b, q) = in-place (getD ts (p - 1) 0 ∷ []) (lex .words) [] m in
+          let (j, b, q) = member-index (getD ts (p - 1) 0 ∷ []) (lex .words) [] m in
           no-word-stands j b (rw q stand)
 
   -- if `last` is after p, nothing is registered

@@ -10,7 +10,7 @@ use lib.Dec.{leb, eqb}
 use lib.ListN.{length}
 use borrow.Author.Tests.{le-leb, leb-true, ne-eqb, eqb-false}
 use Rattle.basics.specs.Bools.{at-most}
-use Rattle.basics.specs.Member.{In, in-place, in-cond-get, in-cond-here, in-cond-there, in-skip-get, in-skip-here, in-skip-there}
+use Rattle.basics.specs.Member.{In, member-index, in-cond-get, in-cond-here, in-cond-there, in-skip-get, in-skip-here, in-skip-there}
 use Rattle.spec.specs.Dictionary.{Lexicon}
 use Rattle.spec.specs.Words.{Key}
 use Rattle.spec.specs.Numbers.{key-before, Line, line}
@@ -84,7 +84,7 @@ module _ (q : ℕ) where
       (in-skip-here (line-to k) (lines-to q ls) (eqb (length (positions-to q (k .positions))) 0)
       (ne-eqb (length (positions-to q (k .positions))) 0
       (λ (none : length (positions-to q (k .positions)) ≡ 0).
-      omega (arith, in-place p (positions-to q (k .positions)) 0 (positions-to-put (k .positions) p (rw e at m) early) .1))))
+      omega (arith, member-index p (positions-to q (k .positions)) 0 (positions-to-put (k .positions) p (rw e at m) early) .1))))
   lines-to-put (k ∷ ls) l p (inr i) m early =
       in-skip-there (line-to l) (line-to k) (lines-to q ls) (eqb (length (positions-to q (k .positions))) 0) (lines-to-put ls l p i m early)
 

@@ -12,13 +12,13 @@ use Rattle.basics.specs.Bools.{le-or-lt}
 use Rattle.basics.specs.Member.{In, in-getD}
 use Rattle.spec.specs.Dictionary.{Lexicon, lexicon, total, admitted}
 use Rattle.spec.specs.Numbers.{Line, line, all-positions}
-use Rattle.spec.specs.Index.{header, n-of, keys-of, count-at, counts-from, last-of, lines-in, readable}
+use Rattle.spec.specs.Index.{header, n-of, keys-of, count-at, last-of, lines-in, readable}
 use Rattle.spec.specs.Gaps.{gaps-after, sums-after, gaps, prefix-sums, lists-from, gap-form, restored}
 use Rattle.spec.specs.GapsTheorems.{Gap-list, Gaps-under-keys, Gaps-there-and-back, Sums-fit}
-use Rattle.models.specs.Entries.{line-of}
+use Rattle.models.specs.Window.{line-of, list-start}
 use Rattle.laws.specs.Dictionary.Lexicon.{admitted-lexicon}
 use Rattle.laws.specs.Numbers.Slices.{Fits, keys-of-numbers, positions-start}
-use Rattle.laws.specs.Numbers.LineNumbers.{line-of-is, line-of-in}
+use Rattle.laws.specs.Numbers.LineNumbers.{line-of-in}
 use Rattle.laws.specs.Readable.Readable.{Readable, readable-get, last-in}
 use Rattle.laws.specs.Build.Bounds.{Below, position-below, positions-below}
 use Rattle.laws.specs.Readable.LineWalk.{readable-fits}
@@ -30,7 +30,7 @@ use Rattle.laws.specs.Gaps.WithLists.{fits-back, numbers-with, with-back
 
 pub gap-list : Gap-list
 unfolding gaps-after
-gap-list = record { first = first; later = gaps-later 0; as-long = length-gaps 0 }
+gap-list = record { first = first; later = gaps-later 0; same-len = length-gaps 0 }
   where
     first : (ps : List ℕ) → getD (gaps ps) 0 0 ≡ getD ps 0 0
     first [] = refl
@@ -65,8 +65,8 @@ restored-gaps ds = with-back prefix-sums gaps (length-sums 0) (length-gaps 0) ds
 pub gaps-there-and-back : (g : ℕ) → Gaps-there-and-back g
 gaps-there-and-back g =
     record {
-      as-long = length-gap-form;
-      as-long-back = length-restored;
+      same-len = length-gap-form;
+      same-len-back = length-restored;
       exactly = gaps-restored g;
       unchanged = restored-gaps;
       only = λ lex ds can. (restored ds, can, restored-gaps ds);
@@ -82,9 +82,8 @@ gaps-there-and-back g =
 pub count-some : (g : ℕ) (lex : Lexicon) (xs : List ℕ) (i : ℕ) → readable g lex xs ≡ true → i < keys-of xs → 1 ≤ count-at xs i
 unfolding line
 count-some g lex xs i can below =
-    let some : 1 ≤ length (line-of xs i .positions) = readable-get g lex xs can .lines .each (line-of xs i) (line-of-in xs i below) .some in
-    by-count (count-at xs i) (drop (header + 3 * keys-of xs + counts-from i 0 xs) xs)
-    (omega (arith, some, ap (λ (l : Line). length (l .positions)) (line-of-is xs i below)))
+    by-count (count-at xs i) (drop (list-start xs i) xs)
+    (readable-get g lex xs can .lines .each (line-of xs i) (line-of-in xs i below) .some)
   where
     by-count : (c : ℕ) (ps : List ℕ) → 1 ≤ length (take c ps) → 1 ≤ c
     by-count zero ps some = absurd (omega arith)

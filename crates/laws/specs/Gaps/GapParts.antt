@@ -5,10 +5,11 @@ use mathlib.Core.Bool.{Bool, true, false}
 use mathlib.Core.List.{List, [], _∷_, _++_, append-nil}
 use Prim.Native.Nat.{ℕ, suc, _+_, _*_, _-_, _≤_, _<_}
 use native.Mathlib.Omega.{arith}
-use lib.ListN.{length, getD, take, drop, replicate, length-append, length-drop, drop-of-length-le}
-use lib.Seq.{drop-drop, take-at, drop-at, length-take-le}
+use lib.ListN.{length, getD, take, drop, replicate, length-drop, drop-of-length-le}
+use lib.Seq.{drop-drop, length-take-le}
 use Rattle.basics.specs.Member.{In}
-use Rattle.basics.specs.Writing.{over, Writing, lent-tail, tail-back, lent-tail-is, tail-written}
+use Rattle.basics.specs.Placed.{placed, length-placed, Writing, writing-start, writing-step}
+use Rattle.basics.specs.Writing.{lent-tail, tail-back, lent-tail-is, tail-written}
 use Rattle.spec.specs.Dictionary.{total}
 use Rattle.spec.specs.Numbers.{Line}
 use Rattle.spec.specs.Index.{header, keys-of, count-at, counts-from, entries-of, lines-in}
@@ -46,8 +47,8 @@ module _ {xs : List ℕ} (fits : Fits xs) (first : ℕ) (is : first ≡ header +
   abbrev run : List ℕ
   run = lent-tail (first - 1) xs
 
-  pub run-long : length run ≡ suc (length positions)
-  run-long =
+  pub run-len : length run ≡ suc (length positions)
+  run-len =
       ap length (lent-tail-is (first - 1) xs)
       ∙ omega (arith, length-drop (first - 1) xs, length-drop (header + 3 * keys-of xs) xs, is)
 
@@ -86,8 +87,8 @@ module _ {xs : List ℕ} (fits : Fits xs) (first : ℕ) (is : first ≡ header +
         ∙ ap (masked-sums 0 (lists-from masks (keys-of xs) 0 xs positions)) positions-lent
         ∙ masked-lists 0 (keys-of xs) 0 xs positions (counts-all fits) totals
 
-    pub masks-long : length ms ≡ length (lent-tail first xs)
-    masks-long =
+    pub masks-len : length ms ≡ length (lent-tail first xs)
+    masks-len =
         ap length masked
         ∙ length-lists (first-apart (first-as true) (pair-as true)) (length-apart (first-as true) (pair-as true))
         (keys-of xs) 0 xs positions
@@ -95,55 +96,35 @@ module _ {xs : List ℕ} (fits : Fits xs) (first : ℕ) (is : first ≡ header +
 
 -- THE WHOLE: the directory copied, and the lists written after it
 
-pub front-long : {xs : List ℕ} → Fits xs → {first : ℕ} → first ≡ header + 3 * keys-of xs → first ≡ length (take first xs)
-front-long {xs} fits {first} is = sym (length-take-le first xs (omega (arith, is)))
+pub front-len : {xs : List ℕ} → Fits xs → {first : ℕ} → first ≡ header + 3 * keys-of xs → first ≡ length (take first xs)
+front-len {xs} fits {first} is = sym (length-take-le first xs (omega (arith, is)))
 
 -- the numbers before `first` are copied to the front of a slice as long as the whole
 pub record Copied (xs : List ℕ) (first : ℕ) (old now : List ℕ) : Type 0 where
   pub fits : Fits xs
   pub is : first ≡ header + 3 * keys-of xs
   pub even : length old ≡ length xs
-  pub copied : now ≡ over (take 0 old ++ take first xs) old
+  pub copied : now ≡ placed (take first xs) 0 old
 
 module _ {xs : List ℕ} {first : ℕ} {old now : List ℕ} (h : Copied xs first old now) where
   front-taken : first ≡ length (take first xs)
-  front-taken = front-long (h .fits) (h .is)
+  front-taken = front-len (h .fits) (h .is)
 
-  copied-long : length now ≡ length old
-  copied-long =
-      ap length (h .copied)
-      ∙ length-append (take first xs) (drop (length (take first xs)) old)
-      ∙ omega (arith, length-drop (length (take first xs)) old, front-taken, h .even, h .is)
+  copied-len : length now ≡ length old
+  copied-len = ap length (h .copied) ∙ length-placed (take first xs) 0 old (omega (arith, front-taken, h .even, h .is))
 
-  pub part-long : length (lent-tail first now) ≡ length (drop (header + 3 * keys-of xs) xs)
-  part-long =
+  pub part-len : length (lent-tail first now) ≡ length (drop (header + 3 * keys-of xs) xs)
+  part-len =
       ap length (lent-tail-is first now)
-      ∙ omega (arith, length-drop first now, length-drop (header + 3 * keys-of xs) xs, copied-long, h .even, h .is)
+      ∙ omega (arith, length-drop first now, length-drop (header + 3 * keys-of xs) xs, copied-len, h .even, h .is)
 
   module _ (f : List ℕ → List ℕ) (keeps : Keeps-length f) where
-    front-way : Writing (with-lists f xs) old now (lists-from f (keys-of xs) 0 xs (drop (header + 3 * keys-of xs) xs)) first
+    front-way : Writing (with-lists f xs) 0 old (lists-from f (keys-of xs) 0 xs (drop (header + 3 * keys-of xs) xs)) first now
     unfolding with-lists
     front-way =
-        record {
-          so-far =
-              ap (λ (l : List ℕ). take first l ++ lists-from f (keys-of xs) 0 xs (drop (header + 3 * keys-of xs) xs)) (h .copied)
-              ∙ ap (λ (l : List ℕ). l ++ lists-from f (keys-of xs) 0 xs (drop (header + 3 * keys-of xs) xs))
-              (take-at (take first xs) (drop (length (take first xs)) old) first (sym front-taken))
-              ∙ ap (λ (j : ℕ). take j xs ++ lists-from f (keys-of xs) 0 xs (drop (header + 3 * keys-of xs) xs)) (h .is);
-          rest =
-              ap (λ (l : List ℕ). drop first l) (h .copied)
-              ∙ drop-at (take first xs) (drop (length (take first xs)) old) first (sym front-taken)
-              ∙ ap (λ (j : ℕ). drop j old) (sym front-taken);
-          len = copied-long;
-          room =
-              omega (
-                arith,
-                length-lists f keeps (keys-of xs) 0 xs (drop (header + 3 * keys-of xs) xs),
-                length-drop (header + 3 * keys-of xs) xs,
-                h .even,
-                h .is,
-              );
-        }
+        writing-step (take first xs) (lists-from f (keys-of xs) 0 xs (drop (header + 3 * keys-of xs) xs))
+        (rw (h .is) (writing-start (with-lists f xs) 0 old (omega (arith, h .even, length-with f keeps xs))))
+        (record { ends = omega (arith, front-taken); content = h .copied })
 
     pub form-written :
         {part : List ℕ} → part ≡ lists-from f (keys-of xs) 0 xs (drop (header + 3 * keys-of xs) xs) →
@@ -151,9 +132,9 @@ module _ {xs : List ℕ} {first : ℕ} {old now : List ℕ} (h : Copied xs first
     form-written {part} e =
         let todo : List ℕ = lists-from f (keys-of xs) 0 xs (drop (header + 3 * keys-of xs) xs) in
         let part-all : length (lent-tail first now) ≤ length todo =
-        omega (arith, part-long, length-lists f keeps (keys-of xs) 0 xs (drop (header + 3 * keys-of xs) xs)) in
+        omega (arith, part-len, length-lists f keeps (keys-of xs) 0 xs (drop (header + 3 * keys-of xs) xs)) in
         let all : length old ≤ length (with-lists f xs) = omega (arith, h .even, length-with f keeps xs) in
-        tail-written part front-way
+        tail-written front-way
         (e ∙ sym (append-nil todo) ∙ ap (λ (l : List ℕ). todo ++ l) (sym (drop-of-length-le (lent-tail first now) part-all)))
         ∙ ap (λ (l : List ℕ). with-lists f xs ++ l) (drop-of-length-le old all)
         ∙ append-nil (with-lists f xs)

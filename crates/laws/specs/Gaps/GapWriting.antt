@@ -6,7 +6,8 @@ use native.Mathlib.Numerals.{add-one}
 use native.Mathlib.Omega.{arith}
 use lib.ListN.{length, getD, take, drop, set, length-drop, length-set, drop-of-length-le}
 use lib.Seq.{drop-cons, drop-drop, take-all, take-add, take-suc-set, drop-set-lt}
-use Rattle.basics.specs.Writing.{Writing, writes, written}
+use Rattle.basics.specs.Placed.{Writing, writing-start, writing-one}
+use Rattle.basics.specs.Writing.{written}
 use Rattle.spec.specs.Index.{keys-of, count-at, counts-from}
 use Rattle.spec.specs.Gaps.{gaps-after, gaps, lists-from}
 use Rattle.models.specs.Gaps.{by-pairs, first-apart}
@@ -159,7 +160,7 @@ module _ {y : ℕ → ℕ} {x : ℕ → ℕ → ℕ} {xs ps : List ℕ} where
 -- before index i of a run of numbers and the distances between them
 pub record Distances (run old now : List ℕ) (i : ℕ) : Type 0 where
   pub within : i < length run
-  pub way : Writing (gaps-after (getD run 0 0) (drop 1 run)) old now (gaps-after (getD run i 0) (drop (i + 1) run)) i
+  pub way : Writing (gaps-after (getD run 0 0) (drop 1 run)) 0 old (gaps-after (getD run i 0) (drop (i + 1) run)) i now
 
 module _ (run old : List ℕ) (even : length run ≡ suc (length old)) where
   pub distances-start : Distances run old old 0
@@ -167,12 +168,8 @@ module _ (run old : List ℕ) (even : length run ≡ suc (length old)) where
       record {
         within = omega arith;
         way =
-            record {
-              so-far = refl;
-              rest = refl;
-              len = refl;
-              room = omega (arith, length-gaps (getD run 0 0) (drop 1 run), length-drop 1 run);
-            };
+            writing-start (gaps-after (getD run 0 0) (drop 1 run)) 0 old
+            (omega (arith, length-gaps (getD run 0 0) (drop 1 run), length-drop 1 run));
       }
 
   module _ {now : List ℕ} {i : ℕ} (h : Distances run old now i) where
@@ -184,7 +181,7 @@ module _ (run old : List ℕ) (even : length run ≡ suc (length old)) where
         record {
           within = there;
           way =
-              writes (getD run (i + 1) 0 - getD run i 0)
+              writing-one (getD run (i + 1) 0 - getD run i 0)
               (gaps-after (getD run (i + 1) 0) (drop (i + 1 + 1) run)) (rw next at (h .way));
         }
 
@@ -194,8 +191,8 @@ module _ (run old : List ℕ) (even : length run ≡ suc (length old)) where
         let few : length run ≤ i + 1 = omega arith in
         let none : drop (i + 1) run ≡ [] = drop-of-length-le run few in
         let all : List ℕ = gaps-after (getD run 0 0) (drop 1 run) in
-        let all-long : length old ≤ length all = omega (arith, length-gaps (getD run 0 0) (drop 1 run), length-drop 1 run) in
-        written all old now i (rw none at (h .way)) ∙ rw (drop-of-length-le old all-long) (append-nil all)
+        let all-len : length old ≤ length all = omega (arith, length-gaps (getD run 0 0) (drop 1 run), length-drop 1 run) in
+        written (rw none at (h .way)) ∙ rw (drop-of-length-le old all-len) (append-nil all)
 
 -- GAPS AS SUCH LISTS
 

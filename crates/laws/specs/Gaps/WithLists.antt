@@ -181,7 +181,7 @@ module _ (f : List ℕ → List ℕ) (keeps : Keeps-length f) where
         record {
           has-header = omega (arith, length-with xs);
           has-directory = omega (arith, length-with xs, keys-with xs);
-          is-long = omega (arith, length-with xs, keys-with xs, entries-with (fits .has-directory));
+          len = omega (arith, length-with xs, keys-with xs, entries-with (fits .has-directory));
         }
 
     pub fits-back : Fits (with-lists f xs) → Fits xs
@@ -190,7 +190,7 @@ module _ (f : List ℕ → List ℕ) (keeps : Keeps-length f) where
         record {
           has-header = omega (arith, length-with xs);
           has-directory = dir;
-          is-long = omega (arith, length-with xs, keys-with xs, entries-with dir);
+          len = omega (arith, length-with xs, keys-with xs, entries-with dir);
         }
 
     -- the same n and keys, and f applied to each list

@@ -30,7 +30,7 @@ pub record In-hand (ys : List ℕ) (count : ℕ) (z : List ℕ) : Type 0 where
   pub room : count ≤ length z
   pub is : take count z ≡ ys
 
-pub in-hand : (ys : List ℕ) (count : ℕ) (z rest : List ℕ) → count ≡ length ys → z ≡ ys ++ rest → In-hand ys count z
+in-hand : (ys : List ℕ) (count : ℕ) (z rest : List ℕ) → count ≡ length ys → z ≡ ys ++ rest → In-hand ys count z
 in-hand ys count z rest e w =
     record {
       room = rw (w, length-append ys rest) (omega arith);

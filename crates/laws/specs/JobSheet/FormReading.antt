@@ -174,23 +174,23 @@ module _ {l : List ℕ} {start : ℕ} {old : List ℕ} {from end : ℕ} {now : L
 
 -- THE FORM
 
-long-end : (l : List ℕ) → ends-well l ≡ true → length l ≡ 1 + 5 * length (characters l)
+end-len : (l : List ℕ) → ends-well l ≡ true → length l ≡ 1 + 5 * length (characters l)
 unfolding ends-well characters
-long-end [] t = clash t refl
-long-end (x ∷ []) t = refl
-long-end (x ∷ a ∷ []) t = clash t refl
-long-end (x ∷ a ∷ b ∷ []) t = clash t refl
-long-end (x ∷ a ∷ b ∷ c ∷ []) t = clash t refl
-long-end (x ∷ a ∷ b ∷ c ∷ d ∷ bs) t = omega (arith, long-end bs (and-right (is-spaced x a b c d) (ends-well bs) t))
+end-len [] t = clash t refl
+end-len (x ∷ []) t = refl
+end-len (x ∷ a ∷ []) t = clash t refl
+end-len (x ∷ a ∷ b ∷ []) t = clash t refl
+end-len (x ∷ a ∷ b ∷ c ∷ []) t = clash t refl
+end-len (x ∷ a ∷ b ∷ c ∷ d ∷ bs) t = omega (arith, end-len bs (and-right (is-spaced x a b c d) (ends-well bs) t))
 
 -- a form has five bytes for each character, and six more
 pub form-ends : (h l : List ℕ) → is-form h l ≡ true → ends-well (drop 5 l) ≡ true
 unfolding is-form
 form-ends h l t = and-right (same (take head-length l) h) (ends-well (drop head-length l)) t
 
-pub form-long : (h l : List ℕ) → is-form h l ≡ true → length l ≡ 6 + 5 * length (string-in l)
+pub form-len : (h l : List ℕ) → is-form h l ≡ true → length l ≡ 6 + 5 * length (string-in l)
 unfolding string-in
-form-long h l t = omega (arith, long-end (drop 5 l) (form-ends h l t), length-drop 5 l)
+form-len h l t = omega (arith, end-len (drop 5 l) (form-ends h l t), length-drop 5 l)
 
 module _ (l h : List ℕ) (five-bytes : length h ≡ 5) where
   pub form-short : length l < 5 → is-form h l ≡ false

@@ -76,14 +76,14 @@ tail-good (c ∷ cs) chars =
 
 -- THE LINE, without the LF
 
-abbrev pub line-of : (head chars : List ℕ) → List ℕ
-line-of h cs = h ++ tail-of cs
+abbrev pub form-line : (head chars : List ℕ) → List ℕ
+form-line h cs = h ++ tail-of cs
 
-pub form-then : (h cs rest : List ℕ) → form h cs ++ rest ≡ line-of h cs ++ line-feed ∷ rest
+pub form-then : (h cs rest : List ℕ) → form h cs ++ rest ≡ form-line h cs ++ line-feed ∷ rest
 unfolding form
 form-then h cs rest = simp append-assoc
 
-pub form-back : (h l : List ℕ) → is-form h l ≡ true → line-of h (string-in l) ≡ l
+pub form-back : (h l : List ℕ) → is-form h l ≡ true → form-line h (string-in l) ≡ l
 unfolding is-form string-in
 form-back h l t =
     let heads : take head-length l ≡ h = same-get (take head-length l) h
@@ -97,14 +97,14 @@ unfolding string-in
 form-chars h l t = tail-chars (drop head-length l) (form-ends h l t)
 
 module _ (g cs : List ℕ) (five : length g ≡ head-length) where
-  form-good : Characters cs → (is-form g (line-of g cs) ≡ true) × (string-in (line-of g cs) ≡ cs)
+  form-good : Characters cs → (is-form g (form-line g cs) ≡ true) × (string-in (form-line g cs) ≡ cs)
   unfolding is-form string-in
   form-good chars =
       let good = tail-good cs chars in
       rw (take-at g (tail-of cs) head-length five, drop-at g (tail-of cs) head-length five)
       (and-put (same-self g) (good .0), good .1)
 
-  form-not : (h : List ℕ) → same g h ≡ false → is-form h (line-of g cs) ≡ false
+  form-not : (h : List ℕ) → same g h ≡ false → is-form h (form-line g cs) ≡ false
   unfolding is-form
   form-not h other = rw (take-at g (tail-of cs) head-length five, other)
 
@@ -137,7 +137,7 @@ spelled-plain (c ∷ cs) b (inr (inr (inr (inl i)))) e = digit-no-feed (c / 16 %
 spelled-plain (c ∷ cs) b (inr (inr (inr (inr (inl i))))) e = digit-no-feed (c % 16) (sym i ∙ e)
 spelled-plain (c ∷ cs) b (inr (inr (inr (inr (inr m))))) e = spelled-plain cs b m e
 
-line-plain : (h cs : List ℕ) → Plain h → Plain (line-of h cs)
+line-plain : (h cs : List ℕ) → Plain h → Plain (form-line h cs)
 line-plain h cs plain =
     plain-append h (tail-of cs) plain (plain-append (spelled cs) (closing ∷ []) (spelled-plain cs) (plain-get (closing ∷ []) refl))
 
@@ -153,8 +153,8 @@ pub record Head (h : List ℕ) : Type 0 where
   pub plain : Plain h
 
 module _ {g : List ℕ} (cs rest : List ℕ) (head : Head g) where
-  first-line : lines (form g cs ++ rest) ≡ line-of g cs ∷ lines rest
-  first-line = ap lines (form-then g cs rest) ∙ lines-line (line-of g cs) rest (line-plain g cs (head .plain))
+  first-line : lines (form g cs ++ rest) ≡ form-line g cs ∷ lines rest
+  first-line = ap lines (form-then g cs rest) ∙ lines-line (form-line g cs) rest (line-plain g cs (head .plain))
 
   -- a form with the head looked for
   pub form-first :
@@ -162,7 +162,7 @@ module _ {g : List ℕ} (cs rest : List ℕ) (head : Head g) where
       (forms g (lines (form g cs ++ rest)) ≡ cs ∷ forms g (lines rest)) × (after g (lines (form g cs ++ rest)) ≡ after g (lines rest))
   form-first chars =
       let good = form-good g cs (head .five) chars in
-      let some = forms-some g (line-of g cs) rest (good .0) in (
+      let some = forms-some g (form-line g cs) rest (good .0) in (
         ap (forms g) first-line ∙ some .0 ∙ ap (λ (s : List ℕ). s ∷ forms g (lines rest)) (good .1),
         ap (after g) first-line ∙ some .1,
       )
@@ -172,5 +172,5 @@ module _ {g : List ℕ} (cs rest : List ℕ) (head : Head g) where
       (h : List ℕ) → same g h ≡ false →
       (forms h (lines (form g cs ++ rest)) ≡ []) × (after h (lines (form g cs ++ rest)) ≡ lines (form g cs ++ rest))
   other-first h other =
-      let none = forms-none h (line-of g cs) rest (form-not g cs (head .five) h other) in
+      let none = forms-none h (form-line g cs) rest (form-not g cs (head .five) h other) in
       (ap (forms h) first-line ∙ none .0, ap (after h) first-line ∙ none .1 ∙ sym first-line)

@@ -43,7 +43,7 @@ module _ {xs : List ℕ} {start : ℕ} {old : List ℕ} {position end i : ℕ} {
     unfolding key-lines
     next-line =
         let count : to - position ≡ count-at xs i = omega arith in
-        rw (at .kind-is, at .value-is, count, h .at-list)
+        rw (at .line .kind-is, at .line .value-is, count, h .at-list)
         (writing-as (ap key-lines (lines-next xs i (at .below))) (h .writing))
 
     pub line-fits : end + length (key-line (printed-line xs kind value position to)) ≤ length now

@@ -3,10 +3,10 @@ use mathlib.Core.Path.{_≡_, sym, ap, _∙_}
 use mathlib.Core.Bool.{Bool, true, false, cond}
 use mathlib.Core.List.{List, _++_}
 use Prim.Native.Nat.{ℕ, _+_, _≤_}
-use native.Mathlib.Nat.{zero-add}
 use native.Mathlib.Omega.{arith}
-use lib.ListN.{length, drop, length-append}
-use Rattle.basics.specs.Placed.{placed, Wrote, Writing, writing-start, writing-room, writing-step}
+use lib.ListN.{length, length-append, length-take}
+use Rattle.basics.specs.Placed.{Wrote, wrote-taken, Writing, writing-start, writing-room, writing-step}
+use Rattle.basics.specs.Writing.{placed-over}
 use Rattle.spec.specs.Replaced.{replaced}
 use Rattle.spec.specs.Dictionary.{lexicon, words-from, total, too-large, lengths-wrong, disordered, unreplaced, dictionary-refusal}
 use Rattle.spec.specs.Numbers.{index-of}
@@ -20,7 +20,7 @@ use Rattle.laws.specs.Dictionary.Answering.{accepted-no}
 use Rattle.laws.specs.Dictionary.WordCode.{Small}
 use Rattle.laws.specs.Dictionary.Lexicon.{length-words}
 use Rattle.laws.specs.JobSheet.PrintedBounds.{refused-line-short, index-lines-short, found-lines-short}
-use Rattle.laws.specs.JobSheet.AcceptedCalls.{In-hand, in-hand, Usable, usable-fits}
+use Rattle.laws.specs.JobSheet.AcceptedCalls.{In-hand, Usable, usable-fits}
 use Rattle.laws.specs.Search.Sizing.{Sized, sized-written}
 
 -- A REFUSED SHEET
@@ -119,17 +119,15 @@ index-shown cs ls ts fs ns xs e = rw e
 
 -- what was written to the start of a buffer is there
 pub written-in-hand : {ys old : List ℕ} {end : ℕ} {now : List ℕ} → Wrote ys 0 old end now → In-hand ys end now
-unfolding placed
-written-in-hand {ys} {old} {end} {now} w =
-    in-hand ys end now (drop (0 + length ys) old) (omega arith) (w .content)
+written-in-hand {end = end} {now} w =
+    record { room = omega (arith, ap length (wrote-taken w), length-take end now); is = wrote-taken w }
 
 -- bytes at the start of an output that holds them
 pub handed-over :
     {ys : List ℕ} (r : Answer) {o z : List ℕ} {end : ℕ} → length ys ≤ length o → r .refusal ≡ 0 → r .count ≡ length ys →
     Wrote ys 0 o end z → Sized ys r o z
-unfolding placed in-front
-handed-over {ys} r {o} {z} enough number count w =
-    sized-written enough number count (w .content ∙ ap (λ (n : ℕ). ys ++ drop n o) (zero-add (length ys)))
+unfolding in-front
+handed-over {ys} r {o} enough number count w = sized-written enough number count (w .content ∙ placed-over ys o)
 
 pub job-says : (s ys : List ℕ) (r : Answer) (o z : List ℕ) → ys ≡ job-answer s → Sized ys r o z → Job-says s r o z
 unfolding Job-says

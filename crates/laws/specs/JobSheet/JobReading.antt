@@ -3,19 +3,18 @@ use mathlib.Core.Path.{_≡_, refl, sym, ap, _∙_}
 use mathlib.Core.Bool.{Bool, true, false, _&&_, _||_, cond}
 use mathlib.Core.List.{List, [], _∷_, _++_, append-assoc}
 use Prim.Native.Nat.{ℕ, _+_, _≤_, _<_}
-use native.Mathlib.Nat.{zero-add}
 use native.Mathlib.Omega.{arith}
 use lib.Dec.{ltb, leb, eqb}
 use lib.ListN.{length, getD, take, drop, length-append, drop-of-length-le}
 use lib.Seq.{take-at, drop-at, drop-drop}
 use borrow.Author.Tests.{lt-ltb, le-ltb, eq-eqb, ne-eqb, leb-true, eqb-true}
 use Rattle.basics.specs.Bools.{and-left, and-right, or-left, or-right}
-use Rattle.basics.specs.Placed.{placed}
 use Rattle.spec.specs.Dictionary.{dictionary-refusal}
 use Rattle.spec.specs.Calls.{string-wrong, or-else}
 use Rattle.spec.specs.JobSheet.{words-on, texts-on, text-on, finds-on, nothing-left, left-on, in-form, in-counts, run-together, lengths-of}
 use Rattle.spec.specs.JobSheet.{sheet-too-long, sheet-wrong, some-string-wrong, contents-refusal, sheet-refusal}
 use Rattle.basics.specs.PlacedCopies.{drop-next}
+use Rattle.basics.specs.Writing.{placed-over}
 use Rattle.models.specs.JobSheet.{some-length-wrong, parts-refusal}
 use Rattle.laws.specs.JobSheet.WholeSheet.{Sheet-read, one-text, length-lengths}
 
@@ -81,11 +80,6 @@ module _ (a b c r xs : List ℕ) (whole : xs ≡ ((a ++ b) ++ c) ++ r) where
   parts-fit =
       omega (arith, ap length whole, length-append ((a ++ b) ++ c) r, length-append (a ++ b) c, length-append a b)
 
--- a list placed at 0 is the start of the slice
-at-front : (ys old : List ℕ) → placed ys 0 old ≡ ys ++ drop (length ys) old
-unfolding placed
-at-front ys old = rw (zero-add (length ys))
-
 -- THE PARTS
 
 -- where the parts of a sheet that is in form and counts are
@@ -118,24 +112,24 @@ module _ {s chars₀ lengths₀ : List ℕ} {good : Bool} {words dictionary text
   unfolding in-counts
   counts = and-right (in-form s) (in-counts s) both
 
-  text-long : text ≡ length (text-on s)
+  text-len : text ≡ length (text-on s)
   unfolding text-on
-  text-long = r .text-counted ∙ ap length (one-text (texts-on s) one)
+  text-len = r .text-counted ∙ ap length (one-text (texts-on s) one)
 
   chars-whole : chars ≡ ((run-together (words-on s) ++ run-together (texts-on s)) ++ run-together (finds-on s)) ++
       drop (length ((run-together (words-on s) ++ run-together (texts-on s)) ++ run-together (finds-on s))) chars₀
-  chars-whole = r .chars-are ∙ at-front ((run-together (words-on s) ++ run-together (texts-on s)) ++ run-together (finds-on s)) chars₀
+  chars-whole = r .chars-are ∙ placed-over ((run-together (words-on s) ++ run-together (texts-on s)) ++ run-together (finds-on s)) chars₀
 
   lengths-whole : lengths ≡ ((lengths-of (words-on s) ++ lengths-of (texts-on s)) ++ lengths-of (finds-on s)) ++
       drop (length ((lengths-of (words-on s) ++ lengths-of (texts-on s)) ++ lengths-of (finds-on s))) lengths₀
-  lengths-whole = r .lengths-are ∙ at-front ((lengths-of (words-on s) ++ lengths-of (texts-on s)) ++ lengths-of (finds-on s)) lengths₀
+  lengths-whole = r .lengths-are ∙ placed-over ((lengths-of (words-on s) ++ lengths-of (texts-on s)) ++ lengths-of (finds-on s)) lengths₀
 
   pub job-parts : Job-parts s words dictionary text finds chars lengths
   unfolding text-on
   job-parts =
       record {
         words-counted = r .words-counted;
-        text-counted = text-long;
+        text-counted = text-len;
         finds-counted = r .finds-counted;
         words-few = omega (
           arith,
@@ -145,7 +139,7 @@ module _ {s chars₀ lengths₀ : List ℕ} {good : Bool} {words dictionary text
         );
         text-short = omega (
           arith,
-          text-long,
+          text-len,
           leb-true (length (text-on s)) 2000
               (and-right (leb (length (words-on s)) 200) (leb (length (text-on s)) 2000)
               (and-left (leb (length (words-on s)) 200 && leb (length (text-on s)) 2000) (leb (length (finds-on s)) 50) counts)),

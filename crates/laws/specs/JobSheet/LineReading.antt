@@ -12,7 +12,7 @@ use Rattle.models.specs.JobSheet.{onto-all, size}
 use Rattle.laws.specs.Dictionary.WordCode.{part}
 use Rattle.spec.specs.JobSheet.{line-feed, is-form, string-in, onto-first, lines, forms, after, run-together}
 use Rattle.basics.specs.PlacedCopies.{drop-next}
-use Rattle.laws.specs.JobSheet.FormReading.{form-long}
+use Rattle.laws.specs.JobSheet.FormReading.{form-len}
 
 -- ONE LINE
 
@@ -222,5 +222,5 @@ forms-size h (l ∷ m ∷ ls) = pick (is-form h l) refl (forms-size h (m ∷ ls)
         + 7 * length (cond t (string-in l ∷ forms h (m ∷ ls)) [])
         + size (cond t (after h (m ∷ ls)) (l ∷ m ∷ ls))
         ≡ size (l ∷ m ∷ ls)
-    pick true e i = omega (arith, i, form-long h l e, length-append (string-in l) (run-together (forms h (m ∷ ls))))
+    pick true e i = omega (arith, i, form-len h l e, length-append (string-in l) (run-together (forms h (m ∷ ls))))
     pick false e i = omega arith

@@ -8,7 +8,7 @@ use lib.ListN.{length, drop, set}
 use Rattle.basics.specs.Placed.{Wrote, Writing, writing-start, writing-as, writing-room, writing-step, writing-one, writing-end}
 use Rattle.laws.specs.Dictionary.WordCode.{part, length-part}
 use Rattle.spec.specs.JobSheet.{ends-well, string-in, lines, forms, after, run-together, lengths-of}
-use Rattle.laws.specs.JobSheet.FormReading.{form-ends, form-long}
+use Rattle.laws.specs.JobSheet.FormReading.{form-ends, form-len}
 use Rattle.laws.specs.JobSheet.LineReading.{Form-end}
 
 -- the strings of the forms with head h from `at` on
@@ -62,8 +62,8 @@ module _ {h s : List ℕ} {start used₀ count₀ : ℕ} {chars₀ lengths₀ : 
       }
 
   module _ (below : end < length s) where
-    pub line-long : length (part s at end) ≡ 6 + 5 * length (string-in (part s at end))
-    line-long = form-long h (part s at end) (r .here .form below)
+    pub line-len : length (part s at end) ≡ 6 + 5 * length (string-in (part s at end))
+    line-len = form-len h (part s at end) (r .here .form below)
 
     pub line-good : ends-well (drop 5 (part s at end)) ≡ true
     line-good = form-ends h (part s at end) (r .here .form below)
@@ -72,7 +72,7 @@ module _ {h s : List ℕ} {start used₀ count₀ : ℕ} {chars₀ lengths₀ : 
     line-size = length-part s at end (r .here .from) (omega arith)
 
     pub string-short : length s ≤ 32768 → length (string-in (part s at end)) ≤ 65535
-    string-short short = omega (arith, line-long, line-size)
+    string-short short = omega (arith, line-len, line-size)
 
     next-chars : Writing (run-together (strings-at h s start)) used₀ chars₀
         (string-in (part s at end) ++ run-together (strings-at h s (end + 1))) used chars

@@ -68,11 +68,11 @@ module _ {s chars₀ lengths₀ cs ls : List ℕ} {rest : List (List ℕ)} {at u
   lengths-room : 0 + length ls ≤ length lengths₀
   lengths-room = omega arith
 
-  pub chars-long : length chars ≡ length chars₀
-  chars-long = ap length (st .chars-got .content) ∙ length-placed cs 0 chars₀ chars-room
+  pub chars-len : length chars ≡ length chars₀
+  chars-len = ap length (st .chars-got .content) ∙ length-placed cs 0 chars₀ chars-room
 
-  pub lengths-long : length lengths ≡ length lengths₀
-  lengths-long = ap length (st .lengths-got .content) ∙ length-placed ls 0 lengths₀ lengths-room
+  pub lengths-len : length lengths ≡ length lengths₀
+  lengths-len = ap length (st .lengths-got .content) ∙ length-placed ls 0 lengths₀ lengths-room
 
   more-size : (h : List ℕ) → 5 * length (run-together (forms h rest)) + 7 * length (lengths-of (forms h rest)) + size
       (after h rest) ≡ size rest
@@ -85,10 +85,10 @@ module _ {s chars₀ lengths₀ cs ls : List ℕ} {rest : List (List ℕ)} {at u
         short = st .enough .short;
         chars-fit =
             rw (st .left)
-            (omega (arith, more-size h, chars-long));
+            (omega (arith, more-size h, chars-len));
         lengths-fit =
             rw (st .left)
-            (omega (arith, more-size h, lengths-long));
+            (omega (arith, more-size h, lengths-len));
       }
 
   pub stage-step :

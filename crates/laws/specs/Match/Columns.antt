@@ -10,7 +10,7 @@ use Rattle.spec.specs.Dictionary.{ascend}
 use Rattle.basics.specs.LowerBound.{Rising, Lower-bound, rising-part}
 use Rattle.models.specs.WordStarts.{lengths-of, lexicon-at, word, word-len}
 use Rattle.laws.specs.Dictionary.Lexicon.{admitted-ascend}
-use Rattle.laws.specs.Dictionary.WordStarts.{starts-long, end-room, word-long, len-is, word-char}
+use Rattle.laws.specs.Dictionary.WordStarts.{starts-len, end-room, word-end, len-is, word-char}
 use Rattle.laws.specs.Match.MatchTable.{Started, many-words, word-short}
 use Rattle.laws.specs.Match.PrefixRanges.{Last-standing, Prefix-range, Lower-bound-at, prefix-range-hit, prefix-range-longer}
 use Rattle.laws.specs.Match.PrefixRanges.{prefix-range-rises}
@@ -82,8 +82,8 @@ module _
                       prefix-range-rises h some sorted other .rises i j a b c,
                     );
               };
-          known = omega (arith, known (hi - 1) (omega arith), starts-long (t .words));
-          room = λ i a b. omega (arith, longer i a b, word-long (t .words) i (known i b), end-room (t .words) i (known i b));
+          known = omega (arith, known (hi - 1) (omega arith), starts-len (t .words));
+          room = λ i a b. omega (arith, longer i a b, word-end (t .words) i (known i b), end-room (t .words) i (known i b));
         }
 
     cut-words :

@@ -17,7 +17,7 @@ use Rattle.spec.specs.Dictionary.{lexicon, admitted}
 use Rattle.models.specs.WordStarts.{starts-from, lengths-of, lexicon-at, word, word-len}
 use Rattle.models.specs.MatchTable.{chained, pair-bucket, char-bucket, bucket, bucket-of}
 use Rattle.laws.specs.Dictionary.Lexicon.{Is-admitted, admitted-get, length-words}
-use Rattle.laws.specs.Dictionary.WordStarts.{Word-starts, lengths-of-starts, starts-words, end-is, end-room, word-long, len-is}
+use Rattle.laws.specs.Dictionary.WordStarts.{Word-starts, lengths-of-starts, starts-words, end-is, end-room, word-end, len-is}
 use Rattle.laws.specs.Dictionary.WordStarts.{word-char, Filling-starts, filling-is, filled-front}
 use Rattle.laws.specs.Match.HashChains.{Chain, chained-here, chained-elsewhere}
 
@@ -41,7 +41,7 @@ module _ {cs ws : List ℕ} (t : Started cs ws) where
 
   module _ {i : ℕ} (below : i < length (lengths-of ws)) where
     sizes : length (word cs ws i) ≡ getD (lengths-of ws) i 0
-    sizes = omega (arith, word-long (t .words) i below, end-is (t .words) i below)
+    sizes = omega (arith, word-end (t .words) i below, end-is (t .words) i below)
 
     pub word-some : 1 ≤ length (word cs ws i)
     word-some = omega (arith, sizes, facts .lengths i below .0)
@@ -115,21 +115,21 @@ module _ {cs ws : List ℕ} (t : Started cs ws) {i : ℕ} (below : i < length (l
 -- what a caller lends for the table, and for the word starts that are filled with it
 pub record Room (cs ls starts heads links : List ℕ) : Type 0 where
   pub dictionary : admitted cs ls ≡ true
-  pub starts-long : length ls < length starts
+  pub starts-len : length ls < length starts
   pub heads-clear : heads ≡ replicate 10240 0
-  pub links-long : length ls ≤ length links
+  pub links-len : length ls ≤ length links
 
 -- the table of the first n words
 pub record Chained (cs ws heads links : List ℕ) (n : ℕ) : Type 0 where
-  pub heads-long : length heads ≡ 10240
-  pub links-long : length (lengths-of ws) ≤ length links
+  pub heads-len : length heads ≡ 10240
+  pub links-len : length (lengths-of ws) ≤ length links
   pub chains : (b : ℕ) → b < 10240 → Chain links (getD heads b 0) (chained (bucket-of cs ws) b n)
 
 -- the match table of an admitted dictionary
 pub record Tables (cs ws heads links : List ℕ) : Type 0 where
   pub words : Started cs ws
-  pub heads-long : length heads ≡ 10240
-  pub links-long : length (lengths-of ws) ≤ length links
+  pub heads-len : length heads ≡ 10240
+  pub links-len : length (lengths-of ws) ≤ length links
   pub chains : (b : ℕ) → b < 10240 → Chain links (getD heads b 0) (chained (bucket-of cs ws) b (length (lengths-of ws)))
 
 module _ {cs ws heads links : List ℕ} {n : ℕ} (h : Chained cs ws heads links n) (started : Started cs ws) where
@@ -138,8 +138,8 @@ module _ {cs ws heads links : List ℕ} {n : ℕ} (h : Chained cs ws heads links
       Chained cs ws (set heads b (n + 1)) (set links n (getD heads b 0)) (n + 1)
   chained-step {b} below read =
       record {
-        heads-long = length-set heads b (n + 1) ∙ h .heads-long;
-        links-long = rw (length-set links n (getD heads b 0)) (h .links-long);
+        heads-len = length-set heads b (n + 1) ∙ h .heads-len;
+        links-len = rw (length-set links n (getD heads b 0)) (h .links-len);
         chains = λ x l. chain x l (true-or-false (eqb x b));
       }
     where
@@ -167,7 +167,7 @@ module _ {cs ws heads links : List ℕ} {n : ℕ} (h : Chained cs ws heads links
 
   chained-end : n ≡ length (lengths-of ws) → Tables cs ws heads links
   chained-end all =
-      record { words = started; heads-long = h .heads-long; links-long = h .links-long; chains = λ b l. rw all at (h .chains b l) }
+      record { words = started; heads-len = h .heads-len; links-len = h .links-len; chains = λ b l. rw all at (h .chains b l) }
 
 -- FILLING THE TABLE, word starts and chains in one walk
 
@@ -183,8 +183,8 @@ module _ {cs ls old heads₀ links₀ : List ℕ} (room : Room cs ls old heads�
   unfolding chained
   chained-start =
       record {
-        heads-long = ap length (room .heads-clear) ∙ length-replicate {A = ℕ} 10240 0;
-        links-long = rw (lengths-of-starts ls) (room .links-long);
+        heads-len = ap length (room .heads-clear) ∙ length-replicate {A = ℕ} 10240 0;
+        links-len = rw (lengths-of-starts ls) (room .links-len);
         chains = λ b h. ap (λ (l : List ℕ). getD l b 0) (room .heads-clear) ∙ getD-replicate {A = ℕ} 10240 b 0 0 h;
       }
 

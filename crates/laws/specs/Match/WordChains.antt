@@ -12,7 +12,7 @@ use Rattle.models.specs.WordStarts.{lengths-of, lexicon-at, word, word-len}
 use Rattle.models.specs.MatchTable.{pair-bucket, char-bucket, bucket-of}
 use Rattle.laws.specs.Text.Strings.{Same-run, Stand}
 use Rattle.laws.specs.Text.Overlaps.{stand-at, stand-put}
-use Rattle.laws.specs.Dictionary.WordStarts.{end-room, word-long, len-is, word-char}
+use Rattle.laws.specs.Dictionary.WordStarts.{end-room, word-end, len-is, word-char}
 use Rattle.laws.specs.Match.HashChains.{Walk, Stop, walk-start, walk-stop, walk-end}
 use Rattle.laws.specs.Match.MatchTable.{char-large, char-small, pair-small, bucket-pair, bucket-char, bucket-single, Started, Tables}
 use Rattle.laws.specs.Match.MatchTable.{many-words, word-some, word-first}
@@ -200,15 +200,15 @@ module _ {cs ws heads links : List ℕ} (t : Tables cs ws heads links) (ts : Lis
     pub single-known : next - 1 < length (lengths-of ws)
     single-known = omega (arith, some, single-stop .below)
 
-    single-long : length (word cs ws (next - 1)) ≡ 1
-    single-long = bucket-single (word cs ws (next - 1)) (omega (arith, single-stop .mine, char-large (getD ts q 0)))
+    single-len : length (word cs ws (next - 1)) ≡ 1
+    single-len = bucket-single (word cs ws (next - 1)) (omega (arith, single-stop .mine, char-large (getD ts q 0)))
 
     pub single-room : getD ws (next - 1) 0 < length cs
     single-room =
         omega (
           arith,
           word-some (t .words) single-known,
-          word-long (t .words .words) (next - 1) single-known,
+          word-end (t .words .words) (next - 1) single-known,
           end-room (t .words .words) (next - 1) single-known,
         )
 
@@ -221,18 +221,18 @@ module _ {cs ws heads links : List ℕ} (t : Tables cs ws heads links) (ts : Lis
         record {
           below = omega (arith, single-stop .below, many-words (t .words));
           stand = λ i z. let here : next - 1 ≡ i = omega arith in rw here at stand;
-          one = λ i z. let here : next - 1 ≡ i = omega arith in rw here at single-long;
+          one = λ i z. let here : next - 1 ≡ i = omega arith in rw here at single-len;
           none = λ z. absurd (some z);
         }
       where
         char : (j : ℕ) → j < length (word cs ws (next - 1)) → getD (word cs ws (next - 1)) j 0 ≡ getD ts (q + 1 + j - 1) 0
         char j b =
-            let first : j ≡ 0 = omega (arith, single-long) in
+            let first : j ≡ 0 = omega (arith, single-len) in
             let at : q ≡ q + 1 + 0 - 1 = omega arith in
             rw first (sym single-read ∙ same ∙ ap (λ (x : ℕ). getD ts x 0) at)
 
         stand : Stand (word cs ws (next - 1)) ts (q + 1)
-        stand = stand-put (word cs ws (next - 1)) ts (q + 1) (omega arith) (omega (arith, single-long)) char
+        stand = stand-put (word cs ws (next - 1)) ts (q + 1) (omega arith) (omega (arith, single-len)) char
 
     pub single-miss :
         (getD cs (getD ws (next - 1) 0) 0 ≡ getD ts q 0 → ⊥) → Single-walk cs ws links (getD ts q 0) (getD links (next - 1) 0)

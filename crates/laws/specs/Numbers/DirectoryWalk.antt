@@ -1,23 +1,18 @@
 -- Walks over the directory: the next line, where its positions start, and a line by value. Assumes nothing.
-use mathlib.Core.Path.{_≡_, ap, _∙_}
+use mathlib.Core.Path.{_≡_}
 use mathlib.Core.List.{List, [], _∷_}
 use Prim.Native.Nat.{ℕ, zero, suc, _+_, _*_, _-_, _≤_, _<_}
 use native.Mathlib.Numerals.{add-one}
 use native.Mathlib.Omega.{arith}
-use lib.ListN.{length, take, drop, drop-of-length-le}
-use lib.Seq.{drop-drop}
-use Rattle.spec.specs.Numbers.{Line, line}
-use Rattle.spec.specs.Index.{header, greatest-number, keys-of, kind-at, value-at}
-use Rattle.spec.specs.Index.{count-at, key-at, counts-from, entries-of, lines-from, lines-in}
-use Rattle.models.specs.Window.{list-start}
+use lib.ListN.{length, drop, drop-of-length-le}
+use lib.Seq.{drop-cons}
+use Rattle.spec.specs.Index.{header, greatest-number, keys-of, kind-at, value-at, count-at, counts-from, entries-of, lines-in}
+use Rattle.models.specs.Entries.{no-line}
+use Rattle.models.specs.Window.{list-start, line-of}
 use Rattle.laws.specs.Numbers.Slices.{Fits}
-use Rattle.laws.specs.Numbers.LineNumbers.{length-lines-in}
+use Rattle.laws.specs.Numbers.LineNumbers.{length-lines-in, getD-lines-in}
 
 -- LINES
-
--- line i with its positions
-abbrev pub line-of : (numbers : List ℕ) → (i : ℕ) → Line
-line-of xs i = line (key-at xs i) (take (count-at xs i) (drop (list-start xs i) xs))
 
 counts-snoc : (k i : ℕ) (xs : List ℕ) → counts-from (suc k) i xs ≡ counts-from k i xs + count-at xs (i + k)
 unfolding counts-from
@@ -40,31 +35,11 @@ counts-split (suc a) b i xs =
     let y : i + suc a ≡ suc i + a = omega arith in
     rw (z, y) (omega (arith, counts-split a b (suc i) xs))
 
-lines-cut :
-    (k i j : ℕ) (xs ps : List ℕ) → j < k →
-    drop j (lines-from k i xs ps)
-    ≡ line (key-at xs (i + j)) (take (count-at xs (i + j)) (drop (counts-from j i xs) ps)) ∷ drop (suc j) (lines-from k i xs ps)
-unfolding lines-from counts-from
-lines-cut zero i j xs ps h = absurd (omega arith)
-lines-cut (suc k) i zero xs ps h = let z : i + 0 ≡ i = omega arith in rw z
-lines-cut (suc k) i (suc j) xs ps h =
-    let z : i + suc j ≡ suc i + j = omega arith in
-    rw z
-    (lines-cut k (suc i) j xs (drop (count-at xs i) ps) (omega arith)
-    ∙ ap
-    (λ (d : List ℕ).
-    line (key-at xs (suc i + j)) (take (count-at xs (suc i + j)) d)
-    ∷ drop (suc j) (lines-from k (suc i) xs (drop (count-at xs i) ps)))
-    (drop-drop (counts-from j (suc i) xs) (count-at xs i) ps))
-
 module _ (xs : List ℕ) (i : ℕ) (below : i < keys-of xs) where
   -- the lines from i on start with line i
   pub lines-next : drop i (lines-in xs) ≡ line-of xs i ∷ drop (i + 1) (lines-in xs)
-  unfolding lines-in
   lines-next =
-      let z : 0 + i ≡ i = omega arith in
-      rw (add-one i, ← drop-drop (counts-from i 0 xs) (header + 3 * keys-of xs) xs)
-      (rw z at (lines-cut (keys-of xs) 0 i xs (drop (header + 3 * keys-of xs) xs) below))
+      rw (add-one i, ← getD-lines-in xs i below) (drop-cons (lines-in xs) i no-line (omega (arith, length-lines-in xs)))
 
   -- and its positions lie within the slice
   pub list-room : Fits xs → list-start xs i + count-at xs i ≤ length xs
@@ -90,11 +65,7 @@ pub record Line-at (xs : List ℕ) (i start kind value from to : ℕ) : Type 0 w
 -- line i by value: its key, and from where to where its positions lie in the index
 pub record Is-line (xs : List ℕ) (i kind value from to : ℕ) : Type 0 where
   pub below : i < keys-of xs
-  pub kind-is : kind ≡ kind-at xs i
-  pub value-is : value ≡ value-at xs i
-  pub value-small : value ≤ greatest-number
-  pub from-is : from ≡ list-start xs i
-  pub to-is : to ≡ from + count-at xs i
+  pub line : Line-at xs i (list-start xs i) kind value from to
   pub room : to ≤ length xs
 
 -- in a walk that counts from the start of the index, line i and where its positions start lie within the slice
@@ -104,13 +75,4 @@ module _ {xs : List ℕ} {i start : ℕ} (fits : Fits xs) (below : i < keys-of x
 
   -- and so do its positions
   pub is-line : {kind value from to : ℕ} → Line-at xs i start kind value from to → Is-line xs i kind value from to
-  is-line l =
-      record {
-        below = below;
-        kind-is = l .kind-is;
-        value-is = l .value-is;
-        value-small = l .value-small;
-        from-is = omega arith;
-        to-is = omega arith;
-        room = omega (arith, list-room xs i below fits);
-      }
+  is-line l = record { below = below; line = rw e at l; room = omega (arith, list-room xs i below fits) }

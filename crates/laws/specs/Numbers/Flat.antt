@@ -56,9 +56,9 @@ flat-put lex (k ∷ ls) l p (inr m) n =
     in-append-right (posting lex (l .key-of) p) (entries-at lex (k .key-of) (k .positions)) (flat lex ls) (flat-put lex ls l p m n)
 
 -- an entry is as long as the string that its key spells
-pub flat-long :
+pub flat-len :
     (lex : Lexicon) (ls : List Line) (e : Entry) → In e (flat lex ls) → e .len ≡ length (spells lex (e .key-of))
-flat-long lex ls e m =
+flat-len lex ls e m =
     let h = flat-get lex ls e m in
     ap (λ (f : Entry). f .len) (h .3) ∙ ap (λ (f : Entry). length (spells lex (f .key-of))) (sym (h .3))
 

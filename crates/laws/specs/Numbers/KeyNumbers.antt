@@ -1,22 +1,22 @@
 -- A key as one number: keys are ordered as their numbers, so strict ascent is one comparison for each line, and there are at most 69,632
 -- lines. Assumes nothing.
 use mathlib.Core.Path.{_≡_, refl, ap, _∙_}
-use mathlib.Core.Bool.{Bool, true, false, _&&_, cond}
+use mathlib.Core.Bool.{Bool, true, _&&_}
 use mathlib.Core.Logic.{_⊎_, inl, inr, ⊎-elim}
 use mathlib.Core.List.{List, [], _∷_}
-use Prim.Native.Nat.{ℕ, suc, _+_, _*_, _-_, _≤_, _<_}
+use Prim.Native.Nat.{ℕ, suc, _+_, _≤_, _<_}
 use native.Mathlib.Omega.{arith}
-use lib.Dec.{ltb, leb}
+use lib.Dec.{leb}
 use lib.ListN.{length}
-use borrow.Author.Tests.{le-leb, leb-true, ltb-false}
+use borrow.Author.Tests.{le-leb, leb-true}
 use Rattle.basics.specs.Bools.{iff-eq, le-or-lt}
 use Rattle.basics.specs.Member.{In}
 use Rattle.spec.specs.Dictionary.{Lexicon}
-use Rattle.spec.specs.Words.{Key, key}
+use Rattle.spec.specs.Words.{Key}
 use Rattle.spec.specs.Numbers.{key-before, Line}
 use Rattle.spec.specs.Index.{keys-ascend}
 use Rattle.models.specs.Readability.{key-number, most-keys}
-use Rattle.models.specs.Inversion.{key-code, code-key}
+use Rattle.models.specs.Inversion.{key-code}
 use Rattle.laws.specs.Text.Facts.{Is-key, Good-line, Keys-rise, Good-lines}
 use Rattle.laws.specs.Dictionary.Keys.{Is-word-key, Is-lone-key, key-kinds}
 use Rattle.laws.specs.Numbers.KeyOrder.{key-before-get, key-before-put}
@@ -64,15 +64,6 @@ key-numbers-all (l ∷ ls) s =
     key-numbers-keys 0 l ls s ∙ ap (λ (b : Bool). b && keys-ascend (l ∷ ls)) (le-leb 0 (key-number (l .key-of)) (omega arith))
 
 -- THE MOST KEYS
-
--- the key of a code has that code
-pub code-of-key : (c : ℕ) → key-code (code-key c) ≡ c
-unfolding code-key key
-code-of-key c = by-test (ltb c 4096) refl
-  where
-    by-test : (t : Bool) → ltb c 4096 ≡ t → key-code (cond t (key 0 c) (key 1 (c - 4096))) ≡ c
-    by-test true e = omega arith
-    by-test false e = omega (arith, ltb-false c 4096 e)
 
 module _ {lex : Lexicon} (few : length (lex .words) ≤ 4096) where
   -- a key's value is a word's number or a character

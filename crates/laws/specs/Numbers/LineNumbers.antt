@@ -1,15 +1,16 @@
 -- The lines of a slice by number. Assumes nothing.
-use mathlib.Core.Path.{_≡_, ap}
+use mathlib.Core.Path.{_≡_, sym, _∙_}
 use mathlib.Core.Bool.{true}
 use mathlib.Core.List.{List, [], _∷_}
 use Prim.Native.Nat.{ℕ, zero, suc, _+_, _*_, _<_}
 use native.Mathlib.Omega.{arith}
 use lib.ListN.{length, getD, take, drop}
 use lib.Seq.{drop-drop}
-use Rattle.basics.specs.Member.{In, in-getD, in-place}
+use Rattle.basics.specs.Member.{In, in-getD, member-index}
 use Rattle.spec.specs.Numbers.{Line, line, key-before}
 use Rattle.spec.specs.Index.{header, keys-of, key-at, count-at, counts-from, lines-from, lines-in}
-use Rattle.models.specs.Entries.{no-line, line-of}
+use Rattle.models.specs.Entries.{no-line}
+use Rattle.models.specs.Window.{line-of}
 use Rattle.laws.specs.Text.Facts.{Keys-rise}
 use Rattle.laws.specs.Numbers.KeyOrder.{Key-before, key-before-get}
 use Rattle.laws.specs.Numbers.Slices.{length-lines-from}
@@ -30,11 +31,9 @@ unfolding lines-in
 length-lines-in xs = length-lines-from (keys-of xs) 0 xs (drop (header + 3 * keys-of xs) xs)
 
 module _ (xs : List ℕ) (i : ℕ) (below : i < keys-of xs) where
-  pub line-of-is :
-      line-of xs i
-      ≡ line (key-at xs i) (take (count-at xs i) (drop (header + 3 * keys-of xs + counts-from i 0 xs) xs))
-  unfolding line-of lines-in
-  line-of-is =
+  pub getD-lines-in : getD (lines-in xs) i no-line ≡ line-of xs i
+  unfolding lines-in
+  getD-lines-in =
       let z : 0 + i ≡ i = omega arith in
       rw (
         line-from (keys-of xs) 0 xs (drop (header + 3 * keys-of xs) xs) i below,
@@ -42,20 +41,15 @@ module _ (xs : List ℕ) (i : ℕ) (below : i < keys-of xs) where
         drop-drop (counts-from i 0 xs) (header + 3 * keys-of xs) xs,
       )
 
-  pub line-of-key : line-of xs i .key-of ≡ key-at xs i
-  unfolding line
-  line-of-key = ap (λ (l : Line). l .key-of) line-of-is
-
   pub line-of-in : In (line-of xs i) (lines-in xs)
-  unfolding line-of
-  line-of-in = in-getD (lines-in xs) i no-line (omega (arith, length-lines-in xs))
+  line-of-in = rw getD-lines-in at (in-getD (lines-in xs) i no-line (omega (arith, length-lines-in xs)))
 
 -- every line has a number
 pub line-number : (xs : List ℕ) (l : Line) → In l (lines-in xs) → (i : ℕ) × (i < keys-of xs) × (line-of xs i ≡ l)
-unfolding line-of
 line-number xs l m =
-    let (i, b, e) = in-place l (lines-in xs) no-line m in
-    (i, omega (arith, length-lines-in xs), e)
+    let (i, b, e) = member-index l (lines-in xs) no-line m in
+    let below : i < keys-of xs = omega (arith, length-lines-in xs) in
+    (i, below, sym (getD-lines-in xs i below) ∙ e)
 
 -- of two lines the earlier one has the lesser key
 lines-rise :
@@ -68,8 +62,8 @@ lines-rise (l ∷ ls) order (suc i) (suc j) h b = lines-rise ls (order .1) i j (
 
 pub keys-before :
     (xs : List ℕ) → Keys-rise (lines-in xs) → (i j : ℕ) → i < j → j < keys-of xs → Key-before (key-at xs i) (key-at xs j)
-unfolding line-of
+unfolding line
 keys-before xs order i j h b =
     key-before-get (key-at xs i) (key-at xs j)
-    (rw (line-of-key xs i (omega arith), line-of-key xs j b) at
+    (rw (getD-lines-in xs i (omega arith), getD-lines-in xs j b) at
     (lines-rise (lines-in xs) order i j h (omega (arith, length-lines-in xs))))

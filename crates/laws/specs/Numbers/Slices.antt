@@ -14,22 +14,23 @@ use Rattle.basics.specs.Member.{In}
 use Rattle.spec.specs.Words.{key}
 use Rattle.spec.specs.Numbers.{Line, line, directory, all-positions, header-numbers, numbers}
 use Rattle.spec.specs.Index.{header, n-of, keys-of, kind-at, value-at, count-at, counts-from, entries-of, lines-from, lines-in, kinds-good}
-use Rattle.spec.specs.Index.{greatest-number, lengths-fit}
+use Rattle.spec.specs.Index.{lengths-fit}
+use Rattle.laws.specs.Numbers.Header.{header-law}
 
 -- FROM LINES TO NUMBERS AND BACK
 
 -- l is line i of a slice, and `more` follows it
-pub record Line-at (xs : List ℕ) (i : ℕ) (l : Line) (more : List ℕ) : Type 0 where
+pub record Line-then (xs : List ℕ) (i : ℕ) (l : Line) (more : List ℕ) : Type 0 where
   pub kind-is : kind-at xs i ≡ l .key-of .kind
   pub value-is : value-at xs i ≡ l .key-of .value
   pub count-is : count-at xs i ≡ length (l .positions)
   pub next : drop (header + 3 * suc i) xs ≡ more
 
-pub line-at :
+pub line-then :
     (xs : List ℕ) (i : ℕ) (l : Line) (ls : List Line) (more : List ℕ) → drop (header + 3 * i) xs ≡ directory (l ∷ ls) ++ more →
-    Line-at xs i l (directory ls ++ more)
+    Line-then xs i l (directory ls ++ more)
 unfolding directory
-line-at xs i l ls more e =
+line-then xs i l ls more e =
     record {
       kind-is = ap (λ (j : ℕ). getD xs j 0) (sym zero-more) ∙ at 0;
       value-is = at 1;
@@ -57,7 +58,7 @@ lines-from-directory :
 unfolding directory all-positions lines-from line key
 lines-from-directory [] i xs more e = refl
 lines-from-directory (l ∷ ls) i xs more e =
-    let at = line-at xs i l ls more e in
+    let at = line-then xs i l ls more e in
     let rest = lines-from-directory ls (suc i) xs more (at .next) in
     rw (
       at .kind-is,
@@ -74,12 +75,8 @@ counts-from-directory :
 unfolding directory all-positions counts-from
 counts-from-directory [] i xs more e = refl
 counts-from-directory (l ∷ ls) i xs more e =
-    let at = line-at xs i l ls more e in
+    let at = line-then xs i l ls more e in
     rw (at .count-is, counts-from-directory ls (suc i) xs more (at .next), length-append (l .positions) (all-positions ls))
-
-pub length-header : (n : ℕ) (ls : List Line) → length (header-numbers n ls) ≡ header
-unfolding header-numbers
-length-header n ls = refl
 
 pub n-of-numbers : (n : ℕ) (ls : List Line) → n-of (numbers n ls) ≡ n
 unfolding numbers header-numbers
@@ -91,7 +88,7 @@ keys-of-numbers n ls = refl
 
 pub directory-starts : (n : ℕ) (ls : List Line) → drop (header + 3 * 0) (numbers n ls) ≡ directory ls ++ all-positions ls
 unfolding numbers
-directory-starts n ls = drop-at (header-numbers n ls) (directory ls ++ all-positions ls) header (length-header n ls)
+directory-starts n ls = drop-at (header-numbers n ls) (directory ls ++ all-positions ls) header (header-law n ls .len)
 
 pub positions-start : (n : ℕ) (ls : List Line) → drop (header + 3 * length ls) (numbers n ls) ≡ all-positions ls
 positions-start n ls =
@@ -114,7 +111,7 @@ unfolding numbers
 length-numbers n ls =
     omega (
       arith,
-      length-header n ls,
+      header-law n ls .len,
       length-append (header-numbers n ls) (directory ls ++ all-positions ls),
       length-append (directory ls) (all-positions ls),
       length-directory ls,
@@ -126,7 +123,7 @@ pub kinds-good-directory :
 unfolding directory kinds-good
 kinds-good-directory [] i xs more e small = refl
 kinds-good-directory (l ∷ ls) i xs more e small =
-    let at = line-at xs i l ls more e in
+    let at = line-then xs i l ls more e in
     rw (at .kind-is)
     (and-put (le-leb (l .key-of .kind) 1 (small l (inl refl)))
     (kinds-good-directory ls (suc i) xs more (at .next) (λ m k. small m (inr k))))
@@ -196,25 +193,11 @@ positions-lines-from (suc k) i xs ps e =
     rw (positions-lines-from k (suc i) xs (drop (count-at xs i) ps) (simp length-drop (omega arith)))
     (take-append-drop (count-at xs i) ps)
 
--- there are `keys` lines with `entries` positions in all, and what the header says of them is within a number of the index
-pub record Size-of (ls : List Line) (keys entries : ℕ) : Type 0 where
-  pub keys-are : keys ≡ length ls
-  pub entries-are : entries ≡ length (all-positions ls)
-  pub keys-small : keys ≤ greatest-number
-
--- the numbers of the header, by the size of what follows
-unfoldable pub header-sized : (n keys entries : ℕ) → List ℕ
-header-sized n keys entries = n ∷ keys ∷ []
-
-pub header-is : (n : ℕ) {ls : List Line} {keys entries : ℕ} → Size-of ls keys entries → header-sized n keys entries ≡ header-numbers n ls
-unfolding header-sized header-numbers
-header-is n size = rw (size .keys-are)
-
 -- the lengths in a slice fit together
 pub record Fits (xs : List ℕ) : Type 0 where
   pub has-header : header ≤ length xs
   pub has-directory : header + 3 * keys-of xs ≤ length xs
-  pub is-long : length xs ≡ header + 3 * keys-of xs + entries-of xs
+  pub len : length xs ≡ header + 3 * keys-of xs + entries-of xs
 
 pub lengths-fit-get : (xs : List ℕ) → lengths-fit xs ≡ true → Fits xs
 unfolding lengths-fit
@@ -222,7 +205,7 @@ lengths-fit-get xs t =
     record {
       has-header = leb-true header (length xs) (and-left head dir front);
       has-directory = leb-true (header + 3 * keys-of xs) (length xs) (and-right head dir front);
-      is-long = eqb-true (length xs) (header + 3 * keys-of xs + entries-of xs) (and-right (head && dir) whole t);
+      len = eqb-true (length xs) (header + 3 * keys-of xs + entries-of xs) (and-right (head && dir) whole t);
     }
   where
     head : Bool
@@ -237,22 +220,16 @@ lengths-fit-get xs t =
     front : (head && dir) ≡ true
     front = and-left (head && dir) whole t
 
-header-of : (xs : List ℕ) → Fits xs → take header xs ≡ header-numbers (n-of xs) (lines-in xs)
-unfolding header-numbers lines-in
-header-of xs fits = rw (length-lines-from) (two xs (fits .has-header))
-  where
-    two : (xs : List ℕ) → header ≤ length xs → take header xs ≡ n-of xs ∷ keys-of xs ∷ []
-    two [] h = absurd (omega arith)
-    two (x ∷ []) h = absurd (omega arith)
-    two (x ∷ y ∷ xs) h = refl
-
 pub numbers-lines-in : (xs : List ℕ) → Fits xs → numbers (n-of xs) (lines-in xs) ≡ xs
 unfolding numbers lines-in entries-of
 numbers-lines-in xs fits =
-    rw (← header-of xs fits, positions-lines-from (keys-of xs) 0 xs positions counts, rest) (take-append-drop header xs)
+    rw (← head, positions-lines-from (keys-of xs) 0 xs positions counts, rest) (take-append-drop header xs)
   where
     positions : List ℕ
     positions = drop (header + 3 * keys-of xs) xs
+
+    head : take header xs ≡ header-numbers (n-of xs) (lines-in xs)
+    head = header-law (n-of xs) (lines-in xs) .read xs (fits .has-header) refl (sym (length-lines-from (keys-of xs) 0 xs positions))
 
     counts : counts-from (keys-of xs) 0 xs ≡ length positions
     counts = simp length-drop (omega arith)

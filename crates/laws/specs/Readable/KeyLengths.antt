@@ -10,7 +10,7 @@ use Rattle.spec.specs.Words.{Key, key, spells}
 use Rattle.laws.specs.Text.Facts.{Is-key}
 use Rattle.laws.specs.Dictionary.Lexicon.{Is-admitted, admitted-put, admitted-lexicon}
 use Rattle.laws.specs.Dictionary.Keys.{Is-word-key, Is-lone-key, key-kinds, spells-word, spells-lone, spells-some, spells-short}
-use Rattle.laws.specs.Readable.KeyTests.{word-long, word-count}
+use Rattle.laws.specs.Readable.KeyTests.{length-word, word-count}
 
 module _ {cs ls : List ℕ} (h : Is-admitted cs ls) (kind value : ℕ) (is : Is-key (lexicon cs ls) (key kind value)) where
   pub lone-length : (kind ≡ 0 → ⊥) → 1 ≡ length (spells (lexicon cs ls) (key kind value))
@@ -34,7 +34,7 @@ module _ {cs ls : List ℕ} (h : Is-admitted cs ls) (kind value : ℕ) (is : Is-
     pub word-length : getD ls value 0 ≡ length (spells (lexicon cs ls) (key kind value))
     unfolding key
     word-length =
-        sym (ap length (spells-word (lexicon cs ls) (key kind value) word) ∙ word-long h value word-below)
+        sym (ap length (spells-word (lexicon cs ls) (key kind value) word) ∙ length-word h value word-below)
 
 -- a key spells 1 to 32 characters
 pub record Key-length (lex : Lexicon) (k : Key) : Type 0 where

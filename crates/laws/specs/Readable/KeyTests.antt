@@ -15,7 +15,7 @@ use Rattle.spec.specs.Index.{key-good}
 use Rattle.models.specs.Readability.{line-list-good, key-fits, line-fits}
 use Rattle.laws.specs.Dictionary.WordCode.{Small}
 use Rattle.laws.specs.Text.Chars.{all-chars-put}
-use Rattle.laws.specs.Dictionary.Lexicon.{Is-admitted, admitted-get, length-words, words-long}
+use Rattle.laws.specs.Dictionary.Lexicon.{Is-admitted, admitted-get, length-words, words-len}
 
 -- THE DICTIONARY
 
@@ -29,9 +29,9 @@ pub dictionary-read : (cs ls : List ℕ) → Small cs → dictionary-refusal cs 
 dictionary-read cs ls small none = admitted-get cs ls (no-refusal cs ls small none)
 
 module _ {cs ls : List ℕ} (h : Is-admitted cs ls) where
-  pub word-long : (v : ℕ) → v < length ls → length (getD (lexicon cs ls .words) v []) ≡ getD ls v 0
+  pub length-word : (v : ℕ) → v < length ls → length (getD (lexicon cs ls .words) v []) ≡ getD ls v 0
   unfolding lexicon
-  word-long v b = words-long ls cs v (omega arith) b
+  length-word v b = words-len ls cs v (omega arith) b
 
   pub word-count : length (lexicon cs ls .words) ≡ length ls
   unfolding lexicon
@@ -57,7 +57,7 @@ module _ (read : List ℕ → List ℕ) {cs ls : List ℕ} (h : Is-admitted cs l
       rw (
         le-leb least (0 * 65536 + v) (omega arith),
         lt-ltb v (length (lexicon cs ls .words)) (omega (arith, word-count h)),
-        word-long h v below,
+        length-word h v below,
       )
 
 -- A LONE CHARACTER'S LINE

@@ -262,7 +262,7 @@ module _ (g : ℕ) (lex : Lexicon) (xs : List ℕ) where
           let are-good = and-right order good (and-right kinds (order && good) rest) in
           rest-put (keys-of xs)
           (record {
-            counts = omega (arith, readable-fits t .is-long, length-drop (header + 3 * keys-of xs) xs);
+            counts = omega (arith, readable-fits t .len, length-drop (header + 3 * keys-of xs) xs);
             kinds = are-kinds;
             order = ascends are-kinds are-good ∙ and-left order good (and-right kinds (order && good) rest);
             good = are-good;

@@ -1,6 +1,6 @@
 -- Whether the entries of an index stand in a text, as loops decide it: the characters at one position, a string at the positions of a
 -- list, and the lines one after the other. Assumes nothing.
-use mathlib.Core.Path.{_≡_, sym, ap, _∙_, subst}
+use mathlib.Core.Path.{_≡_, sym, ap, _∙_}
 use mathlib.Core.Logic.{_⊎_, inl, inr, ⊎-elim}
 use mathlib.Core.List.{List, [], _∷_}
 use Prim.Native.Nat.{ℕ, zero, suc, _+_, _*_, _-_, _≤_, _<_}
@@ -8,19 +8,19 @@ use native.Mathlib.Omega.{arith}
 use lib.ListN.{length, getD, take, drop}
 use borrow.Author.Count.{below-more}
 use Rattle.basics.specs.Bools.{le-or-lt}
-use Rattle.basics.specs.Member.{In, in-getD, in-place, in-append-get}
+use Rattle.basics.specs.Member.{In, in-getD, member-index, in-append-get}
 use Rattle.spec.specs.Dictionary.{Lexicon}
 use Rattle.spec.specs.Words.{spells}
 use Rattle.spec.specs.Numbers.{Line, line}
 use Rattle.spec.specs.Index.{header, keys-of, key-at, counts-from, lines-in}
 use Rattle.models.specs.Entries.{entries-at, flat}
-use Rattle.models.specs.Window.{list-start}
+use Rattle.models.specs.Window.{list-start, line-of, positions-at}
 use Rattle.laws.specs.Text.Strings.{Stand}
 use Rattle.laws.specs.Text.Overlaps.{stand-at, stand-put, stand-char}
 use Rattle.laws.specs.Text.Facts.{Rise, All-stand}
 use Rattle.laws.specs.Numbers.Flat.{posting, entries-at-get, flat-put}
-use Rattle.laws.specs.Numbers.DirectoryWalk.{line-of, lines-next, lines-none, counts-next, Is-line}
-use Rattle.laws.specs.Numbers.LineNumbers.{line-of-is, line-of-in}
+use Rattle.laws.specs.Numbers.DirectoryWalk.{lines-next, lines-none, counts-next, Is-line}
+use Rattle.laws.specs.Numbers.LineNumbers.{line-of-in}
 use Rattle.laws.specs.Receive.LinePass.{line-positions}
 
 -- ONE POSITION
@@ -139,7 +139,7 @@ all-stand-line lex ts l ls here later e m =
     ⊎-elim
     (λ (h : In e (entries-at lex (l .key-of) (l .positions))).
     let entry = entries-at-get lex (l .key-of) (l .positions) e h in
-    let position = in-place (entry .0) (l .positions) 0 (entry .1) in
+    let position = member-index (entry .0) (l .positions) 0 (entry .1) in
     rw (entry .2) (rw (position .2) at (here (position .0) (position .1))))
     (λ (h : In e (flat lex ls)). later e h)
     (in-append-get e (entries-at lex (l .key-of) (l .positions)) (flat lex ls) m)
@@ -175,10 +175,8 @@ pub line-matches :
     All-stand lex (lines-in xs) ts → Stand-each (spells lex (key-at xs i)) ts (take (to - from) (drop from xs))
 unfolding line
 line-matches lex {xs} ts {i} is all =
-    let here : In (line-of xs i) (lines-in xs) =
-    subst (λ (l : Line). In l (lines-in xs)) (line-of-is xs i (is .below)) (line-of-in xs i (is .below)) in
     rw (line-positions is)
     (λ j b.
-    let p : ℕ = getD (line-of xs i .positions) j 0 in
+    let p : ℕ = getD (positions-at xs i) j 0 in
     all (posting lex (key-at xs i) p)
-    (flat-put lex (lines-in xs) (line-of xs i) p here (in-getD (line-of xs i .positions) j 0 b)))
+    (flat-put lex (lines-in xs) (line-of xs i) p (line-of-in xs i (is .below)) (in-getD (positions-at xs i) j 0 b)))

@@ -14,7 +14,7 @@ use Rattle.basics.specs.Member.{In, in-getD}
 use Rattle.spec.specs.Replaced.{first-form, last-form, is-full-width, holds-full-width}
 use Rattle.spec.specs.Dictionary.{Lexicon}
 use Rattle.spec.specs.Words.{Key, key, spells}
-use Rattle.spec.specs.Numbers.{Line}
+use Rattle.spec.specs.Numbers.{Line, line}
 use Rattle.spec.specs.Index.{keys-of, kind-at, value-at, key-at, lines-in, readable}
 use Rattle.spec.specs.Reception.{recovered, is-index, received}
 use Rattle.spec.specs.ReplacedTheorems.{Lone-form}
@@ -28,7 +28,7 @@ use Rattle.laws.specs.Entries.Entries.{entries-get}
 use Rattle.laws.specs.Numbers.Flat.{posting, flat-put}
 use Rattle.laws.specs.Numbers.KeyOrder.{Key-before}
 use Rattle.laws.specs.Numbers.Slices.{Fits}
-use Rattle.laws.specs.Numbers.LineNumbers.{line-of-key, line-of-in, line-number, keys-before}
+use Rattle.laws.specs.Numbers.LineNumbers.{line-of-in, line-number, keys-before}
 use Rattle.laws.specs.Readable.Readable.{readable-get}
 use Rattle.laws.specs.Readable.LineWalk.{readable-fits}
 use Rattle.laws.specs.Readable.Recover.{recovered-is-plain}
@@ -156,12 +156,12 @@ pub record Ordered-keys (xs : List ℕ) : Type 0 where
   pub order : (i j : ℕ) → i < j → j < keys-of xs → Key-before (key-at xs i) (key-at xs j)
 
 pub readable-ordered : (g : ℕ) (lex : Lexicon) (xs : List ℕ) → readable g lex xs ≡ true → Ordered-keys xs
-unfolding key
+unfolding key line
 readable-ordered g lex xs can =
     let lines = readable-get g lex xs can .lines in
     record {
       fits = readable-fits g lex xs can;
-      kind-small = λ i b. rw (line-of-key xs i b) at (lines .each _ (line-of-in xs i b) .is-key .kind-small);
+      kind-small = λ i b. lines .each _ (line-of-in xs i b) .is-key .kind-small;
       order = keys-before xs (lines .order);
     }
 
@@ -174,22 +174,23 @@ pub without-start : (xs : List ℕ) → Without-forms xs (keys-of xs)
 without-start xs = record { within = omega arith; none = λ j a b t. omega arith }
 
 pub without-end : {xs : List ℕ} → Without-forms xs 0 → false ≡ some-form-key (lines-in xs)
+unfolding line
 without-end {xs} h =
     sym
     (false-put (some-form-key (lines-in xs))
     (λ t.
     let (l, m, k) = some-form-get (lines-in xs) t in
     let (i, b, e) = line-number xs l m in
-    h .none i (omega arith) b (rw (← line-of-key xs i b, e) k)))
+    h .none i (omega arith) b (rw (← e) at k)))
 
 module _ (xs : List ℕ) (i : ℕ) (below : i < keys-of xs) where
   -- a form
   pub form-found : kind-at xs i ≡ 1 → first-form ≤ value-at xs i → value-at xs i ≤ last-form → true ≡ some-form-key (lines-in xs)
-  unfolding key
+  unfolding key line
   form-found one low high =
       sym
       (some-form-put (lines-in xs) _ (line-of-in xs i below)
-      (rw (line-of-key xs i below) (form-key-put (key-at xs i) one (form-put (value-at xs i) low high))))
+      (form-key-put (key-at xs i) one (form-put (value-at xs i) low high)))
 
   module _ {k : ℕ} (h : Without-forms xs k) (after : k ≡ i + 1) where
     -- a character after all forms

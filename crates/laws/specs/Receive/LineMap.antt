@@ -13,19 +13,20 @@ use Rattle.basics.specs.Bools.{iff-eq, and-put, and-left, and-right}
 use Rattle.basics.specs.Member.{In}
 use Rattle.spec.specs.Dictionary.{Lexicon}
 use Rattle.spec.specs.Words.{Key, spells, Entry, same-key, entries}
-use Rattle.spec.specs.Numbers.{index-of}
+use Rattle.spec.specs.Numbers.{index-of, line}
 use Rattle.spec.specs.Index.{n-of, keys-of, key-at, entries-of, lines-in, readable}
 use Rattle.spec.specs.Reception.{recovered, is-index}
-use Rattle.models.specs.Entries.{flat, longest-at, line-of}
+use Rattle.models.specs.Entries.{flat, longest-at}
 use Rattle.models.specs.Scan.{make-index, scan}
 use Rattle.models.specs.Reception.{mapped-right, all-mapped, verify, verify-from}
+use Rattle.models.specs.Window.{line-of}
 use Rattle.laws.specs.Text.Facts.{Chars, Good-lexicon, entry-eq}
 use Rattle.laws.specs.Entries.Entries.{same-key-get, same-key-put}
 use Rattle.laws.specs.Numbers.Flat.{posting, flat-get, flat-put}
 use Rattle.laws.specs.Entries.Sound.{entries-sound}
 use Rattle.laws.specs.Entries.Longest.{make-index-get, make-index-put}
 use Rattle.laws.specs.Build.Inverted.{scan-count}
-use Rattle.laws.specs.Numbers.LineNumbers.{line-of-key, line-of-in, line-number}
+use Rattle.laws.specs.Numbers.LineNumbers.{line-of-in, line-number}
 use Rattle.laws.specs.Receive.Received.{readable-chars}
 use Rattle.laws.specs.Receive.ReceptionTest.{counted-index, index-taken, is-index-all, is-index-count, is-index-own-positions}
 
@@ -57,18 +58,17 @@ module _ (lex : Lexicon) {xs : List ℕ} {line-for : ℕ → ℕ} (mapped : Line
   mapped-right-get :
       (e : Entry) → 1 ≤ e .at → e .len ≡ length (spells lex (e .key-of)) → mapped-right line-for xs e ≡ true →
       In e (flat lex (lines-in xs))
-  unfolding mapped-right
+  unfolding mapped-right line
   mapped-right-get e from len t =
       let is : 1 ≤ line-for (e .at) =
       ltb-true 0 (line-for (e .at)) (and-left (ltb 0 (line-for (e .at))) (same-key (key-at xs (line-for (e .at) - 1)) (e .key-of)) t) in
       let here : (line-for (e .at) - 1 < keys-of xs) × In (e .at) (line-of xs (line-for (e .at) - 1) .positions) =
       mapped .real (e .at) (line-for (e .at) - 1) from (omega arith) in
-      let keys : line-of xs (line-for (e .at) - 1) .key-of ≡ e .key-of =
-      line-of-key xs (line-for (e .at) - 1) (here .0)
-      ∙ same-key-get (key-at xs (line-for (e .at) - 1)) (e .key-of)
+      let keys : key-at xs (line-for (e .at) - 1) ≡ e .key-of =
+      same-key-get (key-at xs (line-for (e .at) - 1)) (e .key-of)
       (and-right (ltb 0 (line-for (e .at))) (same-key (key-at xs (line-for (e .at) - 1)) (e .key-of)) t) in
-      let is-e : posting lex (line-of xs (line-for (e .at) - 1) .key-of) (e .at) ≡ e =
-      entry-eq (posting lex (line-of xs (line-for (e .at) - 1) .key-of) (e .at)) e keys refl
+      let is-e : posting lex (key-at xs (line-for (e .at) - 1)) (e .at) ≡ e =
+      entry-eq (posting lex (key-at xs (line-for (e .at) - 1)) (e .at)) e keys refl
       (ap (λ (k : Key). length (spells lex k)) keys ∙ sym len) in
       rw is-e at
       (flat-put lex (lines-in xs) (line-of xs (line-for (e .at) - 1)) (e .at) (line-of-in xs (line-for (e .at) - 1) (here .0)) (here .1))
@@ -77,20 +77,20 @@ module _ (lex : Lexicon) {xs : List ℕ} {line-for : ℕ → ℕ} (mapped : Line
   mapped-right-put :
       (e : Entry) → 1 ≤ e .at → In e (flat lex (lines-in xs)) →
       ((f : Entry) → In f (flat lex (lines-in xs)) → f .at ≡ e .at → f ≡ e) → mapped-right line-for xs e ≡ true
-  unfolding mapped-right
+  unfolding mapped-right line
   mapped-right-put e from m own =
       let (l, i, k, q) = flat-get lex (lines-in xs) e m in
       let (j, b, s) = line-number xs l i in
-      let is : 1 ≤ line-for (e .at) = mapped .each (e .at) j b (rw s k) in
+      let is : 1 ≤ line-for (e .at) = mapped .each (e .at) j b (rw (← s) at k) in
       let here : (line-for (e .at) - 1 < keys-of xs) × In (e .at) (line-of xs (line-for (e .at) - 1) .positions) =
       mapped .real (e .at) (line-for (e .at) - 1) from (omega arith) in
-      let keys : line-of xs (line-for (e .at) - 1) .key-of ≡ e .key-of =
+      let keys : key-at xs (line-for (e .at) - 1) ≡ e .key-of =
       ap (λ (f : Entry). f .key-of)
-      (own (posting lex (line-of xs (line-for (e .at) - 1) .key-of) (e .at))
+      (own (posting lex (key-at xs (line-for (e .at) - 1)) (e .at))
       (flat-put lex (lines-in xs) (line-of xs (line-for (e .at) - 1)) (e .at) (line-of-in xs (line-for (e .at) - 1) (here .0))
       (here .1)) refl) in
       and-put (lt-ltb 0 (line-for (e .at)) is)
-      (same-key-put (key-at xs (line-for (e .at) - 1)) (e .key-of) (sym (line-of-key xs (line-for (e .at) - 1) (here .0)) ∙ keys))
+      (same-key-put (key-at xs (line-for (e .at) - 1)) (e .key-of) keys)
 
 module _ {lex : Lexicon} (good : Good-lexicon lex) (g : ℕ) {xs : List ℕ} (can : readable g lex xs ≡ true) {line-for : ℕ → ℕ}
     (mapped : Line-map xs line-for) where

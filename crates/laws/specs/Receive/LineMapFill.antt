@@ -12,13 +12,14 @@ use Rattle.basics.specs.Stores.{set-either}
 use Rattle.spec.specs.Dictionary.{Lexicon}
 use Rattle.spec.specs.Numbers.{Line, line}
 use Rattle.spec.specs.Index.{n-of, keys-of, lines-in, readable}
-use Rattle.models.specs.Entries.{no-line, line-of}
+use Rattle.models.specs.Entries.{no-line}
 use Rattle.models.specs.Reception.{fill-positions, fill-line-map, mapped-at}
+use Rattle.models.specs.Window.{line-of}
 use Rattle.laws.specs.Text.Facts.{Good-lexicon, Good-line}
 use Rattle.laws.specs.Dictionary.Keys.{spells-some}
 use Rattle.laws.specs.Numbers.FlatOrder.{rise-least}
 use Rattle.laws.specs.Readable.Readable.{readable-get}
-use Rattle.laws.specs.Numbers.LineNumbers.{line-of-in, length-lines-in}
+use Rattle.laws.specs.Numbers.LineNumbers.{line-of-in, length-lines-in, getD-lines-in}
 use Rattle.laws.specs.Receive.LineMap.{Line-map}
 
 pub length-fill-positions : (m : ℕ) (ps ns : List ℕ) → length (fill-positions m ps ns) ≡ length ns
@@ -116,7 +117,7 @@ fill-line-map-put i (l ∷ ls) ns p (suc j) lo hi m =
 pub line-map-mapped :
     {lex : Lexicon} → Good-lexicon lex → (g : ℕ) (xs : List ℕ) → readable g lex xs ≡ true → (ns : List ℕ) → n-of xs ≤ length ns →
     ((p : ℕ) → 1 ≤ p → mapped-at ns p ≡ 0) → Line-map xs (mapped-at (fill-line-map 0 (lines-in xs) ns))
-unfolding line-of
+unfolding line
 line-map-mapped {lex} good g xs can ns room clear = record { real = λ p i. real p i; each = λ p i. each p i }
   where
     good-line : (l : Line) → In l (lines-in xs) → Good-line lex (n-of xs) l
@@ -133,7 +134,8 @@ line-map-mapped {lex} good g xs can ns room clear = record { real = λ p i. real
         (j : ℕ) × (j < length (lines-in xs)) × In p (getD (lines-in xs) j no-line .positions)
         × (mapped-at (fill-line-map 0 (lines-in xs) ns) p ≡ suc (0 + j))).
         let same : h .0 ≡ i = omega arith in
-        (omega (arith, length-lines-in xs), rw same at (h .2)))
+        let below : i < keys-of xs = omega (arith, length-lines-in xs) in
+        (below, rw (same, getD-lines-in xs i below) at (h .2)))
         (fill-line-map-get 0 (lines-in xs) ns p lo from)
 
     each : (p i : ℕ) → i < keys-of xs → In p (line-of xs i .positions) → 1 ≤ mapped-at (fill-line-map 0 (lines-in xs) ns) p
@@ -141,4 +143,4 @@ line-map-mapped {lex} good g xs can ns room clear = record { real = λ p i. real
         let here : In (line-of xs i) (lines-in xs) = line-of-in xs i b in
         let h : Good-line lex (n-of xs) (line-of xs i) = good-line (line-of xs i) here in
         fill-line-map-put 0 (lines-in xs) ns p i (from (line-of xs i) here p m)
-        (omega (arith, h .fits p m, spells-some good (line-of xs i .key-of) (h .is-key))) m
+        (omega (arith, h .fits p m, spells-some good (line-of xs i .key-of) (h .is-key))) (rw (getD-lines-in xs i b) m)

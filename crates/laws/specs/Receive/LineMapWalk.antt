@@ -1,23 +1,23 @@
 -- Filling the line map one line after the other, as a loop does it. Assumes nothing.
-use mathlib.Core.Path.{_≡_, refl, ap, _∙_, subst}
+use mathlib.Core.Path.{_≡_, refl, ap, _∙_}
 use mathlib.Core.Bool.{true}
 use mathlib.Core.List.{List}
 use Prim.Native.Nat.{ℕ, _+_, _*_, _-_, _≤_, _<_}
 use native.Mathlib.Numerals.{add-one}
 use native.Mathlib.Omega.{arith}
 use lib.ListN.{length, take, drop}
-use Rattle.basics.specs.Member.{In}
 use Rattle.spec.specs.Dictionary.{Lexicon}
-use Rattle.spec.specs.Numbers.{Line, line}
+use Rattle.spec.specs.Numbers.{line}
 use Rattle.spec.specs.Index.{header, n-of, keys-of, key-at, lines-in, readable}
 use Rattle.models.specs.Reception.{fill-positions, fill-line-map}
+use Rattle.models.specs.Window.{line-of}
 use Rattle.laws.specs.Text.Facts.{Good-lexicon, Good-line}
 use Rattle.laws.specs.Dictionary.Keys.{spells-some}
 use Rattle.laws.specs.Numbers.Slices.{Fits}
 use Rattle.laws.specs.Readable.Readable.{readable-get}
 use Rattle.laws.specs.Readable.LineWalk.{readable-fits}
-use Rattle.laws.specs.Numbers.LineNumbers.{line-of-is, line-of-in}
-use Rattle.laws.specs.Numbers.DirectoryWalk.{line-of, Is-line}
+use Rattle.laws.specs.Numbers.LineNumbers.{line-of-in}
+use Rattle.laws.specs.Numbers.DirectoryWalk.{Is-line}
 use Rattle.laws.specs.Receive.LineMapFill.{length-fill-positions}
 use Rattle.laws.specs.Receive.PositionWalk.{Lie-within}
 use Rattle.laws.specs.Receive.ReconstructionWalk.{good-lie}
@@ -37,9 +37,7 @@ readable-line-map {lex} good g xs can m room =
     record { fits = readable-fits g lex xs can; each = λ i b. each i b }
   where
     good-line : (i : ℕ) → i < keys-of xs → Good-line lex (n-of xs) (line-of xs i)
-    good-line i b =
-        readable-get g lex xs can .lines .each (line-of xs i)
-        (subst (λ (l : Line). In l (lines-in xs)) (line-of-is xs i b) (line-of-in xs i b))
+    good-line i b = readable-get g lex xs can .lines .each (line-of xs i) (line-of-in xs i b)
 
     each : (i : ℕ) → i < keys-of xs → Lie-within 1 m (line-of xs i .positions)
     each i b =

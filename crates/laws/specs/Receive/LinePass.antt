@@ -7,8 +7,8 @@ use native.Mathlib.Omega.{arith}
 use lib.ListN.{length, take, drop}
 use Rattle.spec.specs.Numbers.{Line, line}
 use Rattle.spec.specs.Index.{header, keys-of, count-at, counts-from, lines-in}
-use Rattle.models.specs.Window.{list-start}
-use Rattle.laws.specs.Numbers.DirectoryWalk.{line-of, lines-next, lines-none, counts-next, Is-line}
+use Rattle.models.specs.Window.{list-start, line-of}
+use Rattle.laws.specs.Numbers.DirectoryWalk.{lines-next, lines-none, counts-next, Is-line}
 
 -- ONE LINE
 
@@ -19,7 +19,7 @@ pub line-positions :
 unfolding line
 line-positions {xs} {i} {from} {to} h =
     let z : to - from ≡ count-at xs i = omega arith in
-    rw (z, h .from-is)
+    rw (z, h .line .from-is)
 
 -- LINE AFTER LINE
 

@@ -63,21 +63,21 @@ module _ {g : ℕ} {lex : Lexicon} {xs : List ℕ} {n : ℕ} {u v : List ℕ} (h
   cleared-chars : Chars (replicate n 0)
   cleared-chars i b = rw (getD-replicate {A = ℕ} n i 0 0 (omega (arith, length-replicate {A = ℕ} n 0))) (omega arith)
 
-  cleared-long : length (replicate {A = ℕ} n 0) ≡ n-of xs
-  cleared-long = length-replicate {A = ℕ} n 0 ∙ h .n-is
+  cleared-len : length (replicate {A = ℕ} n 0) ≡ n-of xs
+  cleared-len = length-replicate {A = ℕ} n 0 ∙ h .n-is
 
-  line-map-long : n-of xs ≤ length (replicate {A = ℕ} n 0)
-  line-map-long = omega (arith, cleared-long)
+  line-map-len : n-of xs ≤ length (replicate {A = ℕ} n 0)
+  line-map-len = omega (arith, cleared-len)
 
   pub tried-mapped : Line-map xs (mapped-at (take n (drop n v)))
   tried-mapped =
       rw (h .mapped)
-      (line-map-mapped (h .good) g xs (h .can) (replicate n 0) line-map-long (λ p lo. cleared-line-map n p))
+      (line-map-mapped (h .good) g xs (h .can) (replicate n 0) line-map-len (λ p lo. cleared-line-map n p))
 
   pub tried-chars : Chars (take n v)
   tried-chars =
       rw reconstructed
-      (reconstructing-chars (h .good) g xs (replicate n 0) cleared-long (h .can) cleared-chars)
+      (reconstructing-chars (h .good) g xs (replicate n 0) cleared-len (h .can) cleared-chars)
 
   pub read-back : {r : Bool} → r ≡ verify lex (mapped-at (take n (drop n v))) xs (take n v) → Read-back g lex xs r v
   read-back {r} e = record { exact = exact; text = λ t. rw (← h .n-is) (reconstructed ∙ recovers (sym exact ∙ t)) }
@@ -85,10 +85,10 @@ module _ {g : ℕ} {lex : Lexicon} {xs : List ℕ} {n : ℕ} {u v : List ℕ} (h
       exact : r ≡ is-index g lex xs
       exact =
           e
-          ∙ rw reconstructed (reception-exact (h .good) g xs (replicate n 0) cleared-long (h .can) cleared-chars tried-mapped)
+          ∙ rw reconstructed (reception-exact (h .good) g xs (replicate n 0) cleared-len (h .can) cleared-chars tried-mapped)
 
       recovers : is-index g lex xs ≡ true → reconstructed-over lex (lines-in xs) n 0 ≡ recovered lex xs
-      recovers = reception-recovers (h .good) g xs (replicate n 0) cleared-long
+      recovers = reception-recovers (h .good) g xs (replicate n 0) cleared-len
 
 -- the index is received if no lone key is a full-width form
 module _ {g : ℕ} {lex : Lexicon} {xs v : List ℕ} {shown : Bool} (h : Read-back g lex xs shown v) where

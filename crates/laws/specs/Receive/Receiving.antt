@@ -3,15 +3,15 @@ use mathlib.Core.Path.{_≡_, refl, sym, _∙_}
 use mathlib.Core.Bool.{Bool, true, false, cond}
 use mathlib.Core.List.{List}
 use mathlib.Core.Logic.{⊎-elim}
-use Prim.Native.Nat.{ℕ, _+_, _*_, _≤_, _<_}
+use Prim.Native.Nat.{ℕ, _*_, _≤_, _<_}
 use native.Mathlib.Omega.{arith}
 use lib.Dec.{ltb, eqb}
 use lib.ListN.{length, take}
 use lib.Seq.{length-take-le}
 use borrow.Author.Tests.{lt-ltb, le-ltb, eq-eqb, ne-eqb, eqb-true, eqb-false}
 use Rattle.basics.specs.Bools.{true-or-false, le-or-lt}
-use Rattle.basics.specs.Writing.{over}
-use Rattle.basics.specs.Placed.{placed, Wrote}
+use Rattle.basics.specs.Writing.{over, placed-over}
+use Rattle.basics.specs.Placed.{Wrote}
 use Rattle.spec.specs.declared.Answer.{Answer}
 use Rattle.spec.specs.Dictionary.{lexicon, dictionary-refusal}
 use Rattle.spec.specs.Index.{header, n-of, readable}
@@ -155,8 +155,8 @@ module _ (n : ℕ) (o : List ℕ) where
 
 -- a text that was written from index 0 on
 pub text-put : {text old now : List ℕ} {end : ℕ} → Wrote text 0 old end now → now ≡ in-front text old
-unfolding in-front placed
-text-put {text} h = let same : 0 + length text ≡ length text = omega arith in h .content ∙ rw same
+unfolding in-front
+text-put {text} {old} h = h .content ∙ placed-over text old
 
 -- a slice as long is the same once cleared
 pub zeros-alike : (w u : List ℕ) → length u ≡ length w → zeros u ≡ zeros w

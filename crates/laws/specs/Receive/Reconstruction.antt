@@ -18,7 +18,7 @@ use Rattle.models.specs.Entries.{flat}
 use Rattle.models.specs.Reception.{reconstruct}
 use Rattle.laws.specs.Text.Strings.{Stand}
 use Rattle.laws.specs.Text.Facts.{Good-lexicon, Lines-match}
-use Rattle.laws.specs.Numbers.Flat.{flat-long}
+use Rattle.laws.specs.Numbers.Flat.{flat-len}
 use Rattle.laws.specs.Readable.Recover.{length-recovered}
 use Rattle.laws.specs.Readable.IndexOf.{index-match}
 use Rattle.laws.specs.Receive.Received.{is-index-get, readable-chars}
@@ -128,4 +128,4 @@ module _ {lex : Lexicon} (good : Good-lexicon lex) (g : ℕ) (xs : List ℕ) (ta
           (e : Entry) × In e es × (e .at ≤ p) × (p < e .at + length (spells lex (e .key-of)))
       cover p lo hi =
           let (e, m, from, to) = match .cover p lo hi in
-          (e, same e .1 m, from, omega (arith, flat-long lex (lines-in xs) e m))
+          (e, same e .1 m, from, omega (arith, flat-len lex (lines-in xs) e m))

@@ -15,11 +15,12 @@ use Rattle.spec.specs.Index.{header, n-of, keys-of, kind-at, key-at, lines-in, 
 use Rattle.models.specs.Entries.{entries-at, flat}
 use Rattle.models.specs.WordStarts.{lengths-of, lexicon-at}
 use Rattle.models.specs.Reception.{reconstruct, fill-positions, reconstruct-positions}
+use Rattle.models.specs.Window.{line-of}
 use Rattle.laws.specs.Text.Facts.{Good-line, Rise}
 use Rattle.laws.specs.Dictionary.Keys.{spells-lone}
 use Rattle.laws.specs.Numbers.FlatOrder.{rise-least}
 use Rattle.laws.specs.Match.MatchTable.{Started}
-use Rattle.laws.specs.Numbers.DirectoryWalk.{line-of, Is-line}
+use Rattle.laws.specs.Numbers.DirectoryWalk.{Is-line}
 use Rattle.laws.specs.Directory.Tables.{Reads, Word-line, admitted-reads, line-is-good, key-is, line-word, line-spells}
 use Rattle.laws.specs.Receive.PositionWalk.{length-reconstruct-positions, reconstruct-character, Lie-within}
 use Rattle.laws.specs.Receive.EntriesMatch.{Stand-each}
@@ -30,7 +31,7 @@ use Rattle.laws.specs.Receive.LinePass.{line-positions, Passing, passing
 -- a readable index with its word starts, and a slice as long as its text
 pub record Reconstructs (cs ws xs text : List ℕ) : Type 0 where
   pub reads : Reads cs ws xs
-  pub long : length text ≡ n-of xs
+  pub len : length text ≡ n-of xs
 
 -- a readable index and an admitted dictionary, with its word starts
 module _ {cs ws : List ℕ} (started : Started cs ws) where
@@ -97,7 +98,7 @@ module _ {cs ws xs : List ℕ} (reads : Reads cs ws xs) {i kind value from to : 
 
     module _ {k : List ℕ} (e : k ≡ getD (lex .words) value []) where
       spelt : k ≡ spells lex (key-at xs i)
-      spelt = e ∙ ap (λ (v : ℕ). getD (lex .words) v []) (is .value-is) ∙ line-spells at
+      spelt = e ∙ ap (λ (v : ℕ). getD (lex .words) v []) (is .line .value-is) ∙ line-spells at
 
       pub word-reconstructs : {m : ℕ} → m ≡ n-of xs → Lie-within (length k) m positions
       word-reconstructs len = rw spelt (key-room len)
@@ -118,7 +119,7 @@ module _ {cs ws xs : List ℕ} (reads : Reads cs ws xs) {i kind value from to : 
     unfolding key
     spelt-lone =
         let one : kind-at xs i ≡ 1 = omega (arith, key-is (reads .can) i (is .below) .kind-small, lone) in
-        rw (is .value-is) (spells-lone lex (key-at xs i) one)
+        rw (is .line .value-is) (spells-lone lex (key-at xs i) one)
 
     pub lone-reconstructs : {m : ℕ} → m ≡ n-of xs → Lie-within 1 m positions
     lone-reconstructs len = rw spelt-lone at (key-room len)

@@ -13,20 +13,20 @@ front-put n w ys zs len e = take-at ys (drop n w) n len ∙ e
 
 -- and over the n after them
 module _ (n : ℕ) (w : List ℕ) (room : 2 * n ≤ length w) where
-  pub behind-long : length (take (2 * n - n) (drop n w)) ≡ n
-  behind-long =
+  pub behind-len : length (take (2 * n - n) (drop n w)) ≡ n
+  behind-len =
       length-take-le (2 * n - n) (drop n w) (omega (arith, length-drop n w)) ∙ omega arith
 
   module _ (ys : List ℕ) (len : length ys ≡ n) where
-    front-long : length (take n w) ≡ n
-    front-long = length-take-le n w (omega arith)
+    front-len : length (take n w) ≡ n
+    front-len = length-take-le n w (omega arith)
 
     pub behind-front : take n (take n w ++ (ys ++ drop (2 * n - n) (drop n w))) ≡ take n w
-    behind-front = take-at (take n w) (ys ++ drop (2 * n - n) (drop n w)) n front-long
+    behind-front = take-at (take n w) (ys ++ drop (2 * n - n) (drop n w)) n front-len
 
     pub behind-put : take n (drop n (take n w ++ (ys ++ drop (2 * n - n) (drop n w)))) ≡ ys
     behind-put =
-        rw (drop-at (take n w) (ys ++ drop (2 * n - n) (drop n w)) n front-long) (take-at ys (drop (2 * n - n) (drop n w)) n len)
+        rw (drop-at (take n w) (ys ++ drop (2 * n - n) (drop n w)) n front-len) (take-at ys (drop (2 * n - n) (drop n w)) n len)
 
 -- a slice of n numbers, cleared
 pub zeros-are : (n : ℕ) (xs : List ℕ) → length xs ≡ n → zeros xs ≡ replicate n 0

@@ -19,7 +19,7 @@ use Rattle.spec.specs.Theorems.{positions-from, positions}
 use Rattle.models.specs.Entries.{flat}
 use Rattle.laws.specs.Text.Strings.{Stand, stands-get, stands-put}
 use Rattle.laws.specs.Text.Facts.{All-stand, Lines-match}
-use Rattle.laws.specs.Numbers.Flat.{posting, flat-get, flat-put, flat-long}
+use Rattle.laws.specs.Numbers.Flat.{posting, flat-get, flat-put, flat-len}
 use Rattle.laws.specs.Readable.Recover.{lies-on-get, lies-on-put}
 use Rattle.laws.specs.Search.Agree.{Agree, agrees-get, agrees-put}
 
@@ -155,7 +155,7 @@ module _ {lex : Lexicon} {ls : List Line} {ts s : List ℕ} (o : Occurrences-cov
             equal =
                 λ x l h.
                 let e = covered-get lex ls s p x (found-at-get lex ls s p t x l h) in
-                let len = flat-long lex ls (e .0) (e .1 .among) in
+                let len = flat-len lex ls (e .0) (e .1 .among) in
                 e .1 .agree .equal x l h (e .1 .from) (omega arith)
                 ∙ o .all (e .0) (e .1 .among) .equal x (e .1 .from) (omega arith);
           }
@@ -163,7 +163,7 @@ module _ {lex : Lexicon} {ls : List Line} {ts s : List ℕ} (o : Occurrences-cov
       covered-at : Stand s ts p → (x : ℕ) → p ≤ x → x < p + length s → covered lex ls s p x ≡ true
       covered-at st x l h =
           let over = o .cover p st x l h in
-          let len = flat-long lex ls (over .0) (over .1) in
+          let len = flat-len lex ls (over .0) (over .1) in
           covered-put lex ls s p x
           (record {
             among = over .1;

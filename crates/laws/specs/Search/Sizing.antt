@@ -22,11 +22,11 @@ pub record Is-string (s : List ℕ) : Type 0 where
 
 -- the replaced string is at the start of an array of the callee's own
 module _ (s own : List ℕ) (is : take (length s) own ≡ replaced s) where
-  pub own-long : length s ≡ length (take (length s) own)
-  own-long = sym (ap length is ∙ length-replaced s)
+  pub own-len : length s ≡ length (take (length s) own)
+  own-len = sym (ap length is ∙ length-replaced s)
 
   pub own-string : Is-string s → Is-string (take (length s) own)
-  own-string string = record { some = omega (arith, own-long); short = omega (arith, own-long) }
+  own-string string = record { some = omega (arith, own-len); short = omega (arith, own-len) }
 
 -- 8 if the output is too short for the result, else the result at its start
 pub record Sized (ys : List ℕ) (r : Answer) (o z : List ℕ) : Type 0 where

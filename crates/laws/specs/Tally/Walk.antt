@@ -12,37 +12,24 @@ use lib.ListN.{length, getD, set, replicate, take, drop, length-drop, length-set
 use lib.Seq.{length-take-le, getD-set-same, getD-set-other, ext-getD}
 use borrow.Author.Tests.{eq-eqb, ne-eqb, eqb-true, eqb-false}
 use Rattle.basics.specs.Bools.{true-or-false}
-use Rattle.basics.specs.Member.{In}
 use Rattle.spec.specs.Dictionary.{Lexicon}
 use Rattle.spec.specs.Words.{spells}
 use Rattle.spec.specs.Numbers.{Line, line}
 use Rattle.spec.specs.Index.{greatest-number, header, keys-of, count-at, key-at, counts-from, entries-of, lines-from, lines-in, readable}
 use Rattle.spec.specs.Tally.{of-length, tally-from, tally}
 use Rattle.models.specs.Tally.{counted, added}
+use Rattle.models.specs.Window.{line-of}
 use Rattle.laws.specs.Text.Facts.{Is-key}
+use Rattle.laws.specs.Numbers.LineNumbers.{line-of-in}
 use Rattle.laws.specs.Readable.Readable.{readable-get}
 use Rattle.laws.specs.Readable.LineWalk.{readable-fits}
 
 -- THE LINES OF A READABLE INDEX
 
-lines-in-at :
-    (k i j : ℕ) (xs ps : List ℕ) → j < k →
-    (ps' : List ℕ) × In (line (key-at xs (i + j)) ps') (lines-from k i xs ps)
-unfolding lines-from
-lines-in-at zero i j xs ps h = absurd (omega arith)
-lines-in-at (suc k) i zero xs ps h = let z : i + 0 ≡ i = omega arith in (take (count-at xs i) ps, inl (rw z))
-lines-in-at (suc k) i (suc j) xs ps h =
-    let z : i + suc j ≡ suc i + j = omega arith in
-    let later = lines-in-at k (suc i) j xs (drop (count-at xs i) ps) (omega arith) in
-    (later .0, inr (rw z (later .1)))
-
 -- the key of each line is a key of the lexicon
 pub line-key : (g : ℕ) (lex : Lexicon) (xs : List ℕ) → readable g lex xs ≡ true → (i : ℕ) → i < keys-of xs → Is-key lex (key-at xs i)
-unfolding lines-in line
-line-key g lex xs t i below =
-    let z : 0 + i ≡ i = omega arith in
-    let at = lines-in-at (keys-of xs) 0 i xs (drop (header + 3 * keys-of xs) xs) below in
-    rw z at (readable-get g lex xs t .lines .each (line (key-at xs (0 + i)) (at .0)) (at .1) .is-key)
+unfolding line
+line-key g lex xs t i below = readable-get g lex xs t .lines .each (line-of xs i) (line-of-in xs i below) .is-key
 
 -- THE COUNTS
 

@@ -22,7 +22,7 @@ use Rattle.models.specs.Window.{found-in}
 use Rattle.models.specs.Reception.{reconstruct, reconstructed-over}
 use Rattle.laws.specs.Text.Strings.{Stand}
 use Rattle.laws.specs.Text.Facts.{All-stand}
-use Rattle.laws.specs.Numbers.Flat.{flat-long}
+use Rattle.laws.specs.Numbers.Flat.{flat-len}
 use Rattle.laws.specs.Search.Search.{Occurrences-covered, all-stand-found}
 use Rattle.laws.specs.Search.Sizing.{Sized}
 use Rattle.laws.specs.Window.Searching.{Window-says}
@@ -43,8 +43,8 @@ Finds lex xs s rs = found-in (length s) 1 rs ≡ found-from (length rs) 1 lex (l
 
 module _ {lex : Lexicon} {ls : List Line} {n g : ℕ} {ts : List ℕ} {t : Bool} (text : Checked lex ls n g ts t) (yes : t ≡ true) (s : List ℕ)
     (absent : In g s → ⊥) where
-  text-long : length ts ≡ n
-  text-long = ap length (text .is) ∙ length-reconstructed lex ls n g
+  text-len : length ts ≡ n
+  text-len = ap length (text .is) ∙ length-reconstructed lex ls n g
 
   -- where the string stands, no position has the sentinel
   reconstructed-covers : Occurrences-covered lex ls ts s
@@ -60,7 +60,7 @@ module _ {lex : Lexicon} {ls : List Line} {n g : ℕ} {ts : List ℕ} {t : Bool}
               ⊎ ((e : Entry) × In e (flat lex ls) × (e .at - 1 ≤ x - 1) × (x - 1 < e .at - 1 + length (spells lex (e .key-of)))) →
               (e : Entry) × In e (flat lex ls) × (e .at ≤ x) × (x < e .at + e .len)
           by-position (inl bare) =
-              let within : x - 1 < n = omega (arith, text-long) in
+              let within : x - 1 < n = omega (arith, text-len) in
               let here = ap (λ (us : List ℕ). getD us (x - 1) 0) (text .is) in
               absurd
               (absent-at s g absent (x - p) (omega arith)
@@ -70,19 +70,19 @@ module _ {lex : Lexicon} {ls : List Line} {n g : ℕ} {ts : List ℕ} {t : Bool}
                 on .0,
                 on .1,
                 omega arith,
-                omega (arith, flat-long lex ls (on .0) (on .1)),
+                omega (arith, flat-len lex ls (on .0) (on .1)),
               )
 
   -- If every entry stands in the reconstructed text, the string is found exactly where it stands there.
   pub reconstructed-found : (k : ℕ) → k ≤ suc n - length s → found-from k 1 lex ls s ≡ those-from k 1 (stands s ts)
-  reconstructed-found k few = all-stand-found reconstructed-covers k (omega (arith, text-long))
+  reconstructed-found k few = all-stand-found reconstructed-covers k (omega (arith, text-len))
 
   -- So its prefix lengths there find what the lines have.
   pub reconstructed-finds :
       (rs : List ℕ) → length rs + length s ≤ suc n → Prefix-lengths s ts rs →
       found-in (length s) 1 rs ≡ found-from (length rs) 1 lex ls s
   reconstructed-finds rs room told =
-      found-prefixes s ts rs (omega (arith, room, text-long)) told ∙ sym (reconstructed-found (length rs) (omega arith))
+      found-prefixes s ts rs (omega (arith, room, text-len)) told ∙ sym (reconstructed-found (length rs) (omega arith))
 
 -- A text of n characters filled with the sentinel and written over is the reconstruction over the sentinel.
 pub reconstructed-sentinel :

@@ -14,8 +14,8 @@ use Rattle.spec.specs.Words.{spells}
 use Rattle.spec.specs.Numbers.{Line, line}
 use Rattle.spec.specs.Index.{keys-of, key-at, lines-in}
 use Rattle.spec.specs.Search.{agrees}
-use Rattle.models.specs.Window.{key-all, back-all, leading-all, offset-all, run-from, run, positions-at, offset-at, leading-at}
-use Rattle.laws.specs.Numbers.DirectoryWalk.{line-of, lines-next, lines-none}
+use Rattle.models.specs.Window.{key-all, back-all, leading-all, offset-all, run-from, run, positions-at, offset-at, leading-at, line-of}
+use Rattle.laws.specs.Numbers.DirectoryWalk.{lines-next, lines-none}
 use Rattle.laws.specs.Window.Window.{Within, Reaches, Progress, progress-start, progress-step, progress-end}
 use Rattle.laws.specs.Window.WindowSearch.{key-apart, back-none, back-next, first-none, leading-next, offset-none, offset-next}
 

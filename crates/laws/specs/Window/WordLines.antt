@@ -17,7 +17,7 @@ use Rattle.models.specs.WordStarts.{lengths-of, lexicon-at}
 use Rattle.laws.specs.Search.Agree.{Agree, agrees-get}
 use Rattle.laws.specs.Search.AgreeWalk.{together}
 use Rattle.laws.specs.Match.PrefixRanges.{prefix-not-before, next-rises}
-use Rattle.laws.specs.Dictionary.WordStarts.{starts-long}
+use Rattle.laws.specs.Dictionary.WordStarts.{starts-len}
 use Rattle.laws.specs.Directory.Tables.{Can-read, Reads, Word-line, line-room, line-word, line-end, line-char, key-short, key-some}
 use Rattle.basics.specs.LowerBound.{Rising, Lower-bound, rising-part}
 use Rattle.laws.specs.Window.LineRanges.{Split, split-line, word-lines-rise}
@@ -153,7 +153,7 @@ module _
           reads =
               λ i a b. (
                 line-room can i (shared-line i a b),
-                omega (arith, shared-word i a b, starts-long (reads .words)),
+                omega (arith, shared-word i a b, starts-len (reads .words)),
                 omega (arith, room i a b, longer i a b),
               );
         }

@@ -5,7 +5,7 @@ use native.Mathlib.Omega.{arith}
 use lib.ListN.{length, getD}
 use borrow.Author.Needs.{needs}
 use Rattle.models.specs.Window.{agrees-leading}
-use Rattle.laws.specs.Dictionary.WordStarts.{starts-long}
+use Rattle.laws.specs.Dictionary.WordStarts.{starts-len}
 use Rattle.laws.specs.Directory.Tables.{line-word, line-end, key-some, spelt-short}
 use Rattle.laws.specs.Window.LeadingLines.{line-lacks}
 use Rattle.agreement.proofs.leading.line_leads.Statement.{statement}
@@ -20,7 +20,7 @@ value c = c .before .before
 shared-slice-read-start : tie.Need-shared-slice-read-start
 shared-slice-read-start c =
     let s = start (c .before) in
-    omega (arith, line-word (s .pre .0), starts-long (s .pre .0 .reads .words))
+    omega (arith, line-word (s .pre .0), starts-len (s .pre .0 .reads .words))
 
 -- the word has a character, and ends within the dictionary's
 word-ends :

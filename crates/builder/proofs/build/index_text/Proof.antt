@@ -6,7 +6,7 @@ use lib.ListN.{length, replicate}
 use borrow.Author.Needs.{needs}
 use Rattle.spec.specs.Dictionary.{longest-text, admitted}
 use Rattle.laws.specs.Dictionary.Lexicon.{Is-admitted, admitted-get}
-use Rattle.laws.specs.Dictionary.WordStarts.{filled-long, filled-lengths}
+use Rattle.laws.specs.Dictionary.WordStarts.{filled-len, filled-lengths}
 use Rattle.laws.specs.Build.Building.{reached, reached-admitted}
 use Rattle.builder.proofs.build.index_text.Statement.{statement}
 use Rattle.builder.proofs.build.index_text.Tie as tie
@@ -35,9 +35,9 @@ fill-match-table-requires c κs =
     let h = facts (slices c) in
     record {
       dictionary = accepted (slices c);
-      starts-long = omega (arith, h .few);
+      starts-len = omega (arith, h .few);
       heads-clear = refl;
-      links-long = omega (arith, h .few);
+      links-len = omega (arith, h .few);
     }
 
 array-share-prefix-word-starts : tie.Need-array-share-prefix-word-starts
@@ -48,7 +48,7 @@ array-share-prefix-word-starts c =
 slice-aggregate-index-with : tie.Need-slice-aggregate-index-with
 slice-aggregate-index-with c =
     let made = filled (c .before) in
-    filled-long (start (slices (made .before)) .args .lengths .now) (replicate 4097 0) (made .fill-match-table .ensures .0)
+    filled-len (start (slices (made .before)) .args .lengths .now) (replicate 4097 0) (made .fill-match-table .ensures .0)
 
 index-with-requires : tie.Need-index-with-requires
 index-with-requires c κs =

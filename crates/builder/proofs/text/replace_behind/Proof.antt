@@ -5,7 +5,7 @@ use lib.ListN.{length, take, drop}
 use borrow.Author.Needs.{needs}
 use Rattle.spec.specs.Replaced.{replaced}
 use Rattle.laws.specs.Text.WidthFolding.{length-replaced}
-use Rattle.laws.specs.Receive.WorkParts.{behind-long, behind-put, front-whole}
+use Rattle.laws.specs.Receive.WorkParts.{behind-len, behind-put, front-whole}
 use Rattle.builder.proofs.text.replace_behind.Statement.{statement}
 use Rattle.builder.proofs.text.replace_behind.Tie as tie
 
@@ -18,7 +18,7 @@ returns c =
     let n = length text in
     let call = put .replace-as-numbers in
     let part = call .last .1 .0 in
-    let len : length (take (2 * n - n) (drop n work)) ≡ n = behind-long n work (start .pre) in
+    let len : length (take (2 * n - n) (drop n work)) ≡ n = behind-len n work (start .pre) in
     behind-put n work (start .pre) part (call .kept .1 .0 ∙ len)
     ∙ call .ensures
     ∙ front-whole (replaced text) (take (2 * n - n) (drop n work)) (len ∙ sym (length-replaced text))

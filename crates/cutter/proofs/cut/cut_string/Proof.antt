@@ -2,8 +2,8 @@
 -- on has the dictionary's lengths. Assumes nothing.
 use borrow.Author.Needs.{needs}
 use lib.ListN.{replicate}
-use Rattle.laws.specs.Directory.Tables.{front-long, front-lengths, front-reads}
-use Rattle.laws.specs.Search.Sizing.{own-long, own-string}
+use Rattle.laws.specs.Directory.Tables.{front-len, front-lengths, front-reads}
+use Rattle.laws.specs.Search.Sizing.{own-len, own-string}
 use Rattle.cutter.proofs.cut.cut_string.Statement.{statement}
 use Rattle.cutter.proofs.cut.cut_string.Tie as tie
 
@@ -13,7 +13,7 @@ start c = c .before .before .before .before .before
 slice-aggregate-cut-lines : tie.Need-slice-aggregate-cut-lines
 slice-aggregate-cut-lines c =
     let s = start (c .before .before .before .before .before) in
-    front-long (s .pre .can) (replicate 4097 0) (c .before .before .fill-word-starts .ensures)
+    front-len (s .pre .can) (replicate 4097 0) (c .before .before .fill-word-starts .ensures)
 
 cut-lines-requires : tie.Need-cut-lines-requires
 cut-lines-requires c κs =
@@ -38,5 +38,5 @@ cut-string-spec =
     tie.close
     (tie.spec
     (λ c κs. search needs) (λ c. search needs) (λ c κs. search needs) (λ c. search needs) (λ c. search needs) slice-aggregate-cut-lines
-    (λ c. search needs) (λ c. own-long _ _ (c .before .before .before .before .before .replaced-string .ensures)) cut-lines-requires
+    (λ c. search needs) (λ c. own-len _ _ (c .before .before .before .before .before .replaced-string .ensures)) cut-lines-requires
     (λ c. search needs) returns)

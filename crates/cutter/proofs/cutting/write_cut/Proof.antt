@@ -3,7 +3,7 @@ use native.Mathlib.Omega.{arith}
 use borrow.Author.Needs.{needs}
 use Rattle.basics.specs.Writing.{lent-room}
 use Rattle.models.specs.WordStarts.{lexicon-at}
-use Rattle.laws.specs.Cut.Cutting.{cut-long, Cut-listed, cut-directory-room, cut-listed, cut-written}
+use Rattle.laws.specs.Cut.Cutting.{cut-len, Cut-listed, cut-directory-room, cut-listed, cut-written}
 use Rattle.cutter.proofs.cutting.write_cut.Statement.{statement}
 use Rattle.cutter.proofs.cutting.write_cut.Tie as tie
 
@@ -19,19 +19,19 @@ listed c =
     let directory = c .before .before .before in
     let head = directory .before .before .before .before in
     let s = start (head .before .before .before .before) in
-    cut-listed (s .pre) (head .before .text-len .ensures .0) (head .write-header .ensures)
+    cut-listed (s .pre) (head .before .text-len .ensures .0) (head .write-header .ensures _ (s .pre .size .counts))
     (directory .write-directory .ensures) (c .line-start .ensures)
 
 write-header-requires : tie.Need-write-header-requires
 write-header-requires c κs =
-    let long = cut-long (start (c .before .before .before) .pre .size) in (omega arith, omega arith, omega arith)
+    let len = cut-len (start (c .before .before .before) .pre .size) in (omega arith, omega arith, omega arith)
 
 write-directory-requires : tie.Need-write-directory-requires
 write-directory-requires c κs =
     let head = c .before .before .before in
     let s = start (head .before .before .before .before) in (
       s .pre .lines,
-      cut-directory-room (s .pre) (head .before .text-len .ensures .0) (head .write-header .ensures),
+      cut-directory-room (s .pre) (head .before .text-len .ensures .0) (head .write-header .ensures _ (s .pre .size .counts)),
     )
 
 write-positions-requires : tie.Need-write-positions-requires

@@ -9,7 +9,7 @@ use Rattle.spec.specs.Index.{header, keys-of}
 use Rattle.spec.specs.Gaps.{gaps, prefix-sums, with-lists}
 use Rattle.models.specs.Gaps.{write-as}
 use Rattle.laws.specs.Gaps.GapLists.{length-gaps, length-sums}
-use Rattle.laws.specs.Gaps.GapParts.{Writable, front-long, part-long, form-written}
+use Rattle.laws.specs.Gaps.GapParts.{Writable, front-len, part-len, form-written}
 use Rattle.gaps.proofs.form.write_form.Statement.{statement}
 use Rattle.gaps.proofs.form.write_form.Tie as tie
 
@@ -19,7 +19,7 @@ first-is c = omega arith
 front :
     (c : tie.After-line-start) →
     c .line-start .result ≡ length (take (c .line-start .result) (c .before .before .before .before .args .index .now))
-front c = front-long (c .before .before .before .before .pre .0 .fits) (first-is c)
+front c = front-len (c .before .before .before .before .pre .0 .fits) (first-is c)
 
 write-positions-requires : tie.Need-write-positions-requires
 write-positions-requires c κs =
@@ -29,7 +29,7 @@ write-positions-requires c κs =
     let can = subst (λ (b : Bool). Writable b (s .args .index .now)) (c .before .if1 .taken) (s .pre .0) in (
       can,
       first-is l,
-      part-long {old = s .args .form .now}
+      part-len {old = s .args .form .now}
           (record { fits = can .fits; is = first-is l; even = s .pre .1; copied = copy .write-list .ensures }),
     )
 
@@ -41,7 +41,7 @@ write-gaps-requires c κs =
     let can = subst (λ (b : Bool). Writable b (s .args .index .now)) (c .before .if1 .left) (s .pre .0) in (
       can,
       first-is l,
-      part-long {old = s .args .form .now}
+      part-len {old = s .args .form .now}
           (record { fits = can .fits; is = first-is l; even = s .pre .1; copied = copy .write-list .ensures }),
     )
 

@@ -1,7 +1,7 @@
 -- `write_gaps` meets its contract: the distances of all positions as one list, then the first number of each list. Assumes nothing.
 use mathlib.Core.Path.{_∙_}
 use native.Mathlib.Omega.{arith}
-use Rattle.laws.specs.Gaps.GapParts.{run-long, distances-ready, gaps-written}
+use Rattle.laws.specs.Gaps.GapParts.{run-len, distances-ready, gaps-written}
 use borrow.Author.Needs.{needs}
 use Rattle.gaps.proofs.writing.write_gaps.Statement.{statement}
 use Rattle.gaps.proofs.writing.write_gaps.Tie as tie
@@ -9,7 +9,7 @@ use Rattle.gaps.proofs.writing.write_gaps.Tie as tie
 write-distances-requires : tie.Need-write-distances-requires
 write-distances-requires c κs =
     let start = c .before .before .before .before in
-    omega (arith, run-long (start .pre .0 .fits) (start .args .first) (start .pre .1))
+    omega (arith, run-len (start .pre .0 .fits) (start .args .first) (start .pre .1))
 
 put-firsts-requires : tie.Need-put-firsts-requires
 put-firsts-requires c κs =

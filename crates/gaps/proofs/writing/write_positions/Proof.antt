@@ -5,7 +5,7 @@ use mathlib.Core.List.{List}
 use Prim.Native.Nat.{ℕ, _≤_}
 use lib.ListN.{getD}
 use Rattle.models.specs.Gaps.{carry}
-use Rattle.laws.specs.Gaps.GapParts.{masks-ready, masks-long, sums-written}
+use Rattle.laws.specs.Gaps.GapParts.{masks-ready, masks-len, sums-written}
 use borrow.Author.Needs.{needs}
 use Rattle.gaps.proofs.writing.write_positions.Statement.{statement}
 use Rattle.gaps.proofs.writing.write_positions.Tie as tie
@@ -28,7 +28,7 @@ add-up-requires c κs =
     let can = start .pre .0 in
     let masked = put .put-firsts .ensures in
     let sums = sums-written (can .fits) (start .args .first) (start .pre .1) (can .totals refl) _ masked in (
-      masks-long (can .fits) (start .args .first) (start .pre .1) (can .totals refl) _ masked,
+      masks-len (can .fits) (start .args .first) (start .pre .1) (can .totals refl) _ masked,
       λ j. subst (λ (l : List ℕ). getD l j 0 ≤ carry) (sym sums) (can .sums refl j),
     )
 

@@ -5,7 +5,7 @@ use Prim.Native.Nat.{_-_}
 use native.Mathlib.Omega.{arith}
 use lib.ListN.{length}
 use Rattle.basics.specs.Chain.{chain}
-use Rattle.basics.specs.Copying.{Copying, copy-start, Copy-in-hand, copy-member, copy-end-at, copy-end}
+use Rattle.basics.specs.Copying.{Copying, copy-start, Copy-in-hand, copy-member, copy-end}
 use Rattle.inversion.proofs.write.write_chain.Statement.{statement}
 use Rattle.inversion.proofs.write.write_chain.Tie as tie
 
@@ -28,10 +28,7 @@ loop-holds : tie.Need-loop-holds Inv-loop μ-loop
 loop-holds c = copy-start (c .args .part .now) (c .args .at) (c .pre .0) (c .pre .1)
 
 returns : tie.Need-returns Inv-loop μ-loop
-returns c = (
-  copy-end-at (c .before .loop .inv) (c .loop-test .left),
-  copy-end (c .before .loop .inv) (c .loop-test .left),
-)
+returns c = copy-end (c .before .loop .inv) (c .loop-test .left)
 
 pub write-chain-spec : {M : Type 1} → statement M
 write-chain-spec =

@@ -1,15 +1,12 @@
 -- `write_directory` meets its contract. The invariant: the lines of the codes before `code` are written. The measure is how many
 -- codes are left. Assumes nothing.
-use mathlib.Core.Path.{_≡_}
-use mathlib.Core.List.{_++_}
 use Prim.Native.Nat.{_-_, _+_, _*_, _≤_}
 use native.Mathlib.Omega.{arith}
-use lib.ListN.{length, getD, take}
+use lib.ListN.{length, getD}
 use Rattle.basics.specs.Chain.{chain, chain-short}
 use Rattle.spec.specs.Index.{header}
 use Rattle.spec.specs.Numbers.{line, directory}
 use Rattle.models.specs.Inversion.{code-key}
-use Rattle.laws.specs.Build.PostingChains.{lines-at}
 use Rattle.laws.specs.Build.CodeWalk.{Listing, line-numbers-three, line-numbers-are, directory-by-line, listing-start, listing-room}
 use Rattle.laws.specs.Build.CodeWalk.{listing-step, listing-end}
 use Rattle.inversion.proofs.write.write_directory.Statement.{statement}
@@ -17,7 +14,7 @@ use Rattle.inversion.proofs.write.write_directory.Tie as tie
 
 abbrev Inv-loop : tie.InvT-loop
 Inv-loop heads pages links output₀ line₀ code₀ output line code =
-    Listing directory heads links (take header output₀ ++ directory (lines-at heads links 0)) output₀ output code (header + 3 * line)
+    Listing directory heads links header output₀ output code (header + 3 * line)
 
 abbrev μ-loop : tie.MeasureT-loop
 μ-loop heads pages links output₀ line₀ code₀ output line code = length heads - code
@@ -65,14 +62,12 @@ loop-again c =
     let l = turn (c .before .before) .before .loop in
     let count = c .before .before .before .before .before .chain-length in
     let written = c .before .before .before .put-line in
-    let at : header + 3 * (l .line + 1) ≡ header + 3 * l .line + 3 = omega arith in
-    rw at
-    (listing-step directory-by-line (l .inv) (s .pre .0 .threads) (turn (c .before .before) .loop-test .taken) (c .next-code2 .ensures)
+    listing-step directory-by-line (l .inv) (s .pre .0 .threads) (turn (c .before .before) .loop-test .taken) (c .next-code2 .ensures)
     (line-numbers-are (l .code) (count .result) (chain (s .args .links .now) (getD (s .args .heads .now) (l .code) 0)) (count .ensures))
-    (written .ensures))
+    (record { ends = omega arith; content = written .ensures })
 
 returns : tie.Need-returns Inv-loop μ-loop
-returns c = listing-end directory-by-line (c .before .loop .inv) (c .loop-test .left)
+returns c = listing-end directory-by-line (c .before .loop .inv) (c .loop-test .left) .content
 
 pub write-directory-spec : {M : Type 1} → statement M
 write-directory-spec =

@@ -1,10 +1,10 @@
 -- `write_index` meets its contract: header, directory and positions, one after the other. Assumes nothing.
-use mathlib.Core.Path.{ap}
 use mathlib.Core.List.{List}
 use native.Mathlib.Omega.{arith}
 use borrow.Author.Needs.{needs}
-use lib.ListN.{length, length-drop}
-use Rattle.basics.specs.Writing.{Writing, lent-tail-is, tail-written}
+use lib.ListN.{length}
+use Rattle.basics.specs.Placed.{Writing}
+use Rattle.basics.specs.Writing.{lent-room, tail-written}
 use Rattle.spec.specs.Numbers.{Line, all-positions, numbers}
 use Rattle.laws.specs.Build.PostingChains.{lines-at}
 use Rattle.laws.specs.Build.IndexWriting.{room-is, directory-room, directory-written}
@@ -23,14 +23,14 @@ lines s = lines-at (s .args .heads .now) (s .args .links .now) 0
 -- header and directory are written
 written :
     (c : tie.After-line-start) → let s = start (headed (c .before .before) .before) in
-    Writing (numbers (length (s .args .links .now)) (lines s)) (s .args .output .now)
-    (c .before .before .before .write-directory .last .1 .1 .1 .0) (all-positions (lines s)) (c .line-start .result)
+    Writing (numbers (length (s .args .links .now)) (lines s)) 0 (s .args .output .now) (all-positions (lines s)) (c .line-start .result)
+    (c .before .before .before .write-directory .last .1 .1 .1 .0)
 written c =
     let s = start (headed (c .before .before) .before) in
     let a = s .args in
     rw (c .line-start .ensures)
     (directory-written (length (a .links .now)) (s .pre .1 .0) (a .output .now) (s .pre .1 .1)
-    (headed (c .before .before) .write-header .ensures) (c .before .before .before .write-directory .ensures))
+    (headed (c .before .before) .write-header .ensures (lines s) (s .pre .1 .0)) (c .before .before .before .write-directory .ensures))
 
 write-header-requires : tie.Need-write-header-requires
 write-header-requires c κs =
@@ -47,17 +47,11 @@ write-directory-requires c κs =
     let a = s .args in (
       s .pre .0,
       directory-room (length (a .links .now)) (s .pre .1 .0) (a .output .now) (s .pre .1 .1)
-          (c .before .before .before .write-header .ensures),
+          (c .before .before .before .write-header .ensures (lines s) (s .pre .1 .0)),
     )
 
 write-positions-requires : tie.Need-write-positions-requires
-write-positions-requires c κs =
-    let w = written (c .before) in
-    let at = c .before .line-start .result in
-    let now = c .before .before .before .before .write-directory .last .1 .1 .1 .0 in (
-      start (headed (c .before .before .before) .before) .pre .0,
-      omega (arith, ap length (lent-tail-is at now), length-drop at now),
-    )
+write-positions-requires c κs = (start (headed (c .before .before .before) .before) .pre .0, lent-room (written (c .before)))
 
 pub write-index-spec : {M : Type 1} → statement M
 write-index-spec =
@@ -66,4 +60,4 @@ write-index-spec =
     write-header-requires write-directory-requires (λ c κs. search needs) (λ c. search needs)
     (λ c. let w = written c in omega arith) (λ c. let w = written c in omega arith) (λ c. search needs) write-positions-requires
     (λ c. search needs)
-    (λ c. tail-written _ (written (c .before .before .before .before)) (c .before .before .write-positions .ensures)))
+    (λ c. tail-written (written (c .before .before .before .before)) (c .before .before .write-positions .ensures)))

@@ -1,20 +1,19 @@
 -- `write_positions` meets its contract. The invariant: the positions of the codes before `code` are written. The measure is how many
 -- codes are left. Assumes nothing.
-use mathlib.Core.Path.{ap}
+use mathlib.Core.Path.{ap, _∙_}
 use Prim.Native.Nat.{_-_, _+_, _≤_}
 use native.Mathlib.Omega.{arith}
 use lib.ListN.{length, getD}
 use Rattle.basics.specs.Chain.{chain}
+use Rattle.basics.specs.Writing.{placed-over}
 use Rattle.spec.specs.Numbers.{all-positions}
-use Rattle.laws.specs.Build.PostingChains.{lines-at}
 use Rattle.laws.specs.Build.CodeWalk.{Listing, line-positions-are, positions-by-line, listing-start, listing-room, listing-step}
 use Rattle.laws.specs.Build.CodeWalk.{listing-end}
 use Rattle.inversion.proofs.write.write_positions.Statement.{statement}
 use Rattle.inversion.proofs.write.write_positions.Tie as tie
 
 abbrev Inv-loop : tie.InvT-loop
-Inv-loop heads pages links part₀ here₀ code₀ part here code = Listing all-positions heads links
-    (all-positions (lines-at heads links 0)) part₀ part code here
+Inv-loop heads pages links part₀ here₀ code₀ part here code = Listing all-positions heads links 0 part₀ part code here
 
 abbrev μ-loop : tie.MeasureT-loop
 μ-loop heads pages links part₀ here₀ code₀ part here code = length heads - code
@@ -54,12 +53,11 @@ loop-again c =
     let s = start (turn (c .before) .before .before) in
     let l = turn (c .before) .before .loop in
     let written = c .before .before .before .write-chain in
-    rw (written .ensures .0)
-    (listing-step positions-by-line (l .inv) (s .pre .0 .threads) (turn (c .before) .loop-test .taken) (c .next-code2 .ensures)
-    (line-positions-are (l .code) (chain (s .args .links .now) (getD (s .args .heads .now) (l .code) 0))) (written .ensures .1))
+    listing-step positions-by-line (l .inv) (s .pre .0 .threads) (turn (c .before) .loop-test .taken) (c .next-code2 .ensures)
+    (line-positions-are (l .code) (chain (s .args .links .now) (getD (s .args .heads .now) (l .code) 0))) (written .ensures)
 
 returns : tie.Need-returns Inv-loop μ-loop
-returns c = listing-end positions-by-line (c .before .loop .inv) (c .loop-test .left)
+returns c = listing-end positions-by-line (c .before .loop .inv) (c .loop-test .left) .content ∙ placed-over _ _
 
 pub write-positions-spec : {M : Type 1} → statement M
 write-positions-spec =

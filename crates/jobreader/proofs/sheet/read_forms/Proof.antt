@@ -4,7 +4,7 @@ use mathlib.Core.Path.{_≡_}
 use Prim.Native.Nat.{_-_, _≤_}
 use native.Mathlib.Omega.{arith}
 use lib.ListN.{length}
-use Rattle.laws.specs.JobSheet.SheetReading.{Forms-read, forms-start, forms-end, forms-step, line-long, line-good, string-short}
+use Rattle.laws.specs.JobSheet.SheetReading.{Forms-read, forms-start, forms-end, forms-step, line-len, line-good, string-short}
 use Rattle.laws.specs.JobSheet.SheetReading.{string-fits, length-fits}
 use Rattle.jobreader.proofs.sheet.read_forms.Statement.{statement}
 use Rattle.jobreader.proofs.sheet.read_forms.Tie as tie
@@ -32,7 +32,7 @@ loop-holds c = (
 
 put-string-requires : tie.Need-put-string-requires Inv-loop μ-loop
 put-string-requires c κs = (
-  omega (arith, line-long (c .before .before .before .loop .inv .2) (c .before .before .loop-test .taken)),
+  omega (arith, line-len (c .before .before .before .loop .inv .2) (c .before .before .loop-test .taken)),
   line-good (c .before .before .before .loop .inv .2) (c .before .before .loop-test .taken),
   string-fits (c .before .before .before .loop .inv .2) (c .before .before .loop-test .taken),
 )

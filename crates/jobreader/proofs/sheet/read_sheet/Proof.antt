@@ -3,7 +3,7 @@ use mathlib.Core.Path.{refl}
 use native.Mathlib.Omega.{arith}
 use borrow.Author.Needs.{needs}
 use Rattle.spec.specs.JobSheet.{word-head, text-head, find-head}
-use Rattle.laws.specs.JobSheet.WholeSheet.{Words-read, Texts-read, Finds-read, stage-start, stage-room, chars-long, lengths-long}
+use Rattle.laws.specs.JobSheet.WholeSheet.{Words-read, Texts-read, Finds-read, stage-start, stage-room, chars-len, lengths-len}
 use Rattle.laws.specs.JobSheet.WholeSheet.{words-read, texts-read, finds-read, words-used, words-count, texts-used, texts-count}
 use Rattle.laws.specs.JobSheet.WholeSheet.{finds-count, sheet-read}
 use Rattle.jobreader.proofs.sheet.read_sheet.Statement.{statement}
@@ -84,5 +84,5 @@ read-sheet-spec =
     tie.close
     (tie.spec
     (λ c. search needs) read-forms-requires (λ c. search needs) read-forms-requires-2 (λ c. search needs) read-forms-requires-3 sub-text
-    sub-found sub-one-text (λ c. chars-long (after-finds (all-done (c .before .before .before))))
-    (λ c. lengths-long (after-finds (all-done (c .before .before .before)))) returns)
+    sub-found sub-one-text (λ c. chars-len (after-finds (all-done (c .before .before .before))))
+    (λ c. lengths-len (after-finds (all-done (c .before .before .before)))) returns)

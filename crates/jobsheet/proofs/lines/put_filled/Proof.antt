@@ -7,7 +7,7 @@ use Rattle.basics.specs.Placed.{Writing, writing-last}
 use Rattle.spec.specs.Dictionary.{lexicon, words-from}
 use Rattle.spec.specs.JobAnswer.{found-lines}
 use Rattle.models.specs.JobSheet.{shown}
-use Rattle.laws.specs.Directory.Tables.{front-long, front-lengths, front-reads}
+use Rattle.laws.specs.Directory.Tables.{front-len, front-lengths, front-reads}
 use Rattle.laws.specs.JobSheet.AcceptedCalls.{usable-fits}
 use Rattle.laws.specs.JobSheet.JobAnswering.{index-lines-fit, then-finds}
 use Rattle.jobsheet.proofs.lines.put_filled.Statement.{statement}
@@ -47,7 +47,7 @@ at-finds c =
 slice-aggregate-put-finds : tie.Need-slice-aggregate-put-finds
 slice-aggregate-put-finds c =
     let f = filled (c .before .before .before .before .before) in
-    front-long (start f .pre .1 .0) (replicate 4097 0) (f .fill-word-starts .ensures)
+    front-len (start f .pre .1 .0) (replicate 4097 0) (f .fill-word-starts .ensures)
 
 put-finds-requires : tie.Need-put-finds-requires
 put-finds-requires c κs =

@@ -5,7 +5,7 @@ use Prim.Native.Nat.{_-_, _<_}
 use native.Mathlib.Omega.{arith}
 use lib.ListN.{length, getD}
 use borrow.Author.Needs.{needs}
-use Rattle.laws.specs.Dictionary.WordStarts.{starts-long}
+use Rattle.laws.specs.Dictionary.WordStarts.{starts-len}
 use Rattle.laws.specs.Match.MatchTable.{few-words}
 use Rattle.laws.specs.Match.WordChains.{Single-walk, single-start, single-none, single-stop, single-known, single-room, single-hit}
 use Rattle.laws.specs.Match.WordChains.{single-miss}
@@ -45,7 +45,7 @@ loop-holds c =
     (single-start (s .pre .0) (s .args .text .now) (s .args .at))
 
 shared-slice-read-start : tie.Need-shared-slice-read-start Inv-loop μ-loop
-shared-slice-read-start c = omega (arith, known (c .before), starts-long (begun (c .before .before) .pre .0 .words .words))
+shared-slice-read-start c = omega (arith, known (c .before), starts-len (begun (c .before .before) .pre .0 .words .words))
 
 cast-start : tie.Need-cast-start Inv-loop μ-loop
 cast-start c = omega (arith, c .shared-slice-known7 .given (c .before .before .loop .next - 1))
@@ -95,10 +95,10 @@ find-single-spec =
     tie.close
     (tie.spec
     Inv-loop μ-loop (λ c κs. start c .pre .1) (λ c κs. search needs) (λ c. search needs)
-    (λ c. omega (arith, c .before .bucket-of-char .ensures .1, start (c .before .before .before) .pre .0 .heads-long))
+    (λ c. omega (arith, c .before .bucket-of-char .ensures .1, start (c .before .before .before) .pre .0 .heads-len))
     (λ c. omega (arith, c .shared-slice-known6 .given (c .before .bucket-of-char .result))) loop-holds (λ c. omega arith)
     (λ c. omega (arith, small c)) shared-slice-read-start cast-start mul-if1 shared-slice-read-if1 cast-if1 returns
     (λ c. omega (arith, small (c .before .before .before)))
-    (λ c. omega (arith, known (c .before .before .before .before), begun (c .before .before .before .before .before) .pre .0 .links-long))
+    (λ c. omega (arith, known (c .before .before .before .before), begun (c .before .before .before .before .before) .pre .0 .links-len))
     (λ c. omega (arith, c .shared-slice-known9 .given (c .before .before .before .before .before .loop .next - 1))) loop-less loop-again
     returns-2)

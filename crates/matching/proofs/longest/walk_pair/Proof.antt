@@ -95,9 +95,9 @@ walk-pair-spec =
     (tie.spec
     Inv-loop μ-loop (λ c κs. omega (arith, start c .pre .1)) (λ c. omega arith) (λ c κs. start (c .before) .pre .1)
     (λ c κs. (c .before .number-at .ensures .1, c .number-at2 .ensures .1)) (λ c. search needs)
-    (λ c. omega (arith, c .before .bucket-of-pair .ensures .1, start (c .before .before .before .before) .pre .0 .heads-long))
+    (λ c. omega (arith, c .before .bucket-of-pair .ensures .1, start (c .before .before .before .before) .pre .0 .heads-len))
     (λ c. omega (arith, c .shared-slice-known6 .given (c .before .bucket-of-pair .result))) loop-holds find-last-standing-requires returns
     (λ c. omega arith) (λ c. omega arith) stands-after-requires returns-2 (λ c. omega (arith, small (c .before .before .before)))
-    (λ c. omega (arith, known (c .before .before .before .before), begun (c .before .before .before .before .before) .pre .0 .links-long))
+    (λ c. omega (arith, known (c .before .before .before .before), begun (c .before .before .before .before .before) .pre .0 .links-len))
     (λ c. omega (arith, c .shared-slice-known7 .given (c .before .before .before .before .before .loop .next - 1))) loop-less loop-again
     returns-3)

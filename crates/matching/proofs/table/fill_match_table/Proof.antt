@@ -38,7 +38,7 @@ small c = omega (arith, filling-at _ _ (c .loop .inv .0), facts c .sum, facts c 
 loop-holds : tie.Need-loop-holds Inv-loop μ-loop
 loop-holds c =
     let s = c .before .before .before .before .before in
-    (filling-start (s .args .lengths .now) (s .args .word-starts .now) (s .pre .starts-long), chained-start (s .pre), refl, refl)
+    (filling-start (s .args .lengths .now) (s .args .word-starts .now) (s .pre .starts-len), chained-start (s .pre), refl, refl)
 
 bucket-of-word-requires : tie.Need-bucket-of-word-requires Inv-loop μ-loop
 bucket-of-word-requires c κs =
@@ -80,12 +80,12 @@ fill-match-table-spec =
     (λ c. omega (arith, small (c .before .before .before))) (λ c. omega (arith, few (c .before .before .before)))
     (λ c. filling-room _ _ (c .before .before .before .loop .inv .0))
     (λ c. omega (arith, c .bucket-of-word .ensures .small))
-    (λ c. omega (arith, c .before .bucket-of-word .ensures .small, c .before .before .before .before .loop .inv .1 .heads-long))
+    (λ c. omega (arith, c .before .bucket-of-word .ensures .small, c .before .before .before .before .loop .inv .1 .heads-len))
     (λ c. omega (arith, few (c .before .before .before .before)))
     (λ c. omega (arith, c .before .before .before .loop-test .taken))
     (λ c. omega (arith, few (c .before .before .before .before))) (λ c. omega (arith, few (c .before .before .before .before)))
     (λ c. search needs)
-    (λ c. omega (arith, c .before .bucket-of-word .ensures .small, c .before .before .before .before .loop .inv .1 .heads-long))
+    (λ c. omega (arith, c .before .bucket-of-word .ensures .small, c .before .before .before .before .loop .inv .1 .heads-len))
     add-at
     (λ c. omega (arith, few (c .before .before .before .before))) (λ c. omega (arith, c .before .before .before .loop-test .taken))
     loop-again (λ c. omega (arith, small (c .before))) (λ c. omega (arith, few (c .before)))

@@ -20,7 +20,7 @@ unfolding zeros
 reconstruct-entries-requires c κs =
     let cleared = c .before .before .before in
     let s = start (slices cleared) in
-    record { reads = s .pre .reads; long = cleared .clear .kept .0 ∙ s .pre .long }
+    record { reads = s .pre .reads; len = cleared .clear .kept .0 ∙ s .pre .len }
 
 returns : tie.Need-returns
 unfolding zeros

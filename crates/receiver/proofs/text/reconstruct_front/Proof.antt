@@ -25,7 +25,7 @@ reconstruct-afresh-requires c κs =
     record {
       reads =
           started-reads (s .pre .0) longest-text (omega arith) (a .index .now) (s .pre .1);
-      long = length-take-le (a .n) (a .work .now) (s .pre .3) ∙ s .pre .2;
+      len = length-take-le (a .n) (a .work .now) (s .pre .3) ∙ s .pre .2;
     }
 
 returns : tie.Need-returns

@@ -3,7 +3,7 @@ use mathlib.Core.Path.{_≡_, sym}
 use Prim.Native.Nat.{_*_, _-_}
 use native.Mathlib.Omega.{arith}
 use lib.Seq.{length-take-le}
-use Rattle.laws.specs.Receive.WorkParts.{behind-long}
+use Rattle.laws.specs.Receive.WorkParts.{behind-len}
 use borrow.Author.Needs.{needs}
 use Rattle.receiver.proofs.text.test_parts.Statement.{statement}
 use Rattle.receiver.proofs.text.test_parts.Tie as tie
@@ -30,7 +30,7 @@ verify-requires c κs =
       omega (
         arith,
         length-take-le (s .args .n) (s .args .work .now) (omega (arith, s .pre .4)),
-        behind-long (s .args .n) (s .args .work .now) (s .pre .4),
+        behind-len (s .args .n) (s .args .work .now) (s .pre .4),
       ),
     )
 

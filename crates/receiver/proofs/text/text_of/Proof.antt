@@ -6,7 +6,7 @@ use lib.ListN.{length, replicate}
 use borrow.Author.Needs.{needs}
 use Rattle.spec.specs.Dictionary.{longest-text, admitted}
 use Rattle.laws.specs.Dictionary.Lexicon.{Is-admitted, admitted-get}
-use Rattle.laws.specs.Dictionary.WordStarts.{filled-long, filled-lengths}
+use Rattle.laws.specs.Dictionary.WordStarts.{filled-len, filled-lengths}
 use Rattle.laws.specs.Receive.ReceivedText.{delivered-admitted}
 use Rattle.receiver.proofs.text.text_of.Statement.{statement}
 use Rattle.receiver.proofs.text.text_of.Tie as tie
@@ -34,9 +34,9 @@ fill-match-table-requires c κs =
     let h = facts (slices c) in
     record {
       dictionary = accepted (slices c);
-      starts-long = omega (arith, h .few);
+      starts-len = omega (arith, h .few);
       heads-clear = refl;
-      links-long = omega (arith, h .few);
+      links-len = omega (arith, h .few);
     }
 
 array-share-prefix-word-starts : tie.Need-array-share-prefix-word-starts
@@ -47,7 +47,7 @@ array-share-prefix-word-starts c =
 slice-aggregate-text-by : tie.Need-slice-aggregate-text-by
 slice-aggregate-text-by c =
     let made = filled (c .before) in
-    filled-long (start (slices (made .before)) .args .lengths .now) (replicate 4097 0) (made .fill-match-table .ensures .0)
+    filled-len (start (slices (made .before)) .args .lengths .now) (replicate 4097 0) (made .fill-match-table .ensures .0)
 
 text-by-requires : tie.Need-text-by-requires
 text-by-requires c κs =

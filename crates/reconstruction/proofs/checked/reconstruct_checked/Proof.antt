@@ -20,7 +20,7 @@ returns c =
     record {
       is =
           reconstructed-sentinel (lexicon-at (a .chars .now) (a .word-starts .now)) (lines-in (a .index .now)) (a .sentinel)
-          (filled .fill .ensures) (s .pre .0 .long) (made .reconstruct-entries .ensures);
+          (filled .fill .ensures) (s .pre .0 .len) (made .reconstruct-entries .ensures);
       shown = c .entries-match .ensures;
     }
 

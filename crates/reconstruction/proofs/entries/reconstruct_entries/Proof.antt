@@ -43,7 +43,7 @@ reconstruct-line-requires : tie.Need-reconstruct-line-requires Inv-loop μ-loop
 reconstruct-line-requires c κs =
     let turn = c .before .before .before in
     let s = start (turn .before .before) in
-    (record { reads = s .pre .reads; long = turn .loop .inv .len ∙ s .pre .long }, here (c .before))
+    (record { reads = s .pre .reads; len = turn .loop .inv .len ∙ s .pre .len }, here (c .before))
 
 loop-again : tie.Need-loop-again Inv-loop μ-loop
 loop-again c =

@@ -10,7 +10,7 @@ start c = c .before .before .before .before .before
 fill-at-requires : tie.Need-fill-at-requires
 fill-at-requires c κs =
     let s = start (c .before .before .before) in
-    (lone-reconstructs (s .pre .0 .reads) (s .pre .1) (c .before .if1 .taken) (s .pre .0 .long), s .pre .1 .value-small)
+    (lone-reconstructs (s .pre .0 .reads) (s .pre .1) (c .before .if1 .taken) (s .pre .0 .len), s .pre .1 .line .value-small)
 
 returns : tie.Need-returns
 returns c =
@@ -27,7 +27,7 @@ word-of-requires c κs =
 reconstruct-positions-requires : tie.Need-reconstruct-positions-requires
 reconstruct-positions-requires c κs =
     let s = start (c .before .before .before .before) in
-    word-reconstructs (s .pre .0 .reads) (s .pre .1) (c .before .before .if1 .left) (c .before .word-of .ensures) (s .pre .0 .long)
+    word-reconstructs (s .pre .0 .reads) (s .pre .1) (c .before .before .if1 .left) (c .before .word-of .ensures) (s .pre .0 .len)
 
 returns-2 : tie.Need-returns-2
 returns-2 c =

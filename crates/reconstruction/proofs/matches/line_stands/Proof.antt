@@ -12,7 +12,7 @@ start c = c .before .before .before .before .before
 holds-at-each-requires : tie.Need-holds-at-each-requires
 holds-at-each-requires c κs =
     let s = start (c .before .before) in
-    lone-reconstructs (s .pre .0 .reads) (s .pre .1) (c .if1 .taken) (s .pre .0 .long)
+    lone-reconstructs (s .pre .0 .reads) (s .pre .1) (c .if1 .taken) (s .pre .0 .len)
 
 returns : tie.Need-returns
 returns c =
@@ -27,7 +27,7 @@ word-of-requires c κs =
 stands-at-each-requires : tie.Need-stands-at-each-requires
 stands-at-each-requires c κs =
     let s = start (c .before .before .before) in (
-      word-reconstructs (s .pre .0 .reads) (s .pre .1) (c .before .if1 .left) (c .word-of .ensures) (s .pre .0 .long),
+      word-reconstructs (s .pre .0 .reads) (s .pre .1) (c .before .if1 .left) (c .word-of .ensures) (s .pre .0 .len),
       positions-some (s .pre .0 .reads) (s .pre .1),
       positions-rise (s .pre .0 .reads) (s .pre .1),
     )

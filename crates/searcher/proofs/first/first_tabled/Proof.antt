@@ -1,6 +1,6 @@
 -- `first_tabled` meets its contract: the string that is searched for is the replaced one. Assumes nothing.
 use borrow.Author.Needs.{needs}
-use Rattle.laws.specs.Search.Sizing.{own-long, own-string}
+use Rattle.laws.specs.Search.Sizing.{own-len, own-string}
 use Rattle.searcher.proofs.first.first_tabled.Statement.{statement}
 use Rattle.searcher.proofs.first.first_tabled.Tie as tie
 
@@ -18,5 +18,5 @@ pub first-tabled-spec : {M : Type 1} → statement M
 first-tabled-spec =
     tie.close
     (tie.spec
-    (λ c κs. search needs) (λ c. search needs) (λ c. own-long _ _ (c .before .replaced-string .ensures)) first-plain-requires
+    (λ c κs. search needs) (λ c. search needs) (λ c. own-len _ _ (c .before .replaced-string .ensures)) first-plain-requires
     (λ c. rw (c .before .before .replaced-string .ensures) at (c .first-plain .ensures)))

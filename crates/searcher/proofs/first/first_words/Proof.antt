@@ -1,7 +1,7 @@
 -- `first_words` meets its contract: the table of word starts that is lent on has the dictionary's lengths. Assumes nothing.
 use lib.ListN.{replicate}
 use borrow.Author.Needs.{needs}
-use Rattle.laws.specs.Directory.Tables.{front-long, front-lengths}
+use Rattle.laws.specs.Directory.Tables.{front-len, front-lengths}
 use Rattle.laws.specs.Directory.Searchable.{front-searches}
 use Rattle.searcher.proofs.first.first_words.Statement.{statement}
 use Rattle.searcher.proofs.first.first_words.Tie as tie
@@ -12,7 +12,7 @@ start c = c .before .before .before .before .before
 slice-aggregate-first-lines : tie.Need-slice-aggregate-first-lines
 slice-aggregate-first-lines c =
     let s = start (c .before .before .before) in
-    front-long (s .pre .can) (replicate 4097 0) (c .before .before .fill-word-starts .ensures)
+    front-len (s .pre .can) (replicate 4097 0) (c .before .before .fill-word-starts .ensures)
 
 first-lines-requires : tie.Need-first-lines-requires
 first-lines-requires c κs =

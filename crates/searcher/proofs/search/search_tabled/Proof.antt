@@ -1,6 +1,6 @@
 -- `search_tabled` meets its contract: the string that is searched for is the replaced one. Assumes nothing.
 use borrow.Author.Needs.{needs}
-use Rattle.laws.specs.Search.Sizing.{own-long, own-string}
+use Rattle.laws.specs.Search.Sizing.{own-len, own-string}
 use Rattle.searcher.proofs.search.search_tabled.Statement.{statement}
 use Rattle.searcher.proofs.search.search_tabled.Tie as tie
 
@@ -18,6 +18,6 @@ pub search-tabled-spec : {M : Type 1} → statement M
 search-tabled-spec =
     tie.close
     (tie.spec
-    (λ c κs. search needs) (λ c. search needs) (λ c. own-long _ _ (c .before .replaced-string .ensures)) search-plain-requires
+    (λ c κs. search needs) (λ c. search needs) (λ c. own-len _ _ (c .before .replaced-string .ensures)) search-plain-requires
     (λ c. search needs)
     (λ c. rw (c .before .before .before .before .before .replaced-string .ensures) at (c .before .before .search-plain .ensures)))

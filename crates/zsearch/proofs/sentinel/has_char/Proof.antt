@@ -7,7 +7,7 @@ use borrow.Author.Count.{below-more}
 use borrow.Author.Needs.{needs}
 use lib.ListN.{length, getD}
 use Rattle.basics.specs.Bools.{reflects-yes, reflects-no}
-use Rattle.basics.specs.Member.{In, in-getD, in-place}
+use Rattle.basics.specs.Member.{In, in-getD, member-index}
 use Rattle.zsearch.proofs.sentinel.has_char.Statement.{statement}
 use Rattle.zsearch.proofs.sentinel.has_char.Tie as tie
 
@@ -34,8 +34,8 @@ returns-2 c =
     let a = c .before .before .args in
     reflects-no
     (λ m.
-    let place = in-place (a .character) (a .string .now) 0 m in
-    c .before .loop .inv .1 (place .0) (omega arith) (place .2))
+    let found = member-index (a .character) (a .string .now) 0 m in
+    c .before .loop .inv .1 (found .0) (omega arith) (found .2))
 
 pub has-char-spec : {M : Type 1} → statement M
 has-char-spec =
