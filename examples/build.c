@@ -43,7 +43,7 @@ static const dictionary drawing = {CHARS(u"図" u"図面" u"平面図" u"面図"
 static const dictionary falling = {CHARS(u"b" u"a"), LENGTHS(1, 1)};
 
 static uint16_t long_text[LONGEST + 1];
-static uint16_t output[2 + 4 * LONGEST];
+static uint16_t output[MOPEKIHUA_INDEX_BOUND(LONGEST)];
 static uint16_t work[8 * (LONGEST + 1)];
 
 static const trial trials[] = {
@@ -75,10 +75,10 @@ static void print_numbers(const uint16_t *numbers, size_t count)
 
 static void print_keys(const uint16_t *index)
 {
-    const uint16_t *positions = index + 2 + 3 * (size_t)index[1];
+    const uint16_t *positions = index + MOPEKIHUA_HEADER + 3 * (size_t)index[1];
 
     for (size_t i = 0; i < index[1]; i++) {
-        const uint16_t *line = index + 2 + 3 * i;
+        const uint16_t *line = index + MOPEKIHUA_HEADER + 3 * i;
         if (line[0] == 0)
             printf("  word %u at", (unsigned)line[1]);
         else

@@ -125,7 +125,7 @@ static int search(const trial *t, size_t sheet_len)
         mopekihua_search(DICTIONARY, sheet, sheet_len, t->string, t->string_len,
                          positions, COUNT(positions));
 
-    printf("%s stands at %zu place%s:", t->title, found.count,
+    printf("%s stands at %zu position%s:", t->title, found.count,
            found.count == 1 ? "" : "s");
     for (size_t i = 0; i < found.count; i++)
         printf(" %u", (unsigned)positions[i]);

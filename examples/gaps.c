@@ -108,10 +108,10 @@ static void print_list(const char *title, const uint16_t *list, size_t len)
 /* Each key with its positions, as they are in the index and as gaps. */
 static void print_lists(void)
 {
-    size_t start = 2 + 3 * (size_t)sheet[1];
+    size_t start = MOPEKIHUA_HEADER + 3 * (size_t)sheet[1];
 
     for (size_t i = 0; i < sheet[1]; i++) {
-        const uint16_t *line = sheet + 2 + 3 * i;
+        const uint16_t *line = sheet + MOPEKIHUA_HEADER + 3 * i;
         printf("  '");
         print_key(line);
         printf("'\n");
@@ -178,7 +178,7 @@ int main(void)
     expected &= refused("the last number lost", len - 1, len,
                         MOPEKIHUA_INDEX_NOT_READABLE);
     /* The distance from the first position of SD to its second. */
-    uint16_t *gap = gaps + 2 + 3 * (size_t)gaps[1] + 1;
+    uint16_t *gap = gaps + MOPEKIHUA_HEADER + 3 * (size_t)gaps[1] + 1;
     *gap = 0;
     expected &= refused("a gap of 0", len, len, MOPEKIHUA_INDEX_NOT_READABLE);
     *gap = 65534;

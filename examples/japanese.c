@@ -79,10 +79,10 @@ static void print_key(const uint16_t *line)
 /* Each key with its positions. */
 static void print_index(const uint16_t *index)
 {
-    const uint16_t *position = index + 2 + 3 * (size_t)index[1];
+    const uint16_t *position = index + MOPEKIHUA_HEADER + 3 * (size_t)index[1];
 
     for (size_t i = 0; i < index[1]; i++) {
-        const uint16_t *line = index + 2 + 3 * i;
+        const uint16_t *line = index + MOPEKIHUA_HEADER + 3 * i;
         printf("  ");
         print_key(line);
         for (size_t j = 0; j < line[2]; j++)
@@ -98,7 +98,7 @@ static void search(size_t sent_len, const uint16_t *string, size_t len)
                                    positions, COUNT(positions)));
 
     print_chars(string, len);
-    printf(" stands at %zu place%s:", found, found == 1 ? "" : "s");
+    printf(" stands at %zu position%s:", found, found == 1 ? "" : "s");
     for (size_t i = 0; i < found; i++)
         printf(" %u", (unsigned)positions[i]);
     printf("\n");

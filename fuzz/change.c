@@ -2,6 +2,8 @@
 
 #include <string.h>
 
+#include "layout.h"
+
 /* A line of the directory, and where its positions begin. */
 typedef struct {
     uint16_t *count;
@@ -11,21 +13,21 @@ typedef struct {
 /* The line with this number; there is one, and each list lies in the index. */
 static line line_at(uint16_t *index, size_t number)
 {
-    line found = {index + 4 + 3 * number, 2 + 3 * (size_t)index[1]};
+    line found = {index + line_count(number), line_start(index[1])};
 
     for (size_t i = 0; i < number; i++)
-        found.start += index[4 + 3 * i];
+        found.start += index[line_count(i)];
     return found;
 }
 
 /* Whether keys, counts and length fit together. */
 static int is_whole(const uint16_t *index, size_t len)
 {
-    if (len < 2 || index[1] == 0 || len < 2 + 3 * (size_t)index[1])
+    if (len < MOPEKIHUA_HEADER || index[1] == 0 || len < line_start(index[1]))
         return 0;
-    size_t end = 2 + 3 * (size_t)index[1];
+    size_t end = line_start(index[1]);
     for (size_t i = 0; i < index[1]; i++)
-        end += index[4 + 3 * i];
+        end += index[line_count(i)];
     return end == len;
 }
 
@@ -80,10 +82,11 @@ static size_t count_up_to(const uint16_t *positions, size_t len, size_t last)
 
 size_t copy_up_to(uint16_t *copy, const uint16_t *index, size_t last)
 {
-    size_t header = 2 + 3 * (size_t)index[1], len = 2;
-    const uint16_t *list = index + header;
+    size_t first = line_start(index[1]), len = MOPEKIHUA_HEADER;
+    const uint16_t *list = index + first;
 
-    for (size_t line = 2; line < header; list += index[line + 2], line += 3) {
+    for (size_t line = line_start(0); line < first;
+         list += index[line + 2], line += 3) {
         size_t count = count_up_to(list, index[line + 2], last);
         if (count == 0)
             continue;
@@ -92,9 +95,10 @@ size_t copy_up_to(uint16_t *copy, const uint16_t *index, size_t last)
         copy[len++] = (uint16_t)count;
     }
     copy[0] = index[0];
-    copy[1] = (uint16_t)((len - 2) / 3);
-    list = index + header;
-    for (size_t line = 2; line < header; list += index[line + 2], line += 3) {
+    copy[1] = (uint16_t)((len - MOPEKIHUA_HEADER) / 3);
+    list = index + first;
+    for (size_t line = line_start(0); line < first;
+         list += index[line + 2], line += 3) {
         size_t count = count_up_to(list, index[line + 2], last);
         memcpy(copy + len, list, count * sizeof *copy);
         len += count;

@@ -3,6 +3,7 @@
 #include <string.h>
 
 #include "ample.h"
+#include "layout.h"
 
 static uint16_t plain[LONGEST_INDEX], result[LONGEST_INDEX];
 static uint16_t back[LONGEST_INDEX];
@@ -15,11 +16,11 @@ static void copy(uint16_t *to, const uint16_t *from, size_t len)
 
 void put_gaps(uint16_t *gaps, const uint16_t *index, size_t len)
 {
-    size_t keys = index[1], start = 2 + 3 * keys;
+    size_t keys = index[1], start = line_start(keys);
 
     copy(gaps, index, len);
     for (size_t i = 0; i < keys; i++) {
-        size_t end = start + index[4 + 3 * i];
+        size_t end = start + index[line_count(i)];
         for (size_t at = start + 1; at < end; at++)
             gaps[at] = index[at] - index[at - 1];
         start = end;
@@ -33,13 +34,14 @@ void put_gaps(uint16_t *gaps, const uint16_t *index, size_t len)
  */
 static int put_restored(uint16_t *restored, slice gaps)
 {
-    size_t keys = gaps.len < 2 ? 0 : gaps.numbers[1], at = 2 + 3 * keys;
+    size_t keys = gaps.len < MOPEKIHUA_HEADER ? 0 : gaps.numbers[1];
+    size_t at = line_start(keys);
     int all_fit = 1;
 
     copy(restored, gaps.numbers, gaps.len);
     for (size_t i = 0; i < keys && at < gaps.len; i++) {
         size_t sum = 0;
-        for (size_t left = gaps.numbers[4 + 3 * i]; left > 0 && at < gaps.len;
+        for (size_t left = gaps.numbers[line_count(i)]; left > 0 && at < gaps.len;
              left--, at++) {
             sum += gaps.numbers[at];
             all_fit &= sum <= UINT16_MAX;

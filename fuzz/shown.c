@@ -3,6 +3,7 @@
 #include <string.h>
 
 #include "ample.h"
+#include "layout.h"
 
 static uint16_t shown[MOPEKIHUA_LONGEST_TEXT], rebuilt[LONGEST_INDEX];
 
@@ -11,14 +12,14 @@ static void show(const loan *lent)
 {
     slice index = lent->parts[INDEX], lengths = lent->parts[LENGTHS];
     size_t keys = index.numbers[1];
-    const uint16_t *position = index.numbers + 2 + 3 * keys;
+    const uint16_t *position = index.numbers + line_start(keys);
     static size_t starts[MOPEKIHUA_MOST_WORDS + 1];
 
     for (size_t i = 0; i < lengths.len; i++)
         starts[i + 1] = starts[i] + lengths.numbers[i];
     memset(shown, 0, sizeof shown);
     for (size_t i = 0; i < keys; i++) {
-        const uint16_t *line = index.numbers + 2 + 3 * i;
+        const uint16_t *line = index.numbers + line_start(i);
         const uint16_t *spelt = line + 1;
         size_t len = 1;
         if (line[0] == 0) {

@@ -39,8 +39,11 @@ extern "C" {
 /* The length of the work slice that a text of n characters asks for. */
 #define MOPEKIHUA_WORK_NEEDED(n) (8 * (size_t)(n))
 
+/* How many numbers of an index precede its directory: n and K. */
+#define MOPEKIHUA_HEADER 2
+
 /* The most numbers that the index of a text of n characters has. */
-#define MOPEKIHUA_INDEX_BOUND(n) (2 + 4 * (size_t)(n))
+#define MOPEKIHUA_INDEX_BOUND(n) (MOPEKIHUA_HEADER + 4 * (size_t)(n))
 
 /*
  * Why an operation declines. Where several numbers apply, the first in the
@@ -181,8 +184,8 @@ mopekihua_answer mopekihua_admit(const uint16_t *chars, size_t chars_len,
  *   MOPEKIHUA_ACCEPTED              the index is written to the front of
  *                                   output; count is its length
  *
- * An index has at most 2 + 4 * text_len numbers, so an output of this length
- * is never too short.
+ * An index has at most MOPEKIHUA_INDEX_BOUND(text_len) numbers, so an output of
+ * this length is never too short.
  *
  * output past count is left as it was; after a refusal all of output is. work
  * may hold anything, and all its work_len elements are 0 after every call,

@@ -91,7 +91,7 @@ fn strung_together(words: &BTreeSet<Vec<u16>>) -> Vec<u16> {
     let words: Vec<_> = words.iter().collect();
     let mut text = Vec::new();
     while text.len() < LONGEST {
-        let word = words[random.place(words.len())];
+        let word = words[random.below(words.len())];
         let part = random.within(1, word.len());
         text.extend(&word[..random.one_of(&[word.len(), part])]);
     }

@@ -82,8 +82,8 @@ impl Case {
         for Search { text, string } in &mut searches {
             let text = &self.texts[*text];
             while text.windows(string.len()).any(|window| window == string) {
-                let place = random.place(string.len());
-                string[place] = text[random.place(text.len())];
+                let i = random.below(string.len());
+                string[i] = text[random.below(text.len())];
             }
         }
         searches
@@ -152,7 +152,7 @@ const DN: [u16; 2] = [0x44, 0x4E];
 
 /// A rank below `count`, low ones far more often.
 fn rank(random: &mut Random, count: usize) -> usize {
-    let most = random.place(count);
+    let most = random.below(count);
     let fewer = random.within(0, most);
     random.within(0, fewer)
 }
@@ -171,7 +171,7 @@ fn katakana(random: &mut Random) -> u16 {
 }
 
 fn full_width_digit(random: &mut Random) -> u16 {
-    0xFF10 + random.place(10) as u16
+    0xFF10 + random.below(10) as u16
 }
 
 /// `low` to `high` characters of one kind.

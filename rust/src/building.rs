@@ -6,8 +6,12 @@ use crate::{Refusal, ffi};
 /// The longest text that has an index.
 const LONGEST_TEXT: usize = 65_535;
 
-/// The most numbers that the index of a text of `n` characters has: `2 + 4n`,
-/// since at most one entry starts at each position and each may have a key of
+/// How many numbers of an index precede its directory: n, the length of the
+/// text, and K, the number of keys.
+pub const HEADER: usize = 2;
+
+/// The most numbers that the index of a text of `n` characters has:
+/// `HEADER + 4n`, since at most one entry starts at each position and each may have a key of
 /// its own. An output of this length is never too short.
 ///
 /// A text above 65,535 characters has no index, and the bound stays at that of
@@ -19,7 +23,7 @@ const LONGEST_TEXT: usize = 65_535;
 /// assert_eq!(mopekihua::index_bound(usize::MAX), mopekihua::index_bound(65_535));
 /// ```
 pub const fn index_bound(n: usize) -> usize {
-    2 + 4 * at_most_longest(n)
+    HEADER + 4 * at_most_longest(n)
 }
 
 /// The length of the work slice that a text of `n` characters asks for: `8n`.

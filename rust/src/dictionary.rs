@@ -35,7 +35,7 @@ pub struct Dictionary {
 struct Words {
     chars: Vec<u16>,
     lengths: Vec<u16>,
-    places: Vec<Range<usize>>,
+    ranges: Vec<Range<usize>>,
 }
 
 impl Dictionary {
@@ -153,22 +153,22 @@ impl Dictionary {
     /// # Ok::<(), mopekihua::Error>(())
     /// ```
     pub fn word(&self, number: u16) -> Option<&[u16]> {
-        let place = self.words.places.get(usize::from(number))?;
-        Some(&self.words.chars[place.clone()])
+        let range = self.words.ranges.get(usize::from(number))?;
+        Some(&self.words.chars[range.clone()])
     }
 
     /// The words, by ascending number.
     pub fn words(&self) -> impl DoubleEndedIterator<Item = &[u16]> + ExactSizeIterator {
-        let Words { chars, places, .. } = &*self.words;
-        places.iter().map(|place| &chars[place.clone()])
+        let Words { chars, ranges, .. } = &*self.words;
+        ranges.iter().map(|range| &chars[range.clone()])
     }
 
     /// The number of this word, if it is one. It is not replaced: with a
     /// full-width form it is none.
     pub fn number_of(&self, word: impl Characters) -> Option<u16> {
-        let Words { chars, places, .. } = &*self.words;
+        let Words { chars, ranges, .. } = &*self.words;
         let word = word.characters().ok()?;
-        let found = places.binary_search_by(|place| chars[place.clone()].cmp(&word));
+        let found = ranges.binary_search_by(|range| chars[range.clone()].cmp(&word));
         found.ok().map(|number| number as u16)
     }
 }
@@ -202,13 +202,13 @@ impl Run {
         let Run { chars, lengths } = self;
         admit(&chars, &lengths)?;
         let mut end = 0;
-        let places = lengths.iter().map(|&length| {
+        let ranges = lengths.iter().map(|&length| {
             let start = end;
             end += usize::from(length);
             start..end
         });
         let words = Words {
-            places: places.collect(),
+            ranges: ranges.collect(),
             chars,
             lengths,
         };

@@ -173,7 +173,7 @@ mod refusal;
 mod searching;
 mod tally;
 
-pub use building::{build, build_into, index_bound, work_needed};
+pub use building::{HEADER, build, build_into, index_bound, work_needed};
 pub use characters::{CharacterError, Characters, characters_of, replaced, string_of};
 pub use cutting::{cut, cut_into};
 pub use dictionary::Dictionary;

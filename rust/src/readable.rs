@@ -1,6 +1,6 @@
 //! Indexes that are readable, whether a text has them or not.
 
-use crate::{Dictionary, Index, Query, Refusal, Tally, cut, first, recover, search, tally};
+use crate::{Dictionary, HEADER, Index, Query, Refusal, Tally, cut, first, recover, search, tally};
 
 /// Numbers that are [readable](crate#indexes) as an index with a dictionary.
 ///
@@ -114,7 +114,7 @@ impl ReadableIndex {
     /// ```
     pub fn lines(&self) -> impl Iterator<Item = Line<'_>> {
         let keys = usize::from(self.numbers[1]);
-        let (directory, mut rest) = self.numbers[2..].split_at(3 * keys);
+        let (directory, mut rest) = self.numbers[HEADER..].split_at(3 * keys);
         directory.chunks_exact(3).map(move |line| {
             let (positions, after) = rest.split_at(usize::from(line[2]));
             rest = after;

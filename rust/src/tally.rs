@@ -15,8 +15,8 @@ pub struct Tally {
 impl Tally {
     /// The entries of this many characters; 0 where none can have as many.
     pub fn of_length(&self, length: usize) -> u64 {
-        let place = length.checked_sub(1);
-        let count = place.and_then(|place| self.by_length.get(place));
+        let index = length.checked_sub(1);
+        let count = index.and_then(|index| self.by_length.get(index));
         count.copied().unwrap_or(0)
     }
 }

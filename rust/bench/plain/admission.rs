@@ -59,8 +59,8 @@ fn prefix_code(chars: &[u16], at: usize, end: usize) -> u64 {
     let second = (at + 1).min(last);
     let third = (second + 1).min(last);
     let len = end - at;
-    let digit = |present: bool, place: usize| {
-        let number = u64::from(chars[place]) + 1;
+    let digit = |present: bool, at: usize| {
+        let number = u64::from(chars[at]) + 1;
         if present { number } else { 0 }
     };
     (digit(true, at) << 34) + (digit(1 < len, second) << 17) + digit(2 < len, third)

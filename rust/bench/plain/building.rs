@@ -1,6 +1,8 @@
 //! Building: the replaced text written once, one token a position, positions of equal
 //! keys chained, and the chains written out in the order of the keys.
 
+use mopekihua::HEADER;
+
 use super::admission::admit;
 use super::matching::MatchTable;
 use super::width::copy_replaced;
@@ -41,13 +43,13 @@ pub fn build(
 /// Writes the index that the tokens stand for. They become links.
 fn write_tokens(text: &[u16], tokens: &mut [u16], output: &mut [u16]) -> Result<usize, u32> {
     let chains = Chains::link(text, tokens);
-    let size = 2 + 3 * chains.keys + chains.entries;
+    let size = HEADER + 3 * chains.keys + chains.entries;
     if output.len() < size {
         return Err(8);
     }
     output[0] = text.len() as u16;
     output[1] = chains.keys as u16;
-    let (directory, positions) = output[2..size].split_at_mut(3 * chains.keys);
+    let (directory, positions) = output[HEADER..size].split_at_mut(3 * chains.keys);
     chains.write_directory(tokens, directory);
     chains.write_positions(tokens, positions);
     Ok(size)
@@ -113,9 +115,9 @@ impl Chains {
     fn each(&self, mut visit: impl FnMut(usize, u16)) {
         for (page, heads) in self.heads.chunks_exact(PAGE).enumerate() {
             if self.pages[page] {
-                for (place, &head) in heads.iter().enumerate() {
+                for (number, &head) in heads.iter().enumerate() {
                     if head != 0 {
-                        visit(page * PAGE + place, head);
+                        visit(page * PAGE + number, head);
                     }
                 }
             }
@@ -140,12 +142,12 @@ impl Chains {
     }
 
     fn write_positions(&self, links: &[u16], positions: &mut [u16]) {
-        let mut places = positions.iter_mut();
+        let mut slots = positions.iter_mut();
         self.each(|_, head| {
             let mut position = head;
             while position != 0 {
-                if let Some(place) = places.next() {
-                    *place = position;
+                if let Some(slot) = slots.next() {
+                    *slot = position;
                 }
                 position = links[usize::from(position - 1)];
             }

@@ -2,6 +2,8 @@
 //! start, keys that begin within it are found in the directory; then the
 //! directory and the positions of those that bear.
 
+use mopekihua::HEADER;
+
 use super::Query;
 use super::directory::Lines;
 use super::searching::agree;
@@ -22,22 +24,22 @@ pub fn cut(query: Query, output: &mut [u16]) -> Result<usize, u32> {
 
 fn cut_flagged(query: Query, flags: &mut [bool], output: &mut [u16]) -> Result<usize, u32> {
     let index = query.index;
-    let (directory, positions) = index[2..].split_at(3 * flags.len());
+    let (directory, positions) = index[HEADER..].split_at(3 * flags.len());
     let (keys, entries) = judge(&query, directory, flags);
-    let size = 2 + 3 * keys + entries;
+    let size = HEADER + 3 * keys + entries;
     let Some(output) = output.get_mut(..size) else {
         return Err(8);
     };
     output[0] = index[0];
     output[1] = keys as u16;
-    let (new_directory, mut new_positions) = output[2..].split_at_mut(3 * keys);
+    let (new_directory, mut new_positions) = output[HEADER..].split_at_mut(3 * keys);
     let mut new_lines = new_directory.chunks_exact_mut(3);
     let mut at = 0;
     for (line, &flag) in directory.chunks_exact(3).zip(flags.iter()) {
         let count = usize::from(line[2]);
         if flag {
-            if let Some(place) = new_lines.next() {
-                place.copy_from_slice(line);
+            if let Some(slot) = new_lines.next() {
+                slot.copy_from_slice(line);
             }
             let (front, back) = new_positions.split_at_mut(count);
             front.copy_from_slice(&positions[at..at + count]);

@@ -1,5 +1,7 @@
 //! An opened index: the directory by line, and the positions of each line.
 
+use mopekihua::HEADER;
+
 /// The directory lines with what their keys spell.
 pub struct Lines<'a> {
     chars: &'a [u16],
@@ -110,7 +112,7 @@ pub struct Directory<'a> {
 
 impl<'a> Directory<'a> {
     pub fn new(chars: &'a [u16], lengths: &'a [u16], index: &'a [u16]) -> Self {
-        let (lines, positions) = index[2..].split_at(3 * usize::from(index[1]));
+        let (lines, positions) = index[HEADER..].split_at(3 * usize::from(index[1]));
         let mut pages = [0; 65_536 / PAGE];
         let mut sum = 0;
         for (page, lines) in pages.iter_mut().zip(lines.chunks(3 * PAGE)) {
@@ -150,8 +152,8 @@ impl<'a> Directory<'a> {
 fn word_starts(lengths: &[u16]) -> [u16; 4096] {
     let mut starts = [0; 4096];
     let mut start: u16 = 0;
-    for (place, &length) in starts.iter_mut().zip(lengths) {
-        *place = start;
+    for (slot, &length) in starts.iter_mut().zip(lengths) {
+        *slot = start;
         start = start.wrapping_add(length);
     }
     starts

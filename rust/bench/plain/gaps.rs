@@ -2,6 +2,8 @@
 //! the lists are written as one. Most are short, and a loop over each would end with a
 //! mispredicted branch.
 
+use mopekihua::HEADER;
+
 use super::readability::{admit_gaps, admit_index};
 
 pub fn to_gaps(
@@ -34,7 +36,7 @@ fn write(
     let Some(output) = output.get_mut(..index.len()) else {
         return Err(8);
     };
-    let first = 2 + 3 * usize::from(index[1]);
+    let first = HEADER + 3 * usize::from(index[1]);
     output[..first].copy_from_slice(&index[..first]);
     write_lists(index, first, output);
     Ok(index.len())
@@ -44,8 +46,8 @@ fn write(
 /// then the first of each list as it is.
 fn write_gaps(index: &[u16], first: usize, output: &mut [u16]) {
     let pairs = index[first - 1..].windows(2);
-    for (place, pair) in output[first..].iter_mut().zip(pairs) {
-        *place = pair[1].saturating_sub(pair[0]);
+    for (slot, pair) in output[first..].iter_mut().zip(pairs) {
+        *slot = pair[1].saturating_sub(pair[0]);
     }
     each_start(index, first, |start| output[start] = index[start]);
 }
@@ -56,16 +58,16 @@ fn write_sums(gaps: &[u16], first: usize, output: &mut [u16]) {
     output[first..].fill(u16::MAX);
     each_start(gaps, first, |start| output[start] = 0);
     let mut sum = 0;
-    for (place, &gap) in output[first..].iter_mut().zip(&gaps[first..]) {
-        sum = (sum & *place) + gap;
-        *place = sum;
+    for (slot, &gap) in output[first..].iter_mut().zip(&gaps[first..]) {
+        sum = (sum & *slot) + gap;
+        *slot = sum;
     }
 }
 
 /// Where each list starts.
 fn each_start(index: &[u16], first: usize, mut visit: impl FnMut(usize)) {
     let mut start = first;
-    for line in index[2..first].chunks_exact(3) {
+    for line in index[HEADER..first].chunks_exact(3) {
         visit(start);
         start += usize::from(line[2]);
     }

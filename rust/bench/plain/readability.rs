@@ -2,6 +2,8 @@
 //! each line as it is reached, and for lone characters a walk over the words
 //! beside it, since both ascend. A gap form is read by the same walk.
 
+use mopekihua::HEADER;
+
 use super::admission::admit;
 use super::width::copy_replaced;
 
@@ -52,7 +54,7 @@ pub fn tally(chars: &[u16], lengths: &[u16], index: &[u16]) -> Result<([u64; 32]
     admit_index(chars, lengths, index)?;
     let keys = usize::from(index[1]);
     let mut by_length = [0; 32];
-    for line in index[2..2 + 3 * keys].chunks_exact(3) {
+    for line in index[HEADER..HEADER + 3 * keys].chunks_exact(3) {
         let len = if line[0] == 0 {
             lengths[usize::from(line[1])]
         } else {
@@ -72,12 +74,12 @@ fn readable(chars: &[u16], lengths: &[u16], index: &[u16], as_gaps: bool) -> boo
     };
     let mut least = 0;
     let mut rest = positions;
-    for (place, line) in directory.chunks_exact(3).enumerate() {
+    for (number, line) in directory.chunks_exact(3).enumerate() {
         let &[kind, value, count] = line else {
             return false;
         };
         if kind != 0 {
-            let directory = &directory[3 * place..];
+            let directory = &directory[3 * number..];
             return lone_lines_good(chars, lengths, n, directory, rest, as_gaps);
         }
         let Some(&len) = lengths.get(usize::from(value)) else {
@@ -153,9 +155,9 @@ fn list_good(rest: &mut &[u16], count: u16, n: u16, len: u16, as_gaps: bool) -> 
 fn rise(positions: &[u16]) -> bool {
     let mut good = true;
     let mut last = 0;
-    for &place in positions {
-        good &= last < place;
-        last = place;
+    for &position in positions {
+        good &= last < position;
+        last = position;
     }
     good
 }

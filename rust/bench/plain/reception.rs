@@ -4,6 +4,8 @@
 //! must be what the line map has, and as many. The text must hold no full-width
 //! form.
 
+use mopekihua::HEADER;
+
 use super::building::{LONE, step};
 use super::matching::MatchTable;
 use super::readability::admit_index;
@@ -51,7 +53,7 @@ fn text_of<'a>(
     let (text, line_map) = work[..2 * n].split_at_mut(n);
     line_map.fill(0);
     let table = MatchTable::new(chars, lengths);
-    let (directory, positions) = index[2..].split_at(3 * usize::from(index[1]));
+    let (directory, positions) = index[HEADER..].split_at(3 * usize::from(index[1]));
     reconstruct(&table, directory, positions, text, line_map);
     let has_it = registered(&table, directory, text, line_map) == Some(positions.len());
     if has_it && !holds_full_width(text) {
@@ -72,15 +74,15 @@ fn reconstruct(
 ) {
     let mut rest = positions;
     for (number, line) in directory.chunks_exact(3).enumerate() {
-        let (places, after) = rest.split_at(usize::from(line[2]));
+        let (positions, after) = rest.split_at(usize::from(line[2]));
         rest = after;
         let spelt = if line[0] == 0 {
             table.word(usize::from(line[1]))
         } else {
             &line[1..2]
         };
-        for &place in places {
-            let start = usize::from(place) - 1;
+        for &position in positions {
+            let start = usize::from(position) - 1;
             line_map[start] = number as u16 + 1;
             for (character, &shown) in text[start..start + spelt.len()].iter_mut().zip(spelt) {
                 *character = shown;

@@ -40,8 +40,8 @@ fn find(query: Query, reach: &mut [u16], output: &mut [u16]) -> Result<usize, u3
         return Err(8);
     };
     let found = reach.iter().zip(1..).filter(|(reach, _)| **reach >= whole);
-    for (place, (_, position)) in output.iter_mut().zip(found) {
-        *place = position;
+    for (slot, (_, position)) in output.iter_mut().zip(found) {
+        *slot = position;
     }
     Ok(count)
 }

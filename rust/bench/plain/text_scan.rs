@@ -57,10 +57,10 @@ pub fn reach_reconstructed(
 fn reconstruct(directory: &Directory, text: &mut [u16]) {
     let mut rest = directory.positions;
     for (spelt, count) in directory.lines.keys() {
-        let (places, after) = rest.split_at(count);
+        let (positions, after) = rest.split_at(count);
         rest = after;
-        for &place in places {
-            let start = usize::from(place) - 1;
+        for &position in positions {
+            let start = usize::from(position) - 1;
             for (character, &shown) in text[start..start + spelt.len()].iter_mut().zip(spelt) {
                 *character = shown;
             }
@@ -72,20 +72,20 @@ fn reconstruct(directory: &Directory, text: &mut [u16]) {
 fn entries_match(directory: &Directory, text: &[u16]) -> bool {
     let mut rest = directory.positions;
     directory.lines.keys().all(|(spelt, count)| {
-        let (places, after) = rest.split_at(count);
+        let (positions, after) = rest.split_at(count);
         rest = after;
-        stands_at_all(spelt, places, text)
+        stands_at_all(spelt, positions, text)
     })
 }
 
 /// Where the distance to the next position is a period of the key, only the
 /// characters beyond the overlap are compared there.
-fn stands_at_all(spelt: &[u16], places: &[u16], text: &[u16]) -> bool {
+fn stands_at_all(spelt: &[u16], positions: &[u16], text: &[u16]) -> bool {
     let len = spelt.len();
     let mut gap = len;
     let mut last = None;
-    places.iter().all(|&place| {
-        let start = usize::from(place) - 1;
+    positions.iter().all(|&position| {
+        let start = usize::from(position) - 1;
         let step = last.map_or(len, |last| start - last);
         last = Some(start);
         if step < len && step != gap && spelt[step..] == spelt[..len - step] {

@@ -3,8 +3,8 @@
 
 /// Copies characters, each full-width form replaced.
 pub fn copy_replaced(characters: &[u16], copy: &mut [u16]) {
-    for (place, &character) in copy.iter_mut().zip(characters) {
-        *place = match is_full_width(character) {
+    for (slot, &character) in copy.iter_mut().zip(characters) {
+        *slot = match is_full_width(character) {
             true => character - 0xFEE0,
             false => character,
         };

@@ -1,5 +1,7 @@
 //! What a call is lent to be read: drawn at random, and damaged.
 
+use mopekihua::HEADER;
+
 use crate::operation::{Operation, Part};
 use crate::support::damage::Damage;
 use crate::support::delivery::Delivery;
@@ -146,7 +148,7 @@ fn string_near(text: &[u16], random: &mut Random) -> Vec<u16> {
     let start = random.within(0, text.len() - long);
     let mut string = text[start..start + long].to_vec();
     match random.within(0, 5) {
-        0 => string[long - 1] = text[random.place(text.len())],
+        0 => string[long - 1] = text[random.below(text.len())],
         1 => string[0] = random.character(),
         2 if long < 256 => string.push(text[0]),
         _ => (),
@@ -219,9 +221,9 @@ fn damage_gaps(gaps: &mut Vec<u16>, random: &mut Random) {
 /// and no count is 0, which what damages an index goes by.
 fn has_positions(index: &[u16]) -> bool {
     let keys = index.get(1).copied().map_or(0, usize::from);
-    let directory = index.get(2..2 + 3 * keys).unwrap_or_default();
+    let directory = index.get(HEADER..HEADER + 3 * keys).unwrap_or_default();
     keys > 0
-        && index.len() > 2 + 3 * keys
+        && index.len() > HEADER + 3 * keys
         && directory.len() == 3 * keys
         && directory.chunks(3).all(|line| line[2] >= 1)
 }

@@ -50,10 +50,10 @@ fn a_word_has_1_to_32_characters() {
 #[test]
 fn a_wrong_length_is_met_at_every_place() {
     let good = Dictionary::of_single_characters(9);
-    for place in 0..9 {
+    for i in 0..9 {
         for length in [0, 33] {
             let mut bad = good.clone();
-            bad.lengths[place] = length;
+            bad.lengths[i] = length;
             let sum: usize = bad.lengths.iter().map(|&l| usize::from(l)).sum();
             bad.chars = (0..sum as u16).collect();
             answers(&bad, Err(2));
@@ -124,12 +124,12 @@ fn a_difference_in_the_last_of_32_characters_counts() {
 #[test]
 fn two_words_out_of_order_are_met_at_every_place() {
     let good = Dictionary::of_single_characters(9);
-    for place in 0..8 {
+    for i in 0..8 {
         let mut falling = good.clone();
-        falling.chars.swap(place, place + 1);
+        falling.chars.swap(i, i + 1);
         answers(&falling, Err(3));
         let mut equal = good.clone();
-        equal.chars[place + 1] = equal.chars[place];
+        equal.chars[i + 1] = equal.chars[i];
         answers(&equal, Err(3));
     }
 }

@@ -84,8 +84,8 @@ fn an_entry_added() {
 #[test]
 fn a_position_uncovered() {
     for indexed in texts() {
-        for place in 0..indexed.text.len() {
-            let beside = |entry: &Entry| !indexed.covers(*entry).contains(&place);
+        for i in 0..indexed.text.len() {
+            let beside = |entry: &Entry| !indexed.covers(*entry).contains(&i);
             let left = indexed.entries.iter().copied().filter(beside);
             indexed.refuses(&numbers(indexed.n(), left), 9);
         }
@@ -217,10 +217,10 @@ fn a_number_changed() {
     let mut answers = [0; 3];
     for indexed in texts().filter(|indexed| indexed.text.len() <= 3) {
         let index = numbers(indexed.n(), indexed.entries.iter().copied());
-        for place in 0..index.len() {
+        for i in 0..index.len() {
             for value in (0..6).chain(CHARACTERS).chain([300, 0xFF41]) {
                 let mut changed = index.clone();
-                changed[place] = value;
+                changed[i] = value;
                 let room = Room::ample(usize::from(changed[0]));
                 match recover(&indexed.dictionary, &changed, room) {
                     Ok(_) => answers[0] += 1,

@@ -11,14 +11,14 @@ const DIGITS: [u8; 16] = *b"0123456789ABCDEF";
 /// and the digit's value, if the byte is one.
 #[track_caller]
 fn for_every_byte(test: impl Fn(&[u8; 4], usize, Option<usize>)) {
-    for place in 0..4 {
+    for i in 0..4 {
         let mut values = 0;
         for byte in 0..=255 {
             let mut four = *b"0000";
-            four[place] = byte;
+            four[i] = byte;
             let value = DIGITS.iter().position(|&digit| digit == byte);
             values += usize::from(value.is_some());
-            test(&four, place, value);
+            test(&four, i, value);
         }
         assert_eq!(values, 16);
     }
@@ -26,17 +26,17 @@ fn for_every_byte(test: impl Fn(&[u8; 4], usize, Option<usize>)) {
 
 /// The characters that have one digit at an index and zeros elsewhere, by its
 /// value.
-fn sixteen(place: usize) -> [u16; 16] {
-    std::array::from_fn(|value| (value as u16) << (12 - 4 * place))
+fn sixteen(i: usize) -> [u16; 16] {
+    std::array::from_fn(|value| (value as u16) << (12 - 4 * i))
 }
 
 #[test]
 fn of_a_text() {
-    for_every_byte(|four, place, value| {
+    for_every_byte(|four, i, value| {
         let sheet = [b"(text ", &four[..], b")\n"].concat();
         match value {
             Some(value) => {
-                let character = sixteen(place)[value];
+                let character = sixteen(i)[value];
                 let key = format!("(index 1 1 1)\n(key lone {character:04X} (1))\n");
                 prints(sheet, &key);
             }
@@ -47,8 +47,8 @@ fn of_a_text() {
 
 #[test]
 fn of_a_word() {
-    for_every_byte(|four, place, value| {
-        let text = form("text", &sixteen(place));
+    for_every_byte(|four, i, value| {
+        let text = form("text", &sixteen(i));
         let sheet = [b"(word ", &four[..], b")\n", text.as_bytes()].concat();
         match value {
             Some(value) => {
@@ -62,8 +62,8 @@ fn of_a_word() {
 
 #[test]
 fn of_a_find() {
-    for_every_byte(|four, place, value| {
-        let text = form("text", &sixteen(place));
+    for_every_byte(|four, i, value| {
+        let text = form("text", &sixteen(i));
         let sheet = [text.as_bytes(), b"(find ", &four[..], b")\n"].concat();
         match value {
             Some(value) => {

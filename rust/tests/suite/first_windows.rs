@@ -85,25 +85,25 @@ fn every_character_is_different() {
 
 /// Positions around the seams and behind them, each to have a character of its
 /// own.
-fn marks() -> impl Iterator<Item = (usize, u16)> {
+fn unique_characters() -> impl Iterator<Item = (usize, u16)> {
     let near = |&seam| around(seam).chain([seam + 31, seam + 32, seam + 255]);
     SEAMS.iter().flat_map(near).zip(0x3041..)
 }
 
-/// 10,000 of these characters, but for the marks.
-fn marked_text(alphabet: &[u16], random: &mut Random) -> Vec<u16> {
+/// 10,000 of these characters, but for the unique ones.
+fn text_with_unique_characters(alphabet: &[u16], random: &mut Random) -> Vec<u16> {
     let mut text = random_over(alphabet, random, 10_000);
-    for (position, mark) in marks() {
-        text[position - 1] = mark;
+    for (position, character) in unique_characters() {
+        text[position - 1] = character;
     }
     text
 }
 
-/// Strings of a marked text that have a mark as their first character, in their
-/// middle or as their last one.
+/// Strings of such a text that have a unique character at their start, in their
+/// middle or at their end.
 #[track_caller]
-fn finds_marks(delivery: &Delivery, text: &[u16]) {
-    for (position, _) in marks() {
+fn finds_unique_characters(delivery: &Delivery, text: &[u16]) {
+    for (position, _) in unique_characters() {
         for length in STRING_LENGTHS {
             for before in [0, length / 2, length - 1] {
                 let start = position - before;
@@ -116,20 +116,20 @@ fn finds_marks(delivery: &Delivery, text: &[u16]) {
     }
 }
 
-/// The text has one or two characters beside the marks, which the strings have
+/// The text has one or two characters beside the unique ones, which the strings have
 /// too. All of it stands there twice.
 #[test]
-fn few_characters_and_marks() {
+fn few_characters_and_unique_ones() {
     let mut random = Random::seeded(92);
     for alphabet in [&[0x61][..], &[0x61, 0x62]] {
-        let mut text = marked_text(alphabet, &mut random);
+        let mut text = text_with_unique_characters(alphabet, &mut random);
         text.extend_from_within(..);
         for dictionary in dictionaries(&text) {
             let delivery = Delivery::of_text(&Subject {
                 dictionary,
                 text: text.clone(),
             });
-            finds_marks(&delivery, &text);
+            finds_unique_characters(&delivery, &text);
         }
     }
 }
@@ -143,8 +143,8 @@ fn entries_that_contradict_everywhere() {
         (Key::Lone(0x61), everywhere.clone()),
         (Key::Lone(0x62), everywhere),
     ];
-    for (position, mark) in marks() {
-        lines.push((Key::Lone(mark), vec![position as u16]));
+    for (position, character) in unique_characters() {
+        lines.push((Key::Lone(character), vec![position as u16]));
     }
     let delivery = Delivery {
         dictionary: Dictionary::default(),
@@ -152,8 +152,8 @@ fn entries_that_contradict_everywhere() {
     };
     let mut random = Random::seeded(93);
     for _ in 0..3 {
-        let text = marked_text(&[0x61, 0x62], &mut random);
-        finds_marks(&delivery, &text);
+        let text = text_with_unique_characters(&[0x61, 0x62], &mut random);
+        finds_unique_characters(&delivery, &text);
     }
 }
 

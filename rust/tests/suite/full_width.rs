@@ -209,14 +209,14 @@ fn the_longest_text_and_string() {
 #[test]
 fn one_form_in_the_longest_text() {
     let words = Dictionary::spelt("b");
-    for place in [0, 1, 32_767, 65_533, 65_534] {
+    for i in [0, 1, 32_767, 65_533, 65_534] {
         let mut text = vec![0x61; 65_535];
-        text[place] = 0xFF42;
+        text[i] = 0xFF42;
         let index = index_of(&words, &text);
-        let position = place as u16 + 1;
+        let position = i as u16 + 1;
         assert_eq!(index[..9], [65_535, 2, 0, 0, 1, 1, 0x61, 65_534, position]);
         assert_eq!(first(&words, &index, &[0xFF42]), Ok(Some(position)));
-        text[place] = 0x62;
+        text[i] = 0x62;
         assert!(text_of(&words, &index) == Ok(text));
     }
 }
@@ -226,11 +226,11 @@ fn one_form_in_the_longest_text() {
 fn one_form_in_the_longest_string() {
     let Delivery { dictionary, index } = delivery("ab", &"ab".repeat(150));
     let string = spelt(&"ab".repeat(128));
-    for place in 0..256 {
+    for i in 0..256 {
         let mut mixed = string.clone();
-        mixed[place] += 0xFEE0;
+        mixed[i] += 0xFEE0;
         assert_eq!(first(&dictionary, &index, &mixed), Ok(Some(1)));
-        mixed[place] = 0xFF43;
+        mixed[i] = 0xFF43;
         assert_eq!(first(&dictionary, &index, &mixed), Ok(None));
     }
 }

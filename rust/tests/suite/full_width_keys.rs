@@ -93,10 +93,13 @@ fn a_lone_form_in_place_of_what_it_is_replaced_by() {
 #[test]
 fn one_lone_form_among_many_entries() {
     let none = Dictionary::default();
-    for (n, places) in [(5, vec![1, 2, 3, 4, 5]), (65_535, vec![1, 30_000, 65_535])] {
-        for place in places {
-            let others = (1..=n).filter(|&position| position != place).collect();
-            let lines = [(Key::Lone(0x61), others), (Key::Lone(0xFF41), vec![place])];
+    for (n, positions) in [(5, vec![1, 2, 3, 4, 5]), (65_535, vec![1, 30_000, 65_535])] {
+        for position in positions {
+            let others = (1..=n).filter(|&other| other != position).collect();
+            let lines = [
+                (Key::Lone(0x61), others),
+                (Key::Lone(0xFF41), vec![position]),
+            ];
             no_text(&none, &numbers(n, &lines));
         }
     }

@@ -27,10 +27,10 @@ fn a_form_at_each_place_of_the_words() {
     let good = Dictionary::of(words.map(spelt));
     answers(&good, Ok(5));
     for number in 0..words.len() {
-        for place in 0..words[number].len() {
+        for i in 0..words[number].len() {
             for form in [0xFF01, 0xFF41, 0xFF5E] {
                 let mut word = spelt(words[number]);
-                word[place] = form;
+                word[i] = form;
                 let others = (0..words.len()).filter(|&other| other != number);
                 let others = others.map(|other| spelt(words[other]));
                 answers(&Dictionary::of_set(others.chain([word])), Err(12));
@@ -47,10 +47,10 @@ fn a_form_in_the_largest_dictionaries() {
     many.chars[4095] = 0xFF5E;
     answers(&many, Err(12));
     // Each word starts with its own number, and has FFFF after it.
-    for place in [1, 31, 40_001, 65_534] {
+    for i in [1, 31, 40_001, 65_534] {
         let mut long = Dictionary::of_total_length(65_535);
         answers(&long, Ok(2048));
-        long.chars[place] = 0xFF01;
+        long.chars[i] = 0xFF01;
         answers(&long, Err(12));
     }
 }

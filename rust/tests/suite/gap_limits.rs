@@ -54,9 +54,9 @@ fn a_gap_of_0() {
     // In each line, at its first number and at its second.
     let good = [9, 3, 0, 0, 2, 0, 1, 2, 1, 0x78, 2, 1, 2, 3, 1, 4, 5];
     restores(&a(), &good, &[1, 3, 3, 4, 4, 9]);
-    for place in 11..17 {
+    for i in 11..17 {
         let mut gaps = good;
-        gaps[place] = 0;
+        gaps[i] = 0;
         refused(&a(), &gaps);
     }
 }
@@ -152,10 +152,10 @@ fn sums_above_65535() {
     refused(&a(), &lone(n, &[&[1, 32_768, 32_768]]));
     let mut ones = vec![1; 65_535];
     assert!(from_gaps(&a(), &lone(n, &[&ones]), 65_540).is_ok());
-    for place in [0, 1, 65_534] {
-        ones[place] = 2;
+    for i in [0, 1, 65_534] {
+        ones[i] = 2;
         refused(&a(), &lone(n, &[&ones]));
-        ones[place] = 1;
+        ones[i] = 1;
     }
     refused(&a(), &lone(n, &[&vec![n; 65_535]]));
     refused(&a(), &lone(n, &[&vec![32_768; 65_535]]));
@@ -217,7 +217,7 @@ fn a_directory_that_is_wrong() {
     let good = [9, 2, 0, 1, 2, 1, 0x78, 1, 1, 3, 2];
     restores(&a(), &good, &[1, 4, 2]);
     // The kinds, the values, a count; and so that the keys do not ascend.
-    for (place, number) in [
+    for (i, number) in [
         (2, 2),
         (5, 2),
         (5, 0xFFFF),
@@ -227,7 +227,7 @@ fn a_directory_that_is_wrong() {
         (7, 0),
     ] {
         let mut gaps = good;
-        gaps[place] = number;
+        gaps[i] = number;
         neither(&a(), &gaps);
     }
     neither(&a(), &[9, 2, 1, 0x78, 2, 0, 1, 1, 1, 3, 2]);

@@ -2,6 +2,8 @@
 //! length. Every answer is written out from the definition, and is also the one
 //! that the oracle gives.
 
+use mopekihua::HEADER;
+
 use crate::support::delivery::{Delivery, delivery};
 use crate::support::dictionary::Dictionary;
 use crate::support::gaps::{from_gaps, to_gaps};
@@ -54,7 +56,7 @@ fn the_index_of_a_sheet() {
     // 6 and 18; 、 at 7 and 14.
     let positions = [3, 10, 15, 1, 8, 13, 5, 17, 12, 6, 18, 7, 14];
     let gaps = [3, 7, 5, 1, 7, 13, 5, 12, 12, 6, 12, 7, 7];
-    let (directory, listed) = index.split_at(2 + 3 * 7);
+    let (directory, listed) = index.split_at(HEADER + 3 * 7);
     assert_eq!(listed, positions);
     has_gaps(&dictionary, &index, &[directory, &gaps].concat());
 }

@@ -58,7 +58,7 @@ fn every_digit() {
 
 #[test]
 fn positions_are_decimal() {
-    let text: Vec<u16> = (0..2_000).map(|place| place % 1_000).collect();
+    let text: Vec<u16> = (0..2_000).map(|i| i % 1_000).collect();
     let finds = [0, 8, 9, 98, 99, 998, 999].map(|character| vec![character]);
     let sheet = Sheet {
         text,
@@ -75,7 +75,7 @@ fn positions_are_decimal() {
 fn the_greatest_counts() {
     let most = Sheet {
         words: (0..200).map(|number| vec![number / 20, number]).collect(),
-        text: (0..2_000).map(|place| place % 201).collect(),
+        text: (0..2_000).map(|i| i % 201).collect(),
         finds: (0..50).map(|first| vec![first, first + 1]).collect(),
     };
     let printed = lookup(&most.bytes());

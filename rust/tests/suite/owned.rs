@@ -65,7 +65,7 @@ fn a_dictionary_knows_its_words() {
             let known = words.iter().position(|other| *other == longer);
             assert_eq!(
                 dictionary.number_of(longer),
-                known.map(|place| place as u16)
+                known.map(|number| number as u16)
             );
         }
         assert_eq!(dictionary.word(words.len() as u16), None);
@@ -175,10 +175,10 @@ fn an_index_of_a_text() {
             let start = random.within(0, subject.text.len() - long);
             for string in [&subject.text[start..start + long], &[7; 1]] {
                 let query = Query::new(string).expect("a short string");
-                let places = oracle::places_in_text(&subject.text, string);
-                assert_eq!(index.search(&query), places);
-                assert_eq!(index.first(&query), places.first().copied());
-                assert_eq!(index.cut(&query).search(&query), places);
+                let positions = oracle::positions_in_text(&subject.text, string);
+                assert_eq!(index.search(&query), positions);
+                assert_eq!(index.first(&query), positions.first().copied());
+                assert_eq!(index.cut(&query).search(&query), positions);
             }
         }
         assert_eq!(

@@ -109,8 +109,8 @@ fn every_small_text() {
     let words = ["a", "aa", "aab", "ab", "abba", "b", "ba", "bab"].map(spelt);
     let texts = all_lists(&spelt("ab"), 6);
     for choice in 0..1 << words.len() {
-        let chosen = (0..words.len()).filter(|place| choice >> place & 1 == 1);
-        let dictionary = Dictionary::of(chosen.map(|place| &words[place]));
+        let chosen = (0..words.len()).filter(|i| choice >> i & 1 == 1);
+        let dictionary = Dictionary::of(chosen.map(|i| &words[i]));
         for text in &texts {
             assert!(build(&dictionary, text, Room::ample(text.len())).is_ok());
         }

@@ -37,7 +37,7 @@ fn indexes_of_texts() {
         }
         let delivery = Delivery::of_text(&subject);
         for _ in 0..4 {
-            let start = random.place(subject.text.len());
+            let start = random.below(subject.text.len());
             let long = random.within(1, 6).min(subject.text.len() - start);
             let string = &subject.text[start..start + long];
             try_out(&delivery, &in_either_width(string, &mut random));
@@ -52,7 +52,7 @@ fn words_that_share_their_first_characters() {
         let subject = Subject::crowded(&mut random, 400);
         let delivery = Delivery::of_text(&subject);
         for most in [3, 40, 256] {
-            let start = random.place(subject.text.len());
+            let start = random.below(subject.text.len());
             let long = random.within(1, most).min(subject.text.len() - start);
             try_out(&delivery, &subject.text[start..start + long]);
         }

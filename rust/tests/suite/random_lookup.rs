@@ -14,11 +14,11 @@ fn a_byte_changed() {
     let good = b"(word 0061)\n(text 0061 00AF)\n(find 0061)\n";
     assert!(lookup(good).starts_with("(index 2 2 2)\n"));
     let mut refused = 0;
-    for place in 0..good.len() {
-        let (front, back) = (&good[..place], &good[place + 1..]);
+    for i in 0..good.len() {
+        let (front, back) = (&good[..i], &good[i + 1..]);
         let mut sheets = vec![
             [front, back].concat(),
-            [front, &[good[place]; 2], back].concat(),
+            [front, &[good[i]; 2], back].concat(),
         ];
         for byte in [
             0, b'\t', b'\n', b'\r', b' ', b'(', b')', b'1', b'B', b'b', b'x', 0xE1,
@@ -45,7 +45,7 @@ fn random_sheet(random: &mut Random) -> Sheet {
     let finds = (0..random.within(0, 50)).map(|_| {
         let length = random.within(1, 6);
         let find = if random.within(0, 2) > 0 && !text.is_empty() {
-            let start = random.place(text.len());
+            let start = random.below(text.len());
             text[start..(start + length).min(text.len())].to_vec()
         } else {
             random_over(&alphabet, random, length)
@@ -101,8 +101,8 @@ fn random_damaged_sheets() {
             _ => sheet.bytes(),
         };
         if random.within(0, 1) == 0 {
-            let place = random.place(bytes.len());
-            bytes[place] = random.one_of(b"\n ()0189ABFGaf");
+            let i = random.below(bytes.len());
+            bytes[i] = random.one_of(b"\n ()0189ABFGaf");
         }
         refused += usize::from(lookup(&bytes).starts_with("(refused "));
     }

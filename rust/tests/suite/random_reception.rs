@@ -163,8 +163,8 @@ fn try_every_index(words: &str, characters: &str, longest: usize) {
         let entries = blank.fitting(&characters);
         let mut received = 0;
         for choice in 0..1u32 << entries.len() {
-            let chosen = (0..entries.len()).filter(|place| choice >> place & 1 == 1);
-            let index = numbers(blank.n(), chosen.map(|place| entries[place]));
+            let chosen = (0..entries.len()).filter(|i| choice >> i & 1 == 1);
+            let index = numbers(blank.n(), chosen.map(|i| entries[i]));
             let text = texts.get(&index);
             let expected = text.map(Vec::as_slice).ok_or(9);
             assert_receives(&blank.dictionary, &index, Room::ample(n), expected);

@@ -13,12 +13,12 @@ use crate::support::text::{Subject, in_either_width};
 /// such a one in a character.
 fn string_near(text: &[u16], random: &mut Random) -> Vec<u16> {
     let most = random.one_of(&[1, 2, 3, 5, 12, 40, 256]);
-    let start = random.place(text.len());
+    let start = random.below(text.len());
     let long = random.within(1, most).min(text.len() - start);
     let mut string = text[start..start + long].to_vec();
     if random.within(0, 2) == 0 {
-        let place = random.place(string.len());
-        string[place] = text[random.place(text.len())];
+        let i = random.below(string.len());
+        string[i] = text[random.below(text.len())];
     }
     if random.within(0, 9) == 0 {
         string.push(text[0]);
@@ -32,10 +32,10 @@ fn compare_with_text(subject: &Subject, random: &mut Random) {
     let Delivery { dictionary, index } = Delivery::of_text(subject);
     for _ in 0..8 {
         let string = string_near(&subject.text, random);
-        let places = oracle::places_in_text(&subject.text, &string);
-        let output_len = places.len() + random.within(0, 3);
-        assert_finds(&dictionary, &index, &string, output_len, Ok(&places));
-        if let Some(short) = places.len().checked_sub(1) {
+        let positions = oracle::positions_in_text(&subject.text, &string);
+        let output_len = positions.len() + random.within(0, 3);
+        assert_finds(&dictionary, &index, &string, output_len, Ok(&positions));
+        if let Some(short) = positions.len().checked_sub(1) {
             assert_finds(&dictionary, &index, &string, short, Err(8));
         }
     }
@@ -89,8 +89,8 @@ fn readable_indexes_of_no_text() {
         for _ in 0..6 {
             let length = random.within(1, 8);
             let string = delivery.string(&mut random, length);
-            let places = search(dictionary, index, &string, 24).expect("a readable index");
-            found += usize::from(!places.is_empty());
+            let positions = search(dictionary, index, &string, 24).expect("a readable index");
+            found += usize::from(!positions.is_empty());
         }
     }
     assert!(found >= 4_000, "only {found}");

@@ -251,7 +251,7 @@ fn counts_that_add_up_to_65536() {
     unreadable(&a(), &[6, 2, 1, 97, 32_768, 1, 98, 32_768]);
     unreadable(&a(), &[6, 2, 1, 97, 65_535, 1, 98, 2, 1]);
     let third = [21_846, 21_845, 21_846];
-    let line = |place: u16| [1, 97 + place, third[usize::from(place)]];
+    let line = |i: u16| [1, 97 + i, third[usize::from(i)]];
     let short = [&[6, 3][..], &[line(0), line(1), line(2)].concat(), &[1]].concat();
     unreadable(&a(), &short);
 }

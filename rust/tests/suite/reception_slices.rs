@@ -98,15 +98,15 @@ fn refuses_whatever_work_holds(
     dictionary: &Dictionary,
     index: &[u16],
     text: &[u16],
-    notes: &[u16],
+    line_map: &[u16],
 ) {
     let read = [&dictionary.chars[..], &dictionary.lengths, index];
     for pattern in 0..1 << 8 {
-        let part = |place| {
-            if pattern >> place & 1 == 1 {
+        let part = |i| {
+            if pattern >> i & 1 == 1 {
                 text
             } else {
-                notes
+                line_map
             }
         };
         let held = (0..8).map(part).collect::<Vec<_>>().concat();

@@ -1,4 +1,5 @@
-//! The refusals: numbers, sentences, and agreement with the C header.
+//! The refusals: numbers, sentences, and agreement with the C header, also on
+//! the layout of an index.
 
 use std::collections::BTreeSet;
 
@@ -48,6 +49,13 @@ fn the_header_has_the_same_table() {
         assert!(header.contains(&words(&line)), "not in the header: {line}");
     }
     assert_eq!(header.matches(" = ").count(), Refusal::ALL.len() + 1);
+}
+
+/// As many numbers of an index precede its directory in C as in Rust.
+#[test]
+fn the_header_of_an_index_has_the_same_length() {
+    let line = format!("#define MOPEKIHUA_HEADER {} ", mopekihua::HEADER);
+    assert!(words(HEADER).contains(&line), "not in the header: {line}");
 }
 
 /// The words of a text with one space between them.

@@ -24,9 +24,9 @@ fn repeated(period: &[u16], n: usize, word_lengths: &[usize]) -> (Vec<u16>, Deli
 #[track_caller]
 fn finds_as_in(text: &[u16], delivery: &Delivery, string: &[u16]) {
     let Delivery { dictionary, index } = delivery;
-    let places = oracle::places_in_text(text, string);
-    assert_finds(dictionary, index, string, places.len(), Ok(&places));
-    if let Some(short) = places.len().checked_sub(1) {
+    let positions = oracle::positions_in_text(text, string);
+    assert_finds(dictionary, index, string, positions.len(), Ok(&positions));
+    if let Some(short) = positions.len().checked_sub(1) {
         assert_finds(dictionary, index, string, short, Err(8));
     }
 }

@@ -81,11 +81,11 @@ pub fn assert_call_beside<const R: usize, const W: usize, T: Debug + PartialEq>(
         read.map(few),
         written.each_ref().map(Written::len),
     );
-    for (place, (lent, slice)) in lent.iter().zip(read).enumerate() {
-        lent.assert_holds(slice, &format!("slice {place} lent to be read"));
+    for (number, (lent, slice)) in lent.iter().zip(read).enumerate() {
+        lent.assert_holds(slice, &format!("slice {number} lent to be read"));
     }
-    for (place, slice) in written.iter().enumerate() {
-        let name = format!("slice {place} lent to be written");
-        filled[place].assert_holds(&slice.after(&before[place]), &name);
+    for (number, slice) in written.iter().enumerate() {
+        let name = format!("slice {number} lent to be written");
+        filled[number].assert_holds(&slice.after(&before[number]), &name);
     }
 }

@@ -64,8 +64,8 @@ impl Damage {
     /// Does this damage to a dictionary of at least two words whose lengths add
     /// up.
     pub fn apply(self, dictionary: &mut Dictionary, random: &mut Random) {
-        let number = random.place(dictionary.lengths.len());
-        let neighbour = random.place(dictionary.lengths.len() - 1);
+        let number = random.below(dictionary.lengths.len());
+        let neighbour = random.below(dictionary.lengths.len() - 1);
         let chars_len = dictionary.chars.len();
         let Dictionary { chars, lengths } = dictionary;
         match self {
@@ -75,13 +75,13 @@ impl Damage {
             Damage::LengthOneLess => lengths[number] -= 1,
             Damage::LengthZero => lengths[number] = 0,
             Damage::LengthAboveLimit => lengths[number] = random.one_of(&[33, 34, 256, 65535]),
-            Damage::DropCharacters => chars.truncate(random.place(chars_len)),
+            Damage::DropCharacters => chars.truncate(random.below(chars_len)),
             Damage::AddCharacters => {
                 chars.extend((0..random.within(1, 40)).map(|_| random.character()));
             }
-            Damage::ChangeCharacter => chars[random.place(chars_len)] = random.character(),
+            Damage::ChangeCharacter => chars[random.below(chars_len)] = random.character(),
             Damage::FullWidthCharacter => {
-                chars[random.place(chars_len)] = random.full_width_form();
+                chars[random.below(chars_len)] = random.full_width_form();
             }
             Damage::FullWidthWord => add_in_order(dictionary, &[random.full_width_form()]),
             Damage::MoveBorder => {

@@ -1,5 +1,7 @@
 //! Indexes as they are delivered: of a text, and readable ones of no text.
 
+use mopekihua::HEADER;
+
 use super::dictionary::Dictionary;
 use super::oracle::{self, Key, Line};
 use super::random::Random;
@@ -65,7 +67,7 @@ impl Delivery {
 
     /// The same entries behind as many positions that none covers.
     pub fn moved(mut self, by: u16) -> Delivery {
-        let directory = 2 + 3 * usize::from(self.index[1]);
+        let directory = HEADER + 3 * usize::from(self.index[1]);
         self.index[0] += by;
         for position in &mut self.index[directory..] {
             *position += by;

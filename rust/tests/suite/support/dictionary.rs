@@ -117,7 +117,7 @@ impl Dictionary {
             1 => Self::of_total_length(random.within(65_530, 65_541)),
             _ => {
                 let mut dictionary = Self::of_total_length(random.within(65_000, 65_541));
-                let split = random.place(dictionary.lengths.len() - 1);
+                let split = random.below(dictionary.lengths.len() - 1);
                 // A word of 32 characters cut in two keeps the sum; the second
                 // half starts with 0xFFFF, so the words no longer ascend.
                 dictionary.lengths[split] = 16;

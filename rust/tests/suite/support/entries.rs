@@ -3,6 +3,8 @@
 
 use std::collections::{BTreeMap, BTreeSet};
 
+use mopekihua::HEADER;
+
 use super::dictionary::Dictionary;
 use super::oracle::{self, Key};
 
@@ -82,7 +84,7 @@ pub fn keys(words: &[Vec<u16>], characters: &[u16]) -> impl Iterator<Item = Key>
 /// The readable index without its entries that start after this position, and
 /// without the keys that this leaves empty.
 pub fn starting_up_to(index: &[u16], last: usize) -> Vec<u16> {
-    let (directory, mut positions) = index[2..].split_at(3 * usize::from(index[1]));
+    let (directory, mut positions) = index[HEADER..].split_at(3 * usize::from(index[1]));
     let (mut lines, mut kept) = (Vec::new(), Vec::new());
     for line in directory.chunks(3) {
         let (under, after) = positions.split_at(usize::from(line[2]));

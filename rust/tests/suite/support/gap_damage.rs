@@ -1,6 +1,8 @@
 //! Ways to damage a gap form. Some may leave one whose restored form is
 //! readable: the oracle says which.
 
+use mopekihua::HEADER;
+
 use super::random::Random;
 
 #[derive(Clone, Copy, Debug)]
@@ -52,8 +54,8 @@ impl GapDamage {
     /// at least one number behind it; no count is 0.
     pub fn apply(self, gaps: &mut Vec<u16>, random: &mut Random) {
         let keys = usize::from(gaps[1]);
-        let header = 2 + 3 * keys;
-        let count = 4 + 3 * random.place(keys);
+        let header = HEADER + 3 * keys;
+        let count = 4 + 3 * random.below(keys);
         let next_count = (count + 3).min(header - 1);
         let at = random.within(header, gaps.len() - 1);
         let other = random.within(header, gaps.len() - 1);
@@ -103,7 +105,7 @@ fn change(number: &mut u16, by: i16) {
 /// Where the list begins whose count stands at this index, as far as there are
 /// numbers.
 fn start_of(gaps: &[u16], count: usize) -> usize {
-    let header = 2 + 3 * usize::from(gaps[1]);
-    let before = (4..count).step_by(3).map(|place| usize::from(gaps[place]));
+    let header = HEADER + 3 * usize::from(gaps[1]);
+    let before = (4..count).step_by(3).map(|i| usize::from(gaps[i]));
     (header + before.sum::<usize>()).min(gaps.len() - 1)
 }

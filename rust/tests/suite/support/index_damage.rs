@@ -1,6 +1,8 @@
 //! Ways to damage an index. Some may leave it readable, as a changed position
 //! may: the oracle says which.
 
+use mopekihua::HEADER;
+
 use super::random::Random;
 
 #[derive(Clone, Copy, Debug)]
@@ -46,13 +48,13 @@ impl IndexDamage {
     /// Does this damage to a readable index of at least one key.
     pub fn apply(self, index: &mut Vec<u16>, random: &mut Random) {
         let keys = usize::from(index[1]);
-        let header = 2 + 3 * keys;
-        let line = 2 + 3 * random.place(keys);
-        let other = 2 + 3 * random.place(keys);
+        let header = HEADER + 3 * keys;
+        let line = HEADER + 3 * random.below(keys);
+        let other = HEADER + 3 * random.below(keys);
         let last_line = header - 3;
         let position = random.within(header, index.len() - 1);
         let beside = random.within(header, index.len() - 1);
-        let place = random.place(index.len());
+        let i = random.below(index.len());
         match self {
             IndexDamage::ChangeKind => index[line] = random.one_of(&[0, 1, 2, 0xFFFF]),
             IndexDamage::ChangeValue => index[line + 1] = near(index[line + 1], random),
@@ -73,9 +75,9 @@ impl IndexDamage {
             IndexDamage::RepeatPosition => index[position] = index[beside],
             IndexDamage::ChangeN => index[0] = near(index[0], random),
             IndexDamage::ChangeK => index[1] = near(index[1], random),
-            IndexDamage::DropNumbers => index.truncate(place),
+            IndexDamage::DropNumbers => index.truncate(i),
             IndexDamage::AddNumber => index.push(random.within(0, 40) as u16),
-            IndexDamage::ChangeNumber => index[place] = near(index[place], random),
+            IndexDamage::ChangeNumber => index[i] = near(index[i], random),
         }
     }
 }

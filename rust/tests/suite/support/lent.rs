@@ -35,8 +35,8 @@ impl Lent {
     #[track_caller]
     pub fn assert_holds(&self, inner: &[u16], name: &str) {
         if self.inner() != inner {
-            let place = (0..inner.len()).find(|&place| self.inner()[place] != inner[place]);
-            panic!("{name} holds another number than it should at place {place:?}");
+            let i = (0..inner.len()).find(|&i| self.inner()[i] != inner[i]);
+            panic!("{name} holds another number than it should at index {i:?}");
         }
         let guards = [
             &self.numbers[..Self::WIDTH],
@@ -58,7 +58,7 @@ pub fn few(numbers: &[u16]) -> &[u16] {
 /// from their neighbours and depend on the guard.
 pub fn leftover(len: usize, guard: u16) -> Vec<u16> {
     (0..len)
-        .map(|place| (place as u16).wrapping_mul(40_503) ^ guard)
+        .map(|i| (i as u16).wrapping_mul(40_503) ^ guard)
         .collect()
 }
 

@@ -21,7 +21,7 @@ impl Random {
     }
 
     /// An index into a list of `len` elements, at least one.
-    pub fn place(&mut self, len: usize) -> usize {
+    pub fn below(&mut self, len: usize) -> usize {
         self.within(0, len - 1)
     }
 
@@ -34,6 +34,6 @@ impl Random {
     }
 
     pub fn one_of<T: Copy>(&mut self, choices: &[T]) -> T {
-        choices[self.place(choices.len())]
+        choices[self.below(choices.len())]
     }
 }

@@ -25,8 +25,8 @@ impl Sheet {
             sheet.finds.push(vec![9]);
         }
         let missing = (bytes - sheet.bytes().len()) / 5;
-        for place in 0..missing {
-            sheet.finds[place % 46].push(8);
+        for i in 0..missing {
+            sheet.finds[i % 46].push(8);
         }
         assert_eq!(sheet.bytes().len(), bytes);
         sheet
@@ -139,7 +139,7 @@ fn printed(sheet: &Sheet) -> String {
         printed += &format!("(key {key} ({}))\n", spaced(positions));
     }
     for find in &sheet.finds {
-        let positions = oracle::places_in_text(&sheet.text, find);
+        let positions = oracle::positions_in_text(&sheet.text, find);
         printed += &format!("(found {} ({}))\n", positions.len(), spaced(&positions));
     }
     printed

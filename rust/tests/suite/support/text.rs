@@ -108,7 +108,7 @@ impl Subject {
 /// A word of 1 to 32 characters that stands in the replaced text, mostly a short
 /// one.
 fn part_of(text: &[u16], random: &mut Random) -> Vec<u16> {
-    let start = random.place(text.len());
+    let start = random.below(text.len());
     let most = random.one_of(&[1, 2, 2, 3, 4, 8, 32]);
     let long = random.within(1, most).min(text.len() - start);
     replaced(&text[start..start + long])
@@ -124,6 +124,6 @@ fn few_characters(random: &mut Random) -> Vec<u16> {
     ]);
     let step = random.one_of(&[1, 37, 0x0800, 0x2000]);
     (0..count as u16)
-        .map(|place| first ^ place.wrapping_mul(step))
+        .map(|i| first ^ i.wrapping_mul(step))
         .collect()
 }

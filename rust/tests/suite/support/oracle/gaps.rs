@@ -1,5 +1,7 @@
 //! Positions as gaps, and what any numbers are restored to.
 
+use mopekihua::HEADER;
+
 use super::{Line, Opened};
 use crate::support::dictionary::Dictionary;
 
@@ -49,7 +51,7 @@ pub fn gap_form(opened: &Opened) -> Vec<u16> {
 /// to each, then as many as the next line counts, and so on. What is left stays.
 pub fn restored(numbers: &[u16]) -> Vec<u64> {
     let keys = numbers.get(1).copied().map_or(0, usize::from);
-    let at = numbers.len().min(2 + 3 * keys);
+    let at = numbers.len().min(HEADER + 3 * keys);
     let (front, mut rest) = numbers.split_at(at);
     let mut restored: Vec<u64> = front.iter().copied().map(u64::from).collect();
     for line in front.get(2..).unwrap_or_default().chunks_exact(3) {

@@ -15,7 +15,7 @@ pub use index::{Key, Line, build, index_of, lines_of, numbers};
 pub use reading::{Opened, open, tally};
 pub use reception::receive;
 pub use replaced::{is_full_width, replaced};
-pub use searching::{answer, find, first, places_in_text};
+pub use searching::{answer, find, first, positions_in_text};
 
 /// Admission: the number of words, or the number of the refusal.
 pub fn admit(chars: &[u16], lengths: &[u16]) -> Result<usize, u32> {

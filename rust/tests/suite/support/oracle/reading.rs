@@ -44,11 +44,11 @@ fn read(words: &[Vec<u16>], numbers: &[u16]) -> Option<Vec<Line>> {
     let mut lines = Vec::new();
     for line in directory.chunks(3) {
         let key = key(words, line[0], line[1])?;
-        let places: Vec<u16> = positions.by_ref().take(usize::from(line[2])).collect();
-        if places.is_empty() || places.len() != usize::from(line[2]) {
+        let listed: Vec<u16> = positions.by_ref().take(usize::from(line[2])).collect();
+        if listed.is_empty() || listed.len() != usize::from(line[2]) {
             return None;
         }
-        lines.push((key, places));
+        lines.push((key, listed));
     }
     let ascend = lines.windows(2).all(|pair| pair[0].0 < pair[1].0);
     let within = lines.iter().all(|line| positions_good(words, n, line));

@@ -19,11 +19,11 @@ pub fn receive(dictionary: &Dictionary, numbers: &[u16], work_len: usize) -> Res
 fn text_of(opened: &Opened) -> Option<Vec<u16>> {
     let mut shown = vec![None; usize::from(opened.n)];
     for (start, spelt) in opened.entries() {
-        for (place, character) in shown[start - 1..].iter_mut().zip(spelt) {
-            if place.is_some_and(|other| other != character) {
+        for (slot, character) in shown[start - 1..].iter_mut().zip(spelt) {
+            if slot.is_some_and(|other| other != character) {
                 return None;
             }
-            *place = Some(character);
+            *slot = Some(character);
         }
     }
     let text: Vec<u16> = shown.into_iter().collect::<Option<_>>()?;

@@ -57,16 +57,16 @@ fn is_found(laid: usize, string: &[u16], entries: &[(usize, Vec<u16>)]) -> bool 
             break;
         }
         let shared = laid.max(*start)..(laid + string.len()).min(start + entry.len());
-        let equal = |place| string[place - laid] == entry[place - start];
+        let equal = |i| string[i - laid] == entry[i - start];
         if !shared.is_empty() && shared.clone().all(equal) {
             covered[shared.start - laid..shared.end - laid].fill(true);
         }
     }
-    covered.iter().all(|&place| place)
+    covered.iter().all(|&i| i)
 }
 
 /// The positions at which a string stands in a text, both replaced.
-pub fn places_in_text(text: &[u16], string: &[u16]) -> Vec<u16> {
+pub fn positions_in_text(text: &[u16], string: &[u16]) -> Vec<u16> {
     let (text, string) = (super::replaced(text), super::replaced(string));
     let windows = text.windows(string.len()).zip(1..=u16::MAX);
     windows
