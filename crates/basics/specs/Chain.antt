@@ -106,7 +106,7 @@ walk-starts links h t = record { passed = omega arith; left = t .chained }
 -- what holds while a member is at hand
 pub record Member-in-hand (links all : List ℕ) (head i : ℕ) : Type 0 where
   pub below : i < length all
-  pub cut : drop i all ≡ head ∷ drop (i + 1) all
+  pub split : drop i all ≡ head ∷ drop (i + 1) all
   pub is : getD all i 0 ≡ head
   pub next : Walking links all (getD links (head - 1) 0) (i + 1)
 
@@ -118,13 +118,13 @@ module _ (links all : List ℕ) (h i : ℕ) (w : Walking links all h i) where
       go [] e c = absurd (some c)
       go (p ∷ ps) e c =
           let below : i < length all = omega (arith, ap length e, length-drop i all) in
-          let cut : drop i all ≡ getD all i 0 ∷ drop (i + 1) all = rw (add-one i) (drop-cons all i 0 below) in
-          let whole : getD all i 0 ∷ drop (i + 1) all ≡ p ∷ ps = sym cut ∙ e in
+          let split : drop i all ≡ getD all i 0 ∷ drop (i + 1) all = rw (add-one i) (drop-cons all i 0 below) in
+          let whole : getD all i 0 ∷ drop (i + 1) all ≡ p ∷ ps = sym split ∙ e in
           let first : getD all i 0 ≡ p = ap (λ (l : List ℕ). getD l 0 0) whole in
           let rest : drop (i + 1) all ≡ ps = ap (λ (l : List ℕ). drop 1 l) whole in
           record {
             below = below;
-            cut = rw (c .0, ← first) cut;
+            split = rw (c .0, ← first) split;
             is = first ∙ sym (c .0);
             next = record { passed = omega arith; left = rw (rest, c .0) (c .2) };
           }

@@ -58,7 +58,7 @@ module _ {links : List ℕ} {head : ℕ} {old now : List ℕ} {start here member
       m = walk-member links (chain links head) member (here - start) (k .walking) some
 
       w : Writing (chain links head) start old (member ∷ drop (here - start + 1) (chain links head)) here now
-      w = rw (m .cut) at (k .writing)
+      w = rw (m .split) at (k .writing)
 
       on : here + 1 - start ≡ here - start + 1
       on = omega arith

@@ -40,19 +40,19 @@ module _ (ls : List ℕ) (sum : ℕ) (good : Bool) (i : ℕ) (h : Lengths-read l
   unfolding total lengths-good length-good
   lengths-step below small = record { within = omega arith; bounded = omega arith; summed = summed; tested = tested }
     where
-      cut : drop i ls ≡ getD ls i 0 ∷ drop (i + 1) ls
-      cut = rw (add-one, drop-cons ls i 0)
+      split : drop i ls ≡ getD ls i 0 ∷ drop (i + 1) ls
+      split = rw (add-one, drop-cons ls i 0)
 
       summed : (sum + getD ls i 0) + total (drop (i + 1) ls) ≡ total ls
       summed =
           let before : sum + total (drop i ls) ≡ total ls = h .summed in
-          let here : total (drop i ls) ≡ getD ls i 0 + total (drop (i + 1) ls) = ap total cut in
+          let here : total (drop i ls) ≡ getD ls i 0 + total (drop (i + 1) ls) = ap total split in
           omega arith
 
       tested : (((good && leb 1 (getD ls i 0)) && leb (getD ls i 0) 32) && lengths-good (drop (i + 1) ls)) ≡ lengths-good ls
       tested =
           regroup good (leb 1 (getD ls i 0)) (leb (getD ls i 0) 32) (lengths-good (drop (i + 1) ls))
-          ∙ ap (λ (b : Bool). good && b) (sym (ap lengths-good cut))
+          ∙ ap (λ (b : Bool). good && b) (sym (ap lengths-good split))
           ∙ h .tested
 
   pub lengths-sum : length ls ≤ i → sum ≡ total ls
@@ -106,16 +106,16 @@ module _ {cs ls : List ℕ} {at next i : ℕ} (h : Words-read cs ls at next i) w
       sym (ap (λ (l : List ℕ). ascend (part cs at next ∷ words-from l (drop next cs))) (drop-of-length-le ls past)) ∙ h .tested
 
   module _ (below : i < length ls) where
-    cut : drop i ls ≡ getD ls i 0 ∷ drop (i + 1) ls
-    cut = rw (add-one, drop-cons ls i 0)
+    split : drop i ls ≡ getD ls i 0 ∷ drop (i + 1) ls
+    split = rw (add-one, drop-cons ls i 0)
 
-    good-cut : (length-good (getD ls i 0) && lengths-good (drop (i + 1) ls)) ≡ true
+    good-split : (length-good (getD ls i 0) && lengths-good (drop (i + 1) ls)) ≡ true
     unfolding lengths-good
-    good-cut = sym (ap lengths-good cut) ∙ h .good
+    good-split = sym (ap lengths-good split) ∙ h .good
 
-    total-cut : next + (getD ls i 0 + total (drop (i + 1) ls)) ≡ length cs
+    total-split : next + (getD ls i 0 + total (drop (i + 1) ls)) ≡ length cs
     unfolding total
-    total-cut = ap (λ (t : ℕ). next + t) (sym (ap total cut)) ∙ h .room
+    total-split = ap (λ (t : ℕ). next + t) (sym (ap total split)) ∙ h .room
 
     -- the next word has at least one character, and its characters are there
     pub next-some : next < next + getD ls i 0
@@ -125,21 +125,21 @@ module _ {cs ls : List ℕ} {at next i : ℕ} (h : Words-read cs ls at next i) w
           arith,
           leb-true 1 (getD ls i 0)
               (and-left (leb 1 (getD ls i 0)) (leb (getD ls i 0) 32)
-              (and-left (length-good (getD ls i 0)) (lengths-good (drop (i + 1) ls)) good-cut)),
+              (and-left (length-good (getD ls i 0)) (lengths-good (drop (i + 1) ls)) good-split)),
         )
 
     pub next-room : next + getD ls i 0 ≤ length cs
-    next-room = omega (arith, total-cut)
+    next-room = omega (arith, total-split)
 
-    words-cut :
+    words-split :
         (word-before (part cs at next) (part cs next (next + getD ls i 0))
         && ascend (part cs next (next + getD ls i 0) ∷ words-from (drop (i + 1) ls) (drop (next + getD ls i 0) cs)))
         ≡ ascend (words-from ls cs)
     unfolding ascend words-from
-    words-cut =
+    words-split =
         let len : (next + getD ls i 0) - next ≡ getD ls i 0 = omega arith in
         rw (len, ← drop-drop (getD ls i 0) next cs)
-        (ap (λ (l : List ℕ). ascend (part cs at next ∷ words-from l (drop next cs))) (sym cut) ∙ h .tested)
+        (ap (λ (l : List ℕ). ascend (part cs at next ∷ words-from l (drop next cs))) (sym split) ∙ h .tested)
 
     pub words-step :
         word-before (part cs at next) (part cs next (next + getD ls i 0)) ≡ true → Words-read cs ls next (next + getD ls i 0) (i + 1)
@@ -147,13 +147,13 @@ module _ {cs ls : List ℕ} {at next i : ℕ} (h : Words-read cs ls at next i) w
         record {
           within = omega arith;
           some = next-some;
-          room = omega (arith, total-cut);
-          good = and-right (length-good (getD ls i 0)) (lengths-good (drop (i + 1) ls)) good-cut;
-          tested = rw t at words-cut;
+          room = omega (arith, total-split);
+          good = and-right (length-good (getD ls i 0)) (lengths-good (drop (i + 1) ls)) good-split;
+          tested = rw t at words-split;
         }
 
     pub words-stop : word-before (part cs at next) (part cs next (next + getD ls i 0)) ≡ false → false ≡ ascend (words-from ls cs)
-    words-stop f = rw f at words-cut
+    words-stop f = rw f at words-split
 
 -- THE REFUSAL
 

@@ -14,7 +14,7 @@ use Rattle.spec.specs.Search.{all-covered, found-from, find}
 use Rattle.spec.specs.First.{first-of, first-position}
 use Rattle.models.specs.Window.{found-in}
 use Rattle.laws.specs.Search.Search.{found-from-append}
-use Rattle.laws.specs.Window.Finding.{cut}
+use Rattle.laws.specs.Window.Finding.{found-next}
 use Rattle.laws.specs.Window.Extending.{Window-done}
 use Rattle.laws.specs.Window.Searching.{in-window, none-in-window}
 use Rattle.laws.specs.TextScan.ReconstructedSearch.{Finds}
@@ -38,12 +38,12 @@ module _ (m q : ℕ) (rs : List ℕ) where
     module _ (below : i < length rs) where
       pub none-before-step : getD rs i 0 < m → None-before m q rs (i + 1)
       none-before-step far =
-          record { within = omega arith; passed = h .passed ∙ (rw (lt-leb m (getD rs i 0) far) at (cut m q rs i below)) }
+          record { within = omega arith; passed = h .passed ∙ (rw (lt-leb m (getD rs i 0) far) at (found-next m q rs i below)) }
 
       pub first-here : m ≤ getD rs i 0 → q + i ≡ first-of (found-in m q rs)
       unfolding first-of
       first-here near =
-          sym (ap first-of (h .passed ∙ (rw (le-leb m (getD rs i 0) near) at (cut m q rs i below))))
+          sym (ap first-of (h .passed ∙ (rw (le-leb m (getD rs i 0) near) at (found-next m q rs i below))))
 
     pub first-none : length rs ≤ i → 0 ≡ first-of (found-in m q rs)
     unfolding first-of found-in

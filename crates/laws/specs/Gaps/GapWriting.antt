@@ -97,8 +97,8 @@ module _ {y : ℕ → ℕ} {x : ℕ → ℕ → ℕ} {xs ps : List ℕ} where
           there : at < length ps
           there = omega (arith, first-room some)
 
-          cut : drop at ps ≡ p ∷ drop (suc at) ps
-          cut = drop-cons ps at 0 there
+          split : drop at ps ≡ p ∷ drop (suc at) ps
+          split = drop-cons ps at 0 there
 
           new : List ℕ
           new = set now at (y p)
@@ -108,7 +108,7 @@ module _ {y : ℕ → ℕ} {x : ℕ → ℕ → ℕ} {xs ps : List ℕ} where
               drop-set-lt (suc at) now at (y p) (omega arith)
               ∙ ap (λ (j : ℕ). drop j now) (sym (add-one at))
               ∙ sym (drop-drop 1 at now)
-              ∙ ap (λ (l : List ℕ). drop 1 l) (h .todo ∙ ap (by-pairs x (h .before)) cut)
+              ∙ ap (λ (l : List ℕ). drop 1 l) (h .todo ∙ ap (by-pairs x (h .before)) split)
 
           -- with the m numbers after its first the list is complete, and the rest is unchanged
           put :
@@ -138,7 +138,7 @@ module _ {y : ℕ → ℕ} {x : ℕ → ℕ → ℕ} {xs ps : List ℕ} where
           by-count zero e none = absurd (omega arith)
           by-count (suc m) e one =
               let past : drop (suc m) (p ∷ drop (suc at) ps) ≡ drop (at + suc m) ps =
-              ap (λ (l : List ℕ). drop (suc m) l) (sym cut) ∙ drop-drop (suc m) at ps in
+              ap (λ (l : List ℕ). drop (suc m) l) (sym split) ∙ drop-drop (suc m) at ps in
               record {
                 within = omega arith;
                 before = getD (p ∷ drop (suc at) ps) m 0;
@@ -148,7 +148,7 @@ module _ {y : ℕ → ℕ} {x : ℕ → ℕ → ℕ} {xs ps : List ℕ} where
                     ∙ append-assoc (take at now) (first-apart y x (take (suc m) (p ∷ drop (suc at) ps)))
                     (lists-from (first-apart y x) (keys-of xs - (i + 1)) (i + 1) xs (drop (at + suc m) ps))
                     ∙ ap (λ (l : List ℕ). standing (take (suc m) (p ∷ drop (suc at) ps)) l) (sym past)
-                    ∙ ap (λ (l : List ℕ). standing (take (suc m) l) (drop (suc m) l)) (sym cut)
+                    ∙ ap (λ (l : List ℕ). standing (take (suc m) l) (drop (suc m) l)) (sym split)
                     ∙ rw (add-one i) (rw (next, add-one i, e) at (h .so-far));
                 todo = put m .1 ∙ ap (by-pairs x (getD (p ∷ drop (suc at) ps) m 0)) past;
                 len = length-set now at (y p) ∙ h .len;

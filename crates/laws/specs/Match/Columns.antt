@@ -86,9 +86,9 @@ module _
           room = λ i a b. omega (arith, longer i a b, word-end (t .words) i (known i b), end-room (t .words) i (known i b));
         }
 
-    cut-words :
+    bound-words :
         {from c r : ℕ} → lo ≤ from → Lower-bound (column cs ws d) from hi c r → Lower-bound-at (lexicon-at cs ws .words) from hi d c r
-    cut-words l q =
+    bound-words l q =
         record {
           from = q .from;
           to = q .to;
@@ -104,4 +104,4 @@ module _
         Lower-bound (column cs ws d) from hi (c + 1) to → Prefix-range (lexicon-at cs ws .words) ts p k from to (d + 1) best
     run-step e room l r =
         prefix-range-step h some sorted other e room
-        (cut-words (omega arith) l) (cut-words (l .from) r)
+        (bound-words (omega arith) l) (bound-words (l .from) r)

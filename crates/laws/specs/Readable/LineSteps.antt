@@ -44,18 +44,18 @@ module _ {read : List ℕ → List ℕ} {lex : Lexicon} {xs : List ℕ} {i at le
       ∙ rw z at (h .tested)
 
   module _ (below : i < keys-of xs) where
-    cut :
+    split :
         (line-fits read lex (n-of xs) least (key-at xs i) (count-at xs i) (drop at xs)
         && rest-good read lex (n-of xs) (keys-of xs - (i + 1)) (i + 1) (suc (key-number (key-at xs i))) xs (drop (at + count-at xs i) xs))
         ≡ walk-good read lex xs
     unfolding rest-good
-    cut =
+    split =
         let z : keys-of xs - i ≡ suc (keys-of xs - (i + 1)) = omega arith in
         rw (add-one i, ← drop-drop (count-at xs i) at xs) (rw (z, add-one i) at (h .tested))
 
     pub lines-stop :
         line-fits read lex (n-of xs) least (key-at xs i) (count-at xs i) (drop at xs) ≡ false → false ≡ walk-good read lex xs
-    lines-stop f = rw f at cut
+    lines-stop f = rw f at split
 
     pub lines-step :
         line-fits read lex (n-of xs) least (key-at xs i) (count-at xs i) (drop at xs) ≡ true →
@@ -65,7 +65,7 @@ module _ {read : List ℕ → List ℕ} {lex : Lexicon} {xs : List ℕ} {i at le
           within = omega arith;
           room =
               omega (arith, fits-get read lex (n-of xs) least (key-at xs i) (count-at xs i) (drop at xs) t .present, length-drop at xs);
-          tested = rw (add-one (key-number (key-at xs i))) (rw t at cut);
+          tested = rw (add-one (key-number (key-at xs i))) (rw t at split);
         }
 
     -- if the line has no word key, the least number may be that of a lone key

@@ -56,8 +56,8 @@ passed-raise u more h =
 
 module _ {cs ls : List ℕ} {w at v : ℕ} (h : Passed cs ls w at v) where
   module _ (below : w < length ls) where
-    cut : drop w ls ≡ getD ls w 0 ∷ drop (w + 1) ls
-    cut = rw (add-one, drop-cons ls w 0)
+    split : drop w ls ≡ getD ls w 0 ∷ drop (w + 1) ls
+    split = rw (add-one, drop-cons ls w 0)
 
     word : List ℕ
     word = take (getD ls w 0) (drop at cs)
@@ -65,18 +65,18 @@ module _ {cs ls : List ℕ} {w at v : ℕ} (h : Passed cs ls w at v) where
     rest : List (List ℕ)
     rest = words-from (drop (w + 1) ls) (drop (at + getD ls w 0) cs)
 
-    words-cut : words-from (drop w ls) (drop at cs) ≡ word ∷ rest
+    words-split : words-from (drop w ls) (drop at cs) ≡ word ∷ rest
     unfolding words-from word rest
-    words-cut = ap (λ (l : List ℕ). words-from l (drop at cs)) cut ∙ rw (drop-drop (getD ls w 0) at cs)
+    words-split = ap (λ (l : List ℕ). words-from l (drop at cs)) split ∙ rw (drop-drop (getD ls w 0) at cs)
 
     len : (1 ≤ getD ls w 0) × (getD ls w 0 ≤ 32)
     len =
-        let good : lengths-good (getD ls w 0 ∷ drop (w + 1) ls) ≡ true = sym (ap lengths-good cut) ∙ h .good in
+        let good : lengths-good (getD ls w 0 ∷ drop (w + 1) ls) ≡ true = sym (ap lengths-good split) ∙ h .good in
         lengths-good-get (getD ls w 0 ∷ drop (w + 1) ls) good 0 (omega arith)
 
     sum : at + (getD ls w 0 + total (drop (w + 1) ls)) ≡ length cs
     unfolding total
-    sum = ap (λ (t : ℕ). at + t) (sym (ap total cut)) ∙ h .room
+    sum = ap (λ (t : ℕ). at + t) (sym (ap total split)) ∙ h .room
 
     -- the word's characters lie within the slice
     pub word-room : at + getD ls w 0 ≤ length cs
@@ -100,8 +100,8 @@ module _ {cs ls : List ℕ} {w at v : ℕ} (h : Passed cs ls w at v) where
         record {
           within = omega arith;
           room = omega (arith, sum);
-          good = lengths-good-tail (getD ls w 0) (drop (w + 1) ls) (sym (ap lengths-good cut) ∙ h .good);
-          order = ascend-tail word rest (sym (ap ascend words-cut) ∙ h .order);
+          good = lengths-good-tail (getD ls w 0) (drop (w + 1) ls) (sym (ap lengths-good split) ∙ h .good);
+          order = ascend-tail word rest (sym (ap ascend words-split) ∙ h .order);
           left = λ u b. left u b;
         }
       where
@@ -114,7 +114,7 @@ module _ {cs ls : List ℕ} {w at v : ℕ} (h : Passed cs ls w at v) where
         left : (u : ℕ) → v ≤ u → listed (u ∷ []) rest ≡ is-word (lexicon cs ls) (u ∷ [])
         left u b =
             ap (λ (t : Bool). t || listed (u ∷ []) rest) (sym (other u b))
-            ∙ sym (ap (listed (u ∷ [])) words-cut)
+            ∙ sym (ap (listed (u ∷ [])) words-split)
             ∙ h .left u b
 
   -- THE END: no word is left
@@ -135,7 +135,7 @@ module _ {cs ls : List ℕ} {w at v : ℕ} (h : Passed cs ls w at v) (below : w 
 
   left-is : listed (v ∷ []) (here ∷ others) ≡ is-word (lexicon cs ls) (v ∷ [])
   left-is =
-      sym (ap (listed (v ∷ [])) (words-cut h below)) ∙ h .left v (omega arith)
+      sym (ap (listed (v ∷ [])) (words-split h below)) ∙ h .left v (omega arith)
 
   here-is : here ≡ getD cs at 0 ∷ beyond
   here-is = word-is h below
@@ -148,7 +148,7 @@ module _ {cs ls : List ℕ} {w at v : ℕ} (h : Passed cs ls w at v) (below : w 
       after x (inl e) = rw e t
       after x (inr m) =
           word-before-trans (v ∷ []) here x t
-          (ascend-first here x others (sym (ap ascend (words-cut h below)) ∙ h .order) m)
+          (ascend-first here x others (sym (ap ascend (words-split h below)) ∙ h .order) m)
 
       wrong : listed (v ∷ []) (here ∷ others) ≡ true → ⊥
       wrong l = clash (after (v ∷ []) (listed-get (v ∷ []) (here ∷ others) l)) (word-before-self (v ∷ []))

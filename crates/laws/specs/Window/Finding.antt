@@ -45,11 +45,11 @@ module _ (m : ℕ) (rs : List ℕ) where
     counting-step below =
         record { within = omega arith; counted = counted; few = few (leb m (getD rs i 0)) }
       where
-        cut : count-in m (drop i rs) ≡ cond (leb m (getD rs i 0)) 1 0 + count-in m (drop (i + 1) rs)
-        cut = rw (add-one i, drop-cons rs i 0)
+        count-next : count-in m (drop i rs) ≡ cond (leb m (getD rs i 0)) 1 0 + count-in m (drop (i + 1) rs)
+        count-next = rw (add-one i, drop-cons rs i 0)
 
         counted : (count + cond (leb m (getD rs i 0)) 1 0) + count-in m (drop (i + 1) rs) ≡ count-in m rs
-        counted = omega (arith, cut)
+        counted = omega (arith, count-next)
 
         few : (b : Bool) → count + cond b 1 0 ≤ i + 1
         few true = omega arith
@@ -71,13 +71,13 @@ none-found m most q (r ∷ rs) w h =
 -- THE NEXT START
 
 -- the start at i, found or not, comes before those after it
-pub cut :
+pub found-next :
     (m q : ℕ) (rs : List ℕ) (i : ℕ) → i < length rs →
     found-in m (q + i) (drop i rs)
     ≡ cond (leb m (getD rs i 0)) ((q + i) ∷ found-in m (q + (i + 1)) (drop (i + 1) rs))
     (found-in m (q + (i + 1)) (drop (i + 1) rs))
 unfolding found-in
-cut m q rs i below =
+found-next m q rs i below =
     let z : q + suc i ≡ suc (q + i) = omega arith in
     rw (add-one i, z, drop-cons rs i 0)
 
@@ -118,7 +118,7 @@ module _ (m : ℕ) (rs : List ℕ) (from : ℕ) where
         }
       where
         same : (q : ℕ) → found-in m (q + i) (drop i rs) ≡ found-in m (q + (i + 1)) (drop (i + 1) rs)
-        same q = rw (lt-leb m (getD rs i 0) far) at (cut m q rs i passing-below)
+        same q = rw (lt-leb m (getD rs i 0) far) at (found-next m q rs i passing-below)
 
     pub passing-end : m ≤ getD rs i 0 → Next-found m rs from i
     passing-end near = record { onward = h .onward; within = passing-below; near = near; passed = h .passed }
@@ -175,7 +175,7 @@ module _ (m q : ℕ) (rs old : List ℕ) where
 
     module _ (below : i < length rs) (near : m ≤ getD rs i 0) where
       here : found-in m (q + i) (drop i rs) ≡ (q + i) ∷ found-in m (q + (i + 1)) (drop (i + 1) rs)
-      here = rw (le-leb m (getD rs i 0) near) at (cut m q rs i below)
+      here = rw (le-leb m (getD rs i 0) near) at (found-next m q rs i below)
 
       finding-room : length (found-in m q rs) ≤ length old → written < length out
       finding-room room = omega (arith, ap length here)

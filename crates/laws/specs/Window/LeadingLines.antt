@@ -186,17 +186,17 @@ module _ {m : ℕ} {lex : Lexicon} {xs s : List ℕ} {w : ℕ} {old : List ℕ} 
       rest : List ℕ
       rest = those-from (w - (i + 1)) (i + 1) (is-leading m lex xs s)
 
-      cut : those-from (w - i) i (is-leading m lex xs s) ≡ cond (is-leading m lex xs s i) (i ∷ rest) rest
+      split : those-from (w - i) i (is-leading m lex xs s) ≡ cond (is-leading m lex xs s i) (i ∷ rest) rest
       unfolding those-from rest
-      cut = let z : w - i ≡ suc (w - suc i) = omega arith in rw (add-one i, z)
+      split = let z : w - i ≡ suc (w - suc i) = omega arith in rw (add-one i, z)
 
       pub leading-passed : false ≡ is-leading m lex xs s i → Leading m lex xs s w old now count (i + 1)
       unfolding rest
-      leading-passed f = record { writing = rw (cut, ← f) at (h .writing) }
+      leading-passed f = record { writing = rw (split, ← f) at (h .writing) }
 
       module _ (t : true ≡ is-leading m lex xs s i) where
         here : Writing (leading-lines m lex xs s w) 0 old (i ∷ rest) count now
-        here = rw (cut, ← t) at (h .writing)
+        here = rw (split, ← t) at (h .writing)
 
         pub leading-room : count < length now
         leading-room = omega (arith, here .room)

@@ -113,15 +113,15 @@ pub progress-step :
     {rest : List ℕ → List ℕ} (next : List ℕ → List ℕ) {goal old rs now : List ℕ} {max-reach highest : ℕ} {stepped : List ℕ} →
     Progress rest goal old rs max-reach →
     rest rs ≡ next stepped → length now ≡ length rs → Reaches stepped now highest → Progress next goal old now highest
-progress-step next m cut kept r =
-    record { left = ap next (r .is) ∙ sym cut ∙ m .left; len = kept ∙ m .len; bounded = r .bounded }
+progress-step next m split kept r =
+    record { left = ap next (r .is) ∙ sym split ∙ m .left; len = kept ∙ m .len; bounded = r .bounded }
 
 -- a step that changes nothing
 pub progress-pass :
     {rest : List ℕ → List ℕ} (next : List ℕ → List ℕ) {goal old rs : List ℕ} {max-reach : ℕ} → Progress rest goal old rs max-reach →
     rest rs ≡ next rs →
     Progress next goal old rs max-reach
-progress-pass next m cut = record { left = sym cut ∙ m .left; len = m .len; bounded = m .bounded }
+progress-pass next m split = record { left = sym split ∙ m .left; len = m .len; bounded = m .bounded }
 
 -- nothing is left
 pub progress-end :
