@@ -24,7 +24,8 @@ fn char_at(chars: &[u16], word_starts: &[u16], word: usize, depth: usize) -> u16
     chars[at]
 }
 
-// The first of the words `low` to `high` - 1 whose character at `depth` is not below `least`, or `high`.
+// The first of the words `low` to `high` - 1 whose character at `depth` is not below `least`, or `high`. The loop has a start and a length,
+// which takes a register less than two ends do.
 fn lower_bound(
     chars: &[u16],
     word_starts: &[u16],
@@ -46,13 +47,15 @@ fn lower_bound(
         return high;
     }
     let mut a = low;
-    let mut b = high;
-    while a < b {
-        let middle = a + (b - a) / 2;
+    let mut left = high - low;
+    while 0 < left {
+        let half = left / 2;
+        let middle = a + half;
         if (char_at(chars, word_starts, middle, depth) as usize) < least {
             a = middle + 1;
+            left -= half + 1;
         } else {
-            b = middle;
+            left = half;
         }
     }
     a

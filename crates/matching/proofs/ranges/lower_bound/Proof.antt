@@ -1,5 +1,6 @@
 -- `lower_bound` meets its contract: the first or the last word decides, or the search does. The invariant: the lower bound is not before a
--- and not after b. The measure is b - a. Assumes nothing.
+-- and not after a + left. The measure is `left`. Assumes nothing.
+use mathlib.Core.Path.{_≡_}
 use Prim.Native.Nat.{ℕ, _/_, _+_, _-_}
 use native.Mathlib.Omega.{arith}
 use borrow.Author.Needs.{needs}
@@ -9,16 +10,16 @@ use Rattle.matching.proofs.ranges.lower_bound.Statement.{statement}
 use Rattle.matching.proofs.ranges.lower_bound.Tie as tie
 
 abbrev Inv-loop : tie.InvT-loop
-Inv-loop chars word-starts low high depth least a₀ b₀ a b = Bisected (column chars word-starts depth) low high least a b
+Inv-loop chars word-starts low high depth least a₀ left₀ a left = Bisected (column chars word-starts depth) low high least a (a + left)
 
 abbrev μ-loop : tie.MeasureT-loop
-μ-loop chars word-starts low high depth least a₀ b₀ a b = b - a
+μ-loop chars word-starts low high depth least a₀ left₀ a left = left
 
 abbrev start : tie.Else2 Inv-loop μ-loop → tie.Start Inv-loop μ-loop
 start c = c .before .before .before .before .before
 
 abbrev middle : tie.At-loop Inv-loop μ-loop → ℕ
-middle turn = turn .loop .a + (turn .loop .b - turn .loop .a) / 2
+middle turn = turn .loop .a + turn .loop .left / 2
 
 char-at-requires : tie.Need-char-at-requires Inv-loop μ-loop
 char-at-requires c κs =
@@ -43,7 +44,8 @@ returns-3 c =
 loop-holds : tie.Need-loop-holds Inv-loop μ-loop
 loop-holds c =
     let s = start (c .before .before) in
-    bisected-start (s .pre .rising) (s .args .least)
+    let end : s .args .low + (s .args .high - s .args .low) ≡ s .args .high = omega arith in
+    rw end (bisected-start (s .pre .rising) (s .args .least))
 
 char-at-requires-3 : tie.Need-char-at-requires-3 Inv-loop μ-loop
 char-at-requires-3 c κs =
@@ -54,7 +56,8 @@ loop-again : tie.Need-loop-again Inv-loop μ-loop
 loop-again c =
     let turn = c .before .before .before in
     let s = start (turn .before .before .before) in
-    bisected-up (s .pre .rising) (s .args .least) (turn .loop .inv) (middle turn) (omega arith) (omega arith) (omega arith)
+    let end : middle turn + 1 + (turn .loop .left - (turn .loop .left / 2 + 1)) ≡ turn .loop .a + turn .loop .left = omega arith in
+    rw end (bisected-up (s .pre .rising) (s .args .least) (turn .loop .inv) (middle turn) (omega arith) (omega arith) (omega arith))
 
 loop-again-2 : tie.Need-loop-again-2 Inv-loop μ-loop
 loop-again-2 c =
@@ -65,12 +68,12 @@ loop-again-2 c =
 returns-4 : tie.Need-returns-4 Inv-loop μ-loop
 returns-4 c =
     let s = start (c .before .before .before .before) in
-    bisected-end (s .pre .rising) (s .args .least) (c .before .loop .inv) (c .loop-test .left)
+    bisected-end (s .pre .rising) (s .args .least) (c .before .loop .inv) (omega (arith, c .loop-test .left))
 
 pub lower-bound-spec : {M : Type 1} → statement M
 lower-bound-spec =
     tie.close
     (tie.spec
     Inv-loop μ-loop (λ c. search needs) char-at-requires (λ c. omega arith) returns-2 (λ c. omega arith) char-at-requires-2
-    (λ c. omega arith) returns-3 loop-holds (λ c. omega arith) (λ c. omega arith) char-at-requires-3 (λ c. omega arith) (λ c. omega arith)
-    (λ c. omega arith) loop-again (λ c. omega arith) loop-again-2 returns-4)
+    (λ c. omega arith) returns-3 (λ c. omega arith) loop-holds (λ c. omega arith) char-at-requires-3 (λ c. omega arith) (λ c. omega arith)
+    (λ c. omega arith) (λ c. omega arith) (λ c. omega arith) loop-again (λ c. omega arith) loop-again-2 returns-4)
