@@ -56,22 +56,26 @@ ARCHIVE := target/staticlib/libmopekihua.a
 ## lib: prove the library and write target/staticlib/libmopekihua.a
 # Functions are to begin at boundaries of 64 bytes, so that their speed does not depend on where a linker puts them.
 lib: need-rt
-	rt staticlib mopekihua
+	cd crates/mopekihua && rt lib
+	@mkdir -p $(dir $(ARCHIVE))
+	cp crates/mopekihua/out/libmopekihua.a $(ARCHIVE)
 	@objcopy --set-section-alignment '.text*=64' $(ARCHIVE) 2>/dev/null || \
 	  echo 'skipped: objcopy does not align the functions of the library'
 
 ## lookup: prove the program and write target/bin/lookup
 lookup: need-rt
-	rt check lookup
+	cd crates/lookup && rt run <stdin >/dev/null
+	@mkdir -p target/bin
+	cp crates/lookup/out/lookup target/bin/lookup
 
 ## fmt: put every source file into its layout
 fmt: need-rt
-	rt fmt
+	for crate in crates/*/; do (cd "$$crate" && rt fmt); done
 	$(CARGO) fmt
 
 ## clean: remove everything that was built
 clean:
-	rm -rf target
+	rm -rf target crates/*/out
 
 ## help: this list
 help:
@@ -86,8 +90,8 @@ target/examples/%: examples/%.c include/mopekihua.h lib
 	@mkdir -p $(@D)
 	$(CC) $(CFLAGS) -Iinclude $< $(ARCHIVE) -o $@
 
-check-fmt: need-rt
-	rt fmt --check
+# `rt ci` itself refuses files of crates/ that are not laid out.
+check-fmt:
 	$(CARGO) fmt --check
 
 # The header is included twice, alone: it brings what it needs and guards itself.

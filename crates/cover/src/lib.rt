@@ -2,6 +2,8 @@
 // reach: the length of the covered prefix.
 //
 // The leading keys come first, those at an offset of 0 or below, then the offsets above 0 in ascending order.
+#![tactic(auto)]
+
 mod extend;
 mod leading;
 mod lines;

@@ -1,2 +1,4 @@
 // Full-width forms, replaced in texts and search strings (width folding).
+#![tactic(auto)]
+
 pub mod forms;

@@ -1,3 +1,5 @@
 // The gap form of an index, and its inverse.
+#![tactic(auto)]
+
 pub mod form;
 mod writing;

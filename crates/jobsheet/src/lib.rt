@@ -1,4 +1,6 @@
 // The answer to a job sheet: bytes in, bytes out.
+#![tactic(auto)]
+
 pub mod answer;
 pub mod finds;
 pub mod lines;

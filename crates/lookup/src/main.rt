@@ -2,12 +2,16 @@
 //
 // The input is read to its end, or to one byte past the longest sheet, which is enough to refuse a longer one. One call on
 // these bytes does all the work.
-ghost use Rattle.std.specs.Prelude.{◌≤◌, length};
+#![tactic(auto)]
+
+ghost use Rattle.std.specs.Prelude.{◌≤◌, IfOk, length};
 ghost use Rattle.spec.specs.JobAnswer.{job_answer};
 ghost use Rattle.laws.specs.JobSheet.AcceptedCalls.{InHand};
 
+use std::io;
+use std::io::{Read, Write};
+
 use jobsheet::answer::answer;
-use libc::{STDIN_FILENO, STDOUT_FILENO};
 
 // Room for the longest sheet and one byte more.
 fn sheet_buffer() -> [u8; 32769] {
@@ -28,10 +32,25 @@ fn put_answer(sheet: &[u8], output: &mut [u8]) -> usize
     answered.count
 }
 
-fn main() {
+// Reads until the buffer is full or the input ends, and answers how many bytes it put at the start of the buffer.
+fn read_full<R: Read>(input: &mut R, buffer: &mut [u8]) -> io::Result<usize>
+    ensures { IfOk result (λ count. count ≤ length buffer.new) }
+{
+    let mut done = 0;
+    while done < buffer.len() {
+        let count = input.read(&mut buffer[done..])?;
+        if count == 0 {
+            break;
+        }
+        done += count;
+    }
+    Ok(done)
+}
+
+fn main(rt: HostRuntime) -> io::Result<()> {
     let mut sheet = sheet_buffer();
-    let length = io::read_full(STDIN_FILENO, &mut sheet);
+    let length = read_full(&mut rt.reader(), &mut sheet)?;
     let mut output = output_buffer();
     let count = put_answer(&sheet[..length], &mut output);
-    io::write_all(STDOUT_FILENO, &output[..count]);
+    rt.stdout().write_all(&output[..count])
 }

@@ -5,6 +5,8 @@
 // Texts and search strings are replaced first: each full-width form, FF01 to FF5E, by the character FEE0 lower. What is lent as characters
 // holds characters, by its type too: building, reception and recovery say so in a clause of their own, since the demands
 // (`spec/specs/Demands.antt`) ask for it.
+#![tactic(auto)]
+
 ghost use Rattle.std.specs.Prelude.{◌≡◌, true};
 ghost use Rattle.spec.specs.Dictionary.{longest_text, all_chars};
 ghost use Rattle.spec.specs.Calls.{AdmitSays, BuildSays, CutSays, FirstSays, ReceiveSays, RecoverSays, SearchSays, TallySays};

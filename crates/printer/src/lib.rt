@@ -1,2 +1,4 @@
 // Printing the lines of an answer.
+#![tactic(auto)]
+
 pub mod print;

@@ -1,4 +1,6 @@
 // Whether delivered numbers are a readable index.
+#![tactic(auto)]
+
 mod descents;
 mod lines;
 mod lists;

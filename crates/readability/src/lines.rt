@@ -5,7 +5,7 @@
 // so that no number of keys and no count wraps. The cost is linear in the index and the dictionary.
 ghost use Rattle.std.specs.Prelude.{◌≡◌, [], ◌∷◌, ◌+◌, ◌*◌, ◌-◌, ◌≤◌, length, drop};
 ghost use Rattle.spec.specs.Dictionary.{lexicon};
-ghost use Rattle.spec.specs.Words.{key, is-word};
+ghost use Rattle.spec.specs.Words.{key, is_word};
 ghost use Rattle.spec.specs.Index.{header, greatest_number, keys_of};
 ghost use Rattle.models.specs.Readability.{line_fits, walk_good, read_as};
 ghost use Rattle.laws.specs.Dictionary.Lexicon.{IsAdmitted};
@@ -57,7 +57,7 @@ struct Cursor {
 fn seek(chars: &[u16], lengths: &[u16], from: Cursor, value: usize) -> Cursor
     requires { Passed chars.now lengths.now from.word from.at value }
     ensures { Passed chars.now lengths.now result.word result.at value ×
-        (result.is_word ≡ is-word (lexicon chars.now lengths.now) (value ∷ [])) }
+        (result.is_word ≡ is_word (lexicon chars.now lengths.now) (value ∷ [])) }
 {
     let mut word = from.word;
     let mut at = from.at;

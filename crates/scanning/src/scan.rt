@@ -8,7 +8,7 @@ ghost use Rattle.models.specs.WordStarts.{lexicon_at};
 ghost use Rattle.laws.specs.Text.Facts.{Chars};
 ghost use Rattle.laws.specs.Match.MatchTable.{Tables};
 ghost use Rattle.laws.specs.Build.Tokens.{Tokens};
-ghost use Rattle.laws.specs.Build.ScanTokens.{Stepped as Stepped-at};
+ghost use Rattle.laws.specs.Build.ScanTokens.{Stepped as SteppedAt};
 
 use matching::longest::find_longest;
 use width::Number;
@@ -32,7 +32,7 @@ pub fn step(
 ) -> Stepped
     requires { Tables chars.now word_starts.now heads.now links.now × Chars text.now × (at < length text.now) ×
         (end ≤ length text.now) }
-    ensures stepped { Stepped-at (lexicon_at chars.now word_starts.now) text.now (at + 1) (end + 1) result.token
+    ensures stepped { SteppedAt (lexicon_at chars.now word_starts.now) text.now (at + 1) (end + 1) result.token
         (result.end + 1) }
     ensures small { result.token ≤ 4097 }
 {

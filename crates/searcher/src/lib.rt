@@ -1,4 +1,6 @@
 // Search of an index without its text: every position, or the first.
+#![tactic(auto)]
+
 mod estimate;
 pub mod first;
 mod first_starts;

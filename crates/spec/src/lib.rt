@@ -1,4 +1,5 @@
 // What the operations answer. The definitions and statements that contracts cite are in specs/.
+#![tactic(auto)]
 
 // refusal is the number of the line of the refusal table that applies, 0 where the call is accepted; count is what an accepted
 // call returns, and 0 beside a refusal.

@@ -1,6 +1,8 @@
 // The width of an index: the type of its numbers, the type of sums of its counts, and the greatest length of a text that it states.
 //
 // An index's number is a `usize` where it is read, and cast where it is stored. What differs between widths stands here alone.
+#![tactic(auto)]
+
 ghost use Rattle.std.specs.Prelude.{◌≡◌, ◌*◌, ◌≤◌, ◌<◌, length, get_or};
 ghost use Rattle.spec.specs.Index.{greatest_number};
 

@@ -1,0 +1,20 @@
+use Rattle.std.proofs.Common.{rules, ◌≡◌, ◌+◌, ◌≤◌, length, replicate, ℕ, ◌-◌, ◌*◌, ◌<◌, ◌/◌, ◌%◌, Bool, true, false, nat_eq, nat_lt, List, [], ◌∷◌, ◌++◌, slice_index_or, slice_set, bit_and, bit_or, Fits, w8, w32, w64, Bor, MutBor}
+use Rattle.basics.specs.Placed.{placed}
+use Rattle.basics.specs.Writing.{over}
+use Rattle.laws.specs.Text.Facts.{Chars}
+use native.Mathlib.Omega.{arith}
+use lib.ListN.{drop}
+use Rattle.basics.specs.Placed.{Writing, writing_start}
+use Rattle.basics.specs.PlacedCopies.{copy_room, copy_step, copy_end}
+use Rattle.copying.proofs.slices.write_list.Goals as goal
+
+pub loop-i-preserved : goal.loop-i-preserved
+loop-i-preserved c =
+    let a = c.args in
+    let l = c.loop-i in
+    let z : a.from + l.i + 1 ≡ a.from + (l.i + 1) = omega arith in
+    (omega arith, rw z at (copy_step a.list.now l.i l.invariant.1 c.loop-i-test.true))
+
+pub returns : goal.returns
+returns c =
+    let l = c.loop-i in (copy_end c.args.list.now l.i l.invariant.1 c.loop-i-test.false).content

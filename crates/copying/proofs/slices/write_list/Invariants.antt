@@ -1,0 +1,16 @@
+-- `write_list` meets its contract. The invariant: the first i numbers of the list are written. The measure is how
+-- many are left.
+use Rattle.std.proofs.Common.{length, ◌-◌, ◌≡◌, ◌+◌, ◌≤◌, replicate, ℕ, ◌*◌, ◌<◌}
+use Rattle.basics.specs.Placed.{placed}
+use Rattle.basics.specs.Writing.{over}
+use Rattle.laws.specs.Text.Facts.{Chars}
+use lib.ListN.{drop}
+use Rattle.basics.specs.Placed.{Writing, writing_start}
+use Rattle.basics.specs.PlacedCopies.{copy_room, copy_step, copy_end}
+use Rattle.copying.proofs.slices.write_list.Given as goal
+
+abbrev pub invariant-loop-i : goal.invariant-loop-i
+invariant-loop-i l = (l.i ≤ length l.list) × Writing l.list l.from l.initial.output (drop l.i l.list) (l.from + l.i) l.output
+
+abbrev pub decreases-loop-i : goal.decreases-loop-i
+decreases-loop-i l = length l.list - l.i

@@ -1,0 +1,39 @@
+use Rattle.std.proofs.Common.{rules, ◌≡◌, ◌≤◌, ◌<◌, length, ℕ, ◌+◌, ◌-◌, ◌*◌, ◌/◌, ◌%◌, Bool, true, false, nat_eq, nat_lt, List, [], ◌∷◌, ◌++◌, slice_index_or, slice_set, bit_and, bit_or, w8, w32, w64, Bor, MutBor}
+use Rattle.basics.specs.Writing.{over}
+use Rattle.spec.specs.Dictionary.{total}
+use Rattle.spec.specs.Index.{greatest_number, keys_of}
+use Rattle.models.specs.WordStarts.{starts_from}
+use Rattle.laws.specs.Numbers.Slices.{Fits}
+use Rattle.laws.specs.Directory.Tables.{ListStarts}
+use mathlib.Core.Path.{◌∙◌}
+use native.Mathlib.Omega.{arith}
+use lib.ListN.{length-set}
+use Rattle.laws.specs.Dictionary.WordStarts.{FillingStarts, filling_start, filling_room, filling_step, filling_end, filling_at}
+use Rattle.directory.proofs.tables.fill_word_starts.Goals as goal
+
+pub loop-i-init : goal.loop-i-init
+loop-i-init c = filling_start c.args.lengths.now c.args.word_starts.now c.requires.1
+
+pub overflow_cast-word_starts : goal.overflow_cast-word_starts
+overflow_cast-word_starts c =
+    let a = c.args in
+    omega (arith, filling_at a.lengths.now a.word_starts.now c.loop-i.invariant)
+
+pub overflow_add-at : goal.overflow_add-at
+overflow_add-at c =
+    let a = c.args in
+    omega (
+      arith,
+      filling_at a.lengths.now a.word_starts.now c.loop-i.invariant,
+      c.type_inv.lengths c.loop-i.i,
+    )
+
+pub loop-i-preserved : goal.loop-i-preserved
+loop-i-preserved c =
+    let a = c.args in
+    filling_step a.lengths.now a.word_starts.now c.loop-i.invariant c.loop-i-test.true
+
+pub returns : goal.returns
+returns c =
+    let a = c.args in
+    filling_end a.lengths.now a.word_starts.now c.loop-i.invariant c.loop-i-test.false

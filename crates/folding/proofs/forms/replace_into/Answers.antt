@@ -1,0 +1,33 @@
+use Rattle.std.proofs.Common.{rules, ◌≡◌, false, ◌-◌, ◌≤◌, length, take, ℕ, ◌+◌, ◌*◌, ◌<◌, ◌/◌, ◌%◌, Bool, true, nat_eq, nat_lt, List, [], ◌∷◌, ◌++◌, slice_index_or, slice_set, bit_and, bit_or, Fits, w8, w32, w64, Bor, MutBor}
+use Rattle.spec.specs.Replaced.{is_full_width, replaced_char, replaced, holds_full_width}
+use Rattle.spec.specs.Calls.{in_front}
+use native.Mathlib.Omega.{arith}
+use lib.ListN.{drop}
+use Rattle.basics.specs.Placed.{Writing, writing_start}
+use Rattle.basics.specs.PlacedCopies.{copy_room, copy_step, copy_end}
+use Rattle.laws.specs.Text.WidthFolding.{length_replaced, getD_replaced}
+use Rattle.laws.specs.Receive.Receiving.{text_put}
+use Rattle.folding.proofs.forms.replace_into.Goals as goal
+
+pub loop-i-init : goal.loop-i-init
+loop-i-init c = (
+  omega arith,
+  writing_start (replaced c.args.text.now) 0 c.args.slots.now
+      (omega (arith, length_replaced c.args.text.now)),
+)
+
+pub loop-i-preserved : goal.loop-i-preserved
+loop-i-preserved c =
+    let text = c.args.text.now in
+    let turn = c.loop-i in (
+      omega arith,
+      rw (c.replace.ensures, ← getD_replaced text turn.i)
+          (copy_step (replaced text) turn.i turn.invariant.1 (omega (arith, length_replaced text))),
+    )
+
+pub returns : goal.returns
+returns c =
+    let turn = c.loop-i in
+    text_put
+    (copy_end (replaced c.args.text.now) turn.i turn.invariant.1
+    (omega (arith, length_replaced c.args.text.now)))

@@ -1,0 +1,15 @@
+-- `replaced_string` meets its contract: the replaced string is as long as the string.
+use Rattle.std.proofs.Common.{rules, ◌≡◌, false, ◌-◌, ◌≤◌, length, take, ℕ, ◌+◌, ◌*◌, ◌<◌, ◌/◌, ◌%◌, Bool, true, nat_eq, nat_lt, List, [], ◌∷◌, ◌++◌, slice_index_or, slice_set, bit_and, bit_or, Fits, w8, w32, w64, Bor, MutBor}
+use Rattle.spec.specs.Replaced.{is_full_width, replaced_char, replaced, holds_full_width}
+use Rattle.spec.specs.Calls.{in_front}
+use mathlib.Core.Path.{ap, ◌∙◌}
+use lib.ListN.{replicate}
+use Rattle.laws.specs.Text.WidthFolding.{length_replaced}
+use Rattle.laws.specs.Receive.WorkParts.{front_taken}
+use Rattle.folding.proofs.forms.replaced_string.Goals as goal
+
+pub returns : goal.returns
+returns c =
+    let string = c.args.string.now in
+    ap (λ (own : List ℕ). take (length string) own) c.replace_into.ensures
+    ∙ front_taken (length string) (replaced string) (replicate {A = ℕ} 256 0) (length_replaced string)

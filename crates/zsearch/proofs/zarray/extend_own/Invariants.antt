@@ -1,0 +1,11 @@
+-- `extend_own` meets its contract. The invariant: the first `len` characters match. The measure is how many are left.
+use Rattle.std.proofs.Common.{◌-◌, ◌+◌, ◌≤◌, length, ◌≡◌, ℕ, ◌*◌, ◌<◌}
+use Rattle.laws.specs.TextScan.ZSearch.{PrefixAt, LongestPrefixAt, ZArray, KeptBut}
+use Rattle.laws.specs.TextScan.ZSearch.{prefix_more}
+use Rattle.zsearch.proofs.zarray.extend_own.Given as goal
+
+abbrev pub invariant-loop-len : goal.invariant-loop-len
+invariant-loop-len l = PrefixAt l.string l.string l.at l.len × (l.len ≤ l.limit)
+
+abbrev pub decreases-loop-len : goal.decreases-loop-len
+decreases-loop-len l = l.limit - l.len
