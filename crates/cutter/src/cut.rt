@@ -1,4 +1,4 @@
-// The cut_down index for one string, as a call: refusals, size, and what is written.
+// The cut-down index for one string, as a call: refusals, size, and what is written.
 //
 // Each line has a flag in a local array. A local array is cleared when it is made, so it comes in three sizes.
 ghost use Rattle.std.specs.Prelude.{◌≡◌, ◌≤◌, length, replicate};
@@ -138,7 +138,7 @@ fn cut_string<'a>(
     cut_lines(chars, &word_starts[..starts], index, &own[..len], output)
 }
 
-// Cuts an opened index down: writes the cut_down index for a string, and answers how many numbers it has, or the refusal.
+// Cuts an opened index down: writes the cut-down index for a string, and answers how many numbers it has, or the refusal.
 fn cut_opened<'a>(
     chars: &'a [u16],
     lengths: &'a [u16],

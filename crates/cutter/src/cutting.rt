@@ -1,4 +1,4 @@
-// Writes the cut_down index for one string: the same n, and the keys that bear on the string with all their positions.
+// Writes the cut-down index for one string: the same n, and the keys that bear on the string with all their positions.
 //
 // The lines whose keys bear are flagged already. One walk over the flags sizes the result, so that 8 is tested before anything is written.
 // Two more walks write the flagged directory lines and their positions, the positions through the part of the output that begins after the
@@ -110,7 +110,7 @@ fn write_positions(
     }
 }
 
-// Writes the cut_down index, whose size is known, to the start of the output.
+// Writes the cut-down index, whose size is known, to the start of the output.
 pub(crate) fn write_cut(
     chars: &[u16],
     word_starts: &[u16],

@@ -8,10 +8,9 @@ ghost use Rattle.std.specs.Prelude.{◌≤◌, IfOk, length};
 ghost use Rattle.spec.specs.JobAnswer.{job_answer};
 ghost use Rattle.laws.specs.JobSheet.AcceptedCalls.{InHand};
 
+use jobsheet::answer::answer;
 use std::io;
 use std::io::{Read, Write};
-
-use jobsheet::answer::answer;
 
 // Room for the longest sheet and one byte more.
 fn sheet_buffer() -> [u8; 32769] {

@@ -74,7 +74,7 @@ recovery_refusal g cs ls xs o w = or_else (reception_refusal g cs ls xs w) (cond
 unfoldable pub string_refusal : (g : ℕ) → (chars lengths index string : List ℕ) → ℕ
 string_refusal g cs ls xs s = or_else (index_refusal g cs ls xs) (cond (string_wrong s) 6 0)
 
--- search and the cut_down index, with the length of their result
+-- search and the cut-down index, with the length of their result
 unfoldable pub find_refusal : (g : ℕ) → (chars lengths index string : List ℕ) → (result output : ℕ) → ℕ
 find_refusal g cs ls xs s r o = or_else (string_refusal g cs ls xs s) (cond (output_short r o) 8 0)
 

@@ -1,4 +1,4 @@
--- The cut_down index for one string. Assumes nothing: these are definitions.
+-- The cut-down index for one string. Assumes nothing: these are definitions.
 use Rattle.std.specs.Prelude.{Bool, false, ◌&&◌, ◌||◌, cond, List, [], ◌∷◌, ℕ, zero, suc, ◌-◌, leb, length, take, drop}
 use Rattle.spec.specs.Dictionary.{Lexicon}
 use Rattle.spec.specs.Words.{spells, same}
@@ -36,6 +36,6 @@ bearing lex s [] = []
 bearing lex s (l ∷ ls) = cond (bears (spells lex l.key_of) s) (l ∷ bearing lex s ls) (bearing lex s ls)
 
 -- Cut-down index, document 01's term (the field's: an index pruned for one query).
--- "The cut_down index has the same n and exactly the bearing keys with all their positions."
+-- "The cut-down index has the same n and exactly the bearing keys with all their positions."
 unfoldable pub cut_down : Lexicon → (numbers string : List ℕ) → List ℕ
 cut_down lex xs s = numbers (n_of xs) (bearing lex s (lines_in xs))

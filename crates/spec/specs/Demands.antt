@@ -112,7 +112,7 @@ SecondDemand g =
 
 -- THE THIRD DEMAND: "Whatever numbers are delivered, they pass reception exactly when some text of their stated length has them as
 -- its index, and that text is the only one. Any string of 1 to 256 characters is then searched for without the text, and exactly
--- its positions come back, each once, ascending; from the cut_down index too."
+-- its positions come back, each once, ascending; from the cut-down index too."
 
 -- Every search of the numbers for s with enough output accepts, and writes exactly the positions at which s, replaced, stands in ts.
 abbrev pub FoundFor : (g : ℕ) → (chars lengths index text string : List ℕ) → Type 0
@@ -126,7 +126,7 @@ abbrev pub FirstFor : (g : ℕ) → (chars lengths index text string : List ℕ)
 FirstFor g cs ls xs ts s =
     (r : FirstAnswer) → FirstSays g cs ls xs s r → (r.refusal ≡ 0) × FirstStands (replaced s) ts r.position
 
--- Every call of cut for s with enough output accepts and writes the cut_down index; on it, search and first for s answer as above.
+-- Every call of cut for s with enough output accepts and writes the cut-down index; on it, search and first for s answer as above.
 abbrev pub CutFor : (g : ℕ) → (chars lengths index text string : List ℕ) → Type 0
 CutFor g cs ls xs ts s =
     let kept = cut_down (lexicon cs ls) xs (replaced s) in

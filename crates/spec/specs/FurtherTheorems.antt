@@ -101,7 +101,7 @@ ReceivedByCount g =
 
 -- ANY READABLE INDEX, received or not
 
--- The cut_down index of any readable index is readable, and its search gives what the index's own does.
+-- The cut-down index of any readable index is readable, and its search gives what the index's own does.
 unfoldable pub CutAny : (g : ℕ) → Type 0
 CutAny g =
     (lex : Lexicon) (xs s : List ℕ) → readable g lex xs ≡ true →

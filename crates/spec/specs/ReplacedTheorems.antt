@@ -95,7 +95,7 @@ pub record FormAsKey (g : ℕ) : Type 0 where
   pub agrees_never : (s : List ℕ) (a c b : ℕ) → is_full_width c ≡ true → agrees (replaced s) a (c ∷ []) b ≡ false
   -- every key bears on the empty string, which it contains; line 6 refuses that string
   pub bears_never : (s : List ℕ) (c : ℕ) → 1 ≤ length s → is_full_width c ≡ true → bears (c ∷ []) (replaced s) ≡ false
-  -- no cut_down index has it, and the cut_down index finds what the index itself finds
+  -- no cut-down index has it, and the cut-down index finds what the index itself finds
   pub cut_out :
       (lex : Lexicon) (xs s : List ℕ) (c : ℕ) → 1 ≤ length s → LoneForm (cut_down lex xs (replaced s)) c → ⊥
   pub found_without :

@@ -50,7 +50,7 @@ SearchExact g =
     (cs ls ts s : List ℕ) → admitted cs ls ≡ true → is_text g ts ≡ true → Query s →
     find (lexicon cs ls) (index_of (lexicon cs ls) ts) (replaced s) ≡ positions (replaced s) ts
 
--- So does the search of the cut_down index, which is readable.
+-- So does the search of the cut-down index, which is readable.
 unfoldable pub CutSame : (g : ℕ) → Type 0
 CutSame g =
     (cs ls ts s : List ℕ) → admitted cs ls ≡ true → is_text g ts ≡ true → Query s →

@@ -1,4 +1,4 @@
--- The walks that write the cut_down index: header, directory, positions. Assumes nothing.
+-- The walks that write the cut-down index: header, directory, positions. Assumes nothing.
 use Rattle.std.specs.Prelude.{◌≡◌, List, [], ◌∷◌, ◌++◌, ℕ, ◌+◌, ◌*◌, ◌-◌, ◌≤◌, ◌<◌, length, get_or, take, drop}
 use Rattle.std.proofs.Math.Path.{ap}
 use Rattle.std.proofs.Common.{◌∙◌, length-drop, length-take-le}
@@ -139,7 +139,7 @@ module _ {lex : Lexicon} {xs s fs old out : List ℕ} {from at i : ℕ} (h : Pla
 
 -- THE WHOLE
 
--- the length of the cut_down index
+-- the length of the cut-down index
 pub cut_len :
     {lex : Lexicon} {xs s : List ℕ} {keys entries : ℕ} → IsSize lex xs s keys entries →
     header + 3 * keys + entries ≡ length (cut_down lex xs s)

@@ -1,4 +1,4 @@
--- The cut_down index of any readable index is readable: the same n, and the bearing lines. Assumes nothing.
+-- The cut-down index of any readable index is readable: the same n, and the bearing lines. Assumes nothing.
 use Rattle.std.specs.Prelude.{◌≡◌, Bool, true, false, cond, List, [], ◌∷◌, ℕ}
 use Rattle.spec.specs.Dictionary.{Lexicon}
 use Rattle.spec.specs.Words.{spells}

@@ -166,7 +166,7 @@ module _ (g : ℕ) (cs ls : List ℕ) (adm : admitted cs ls ≡ true) where
         (none_row 8 (RecoveryShort g (lexicon cs ls) xs o) [] (λ l. omega (arith, fits)) none_nil)) in
         (h.number, subst (λ (us : List ℕ). Written us r o z) is_recovered h.result)
 
-    -- numbers equal to the cut_down index give its answers
+    -- numbers equal to the cut-down index give its answers
     cut_found :
         {s ys : List ℕ} → Query s → ys ≡ cut_down (lexicon cs ls) xs (replaced s) →
         FoundFor g cs ls ys ts s × FirstFor g cs ls ys ts s

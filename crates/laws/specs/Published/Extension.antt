@@ -3,7 +3,7 @@ use Rattle.std.specs.Prelude.{◌≡◌, refl, ◌⊎◌, List, ℕ, suc, ◌+�
 use Rattle.std.proofs.Common.{sym, ap, ◌∙◌, inl, inr, ⊎_elim, arith, lt-ltb, ltb-true}
 use Rattle.basics.specs.Member.{In}
 use Rattle.spec.specs.Dictionary.{Lexicon, is_char, lexicon}
-use Rattle.spec.specs.Words.{Key, is_word, spells, Entry, entry, entries}
+use Rattle.spec.specs.Words.{Key, spells, Entry, entry, entries}
 use Rattle.spec.specs.Published.{IsWord, ExtendsWord, Item, item, IsItem, Extends, maximal_items, item_of, SameIndex, PartialOrder}
 use Rattle.spec.specs.Published.{Claim1, Claim2}
 use Rattle.laws.specs.Text.Strings.{stands_get, stands_put}

@@ -11,7 +11,7 @@ use Rattle.std.proofs.lemmas.Bool.{lt-leb}
 use Rattle.basics.specs.Bools.{le_or_lt}
 use Rattle.basics.specs.Writing.{lent_tail, lent_tail_is}
 use Rattle.spec.specs.Index.{header, keys_of, rise_from}
-use Rattle.spec.specs.Gaps.{sums_after, prefix_sums}
+use Rattle.spec.specs.Gaps.{sums_after}
 use Rattle.models.specs.Readability.{read_as, floor_of, one_if, descents, first_descent}
 
 -- ONE LIST

@@ -78,7 +78,7 @@ pub all_starts :
 unfolding find
 all_starts e h = rw e at h.sized
 
--- A CALL: refused, or answered by what is found or by the cut_down index
+-- A CALL: refused, or answered by what is found or by the cut-down index
 
 module _ (g : ℕ) (cs ls xs s : List ℕ) where
   module _ (o : List ℕ) {number : ℕ} (e : number ≡ string_refusal g cs ls xs s) (some : number ≡ 0 → ⊥) where

@@ -1,11 +1,6 @@
 -- `same_run` meets its contract. The invariant: the characters from i on are equal. The measure is i.
-use Rattle.std.proofs.Common.{◌+◌, ◌≤◌, length, ◌≡◌, ℕ, ◌-◌, ◌*◌, ◌<◌}
-use Rattle.basics.specs.Bools.{Reflects}
-use Rattle.laws.specs.Text.Strings.{SameRun}
-use mathlib.Core.Path.{sym, ◌∙◌}
+use Rattle.std.proofs.Common.{◌+◌, ◌≤◌, ◌≡◌, ℕ, ◌<◌}
 use lib.ListN.{get_or}
-use Rattle.basics.specs.Bools.{reflects_yes, reflects_no}
-use Rattle.basics.specs.Steps.{from_less}
 use Rattle.copying.proofs.compare.same_run.Given as goal
 
 abbrev pub invariant-loop-i : goal.invariant-loop-i

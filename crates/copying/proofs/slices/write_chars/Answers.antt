@@ -1,22 +1,15 @@
-use Rattle.std.proofs.Common.{rules, ◌≡◌, ◌+◌, ◌≤◌, length, replicate, ℕ, ◌-◌, ◌*◌, ◌<◌, ◌/◌, ◌%◌, Bool, true, false, nat_eq, nat_lt, List, [], ◌∷◌, ◌++◌, slice_index_or, slice_set, bit_and, bit_or, Fits, w8, w32, w64, Bor, MutBor}
-use Rattle.basics.specs.Placed.{placed}
-use Rattle.basics.specs.Writing.{over}
-use Rattle.laws.specs.Text.Facts.{Chars}
 use mathlib.Core.Path.{◌∙◌}
 use native.Mathlib.Omega.{arith}
-use lib.ListN.{drop}
-use Rattle.basics.specs.Placed.{Writing, writing_start}
-use Rattle.basics.specs.PlacedCopies.{copy_room, copy_step, copy_end}
+use Rattle.basics.specs.PlacedCopies.{copy_step, copy_end}
 use Rattle.basics.specs.Writing.{placed_over}
 use Rattle.copying.proofs.slices.write_chars.Goals as goal
 
 pub loop-i-preserved : goal.loop-i-preserved
-loop-i-preserved c =
-    (
-      omega (arith, c.loop-i-test.true),
-      rw c.number_at.ensures.0
-          (copy_step c.args.text.now c.loop-i.i c.loop-i.invariant.1 c.loop-i-test.true),
-    )
+loop-i-preserved c = (
+  omega (arith, c.loop-i-test.true),
+  rw c.number_at.ensures.0
+      (copy_step c.args.text.now c.loop-i.i c.loop-i.invariant.1 c.loop-i-test.true),
+)
 
 pub returns : goal.returns
 returns c =

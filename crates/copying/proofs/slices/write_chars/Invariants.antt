@@ -1,14 +1,8 @@
 -- `write_chars` meets its contract. The invariant: the characters from i on are to be written. The measure is how many they are. Assumes
 -- nothing.
-use Rattle.std.proofs.Common.{length, ◌-◌, ◌≡◌, ◌+◌, ◌≤◌, replicate, ℕ, ◌*◌, ◌<◌}
-use Rattle.basics.specs.Placed.{placed}
-use Rattle.basics.specs.Writing.{over}
-use Rattle.laws.specs.Text.Facts.{Chars}
-use mathlib.Core.Path.{◌∙◌}
+use Rattle.std.proofs.Common.{length, ◌-◌, ◌≤◌}
 use lib.ListN.{drop}
-use Rattle.basics.specs.Placed.{Writing, writing_start}
-use Rattle.basics.specs.PlacedCopies.{copy_room, copy_step, copy_end}
-use Rattle.basics.specs.Writing.{placed_over}
+use Rattle.basics.specs.Placed.{Writing}
 use Rattle.copying.proofs.slices.write_chars.Given as goal
 
 abbrev pub invariant-loop-i : goal.invariant-loop-i

@@ -1,11 +1,6 @@
-use Rattle.std.proofs.Common.{rules, ◌≡◌, ◌+◌, ◌≤◌, length, replicate, ℕ, ◌-◌, ◌*◌, ◌<◌, ◌/◌, ◌%◌, Bool, true, false, nat_eq, nat_lt, List, [], ◌∷◌, ◌++◌, slice_index_or, slice_set, bit_and, bit_or, Fits, w8, w32, w64, Bor, MutBor}
-use Rattle.basics.specs.Placed.{placed}
-use Rattle.basics.specs.Writing.{over}
-use Rattle.laws.specs.Text.Facts.{Chars}
+use Rattle.std.proofs.Common.{◌≡◌, ◌+◌}
 use native.Mathlib.Omega.{arith}
-use lib.ListN.{drop}
-use Rattle.basics.specs.Placed.{Writing, writing_start}
-use Rattle.basics.specs.PlacedCopies.{copy_room, copy_step, copy_end}
+use Rattle.basics.specs.PlacedCopies.{copy_step, copy_end}
 use Rattle.copying.proofs.slices.write_list.Goals as goal
 
 pub loop-i-preserved : goal.loop-i-preserved

@@ -1,12 +1,8 @@
 -- `write_list` meets its contract. The invariant: the first i numbers of the list are written. The measure is how
 -- many are left.
-use Rattle.std.proofs.Common.{length, ◌-◌, ◌≡◌, ◌+◌, ◌≤◌, replicate, ℕ, ◌*◌, ◌<◌}
-use Rattle.basics.specs.Placed.{placed}
-use Rattle.basics.specs.Writing.{over}
-use Rattle.laws.specs.Text.Facts.{Chars}
+use Rattle.std.proofs.Common.{length, ◌-◌, ◌+◌, ◌≤◌}
 use lib.ListN.{drop}
-use Rattle.basics.specs.Placed.{Writing, writing_start}
-use Rattle.basics.specs.PlacedCopies.{copy_room, copy_step, copy_end}
+use Rattle.basics.specs.Placed.{Writing}
 use Rattle.copying.proofs.slices.write_list.Given as goal
 
 abbrev pub invariant-loop-i : goal.invariant-loop-i

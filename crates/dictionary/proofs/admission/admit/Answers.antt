@@ -1,9 +1,7 @@
 -- `admit` meets its contract: the number of words where the refusal is 0, else 0.
-use Rattle.std.proofs.Common.{rules, ◌≡◌, ◌&&◌, cond, ◌+◌, ◌≤◌, ◌<◌, eqb, length, ℕ, ◌-◌, ◌*◌, ◌/◌, ◌%◌, Bool, true, false, nat_lt, List, [], ◌∷◌, ◌++◌, slice_index_or, slice_set, bit_and, bit_or, Fits, w8, w32, w64, Bor, MutBor}
-use Rattle.spec.specs.Dictionary.{lengths_good, total, words_from, word_before, ascend, dictionary_refusal}
+use Rattle.std.proofs.Common.{◌≡◌, length}
+use Rattle.spec.specs.Dictionary.{dictionary_refusal}
 use Rattle.spec.specs.Calls.{AdmitSays}
-use Rattle.laws.specs.Dictionary.WordCode.{EqualFront, part, code, ReadsThree, Neighbours}
-use Rattle.laws.specs.Dictionary.Admission.{Fitting}
 use mathlib.Core.Path.{refl, sym, ◌∙◌}
 use Rattle.laws.specs.Dictionary.Answering.{answers_accepted, answers_refused}
 use Rattle.dictionary.proofs.admission.admit.Goals as goal

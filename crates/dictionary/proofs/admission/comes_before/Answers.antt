@@ -1,8 +1,3 @@
-use Rattle.std.proofs.Common.{rules, ◌≡◌, ◌&&◌, cond, ◌+◌, ◌≤◌, ◌<◌, eqb, length, ℕ, ◌-◌, ◌*◌, ◌/◌, ◌%◌, Bool, true, false, nat_lt, List, [], ◌∷◌, ◌++◌, slice_index_or, slice_set, bit_and, bit_or, Fits, w8, w32, w64, Bor, MutBor}
-use Rattle.spec.specs.Dictionary.{lengths_good, total, words_from, word_before, ascend, dictionary_refusal}
-use Rattle.spec.specs.Calls.{AdmitSays}
-use Rattle.laws.specs.Dictionary.WordCode.{EqualFront, part, code, ReadsThree, Neighbours}
-use Rattle.laws.specs.Dictionary.Admission.{Fitting}
 use mathlib.Core.Path.{refl, sym, ◌∙◌}
 use native.Mathlib.Omega.{arith}
 use Rattle.laws.specs.Dictionary.WordCode.{equal_one, before_differ, before_read}

@@ -1,12 +1,7 @@
 -- `equal_fours` meets its contract. The invariant: from i on the words compare as the whole words do. The measure is how many shared
 -- indices are left.
-use Rattle.std.proofs.Common.{◌-◌, ◌≡◌, ◌&&◌, cond, ◌+◌, ◌≤◌, ◌<◌, eqb, length, ℕ, ◌*◌}
-use Rattle.spec.specs.Dictionary.{lengths_good, total, words_from, word_before, ascend, dictionary_refusal}
-use Rattle.spec.specs.Calls.{AdmitSays}
-use Rattle.laws.specs.Dictionary.WordCode.{EqualFront, part, code, ReadsThree, Neighbours}
-use Rattle.laws.specs.Dictionary.Admission.{Fitting}
-use mathlib.Core.Path.{refl}
-use Rattle.laws.specs.Dictionary.WordCode.{equal_four}
+use Rattle.std.proofs.Common.{◌-◌, ◌≤◌}
+use Rattle.laws.specs.Dictionary.WordCode.{EqualFront}
 use Rattle.dictionary.proofs.admission.equal_fours.Given as goal
 
 abbrev pub invariant-loop-i : goal.invariant-loop-i

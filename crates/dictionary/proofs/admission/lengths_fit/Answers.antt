@@ -1,10 +1,5 @@
-use Rattle.std.proofs.Common.{rules, ◌≡◌, ◌&&◌, cond, ◌+◌, ◌≤◌, ◌<◌, eqb, length, ℕ, ◌-◌, ◌*◌, ◌/◌, ◌%◌, Bool, true, false, nat_lt, List, [], ◌∷◌, ◌++◌, slice_index_or, slice_set, bit_and, bit_or, Fits, w8, w32, w64, Bor, MutBor}
-use Rattle.spec.specs.Dictionary.{lengths_good, total, words_from, word_before, ascend, dictionary_refusal}
-use Rattle.spec.specs.Calls.{AdmitSays}
-use Rattle.laws.specs.Dictionary.WordCode.{EqualFront, part, code, ReadsThree, Neighbours}
-use Rattle.laws.specs.Dictionary.Admission.{Fitting}
 use native.Mathlib.Omega.{arith}
-use Rattle.laws.specs.Dictionary.Admission.{LengthsRead, lengths_start, lengths_step, lengths_sum, lengths_tested}
+use Rattle.laws.specs.Dictionary.Admission.{lengths_step, lengths_sum, lengths_tested}
 use Rattle.dictionary.proofs.admission.lengths_fit.Goals as goal
 
 pub loop-i-preserved : goal.loop-i-preserved

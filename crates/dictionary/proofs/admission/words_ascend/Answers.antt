@@ -1,12 +1,7 @@
-use Rattle.std.proofs.Common.{rules, ◌≡◌, ◌&&◌, cond, ◌+◌, ◌≤◌, ◌<◌, eqb, length, ℕ, ◌-◌, ◌*◌, ◌/◌, ◌%◌, Bool, true, false, nat_lt, List, [], ◌∷◌, ◌++◌, slice_index_or, slice_set, bit_and, bit_or, Fits, w8, w32, w64, Bor, MutBor}
-use Rattle.spec.specs.Dictionary.{lengths_good, total, words_from, word_before, ascend, dictionary_refusal}
-use Rattle.spec.specs.Calls.{AdmitSays}
-use Rattle.laws.specs.Dictionary.WordCode.{EqualFront, part, code, ReadsThree, Neighbours}
-use Rattle.laws.specs.Dictionary.Admission.{Fitting}
 use mathlib.Core.Path.{sym, ◌∙◌}
 use native.Mathlib.Omega.{arith}
 use borrow.Author.Tests.{not-true, not-false}
-use Rattle.laws.specs.Dictionary.Admission.{WordsRead, words_start, words_end, words_step, words_stop, next_some, next_room, no_words}
+use Rattle.laws.specs.Dictionary.Admission.{words_start, words_end, words_step, words_stop, next_some, next_room, no_words}
 use Rattle.std.proofs.lemmas.Bool.{not_from_true}
 use Rattle.std.proofs.lemmas.Bool.{not_from_false}
 use Rattle.dictionary.proofs.admission.words_ascend.Goals as goal

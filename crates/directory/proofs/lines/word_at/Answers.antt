@@ -1,11 +1,6 @@
 -- `word_at` meets its contract: a line of kind 0 has a word's number as value.
-use Rattle.std.proofs.Common.{rules, ◌≡◌, ◌<◌, ℕ, ◌+◌, ◌-◌, ◌*◌, ◌≤◌, length, ◌/◌, ◌%◌, Bool, true, false, nat_eq, nat_lt, List, [], ◌∷◌, ◌++◌, slice_index_or, slice_set, bit_and, bit_or, w8, w32, w64, Bor, MutBor}
-use Rattle.spec.specs.Words.{spells}
-use Rattle.spec.specs.Index.{keys_of, key_at}
-use Rattle.models.specs.Window.{positions_at}
+use Rattle.std.proofs.Common.{ℕ, []}
 use Rattle.models.specs.WordStarts.{lexicon_at}
-use Rattle.laws.specs.Numbers.Slices.{Fits}
-use Rattle.laws.specs.Directory.Tables.{WordLine, ListStarts}
 use mathlib.Core.Path.{ap, ◌∙◌}
 use native.Mathlib.Omega.{arith}
 use lib.ListN.{get_or}

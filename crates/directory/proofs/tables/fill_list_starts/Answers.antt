@@ -1,16 +1,8 @@
-use Rattle.std.proofs.Common.{rules, ◌≡◌, ◌≤◌, ◌<◌, length, ℕ, ◌+◌, ◌-◌, ◌*◌, ◌/◌, ◌%◌, Bool, true, false, nat_eq, nat_lt, List, [], ◌∷◌, ◌++◌, slice_index_or, slice_set, bit_and, bit_or, w8, w32, w64, Bor, MutBor}
-use Rattle.basics.specs.Writing.{over}
-use Rattle.spec.specs.Dictionary.{total}
-use Rattle.spec.specs.Index.{greatest_number, keys_of}
-use Rattle.models.specs.WordStarts.{starts_from}
-use Rattle.laws.specs.Numbers.Slices.{Fits}
-use Rattle.laws.specs.Directory.Tables.{ListStarts}
 use mathlib.Core.Path.{refl, ◌∙◌}
 use native.Mathlib.Omega.{arith}
 use lib.ListN.{length-set}
-use Rattle.spec.specs.Index.{counts_from}
 use Rattle.laws.specs.Numbers.DirectoryWalk.{counts_next, list_room}
-use Rattle.laws.specs.Directory.Tables.{list_starts_none, list_starts_first, list_starts_next, list_starts_all}
+use Rattle.laws.specs.Directory.Tables.{list_starts_none, list_starts_first, list_starts_next}
 use Rattle.directory.proofs.tables.fill_list_starts.Goals as goal
 
 pub loop-i-init : goal.loop-i-init

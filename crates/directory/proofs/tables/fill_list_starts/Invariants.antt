@@ -1,22 +1,17 @@
 -- `fill_list_starts` meets its contract. The invariant: the starts of the first i lines are in the table, and `at` is the next one. The
 -- measure is how many lines are left.
-use Rattle.std.proofs.Common.{◌-◌, ◌≡◌, ◌≤◌, ◌<◌, length, ℕ, ◌+◌, ◌*◌}
-use Rattle.basics.specs.Writing.{over}
-use Rattle.spec.specs.Dictionary.{total}
+use Rattle.std.proofs.Common.{◌-◌, ◌≡◌, ◌≤◌, length, ◌*◌}
 use Rattle.spec.specs.Index.{greatest_number, keys_of}
-use Rattle.models.specs.WordStarts.{starts_from}
 use Rattle.laws.specs.Numbers.Slices.{Fits}
 use Rattle.laws.specs.Directory.Tables.{ListStarts}
-use mathlib.Core.Path.{refl, ◌∙◌}
-use lib.ListN.{length-set}
 use Rattle.spec.specs.Index.{counts_from}
-use Rattle.laws.specs.Numbers.DirectoryWalk.{counts_next, list_room}
-use Rattle.laws.specs.Directory.Tables.{list_starts_none, list_starts_first, list_starts_next, list_starts_all}
 use Rattle.directory.proofs.tables.fill_list_starts.Given as goal
 
 abbrev pub invariant-loop-i : goal.invariant-loop-i
-invariant-loop-i l = ListStarts l.index l.i l.list_starts × (length l.list_starts ≡ length l.initial.list_starts) × (l.at ≡ counts_from l.i 0 l.index) ×
-    (l.at ≤ greatest_number * l.i) × (l.keys ≡ keys_of l.index) × (l.keys ≤ greatest_number) × Fits l.index
+invariant-loop-i l =
+    ListStarts l.index l.i l.list_starts × (length l.list_starts ≡ length l.initial.list_starts) ×
+    (l.at ≡ counts_from l.i 0 l.index) × (l.at ≤ greatest_number * l.i) × (l.keys ≡ keys_of l.index) ×
+    (l.keys ≤ greatest_number) × Fits l.index
 
 abbrev pub decreases-loop-i : goal.decreases-loop-i
 decreases-loop-i l = l.keys - l.i

@@ -1,14 +1,5 @@
-use Rattle.std.proofs.Common.{rules, ◌≡◌, ◌≤◌, ◌<◌, length, ℕ, ◌+◌, ◌-◌, ◌*◌, ◌/◌, ◌%◌, Bool, true, false, nat_eq, nat_lt, List, [], ◌∷◌, ◌++◌, slice_index_or, slice_set, bit_and, bit_or, w8, w32, w64, Bor, MutBor}
-use Rattle.basics.specs.Writing.{over}
-use Rattle.spec.specs.Dictionary.{total}
-use Rattle.spec.specs.Index.{greatest_number, keys_of}
-use Rattle.models.specs.WordStarts.{starts_from}
-use Rattle.laws.specs.Numbers.Slices.{Fits}
-use Rattle.laws.specs.Directory.Tables.{ListStarts}
-use mathlib.Core.Path.{◌∙◌}
 use native.Mathlib.Omega.{arith}
-use lib.ListN.{length-set}
-use Rattle.laws.specs.Dictionary.WordStarts.{FillingStarts, filling_start, filling_room, filling_step, filling_end, filling_at}
+use Rattle.laws.specs.Dictionary.WordStarts.{filling_start, filling_step, filling_end, filling_at}
 use Rattle.directory.proofs.tables.fill_word_starts.Goals as goal
 
 pub loop-i-init : goal.loop-i-init

@@ -1,10 +1,7 @@
 -- `excesses` meets its contract. The invariant: where `all` is 0, none of the first i characters is a full-width form. The measure is how
 -- many characters are left.
-use Rattle.std.proofs.Common.{length, ◌-◌, ◌≡◌, false, ◌≤◌, take, ℕ, ◌+◌, ◌*◌, ◌<◌}
-use Rattle.spec.specs.Replaced.{is_full_width, replaced_char, replaced, holds_full_width}
-use Rattle.spec.specs.Calls.{in_front}
-use mathlib.Core.Path.{refl}
-use Rattle.laws.specs.Text.WidthFolding.{Exceeds, exceeds_step, exceeds_end}
+use Rattle.std.proofs.Common.{length, ◌-◌}
+use Rattle.laws.specs.Text.WidthFolding.{Exceeds}
 use Rattle.folding.proofs.forms.excesses.Given as goal
 
 abbrev pub invariant-loop-i : goal.invariant-loop-i

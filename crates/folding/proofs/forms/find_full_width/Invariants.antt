@@ -1,10 +1,7 @@
 -- `find_full_width` meets its contract. The invariant: the text has a full-width form exactly if one was found so far or is among the
 -- characters left. The measure is how many characters are left.
-use Rattle.std.proofs.Common.{length, ◌-◌, ◌≡◌, false, ◌≤◌, take, ℕ, ◌+◌, ◌*◌, ◌<◌}
-use Rattle.spec.specs.Replaced.{is_full_width, replaced_char, replaced, holds_full_width}
-use Rattle.spec.specs.Calls.{in_front}
-use mathlib.Core.Path.{refl}
-use Rattle.laws.specs.Text.WidthFolding.{Held, held_step, held_end}
+use Rattle.std.proofs.Common.{length, ◌-◌}
+use Rattle.laws.specs.Text.WidthFolding.{Held}
 use Rattle.folding.proofs.forms.find_full_width.Given as goal
 
 abbrev pub invariant-loop-i : goal.invariant-loop-i

@@ -1,7 +1,4 @@
 -- `replace` meets its contract: a full-width form is FEE0 or more, so the difference does not wrap.
-use Rattle.std.proofs.Common.{rules, ◌≡◌, false, ◌-◌, ◌≤◌, length, take, ℕ, ◌+◌, ◌*◌, ◌<◌, ◌/◌, ◌%◌, Bool, true, nat_eq, nat_lt, List, [], ◌∷◌, ◌++◌, slice_index_or, slice_set, bit_and, bit_or, Fits, w8, w32, w64, Bor, MutBor}
-use Rattle.spec.specs.Replaced.{is_full_width, replaced_char, replaced, holds_full_width}
-use Rattle.spec.specs.Calls.{in_front}
 use mathlib.Core.Path.{sym, ◌∙◌}
 use native.Mathlib.Omega.{arith}
 use Rattle.laws.specs.Text.WidthFolding.{form_get, char_lowered, char_stays}

@@ -1,10 +1,7 @@
-use Rattle.std.proofs.Common.{rules, ◌≡◌, false, ◌-◌, ◌≤◌, length, take, ℕ, ◌+◌, ◌*◌, ◌<◌, ◌/◌, ◌%◌, Bool, true, nat_eq, nat_lt, List, [], ◌∷◌, ◌++◌, slice_index_or, slice_set, bit_and, bit_or, Fits, w8, w32, w64, Bor, MutBor}
-use Rattle.spec.specs.Replaced.{is_full_width, replaced_char, replaced, holds_full_width}
-use Rattle.spec.specs.Calls.{in_front}
+use Rattle.spec.specs.Replaced.{replaced}
 use native.Mathlib.Omega.{arith}
-use lib.ListN.{drop}
-use Rattle.basics.specs.Placed.{Writing, writing_start}
-use Rattle.basics.specs.PlacedCopies.{copy_room, copy_step, copy_end}
+use Rattle.basics.specs.Placed.{writing_start}
+use Rattle.basics.specs.PlacedCopies.{copy_step, copy_end}
 use Rattle.laws.specs.Text.WidthFolding.{length_replaced, getD_replaced}
 use Rattle.laws.specs.Receive.Receiving.{text_put}
 use Rattle.folding.proofs.forms.replace_as_numbers.Goals as goal

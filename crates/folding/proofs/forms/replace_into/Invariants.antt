@@ -1,13 +1,9 @@
 -- `replace_into` meets its contract. The invariant: the rest of the replaced text is to be written from i on. The measure
 -- is its length.
-use Rattle.std.proofs.Common.{length, ◌-◌, ◌≡◌, false, ◌≤◌, take, ℕ, ◌+◌, ◌*◌, ◌<◌}
-use Rattle.spec.specs.Replaced.{is_full_width, replaced_char, replaced, holds_full_width}
-use Rattle.spec.specs.Calls.{in_front}
+use Rattle.std.proofs.Common.{length, ◌-◌, ◌≤◌}
+use Rattle.spec.specs.Replaced.{replaced}
 use lib.ListN.{drop}
-use Rattle.basics.specs.Placed.{Writing, writing_start}
-use Rattle.basics.specs.PlacedCopies.{copy_room, copy_step, copy_end}
-use Rattle.laws.specs.Text.WidthFolding.{length_replaced, getD_replaced}
-use Rattle.laws.specs.Receive.Receiving.{text_put}
+use Rattle.basics.specs.Placed.{Writing}
 use Rattle.folding.proofs.forms.replace_into.Given as goal
 
 abbrev pub invariant-loop-i : goal.invariant-loop-i

@@ -1,7 +1,6 @@
 -- `replaced_string` meets its contract: the replaced string is as long as the string.
-use Rattle.std.proofs.Common.{rules, ◌≡◌, false, ◌-◌, ◌≤◌, length, take, ℕ, ◌+◌, ◌*◌, ◌<◌, ◌/◌, ◌%◌, Bool, true, nat_eq, nat_lt, List, [], ◌∷◌, ◌++◌, slice_index_or, slice_set, bit_and, bit_or, Fits, w8, w32, w64, Bor, MutBor}
-use Rattle.spec.specs.Replaced.{is_full_width, replaced_char, replaced, holds_full_width}
-use Rattle.spec.specs.Calls.{in_front}
+use Rattle.std.proofs.Common.{length, take, ℕ, List}
+use Rattle.spec.specs.Replaced.{replaced}
 use mathlib.Core.Path.{ap, ◌∙◌}
 use lib.ListN.{replicate}
 use Rattle.laws.specs.Text.WidthFolding.{length_replaced}

@@ -1,17 +1,11 @@
-use Rattle.std.proofs.Common.{rules, ◌≡◌, suc, ◌+◌, ◌≤◌, ◌<◌, length, ℕ, ◌-◌, ◌*◌, ◌/◌, ◌%◌, Bool, true, false, nat_eq, nat_lt, List, [], ◌∷◌, ◌++◌, slice_index_or, slice_set, bit_and, bit_or, Fits, w8, w32, w64, Bor, MutBor}
-use Rattle.basics.specs.Chain.{chain, Threaded}
-use Rattle.spec.specs.Replaced.{replaced_char, replaced}
+use Rattle.std.proofs.Common.{◌≡◌, suc, ◌<◌, length, ◌-◌}
+use Rattle.spec.specs.Replaced.{replaced}
 use Rattle.models.specs.Inversion.{coded}
-use Rattle.models.specs.Readability.{most_keys}
-use Rattle.laws.specs.Build.Pages.{Paged}
-use Rattle.laws.specs.Build.PostingChains.{Linkable, Fresh, Links}
-use Rattle.laws.specs.Build.CodeWalk.{Next}
-use mathlib.Core.Path.{sym, ◌∙◌}
 use native.Mathlib.Omega.{arith}
 use lib.ListN.{get_or}
 use Rattle.laws.specs.Text.WidthFolding.{length_replaced, getD_replaced}
 use Rattle.laws.specs.Build.KeyCode.{coded_none}
-use Rattle.laws.specs.Build.PostingChains.{links_start, links_below, links_token, links_passed, links_new, links_more}
+use Rattle.laws.specs.Build.PostingChains.{links_start, links_below, links_passed, links_new, links_more}
 use Rattle.inversion.proofs.chains.chain_positions.Goals as goal
 
 pub loop-p-init : goal.loop-p-init
@@ -21,22 +15,23 @@ loop-p-init c =
 pub bounds-text-p : goal.bounds-text-p
 bounds-text-p c =
     let below : c.loop-p.p - 1 < length c.loop-p.tokens = links_below (c.loop-p.p - 1) (omega arith) c.loop-p.invariant in
-    let text-below : c.loop-p.p - 1 < length c.args.text.now = omega (arith, below, length_replaced c.args.text.now) in
-    text-below
+    omega (arith, below, length_replaced c.args.text.now)
 
 pub loop-p-preserved-then-head-eq0 : goal.loop-p-preserved-then-head-eq0
 loop-p-preserved-then-head-eq0 c =
-    let code_is : let l = c.loop-p in coded (get_or l.tokens (l.p - 1) 0) (get_or (replaced c.args.text.now) (l.p - 1) 0) ≡ suc c.code_of_lem.result = let p = c.loop-p.p - 1 in rw (← c.number_at-token.ensures.0, getD_replaced c.args.text.now p) c.code_of_lem.ensures.0 in
     let l = c.loop-p in
-    let code = c.code_of_lem in
-    links_new (l.p - 1) (omega arith) l.inv code.result code_is code.ensures.1 c.if-head-eq0.true
+    let code = c.code_of-code in
+    let code_is : coded (get_or l.tokens (l.p - 1) 0) (get_or (replaced c.args.text.now) (l.p - 1) 0) ≡ suc code.result =
+    rw (← c.number_at-token.ensures.0, getD_replaced c.args.text.now (l.p - 1)) code.ensures.is in
+    links_new (l.p - 1) (omega arith) l.invariant code.result code_is code.ensures.small c.if-head-eq0.true
 
 pub loop-p-preserved-else-head-eq0 : goal.loop-p-preserved-else-head-eq0
 loop-p-preserved-else-head-eq0 c =
-    let code_is : let l = c.loop-p in coded (get_or l.tokens (l.p - 1) 0) (get_or (replaced c.args.text.now) (l.p - 1) 0) ≡ suc c.code_of_lem.result = let p = c.loop-p.p - 1 in rw (← c.number_at-token.ensures.0, getD_replaced c.args.text.now p) c.code_of_lem.ensures.0 in
     let l = c.loop-p in
-    let code = c.code_of_lem in
-    links_more (l.p - 1) (omega arith) l.inv code.result code_is code.ensures.1 c.if-head-eq0.false
+    let code = c.code_of-code in
+    let code_is : coded (get_or l.tokens (l.p - 1) 0) (get_or (replaced c.args.text.now) (l.p - 1) 0) ≡ suc code.result =
+    rw (← c.number_at-token.ensures.0, getD_replaced c.args.text.now (l.p - 1)) code.ensures.is in
+    links_more (l.p - 1) (omega arith) l.invariant code.result code_is code.ensures.small c.if-head-eq0.false
 
 pub loop-p-preserved : goal.loop-p-preserved
 loop-p-preserved c =

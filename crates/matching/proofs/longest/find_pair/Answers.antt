@@ -1,13 +1,7 @@
 -- `find_pair` meets its contract: the text ends, or the walk finds none, or one that ends too early, or the longest.
-use Rattle.std.proofs.Common.{rules, ◌+◌, ◌<◌, length, ◌≡◌, ℕ, ◌-◌, ◌*◌, ◌≤◌, ◌/◌, ◌%◌, Bool, true, false, nat_eq, nat_lt, List, [], ◌∷◌, ◌++◌, slice_index_or, slice_set, bit_and, bit_or, Fits, w8, w32, w64, Bor, MutBor}
-use Rattle.models.specs.WordStarts.{lengths_of, lexicon_at, word}
-use Rattle.laws.specs.Match.MatchTable.{Started, Tables}
-use Rattle.laws.specs.Match.WordChains.{StandsAfter, PairFound, SingleFound}
-use Rattle.laws.specs.Match.LongestWord.{Found as Found_at}
-use Rattle.laws.specs.Match.LongestWord.{PairLongest}
-use native.Mathlib.Omega.{arith}
+use Rattle.std.proofs.Common.{◌-◌}
 use Rattle.laws.specs.Dictionary.WordStarts.{lies}
-use Rattle.laws.specs.Match.LongestWord.{pair_past, pair_missing, pair_in, pair_early, pair_longest}
+use Rattle.laws.specs.Match.LongestWord.{pair_in, pair_early, pair_longest}
 use Rattle.matching.proofs.longest.find_pair.Goals as goal
 
 pub word_len-len-requires : goal.word_len-len-requires

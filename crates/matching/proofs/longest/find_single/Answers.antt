@@ -1,15 +1,10 @@
-use Rattle.std.proofs.Common.{rules, ◌+◌, ◌<◌, length, ◌≡◌, ℕ, ◌-◌, ◌*◌, ◌≤◌, ◌/◌, ◌%◌, Bool, true, false, nat_eq, nat_lt, List, [], ◌∷◌, ◌++◌, slice_index_or, slice_set, bit_and, bit_or, Fits, w8, w32, w64, Bor, MutBor}
-use Rattle.models.specs.WordStarts.{lengths_of, lexicon_at, word}
-use Rattle.laws.specs.Match.MatchTable.{Started, Tables}
-use Rattle.laws.specs.Match.WordChains.{StandsAfter, PairFound, SingleFound}
-use Rattle.laws.specs.Match.LongestWord.{Found as Found_at}
-use Rattle.laws.specs.Match.LongestWord.{PairLongest}
+use Rattle.std.proofs.Common.{◌<◌, length, ◌-◌}
+use Rattle.models.specs.WordStarts.{lengths_of}
 use mathlib.Core.Path.{sym, ◌∙◌}
 use native.Mathlib.Omega.{arith}
-use lib.ListN.{get_or}
 use Rattle.laws.specs.Dictionary.WordStarts.{starts_len}
 use Rattle.laws.specs.Match.MatchTable.{few_words}
-use Rattle.laws.specs.Match.WordChains.{SingleWalk, single_start, single_none, single_stop, single_known, single_room, single_hit}
+use Rattle.laws.specs.Match.WordChains.{single_start, single_none, single_stop, single_known, single_room, single_hit}
 use Rattle.laws.specs.Match.WordChains.{single_miss}
 use Rattle.matching.proofs.longest.find_single.Goals as goal
 
@@ -20,13 +15,15 @@ loop-next-init c =
 
 pub offset_bounds-word_starts-number : goal.offset_bounds-word_starts-number
 offset_bounds-word_starts-number c =
-    let known : c.loop-next.next - 1 < length (lengths_of c.args.word_starts.now) = single_known c.requires.0 c.args.text.now c.args.at c.loop-next.invariant c.loop-next-test.true in
+    let known : c.loop-next.next - 1 < length (lengths_of c.args.word_starts.now) =
+    single_known c.requires.0 c.args.text.now c.args.at c.loop-next.invariant c.loop-next-test.true in
     let small : c.loop-next.next - 1 < 4096 = omega (arith, known, few_words c.requires.0.words) in
     omega (arith, small)
 
 pub bounds-word_starts-number : goal.bounds-word_starts-number
 bounds-word_starts-number c =
-    let known : c.loop-next.next - 1 < length (lengths_of c.args.word_starts.now) = single_known c.requires.0 c.args.text.now c.args.at c.loop-next.invariant c.loop-next-test.true in
+    let known : c.loop-next.next - 1 < length (lengths_of c.args.word_starts.now) =
+    single_known c.requires.0 c.args.text.now c.args.at c.loop-next.invariant c.loop-next-test.true in
     omega (arith, known, starts_len c.requires.0.words.words)
 
 pub bounds-chars-start : goal.bounds-chars-start
@@ -39,10 +36,16 @@ returns-then-chars-start c =
     c.requires.1 (c.if-chars-start.true ∙ c.number_at-c.ensures.0)
 
 pub offset_bounds-links-number : goal.offset_bounds-links-number
-offset_bounds-links-number c = ?
+offset_bounds-links-number c =
+    let known : c.loop-next.next - 1 < length (lengths_of c.args.word_starts.now) =
+    single_known c.requires.0 c.args.text.now c.args.at c.loop-next.invariant c.loop-next-test.true in
+    omega (arith, known, few_words c.requires.0.words)
 
 pub bounds-links-number : goal.bounds-links-number
-bounds-links-number c = ?
+bounds-links-number c =
+    let known : c.loop-next.next - 1 < length (lengths_of c.args.word_starts.now) =
+    single_known c.requires.0 c.args.text.now c.args.at c.loop-next.invariant c.loop-next-test.true in
+    omega (arith, known, c.requires.0.links_len)
 
 pub loop-next-smaller : goal.loop-next-smaller
 loop-next-smaller c =

@@ -1,10 +1,4 @@
 -- `stands_after` meets its contract: the word ends too early, or after the text, or it is compared.
-use Rattle.std.proofs.Common.{rules, ◌+◌, ◌<◌, length, ◌≡◌, ℕ, ◌-◌, ◌*◌, ◌≤◌, ◌/◌, ◌%◌, Bool, true, false, nat_eq, nat_lt, List, [], ◌∷◌, ◌++◌, slice_index_or, slice_set, bit_and, bit_or, Fits, w8, w32, w64, Bor, MutBor}
-use Rattle.models.specs.WordStarts.{lengths_of, lexicon_at, word}
-use Rattle.laws.specs.Match.MatchTable.{Started, Tables}
-use Rattle.laws.specs.Match.WordChains.{StandsAfter, PairFound, SingleFound}
-use Rattle.laws.specs.Match.LongestWord.{Found as Found_at}
-use Rattle.laws.specs.Match.LongestWord.{PairLongest}
 use native.Mathlib.Omega.{arith}
 use Rattle.laws.specs.Dictionary.WordStarts.{WordLies, lies}
 use Rattle.laws.specs.Match.WordChains.{ends_early, runs_out, compared}

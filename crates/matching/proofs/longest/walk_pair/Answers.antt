@@ -1,12 +1,8 @@
-use Rattle.std.proofs.Common.{rules, ◌+◌, ◌<◌, length, ◌≡◌, ℕ, ◌-◌, ◌*◌, ◌≤◌, ◌/◌, ◌%◌, Bool, true, false, nat_eq, nat_lt, List, [], ◌∷◌, ◌++◌, slice_index_or, slice_set, bit_and, bit_or, Fits, w8, w32, w64, Bor, MutBor}
-use Rattle.models.specs.WordStarts.{lengths_of, lexicon_at, word}
-use Rattle.laws.specs.Match.MatchTable.{Started, Tables}
-use Rattle.laws.specs.Match.WordChains.{StandsAfter, PairFound, SingleFound}
-use Rattle.laws.specs.Match.LongestWord.{Found as Found_at}
-use Rattle.laws.specs.Match.LongestWord.{PairLongest}
+use Rattle.std.proofs.Common.{◌<◌, length, ◌-◌}
+use Rattle.models.specs.WordStarts.{lengths_of}
 use native.Mathlib.Omega.{arith}
 use Rattle.laws.specs.Match.MatchTable.{few_words}
-use Rattle.laws.specs.Match.WordChains.{PairWalk, pair_start, pair_none, pair_stop, pair_known, pair_hit, pair_miss, pair_ranged}
+use Rattle.laws.specs.Match.WordChains.{pair_start, pair_none, pair_stop, pair_known, pair_hit, pair_miss, pair_ranged}
 use Rattle.matching.proofs.longest.walk_pair.Goals as goal
 
 pub loop-next-init : goal.loop-next-init
@@ -28,19 +24,26 @@ returns-then-left-eq0 c =
 
 pub stands_after-requires : goal.stands_after-requires
 stands_after-requires c =
-    let known : c.loop-next.next - 1 < length (lengths_of c.args.word_starts.now) = pair_known c.requires.0 c.args.text.now c.args.at c.args.end c.loop-next.invariant c.loop-next-test.true in
+    let known : c.loop-next.next - 1 < length (lengths_of c.args.word_starts.now) =
+    pair_known c.requires.0 c.args.text.now c.args.at c.args.end c.loop-next.invariant c.loop-next-test.true in
     (c.requires.0.words, omega (arith, c.requires.1), known)
 
 pub returns-then-stands_after : goal.returns-then-stands_after
 returns-then-stands_after c =
     pair_hit c.requires.0 c.args.text.now c.args.at c.args.end c.loop-next.invariant c.loop-next-test.true
-    c.StandsAfter.ensures c.if-stands_after.true
+    c.stands_after.ensures c.if-stands_after.true
 
 pub offset_bounds-links-number : goal.offset_bounds-links-number
-offset_bounds-links-number c = ?
+offset_bounds-links-number c =
+    let known : c.loop-next.next - 1 < length (lengths_of c.args.word_starts.now) =
+    pair_known c.requires.0 c.args.text.now c.args.at c.args.end c.loop-next.invariant c.loop-next-test.true in
+    omega (arith, known, few_words c.requires.0.words)
 
 pub bounds-links-number : goal.bounds-links-number
-bounds-links-number c = ?
+bounds-links-number c =
+    let known : c.loop-next.next - 1 < length (lengths_of c.args.word_starts.now) =
+    pair_known c.requires.0 c.args.text.now c.args.at c.args.end c.loop-next.invariant c.loop-next-test.true in
+    omega (arith, known, c.requires.0.links_len)
 
 pub loop-next-smaller : goal.loop-next-smaller
 loop-next-smaller c =
@@ -50,7 +53,7 @@ loop-next-smaller c =
 pub loop-next-preserved : goal.loop-next-preserved
 loop-next-preserved c =
     pair_miss c.requires.0 c.args.text.now c.args.at c.args.end c.loop-next.invariant
-    c.loop-next-test.true c.StandsAfter.ensures c.if-stands_after.false
+    c.loop-next-test.true c.stands_after.ensures c.if-stands_after.false
 
 pub returns : goal.returns
 returns c =

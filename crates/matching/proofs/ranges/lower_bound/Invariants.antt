@@ -1,13 +1,8 @@
 -- `lower_bound` meets its contract: the first or the last word decides, or the search does. The invariant: the lower bound is not before a
 -- and not after a + left. The measure is `left`.
-use Rattle.std.proofs.Common.{◌≡◌, ◌+◌, ◌≤◌, ◌<◌, length, get_or, ℕ, ◌-◌, ◌*◌}
-use Rattle.basics.specs.LowerBound.{LowerBound}
-use Rattle.models.specs.WordStarts.{lengths_of, lexicon_at}
-use Rattle.laws.specs.Match.MatchTable.{Started}
-use Rattle.laws.specs.Match.PrefixRanges.{LastStanding}
-use Rattle.laws.specs.Match.Columns.{Column, column}
-use Prim.Native.Nat.{◌/◌}
-use Rattle.basics.specs.LowerBound.{Bisected, bound_first, bound_last, bisected_start, bisected_up, bisected_down, bisected_end}
+use Rattle.std.proofs.Common.{◌+◌}
+use Rattle.laws.specs.Match.Columns.{column}
+use Rattle.basics.specs.LowerBound.{Bisected}
 use Rattle.matching.proofs.ranges.lower_bound.Given as goal
 
 abbrev pub invariant-loop-left : goal.invariant-loop-left

@@ -1,8 +1,7 @@
 -- `fill_prefix_lengths` meets its contract. The invariant: each start before `at` has the length of the longest prefix that matches there,
 -- and the text from `left` to `right`, the Z-box, is a prefix of the string. The measure is how many starts are left.
-use Rattle.std.proofs.Common.{length, ◌-◌, suc, ◌+◌, ◌≤◌, ◌≡◌, ℕ, ◌*◌, ◌<◌}
-use Rattle.laws.specs.TextScan.ZSearch.{ZArray, PrefixLengths}
-use Rattle.laws.specs.TextScan.ZSearch.{PrefixAt, PrefixLength, Filling, filling_start, filling_on, filling_new, zbox_short, known_lies}
+use Rattle.std.proofs.Common.{length, ◌-◌}
+use Rattle.laws.specs.TextScan.ZSearch.{PrefixLength, Filling}
 use Rattle.zsearch.proofs.prefix_lengths.fill_prefix_lengths.Given as goal
 
 abbrev pub invariant-loop-at : goal.invariant-loop-at

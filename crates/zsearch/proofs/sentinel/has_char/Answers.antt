@@ -1,11 +1,7 @@
-use Rattle.std.proofs.Common.{rules, ◌≤◌, length, ◌≡◌, ℕ, ◌+◌, ◌-◌, ◌*◌, ◌<◌, ◌/◌, ◌%◌, Bool, true, false, nat_eq, nat_lt, List, [], ◌∷◌, ◌++◌, slice_index_or, slice_set, bit_and, bit_or, Fits, w8, w32, w64, Bor, MutBor}
-use Rattle.basics.specs.Bools.{Reflects}
+use Rattle.std.proofs.Common.{ℕ}
 use Rattle.basics.specs.Member.{In}
-use Rattle.basics.specs.Absent.{LeastAbsent}
 use mathlib.Core.Path.{subst}
 use native.Mathlib.Omega.{arith}
-use borrow.Author.Count.{below_more}
-use lib.ListN.{get_or}
 use Rattle.basics.specs.Bools.{reflects_yes, reflects_no}
 use Rattle.basics.specs.Member.{in_getD, member_index}
 use Rattle.zsearch.proofs.sentinel.has_char.Goals as goal

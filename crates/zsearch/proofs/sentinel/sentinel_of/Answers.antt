@@ -1,10 +1,6 @@
-use Rattle.std.proofs.Common.{rules, ◌≤◌, length, ◌≡◌, ℕ, ◌+◌, ◌-◌, ◌*◌, ◌<◌, ◌/◌, ◌%◌, Bool, true, false, nat_eq, nat_lt, List, [], ◌∷◌, ◌++◌, slice_index_or, slice_set, bit_and, bit_or, Fits, w8, w32, w64, Bor, MutBor}
-use Rattle.basics.specs.Bools.{Reflects}
-use Rattle.basics.specs.Member.{In}
-use Rattle.basics.specs.Absent.{LeastAbsent}
-use Prim.Native.Nat.{suc}
+use Rattle.std.proofs.Common.{◌+◌}
 use native.Mathlib.Omega.{arith}
-use Rattle.basics.specs.Absent.{LowerIn, lower_none, lower_next, lower_few}
+use Rattle.basics.specs.Absent.{LowerIn, lower_next, lower_few}
 use Rattle.zsearch.proofs.sentinel.sentinel_of.Goals as goal
 
 pub overflow_add-sentinel : goal.overflow_add-sentinel

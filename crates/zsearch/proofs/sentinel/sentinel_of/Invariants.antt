@@ -1,11 +1,8 @@
 -- `sentinel_of` meets its contract. The invariant: every lower number is a character of the string, so there are at most as many as
 -- characters. The measure is the string's length plus 1, less the number.
-use Rattle.std.proofs.Common.{◌≤◌, length, ◌≡◌, ℕ, ◌+◌, ◌-◌, ◌*◌, ◌<◌}
-use Rattle.basics.specs.Bools.{Reflects}
-use Rattle.basics.specs.Member.{In}
-use Rattle.basics.specs.Absent.{LeastAbsent}
+use Rattle.std.proofs.Common.{length, ◌-◌}
 use Prim.Native.Nat.{suc}
-use Rattle.basics.specs.Absent.{LowerIn, lower_none, lower_next, lower_few}
+use Rattle.basics.specs.Absent.{LowerIn}
 use Rattle.zsearch.proofs.sentinel.sentinel_of.Given as goal
 
 abbrev pub invariant-loop-sentinel : goal.invariant-loop-sentinel

@@ -1,10 +1,8 @@
 -- `fill_zarray` meets its contract. The invariant: each index before `at` has the length of the longest prefix that starts there,
 -- the other numbers are unchanged, and the string from `left` to `right`, the Z-box, is a prefix of it. The measure is how many
 -- indices are left.
-use Rattle.std.proofs.Common.{length, ◌-◌, ◌+◌, ◌≤◌, ◌≡◌, ℕ, ◌*◌, ◌<◌}
-use Rattle.laws.specs.TextScan.ZSearch.{PrefixAt, LongestPrefixAt, ZArray, KeptBut}
-use Rattle.laws.specs.TextScan.ZSearch.{ZValue, Filling, filling_start, filling_on, filling_new, filled_rest, zbox_short}
-use Rattle.laws.specs.TextScan.ZSearch.{known_lies}
+use Rattle.std.proofs.Common.{length, ◌-◌, ◌≤◌, ◌<◌}
+use Rattle.laws.specs.TextScan.ZSearch.{ZValue, Filling}
 use Rattle.zsearch.proofs.zarray.fill_zarray.Given as goal
 
 abbrev pub invariant-loop-at : goal.invariant-loop-at

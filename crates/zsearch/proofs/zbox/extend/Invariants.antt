@@ -1,8 +1,6 @@
 -- `extend` meets its contract. The invariant: the first `len` characters match. The measure is how many are left.
-use Rattle.std.proofs.Common.{◌-◌, ◌+◌, ◌≤◌, ◌<◌, length, ◌≡◌, ℕ, ◌*◌}
-use Rattle.laws.specs.TextScan.ZSearch.{PrefixAt, LongestPrefixAt, Known}
-use mathlib.Core.Path.{sym, ◌∙◌}
-use Rattle.laws.specs.TextScan.ZSearch.{prefix_more}
+use Rattle.std.proofs.Common.{◌-◌, ◌≤◌}
+use Rattle.laws.specs.TextScan.ZSearch.{PrefixAt}
 use Rattle.zsearch.proofs.zbox.extend.Given as goal
 
 abbrev pub invariant-loop-len : goal.invariant-loop-len

@@ -1,2 +1,0 @@
--- What the walks by hand of other crates cite.
-pub mod Opens
