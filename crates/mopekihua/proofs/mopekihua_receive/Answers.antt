@@ -1,0 +1,6 @@
+-- `mopekihua_receive` meets its contract: that of `receive` is passed on, and what is lent as characters holds characters.
+use Rattle.laws.specs.Text.Chars.{lent_chars}
+use Rattle.mopekihua.proofs.mopekihua_receive.Goals as goal
+
+pub returns-clause-chars_value : goal.returns-clause-chars_value
+returns-clause-chars_value c = lent_chars c.args.chars.now c.type_inv.chars

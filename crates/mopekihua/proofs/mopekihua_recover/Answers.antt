@@ -1,0 +1,6 @@
+-- `mopekihua_recover` meets its contract: that of `recover` is passed on, and what is lent as characters holds characters.
+use Rattle.laws.specs.Text.Chars.{lent_chars}
+use Rattle.mopekihua.proofs.mopekihua_recover.Goals as goal
+
+pub returns-clause-chars_value : goal.returns-clause-chars_value
+returns-clause-chars_value c = lent_chars c.args.chars.now c.type_inv.chars
