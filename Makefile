@@ -12,7 +12,7 @@ CC ?= cc
 CFLAGS := -std=c11 -Wall -Wextra -Werror -pedantic -O2
 CXXFLAGS := -std=c++11 -Wall -Wextra -Werror -pedantic
 
-# Everything is built under target/, whatever the environment says. The Rust
+# Everything but crates/*/out/ is built under target/, whatever the environment says. The Rust
 # crate links the library that is built here, and its tests run the program.
 export CARGO_TARGET_DIR := $(CURDIR)/target/rust
 export CARGO_NET_OFFLINE := true

@@ -6,7 +6,7 @@ usage: python3 tools/respell_names.py [--dry]     at the top of the repository, 
 A name with a dash that the files of crates/*/specs declare or bind becomes `word_word`, or `WordWord` where it is a type, which is where
 its first letter is a capital and it is no list. The same holds of a prime: ′ becomes '. Names that a library declares keep their spelling,
 and so do names that Rattle makes. Text of clauses, of files in specs/ and proofs/, and of edits is respelled; code and strings are not.
-Prints what would fall together, and changes nothing then.
+Prints the names that stand somewhere already in their new spelling, as a module's or a function's; with --dry it does no more.
 """
 import os
 import re

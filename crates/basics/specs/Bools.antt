@@ -1,4 +1,4 @@
--- From Boolean tests to facts (`-get`) and back (`-put`). Assumes nothing.
+-- From Boolean tests to facts (`_get`) and back (`_put`). Assumes nothing.
 use Rattle.std.specs.Prelude.{◌≡◌, refl, Bool, true, false, ◌&&◌, ◌||◌, not, ◌⊎◌, ℕ, ◌≤◌, ◌<◌, T, leb}
 use Rattle.std.proofs.Common.{sym, ◌∙◌, subst, inl, inr, ⊎_elim, leb-true, leb-false}
 

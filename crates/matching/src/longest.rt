@@ -8,7 +8,7 @@ ghost use Rattle.std.specs.Prelude.{◌+◌, ◌<◌, length};
 ghost use Rattle.models.specs.WordStarts.{lengths_of, lexicon_at, word};
 ghost use Rattle.laws.specs.Match.MatchTable.{Started, Tables};
 ghost use Rattle.laws.specs.Match.WordChains.{StandsAfter, PairFound, SingleFound};
-ghost use Rattle.laws.specs.Match.LongestWord.{Found as Found_at, PairLongest};
+ghost use Rattle.laws.specs.Match.LongestWord.{Found as FoundAt, PairLongest};
 
 use crate::ranges::find_last_standing;
 use crate::table::{bucket_of_char, bucket_of_pair, word_len};
@@ -146,7 +146,7 @@ pub fn find_longest(
     end: usize,
 ) -> Found
     requires { Tables chars.now word_starts.now heads.now links.now × (at < length text.now) }
-    ensures { Found_at (lexicon_at chars.now word_starts.now) text.now (at + 1) (end + 1)
+    ensures { FoundAt (lexicon_at chars.now word_starts.now) text.now (at + 1) (end + 1)
         result.number result.len }
 {
     let pair = find_pair(chars, word_starts, heads, links, text, at, end);

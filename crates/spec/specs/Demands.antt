@@ -1,4 +1,4 @@
--- The three demands, as statements about what the public operations and the program are lent and what comes back. `X-says` is the
+-- The three demands, as statements about what the public operations and the program are lent and what comes back. `XSays` is the
 -- contract of operation X (`Calls`, `JobAnswer`); a statement supposes only that the call satisfies it. Each is a type; its proof is in
 -- the crate `laws`. Lists are required to be characters only where that matters: a slice of 16-bit numbers holds nothing else, and the
 -- contracts of the three operations concerned say so. g is the greatest length of a text: document 01's demands are `Demands longest_text`.

@@ -63,7 +63,7 @@ FirstKept g =
     let p = first_position lex xs s in 1 ≤ p →
     let kept = index_to (p + length s - 1) xs in (readable g lex kept ≡ true) × (first_position lex kept s ≡ p)
 
--- OVER THE CALLS, of any index and string. `X-says` is the contract of operation X.
+-- OVER THE CALLS, of any index and string. `XSays` is the contract of operation X.
 
 pub record FirstCalls (g : ℕ) : Type 0 where
   -- "It must equal the head of the full list."

@@ -53,7 +53,7 @@ SumsFit =
     (e : ℕ) (cs ls ds : List ℕ) → admitted cs ls ≡ true → readable e (lexicon cs ls) (restored ds) ≡ true →
     ((i : ℕ) → get_or ds i 0 ≤ e) → (i : ℕ) → get_or (restored ds) i 0 ≤ e
 
--- OVER THE CALLS. `X-says` is the contract of operation X.
+-- OVER THE CALLS. `XSays` is the contract of operation X.
 
 pub record GapCalls (g : ℕ) : Type 0 where
   -- From what an accepted call of to_gaps wrote, every call of from_gaps with enough output restores the index.

@@ -19,7 +19,7 @@ unfolding all_chars is_char
 all_chars_put [] h = refl
 all_chars_put (c ∷ cs) h = and_put (lt-ltb c 65536 (h 0 (omega arith))) (all_chars_put cs (λ i b. h (suc i) (omega arith)))
 
--- Every element of a lent `&[u16]` fits 16 bits, as a proof of code knows by `.shared-slice-known .given`: the slice holds characters.
+-- Every element of a lent `&[u16]` fits 16 bits, as a proof of code knows by the type of the slice: it holds characters.
 pub lent_chars : (xs : List ℕ) → ((i : ℕ) → Fits w16 (get_or xs i 0)) → all_chars xs ≡ true
 lent_chars xs fits = all_chars_put xs (λ i h. (fits i).fits)
 

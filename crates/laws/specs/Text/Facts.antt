@@ -1,5 +1,5 @@
 -- The Boolean definitions as facts: lexicons, keys, entries, lines, and lines that match a text. The theorems are stated over these
--- records; each file of laws that has a `-get` and a `-put` ties one of them to its test. Assumes nothing.
+-- records; each file of laws that has a `_get` and a `_put` ties one of them to its test. Assumes nothing.
 use Rattle.std.specs.Prelude.{◌≡◌, true, false, List, [], ◌∷◌, ℕ, suc, ◌+◌, ◌≤◌, ◌<◌, length, get_or}
 use Rattle.basics.specs.Member.{In}
 use Rattle.spec.specs.Replaced.{is_full_width}

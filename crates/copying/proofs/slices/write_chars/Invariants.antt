@@ -1,5 +1,4 @@
--- `write_chars` meets its contract. The invariant: the characters from i on are to be written. The measure is how many they are. Assumes
--- nothing.
+-- `write_chars` meets its contract. The invariant: the characters from i on are to be written. The measure is how many they are.
 use Rattle.std.proofs.Common.{length, ◌-◌, ◌≤◌}
 use lib.ListN.{drop}
 use Rattle.basics.specs.Placed.{Writing}
