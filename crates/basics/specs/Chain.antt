@@ -1,7 +1,8 @@
 -- Linked chains: a head, and for each member p the next one at index p - 1, 0 at the end. They serve lists of positions and lists of word
 -- numbers plus one alike. Assumes nothing.
 use Rattle.std.specs.Prelude.{◌≡◌, refl, true, false, cond, List, [], ◌∷◌, ℕ, zero, suc, ◌+◌, ◌-◌, ◌≤◌, ◌<◌, eqb, length, get_or, set, drop}
-use Rattle.std.proofs.Common.{sym, ap, ◌∙◌, inl, inr, add-one, arith, length-drop, get_or-set_same, get_or-set_other, drop-cons, eq-eqb, ne_eqb}
+use Rattle.std.proofs.Common.{sym, ap, ◌∙◌, inl, inr, add-one, arith}
+use Rattle.std.proofs.Common.{length-drop, get_or-set_same, get_or-set_other, drop-cons, eq-eqb, ne_eqb}
 use Rattle.basics.specs.Member.{In}
 
 -- the chain from `head` runs through exactly these members

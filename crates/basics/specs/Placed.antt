@@ -1,6 +1,7 @@
 -- Writing into a slice from an index on: the content afterwards, and a run of writes one after the other. Assumes nothing.
 use Rattle.std.specs.Prelude.{◌≡◌, refl, List, [], ◌∷◌, ◌++◌, ℕ, ◌+◌, ◌≤◌, ◌<◌, length, take, drop, set}
-use Rattle.std.proofs.Common.{sym, ap, ◌∙◌, append_assoc, add-zero, add_assoc, add-one, arith, length-append, length-drop, take-append-drop, length-take-le, take_at, drop-drop}
+use Rattle.std.proofs.Common.{sym, ap, ◌∙◌, append_assoc, add-zero, add_assoc, add-one}
+use Rattle.std.proofs.Common.{arith, length-append, length-drop, take-append-drop, length-take-le, take_at, drop-drop}
 use Rattle.std.proofs.Math.Seq.{drop-append-add}
 use Rattle.std.proofs.lemmas.List.{set_split}
 

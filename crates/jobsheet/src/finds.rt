@@ -29,7 +29,8 @@ fn put_find(
 ) -> usize
     requires search_opened { SearchOpened longest_text chars.now word_starts.now index.now list_starts.now string.now ×
         (n_of index.now ≤ length found.old) }
-    requires string_in_bounds { at + length (found_line (find (lexicon_at chars.now word_starts.now) index.now (replaced string.now))) ≤ length
+    requires string_in_bounds { at +
+        length (found_line (find (lexicon_at chars.now word_starts.now) index.now (replaced string.now))) ≤ length
         out.old }
     ensures { Wrote (found_line (find (lexicon_at chars.now word_starts.now) index.now
         (replaced string.now))) at out.old result out.new }
@@ -53,7 +54,8 @@ pub(crate) fn put_finds(
 ) -> usize
     requires opened { Opened chars.now word_starts.now index.now list_starts.now × StringsGood strings.now counts.now ×
         (n_of index.now ≤ length found.old) × (n_of index.now ≤ longest_text) }
-    requires strings_in_bounds { at + length (found_lines (lexicon_at chars.now word_starts.now) index.now (words_from counts.now strings.now)) ≤ length
+    requires strings_in_bounds { at +
+        length (found_lines (lexicon_at chars.now word_starts.now) index.now (words_from counts.now strings.now)) ≤ length
         out.old }
     ensures { Wrote (found_lines (lexicon_at chars.now word_starts.now) index.now
         (words_from counts.now strings.now)) at out.old result out.new }

@@ -2,6 +2,7 @@
 pub mod Readable
 pub mod IndexOf
 pub mod LineWalk
+pub mod LineEnds
 pub mod KeyTests
 pub mod IndexRefusal
 pub mod KeyLengths

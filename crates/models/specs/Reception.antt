@@ -1,5 +1,6 @@
 -- Reception as it is done: the text reconstructed from the entries, the line map, and the test by the scan. Assumes nothing.
-use Rattle.std.specs.Prelude.{Bool, cond, true, false, ◌&&◌, ◌||◌, List, [], ◌∷◌, suc, ℕ, ◌+◌, ◌-◌, eqb, ltb, get_or, length, replicate, set}
+use Rattle.std.specs.Prelude.{Bool, cond, true, false, ◌&&◌, ◌||◌, List, [], ◌∷◌, suc}
+use Rattle.std.specs.Prelude.{ℕ, ◌+◌, ◌-◌, eqb, ltb, get_or, length, replicate, set}
 use Rattle.std.proofs.lemmas.List.Edits.{sets}
 use Rattle.spec.specs.Replaced.{is_full_width}
 use Rattle.spec.specs.Dictionary.{Lexicon}

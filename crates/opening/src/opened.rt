@@ -49,7 +49,8 @@ fn bounds_of<'a>(chars: &'a [u16], lengths: &'a [u16], index: &'a [Number]) -> B
 
 // The record of an index with its bounds.
 fn with_bounds<'a>(index: &'a [Number], bounds: Bounds) -> Opened<'a>
-    ensures { (result.numbers ≡ index.entry) × (result.refusal ≡ bounds.refusal) × (result.keys ≡ bounds.keys) × (result.first ≡ bounds.first) }
+    ensures { (result.numbers ≡ index.entry) × (result.refusal ≡ bounds.refusal) × (result.keys ≡ bounds.keys) ×
+        (result.first ≡ bounds.first) }
 {
     Opened {
         numbers: index,

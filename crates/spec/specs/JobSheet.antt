@@ -1,5 +1,6 @@
 -- The job sheet: its form, what it says, and its refusal. Bytes are numbers below 256. Assumes nothing: these are definitions.
-use Rattle.std.specs.Prelude.{Bool, true, false, ◌&&◌, ◌||◌, not, cond, List, [], ◌∷◌, ◌++◌, ℕ, ◌+◌, ◌*◌, ◌-◌, ltb, leb, eqb, length, get_or, take, drop}
+use Rattle.std.specs.Prelude.{Bool, true, false, ◌&&◌, ◌||◌, not, cond, List, [], ◌∷◌, ◌++◌}
+use Rattle.std.specs.Prelude.{ℕ, ◌+◌, ◌*◌, ◌-◌, ltb, leb, eqb, length, get_or, take, drop}
 use Rattle.spec.specs.Dictionary.{dictionary_refusal}
 use Rattle.spec.specs.Words.{same}
 use Rattle.spec.specs.Calls.{string_wrong, or_else}

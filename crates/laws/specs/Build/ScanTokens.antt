@@ -2,7 +2,8 @@
 -- q + 1 and ends are e + 1, with q and e counted from 0 as in code. Assumes nothing.
 use Rattle.std.specs.Prelude.{◌≡◌, refl, ◌⊎◌, List, [], ◌∷◌, ◌++◌, ℕ, suc, ◌+◌, ◌-◌, ◌≤◌, ◌<◌, get_or, take, drop, set}
 use Rattle.std.proofs.Math.Path.{sym}
-use Rattle.std.proofs.Common.{ap, ◌∙◌, inl, inr, ⊎_elim, append_assoc, append-nil, add-one, arith, length-set, get_or-set_same, get_or-set_other, take-suc-set, drop-set-lt, drop-drop, get_or-take, ne_eqb}
+use Rattle.std.proofs.Common.{ap, ◌∙◌, inl, inr, ⊎_elim, append_assoc, append-nil, add-one, arith}
+use Rattle.std.proofs.Common.{length-set, get_or-set_same, get_or-set_other, take-suc-set, drop-set-lt, drop-drop, get_or-take, ne_eqb}
 use Rattle.std.proofs.Math.Nat.{sub-zero}
 use Rattle.std.proofs.Math.ListN.{length}
 use Rattle.std.proofs.Math.Seq.{length-take-le}
@@ -149,7 +150,8 @@ stepped_scans {lex} {ts} {p} {last} n s =
 -- one more token
 token_entry_more :
     (lex : Lexicon) (p : ℕ) (ms ts : List ℕ) (m : ℕ) → length ms < length ts →
-    entries_of_tokens lex p (ms ++ (m ∷ [])) ts ≡ entries_of_tokens lex p ms ts ++ token_entry lex (p + length ms) m (get_or ts (length ms) 0)
+    entries_of_tokens lex p (ms ++ (m ∷ [])) ts
+    ≡ entries_of_tokens lex p ms ts ++ token_entry lex (p + length ms) m (get_or ts (length ms) 0)
 unfolding entries_of_tokens
 token_entry_more lex p [] [] m h = absurd (omega arith)
 token_entry_more lex p [] (t ∷ ts) m h =

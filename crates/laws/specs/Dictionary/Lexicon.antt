@@ -1,6 +1,7 @@
 -- Admission, as facts: an admitted dictionary has distinct ascending words of 1 to 32 characters, none of which has a full-width form.
 -- Assumes nothing.
-use Rattle.std.specs.Prelude.{◌≡◌, refl, Bool, true, false, ◌&&◌, ◌||◌, cond, List, [], ◌∷◌, ℕ, zero, suc, ◌≤◌, ◌<◌, ltb, leb, eqb, length, get_or, drop}
+use Rattle.std.specs.Prelude.{◌≡◌, refl, Bool, true, false, ◌&&◌, ◌||◌, cond, List, [], ◌∷◌}
+use Rattle.std.specs.Prelude.{ℕ, zero, suc, ◌≤◌, ◌<◌, ltb, leb, eqb, length, get_or, drop}
 use Rattle.std.proofs.Common.{ap, ◌∙◌, inl, inr, arith, length-drop, length-take-le, le-ltb, le-leb, eq-eqb, ltb-false, eqb-true}
 use Rattle.std.proofs.lemmas.Bool.{not-false}
 use Rattle.basics.specs.Bools.{clash, and_put, between_get, and_left, and_right, or_none}

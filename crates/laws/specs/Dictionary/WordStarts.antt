@@ -1,6 +1,7 @@
 -- The table of word starts has one entry more than there are words: from it come a word's characters and its length. Assumes nothing.
 use Rattle.std.specs.Prelude.{◌≡◌, refl, List, [], ◌∷◌, ℕ, zero, suc, ◌+◌, ◌-◌, ◌≤◌, ◌<◌, length, take, drop, set}
-use Rattle.std.proofs.Common.{sym, ◌∙◌, add-one, length-drop, drop_of_length-le, drop-cons, drop-drop, get_or-take, get_or-drop, take_at, length-take-le}
+use Rattle.std.proofs.Common.{sym, ◌∙◌, add-one, length-drop, drop_of_length-le, drop-cons}
+use Rattle.std.proofs.Common.{drop-drop, get_or-take, get_or-drop, take_at, length-take-le}
 use Rattle.std.proofs.Math.Path.{ap}
 use native.Mathlib.Omega.{arith}
 use Rattle.std.proofs.Math.ListN.{get_or}

@@ -37,7 +37,9 @@ sums_of_gaps b [] r = refl
 sums_of_gaps b (p ∷ ps) r = let e : b + (p - b) ≡ p = omega arith in rw (e, sums_of_gaps p ps r.1)
 
 -- a position other than the first becomes its distance from the one before
-pub gaps_later : (b : ℕ) (ps : List ℕ) (i : ℕ) → suc i < length ps → get_or (gaps_after b ps) (suc i) 0 ≡ get_or ps (suc i) 0 - get_or ps i 0
+pub gaps_later :
+    (b : ℕ) (ps : List ℕ) (i : ℕ) → suc i < length ps →
+    get_or (gaps_after b ps) (suc i) 0 ≡ get_or ps (suc i) 0 - get_or ps i 0
 unfolding gaps_after
 gaps_later b [] i h = absurd (omega arith)
 gaps_later b (p ∷ []) i h = absurd (omega arith)

@@ -1,7 +1,8 @@
 -- All gaps summed in one pass: sums that restart where a mask is 0 are the prefix sums of each list. Assumes nothing.
 use Rattle.std.specs.Prelude.{◌≡◌, refl, ℕ, zero, suc, ◌+◌, ◌≤◌, ◌<◌, get_or, take, set, replicate}
 use Rattle.std.proofs.Math.Path.{sym}
-use Rattle.std.proofs.Common.{ap, ◌∙◌, inl, inr, mod-eq_of_lt, add-one, arith, take-append-drop, length-drop, length-set, drop-drop, take_all, length-take-le, take-suc-set, drop-set-lt}
+use Rattle.std.proofs.Common.{ap, ◌∙◌, inl, inr, mod-eq_of_lt, add-one, arith, take-append-drop}
+use Rattle.std.proofs.Common.{length-drop, length-set, drop-drop, take_all, length-take-le, take-suc-set, drop-set-lt}
 use mathlib.Core.List.{List, [], ◌∷◌, ◌++◌, append_assoc, append-nil}
 use Rattle.std.specs.Int.Bits.{bit_and, and_zero_r}
 use Rattle.std.proofs.lemmas.Nat.{and_mask}

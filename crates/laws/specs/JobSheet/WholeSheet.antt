@@ -1,5 +1,6 @@
 -- Reading a whole sheet: words, text and finds one after the other, and whether it is in form and counts. Assumes nothing.
-use Rattle.std.specs.Prelude.{◌≡◌, refl, Bool, true, false, ◌&&◌, cond, List, [], ◌∷◌, ◌++◌, ℕ, suc, ◌+◌, ◌-◌, ◌*◌, ◌≤◌, leb, eqb, length, get_or, drop}
+use Rattle.std.specs.Prelude.{◌≡◌, refl, Bool, true, false, ◌&&◌, cond, List, [], ◌∷◌, ◌++◌}
+use Rattle.std.specs.Prelude.{ℕ, suc, ◌+◌, ◌-◌, ◌*◌, ◌≤◌, leb, eqb, length, get_or, drop}
 use Rattle.std.proofs.Common.{sym, ap, ◌∙◌, append-nil, ⊎_elim, arith, length-append, length-drop, eq-eqb, ne_eqb, eqb-true}
 use Rattle.std.proofs.lemmas.Bool.{eqb-false}
 use Rattle.basics.specs.Bools.{true_or_false}
@@ -154,7 +155,8 @@ sheet_tested s at within left =
     (⊎_elim
     (λ (t : eqb (length (texts_on s)) 1 ≡ true).
     rw (one_text (texts_on s) (eqb-true (length (texts_on s)) 1 t))
-    (regroup (eqb (length (texts_on s)) 1) (eqb at (length s)) (leb (length (words_on s)) 200) (leb (length (get_or (texts_on s) 0 [])) 2000)
+    (regroup (eqb (length (texts_on s)) 1) (eqb at (length s)) (leb (length (words_on s)) 200)
+    (leb (length (get_or (texts_on s) 0 [])) 2000)
     (leb (length (finds_on s)) 50)))
     (λ (f : eqb (length (texts_on s)) 1 ≡ false). rw f)
     (true_or_false (eqb (length (texts_on s)) 1)))

@@ -132,7 +132,8 @@ module _ {ws : List (List ℕ)} {ts : List ℕ} {p k : ℕ} where
 
             no : length (get_or ws i []) ≤ d → ⊥
             no l =
-                ⊎_elim (λ (q : i ≤ lo). let here : i ≡ lo = omega arith in omega (arith, first, ap (λ (x : ℕ). length (get_or ws x [])) here))
+                ⊎_elim
+                (λ (q : i ≤ lo). let here : i ≡ lo = omega arith in omega (arith, first, ap (λ (x : ℕ). length (get_or ws x [])) here))
                 (λ (q : lo < i).
                 prefix_not_before (get_or ws i []) (get_or ws lo []) (ascend_get ws sorted lo i q (omega arith)) (omega (arith, first))
                 (λ j c. h.agree lo j (omega arith) some (omega arith) ∙ sym (h.agree i j a b (omega arith))))

@@ -71,7 +71,8 @@ Passed cs ws ts p last j = Stand (word cs ws j) ts p → p + length (word cs ws 
 
 abbrev pub PairWalk : (cs ws links ts : List ℕ) (q e next : ℕ) → Type 0
 PairWalk cs ws links ts q e =
-    Walk links (bucket_of cs ws) (pair_bucket (get_or ts q 0) (get_or ts (q + 1) 0)) (length (lengths_of ws)) (Passed cs ws ts (q + 1) (e + 1))
+    Walk links (bucket_of cs ws) (pair_bucket (get_or ts q 0) (get_or ts (q + 1) 0)) (length (lengths_of ws))
+    (Passed cs ws ts (q + 1) (e + 1))
 
 module _ {cs ws heads links : List ℕ} (t : Tables cs ws heads links) (ts : List ℕ) (q e : ℕ) where
   pub pair_start : PairWalk cs ws links ts q e (get_or heads (pair_bucket (get_or ts q 0) (get_or ts (q + 1) 0)) 0)

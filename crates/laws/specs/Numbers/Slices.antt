@@ -1,6 +1,8 @@
 -- Numbers and lines, both ways: lines read back from their numbers, a slice rebuilt from its lines. Assumes nothing.
-use Rattle.std.specs.Prelude.{◌≡◌, refl, Bool, true, ◌&&◌, List, [], ◌∷◌, ◌++◌, ℕ, zero, suc, ◌+◌, ◌*◌, ◌≤◌, leb, eqb, length, get_or, take, drop}
-use Rattle.std.proofs.Common.{sym, ap, ◌∙◌, inl, inr, arith, length-append, length-drop, take-append-drop, get_or-drop, drop-drop, drop_at, drop-cons, length-take-le, le-leb, leb-true, eq-eqb, eqb-true}
+use Rattle.std.specs.Prelude.{◌≡◌, refl, Bool, true, ◌&&◌, List, [], ◌∷◌, ◌++◌, ℕ, zero}
+use Rattle.std.specs.Prelude.{suc, ◌+◌, ◌*◌, ◌≤◌, leb, eqb, length, get_or, take, drop}
+use Rattle.std.proofs.Common.{sym, ap, ◌∙◌, inl, inr, arith, length-append, length-drop, take-append-drop}
+use Rattle.std.proofs.Common.{get_or-drop, drop-drop, drop_at, drop-cons, length-take-le, le-leb, leb-true, eq-eqb, eqb-true}
 use Rattle.std.proofs.Math.Seq.{take-append_seam, drop-append_seam}
 use Rattle.basics.specs.Bools.{and_put, and_left, and_right}
 use Rattle.basics.specs.Member.{In}

@@ -1,8 +1,8 @@
 -- The model of readability: one walk over the directory, with the positions of each line. Assumes nothing.
 use Rattle.std.specs.Prelude.{◌≡◌, refl, true, false, ◌&&◌, take}
-use Rattle.std.proofs.Math.Path.{sym, ap}
+use Rattle.std.proofs.Math.Path.{sym}
 use Rattle.std.proofs.Common.{◌∙◌, arith, length-drop}
-use Rattle.std.proofs.Math.Bool.{Bool, and_assoc}
+use Rattle.std.proofs.Math.Bool.{Bool}
 use mathlib.Core.List.{List}
 use Prim.Native.Nat.{ℕ, zero, suc, ◌+◌, ◌*◌, ◌≤◌, ◌<◌}
 use Rattle.std.proofs.Math.Dec.{leb}
@@ -15,7 +15,7 @@ use Rattle.spec.specs.Words.{Key, key, spells}
 use Rattle.spec.specs.Numbers.{Line, line}
 use Rattle.spec.specs.Index.{header, n_of, keys_of, kind_at, count_at, key_at, counts_from, entries_of, lines_from, lines_in}
 use Rattle.spec.specs.Index.{kinds_good, key_good, keys_ascend, rise_from, last_of, line_good, lines_good, lengths_fit, readable}
-use Rattle.models.specs.Readability.{key_number, list_good, line_list_good, line_list_ends, key_fits, line_fits, line_ends, rest_good}
+use Rattle.models.specs.Readability.{key_number, list_good, line_list_good, key_fits, line_fits, rest_good}
 use Rattle.models.specs.Readability.{as_is, walk_good}
 use Rattle.laws.specs.Numbers.KeyNumbers.{key_numbers_ascend, key_numbers_all, key_small}
 use Rattle.laws.specs.Numbers.Slices.{Fits, lengths_fit_get, kinds_good_lines_from}
@@ -91,42 +91,6 @@ module _ (read : List ℕ → List ℕ) (lex : Lexicon) (n a : ℕ) (k : Key) (c
       and_put (and_put (and_put (le-leb k.kind 1 h.kind_small) (le-leb a (key_number k) h.code_least)) h.is_good)
       (and_put (and_put (le-leb c (length ps) h.present) (le-leb 1 c h.some))
       (and_put (le-leb (last_of (read (take c ps)) + length (spells lex k)) (suc n) h.ends) h.rises))
-
-  -- the order of the positions apart
-  pub line_fits_ends : line_fits read lex n a k c ps ≡ (line_ends read lex n a k c ps && rise_from 1 (read (take c ps)))
-  unfolding line_fits line_ends line_list_good line_list_ends list_good
-  line_fits_ends =
-      let there = leb c (length ps) && leb 1 c in
-      let end = leb (last_of (read (take c ps)) + length (spells lex k)) (suc n) in
-      let rise = rise_from 1 (read (take c ps)) in
-      ap (λ (t : Bool). key_fits lex a k && t) (sym (and_assoc there end rise)) ∙ sym (and_assoc (key_fits lex a k) (there && end) rise)
-
--- A LINE WITHOUT THE ORDER OF ITS POSITIONS
-
-pub record LineEnds (read : List ℕ → List ℕ) (lex : Lexicon) (n a : ℕ) (k : Key) (c : ℕ) (ps : List ℕ) : Type 0 where
-  pub is_good : key_good lex k ≡ true
-  pub present : c ≤ length ps
-  pub some : 1 ≤ c
-
-pub ends_get :
-    (read : List ℕ → List ℕ) (lex : Lexicon) (n a : ℕ) (k : Key) (c : ℕ) (ps : List ℕ) → line_ends read lex n a k c ps ≡ true →
-    LineEnds read lex n a k c ps
-unfolding line_ends key_fits line_list_ends
-ends_get read lex n a k c ps t =
-    record {
-      is_good = and_right (leb k.kind 1 && leb a (key_number k)) (key_good lex k) (and_left (key_fits lex a k) list t);
-      present = leb-true c (length ps) (and_left (leb c (length ps)) (leb 1 c) counts);
-      some = leb-true 1 c (and_right (leb c (length ps)) (leb 1 c) counts);
-    }
-  where
-    end : Bool
-    end = leb (last_of (read (take c ps)) + length (spells lex k)) (suc n)
-
-    list : Bool
-    list = (leb c (length ps) && leb 1 c) && end
-
-    counts : (leb c (length ps) && leb 1 c) ≡ true
-    counts = and_left (leb c (length ps) && leb 1 c) end (and_right (key_fits lex a k) list t)
 
 -- A LINE READ AS IT IS
 

@@ -1,5 +1,6 @@
 -- The offset of a key from a string: its two starts, agreement at it, and its range. Assumes nothing.
-use Rattle.std.specs.Prelude.{◌≡◌, refl, Bool, true, false, ◌&&◌, cond, List, [], ◌∷◌, ℕ, zero, suc, ◌-◌, ◌≤◌, ◌<◌, ltb, length, ℤ, pos, negsuc, neg_ℤ}
+use Rattle.std.specs.Prelude.{◌≡◌, refl, Bool, true, false, ◌&&◌, cond, List, [], ◌∷◌, ℕ}
+use Rattle.std.specs.Prelude.{zero, suc, ◌-◌, ◌≤◌, ◌<◌, ltb, length, ℤ, pos, negsuc, neg_ℤ}
 use Rattle.std.proofs.Common.{sym, ap₂, ◌∙◌, arith, le-leb, lt-ltb, le-ltb, ltb-true, ltb-false}
 use Rattle.std.proofs.Math.Dec.{leb-suc-suc}
 use Rattle.std.proofs.Math.IntN.{suc_ℤ, pred_ℤ}

@@ -1,6 +1,7 @@
 -- Strings: the equality test, and standing in a text by absolute positions. Assumes nothing.
 use Rattle.std.specs.Prelude.{◌≡◌, refl, true, ◌&&◌, List, [], ◌∷◌, ℕ, suc, ◌+◌, ◌-◌, ◌≤◌, ◌<◌, leb, eqb, length, get_or, take, drop}
-use Rattle.std.proofs.Common.{sym, ap, ◌∙◌, arith, length-take, length-drop, ext_get_or, get_or-take, get_or-drop, le-leb, leb-true, eq-eqb, eqb-true}
+use Rattle.std.proofs.Common.{sym, ap, ◌∙◌, arith, length-take, length-drop, ext_get_or}
+use Rattle.std.proofs.Common.{get_or-take, get_or-drop, le-leb, leb-true, eq-eqb, eqb-true}
 use Rattle.basics.specs.Bools.{clash, and_put, and_left, and_right}
 use Rattle.spec.specs.Words.{same, stands}
 

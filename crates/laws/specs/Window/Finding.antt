@@ -1,7 +1,8 @@
 -- Counting and writing the starts whose reach comes to the string's end. Assumes nothing.
 use Rattle.std.specs.Prelude.{◌≡◌, refl, Bool, true, false, ℕ, suc, ◌+◌, ◌≤◌, ◌<◌, leb, get_or, set}
 use Rattle.std.proofs.Math.Path.{sym, ap}
-use Rattle.std.proofs.Common.{◌∙◌, zero-add, add-zero, add-one, length-set, drop_of_length-le, take-append-drop, take-suc-set, drop-set-lt, drop-drop, le-leb}
+use Rattle.std.proofs.Common.{◌∙◌, zero-add, add-zero, add-one, length-set, drop_of_length-le}
+use Rattle.std.proofs.Common.{take-append-drop, take-suc-set, drop-set-lt, drop-drop, le-leb}
 use Rattle.std.proofs.Math.Bool.{cond}
 use Rattle.std.proofs.Math.Logic.{⊎_elim}
 use mathlib.Core.List.{List, [], ◌∷◌, ◌++◌, append_assoc, append-nil}

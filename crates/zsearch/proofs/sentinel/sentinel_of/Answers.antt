@@ -5,12 +5,16 @@ use Rattle.zsearch.proofs.sentinel.sentinel_of.Goals as goal
 
 pub overflow_add-sentinel : goal.overflow_add-sentinel
 overflow_add-sentinel c =
-    let more : LowerIn c.args.string.now (c.loop-sentinel.sentinel + 1) = lower_next c.args.string.now c.loop-sentinel.sentinel c.loop-sentinel.invariant (c.has_char.ensures.holds c.loop-sentinel-test.true) in
+    let more : LowerIn c.args.string.now (c.loop-sentinel.sentinel + 1) =
+    lower_next c.args.string.now c.loop-sentinel.sentinel c.loop-sentinel.invariant
+    (c.has_char.ensures.holds c.loop-sentinel-test.true) in
     omega (arith, lower_few c.args.string.now (c.loop-sentinel.sentinel + 1) more)
 
 pub loop-sentinel-smaller : goal.loop-sentinel-smaller
 loop-sentinel-smaller c =
-    let more : LowerIn c.args.string.now (c.loop-sentinel.sentinel + 1) = lower_next c.args.string.now c.loop-sentinel.sentinel c.loop-sentinel.invariant (c.has_char.ensures.holds c.loop-sentinel-test.true) in
+    let more : LowerIn c.args.string.now (c.loop-sentinel.sentinel + 1) =
+    lower_next c.args.string.now c.loop-sentinel.sentinel c.loop-sentinel.invariant
+    (c.has_char.ensures.holds c.loop-sentinel-test.true) in
     omega (arith, lower_few c.args.string.now (c.loop-sentinel.sentinel + 1) more)
 
 pub loop-sentinel-preserved : goal.loop-sentinel-preserved
