@@ -15,10 +15,8 @@ fn block_lacks(chars: &[u16], at: usize, character: u16) -> bool
     ensures { result ≡ true → Lacks chars.now at 8 character }
 {
     let mut lacks = true;
-    let mut i = 0;
-    while i < BLOCK {
+    for i in 0..BLOCK {
         lacks = lacks & (chars[at + i] != character);
-        i += 1;
     }
     lacks
 }

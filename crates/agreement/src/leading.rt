@@ -6,16 +6,15 @@
 ghost use Rattle.std.specs.Prelude.{◌≡◌, ◌≤◌, ◌<◌, length, take};
 ghost use Rattle.basics.specs.Placed.{Wrote};
 ghost use Rattle.models.specs.Window.{agrees_leading, is_leading, leading_lines};
-ghost use Rattle.models.specs.WordStarts.{lexicon_at};
-ghost use Rattle.laws.specs.Directory.Tables.{Reads, WordLine};
+ghost use Rattle.spec.specs.Index.{keys_of, kind_at};
 ghost use Rattle.laws.specs.Window.LineRanges.{Split};
+ghost use Rattle.dictionary.specs.Words.{lexicon_of};
 
 use crate::blocks::seen_to_lack;
 use crate::offset::agrees_at;
-use directory::lines::word_at;
+use directory::lines::Directory;
 use directory::ranges::count_word_lines;
 use layout::fields::value_at;
-use width::Number;
 
 // Whether a key agrees with the string at an offset of -`least` or below.
 fn agrees_leading(key: &[u16], string: &[u16], least: usize) -> bool
@@ -24,35 +23,25 @@ fn agrees_leading(key: &[u16], string: &[u16], least: usize) -> bool
 {
     let character = string[0];
     let len = key.len() as u8;
-    let mut i = least;
-    while i < len as usize {
-        let at = i;
-        i += 1;
-        if key[at] == character {
-            if agrees_at(key, string, -(at as i32)) {
-                return true;
-            }
+    for at in least..len as usize {
+        if key[at] == character && agrees_at(key, string, -(at as i32)) {
+            return true;
         }
     }
     false
 }
 
 // Whether the word of a line agrees with the string at an offset of -`least` or below: of 0 or below, or below 0.
-fn line_leads(
-    chars: &[u16],
-    word_starts: &[u16],
-    index: &[Number],
-    string: &[u16],
-    line: usize,
-    least: usize,
-) -> bool
-    requires { WordLine chars.now word_starts.now index.now line × (1 ≤ length string.now) × (least ≤ 1) }
-    ensures { result ≡ is_leading least (lexicon_at chars.now word_starts.now) index.now string.now
-        line }
+fn line_leads(directory: &Directory, string: &[u16], line: usize, least: usize) -> bool
+    requires { (line < keys_of directory.now.index.now) × (kind_at directory.now.index.now line ≡ 0) ×
+        (1 ≤ length string.now) × (least ≤ 1) }
+    ensures { result ≡ is_leading least (lexicon_of directory.now.words) directory.now.index.now
+        string.now line }
 {
-    let start = word_starts[value_at(index, line)] as usize;
-    let word = word_at(chars, word_starts, index, line);
-    if seen_to_lack(chars, start + least, word.len() - least, string[0]) {
+    let words = directory.words;
+    let start = words.starts[value_at(directory.index, line)] as usize;
+    let word = directory.word(line);
+    if seen_to_lack(words.chars, start + least, word.len() - least, string[0]) {
         return false;
     }
     agrees_leading(word, string, least)
@@ -61,26 +50,21 @@ fn line_leads(
 // Lists those of the first `word_lines` lines whose keys agree at an offset of -`least` or below, from the start of `lines`. Answers how
 // many.
 fn fill_leading(
-    chars: &[u16],
-    word_starts: &[u16],
-    index: &[Number],
+    directory: &Directory,
     string: &[u16],
     word_lines: usize,
     least: usize,
     lines: &mut [u16],
 ) -> usize
-    requires { Reads chars.now word_starts.now index.now × Split index.now word_lines × (1 ≤ length string.now) ×
-        (word_lines ≤ length lines.old) × (least ≤ 1) }
-    ensures { Wrote (leading_lines least (lexicon_at chars.now word_starts.now) index.now
+    requires { Split directory.now.index.now word_lines × (1 ≤ length string.now) × (word_lines ≤ length lines.old) ×
+        (least ≤ 1) }
+    ensures { Wrote (leading_lines least (lexicon_of directory.now.words) directory.now.index.now
         string.now word_lines) 0 lines.old result lines.new }
 {
     let mut count = 0;
-    let mut line = 0;
-    while line < word_lines {
-        let at = line;
-        line += 1;
-        if line_leads(chars, word_starts, index, string, at, least) {
-            lines[count] = at as u16;
+    for line in 0..word_lines {
+        if line_leads(directory, string, line, least) {
+            lines[count] = line as u16;
             count += 1;
         }
     }
@@ -88,7 +72,7 @@ fn fill_leading(
 }
 
 // How many lines are those of words, and how many of these are listed.
-#[derive(Drop)]
+#[derive(Clone, Copy)]
 pub struct Leading {
     pub words: usize,
     pub count: usize,
@@ -97,22 +81,17 @@ pub struct Leading {
 // Lists the lines whose words agree at an offset of -`least` or below, from the start of `lines`: all leading lines for 0, and for 1 those
 // whose words start before the string. There is room: there are no more lines of words than words.
 pub fn list_leading(
-    chars: &[u16],
-    word_starts: &[u16],
-    index: &[Number],
+    directory: &Directory,
     string: &[u16],
     least: usize,
     lines: &mut [u16],
 ) -> Leading
-    requires { Reads chars.now word_starts.now index.now × (1 ≤ length string.now) × (4096 ≤ length lines.old) × (least ≤ 1) }
-    ensures { Split index.now result.words × (result.count ≤ length lines.new) ×
-        (take result.count lines.new ≡ leading_lines least (lexicon_at chars.now word_starts.now)
-        index.now string.now result.words) }
+    requires { (1 ≤ length string.now) × (4096 ≤ length lines.old) × (least ≤ 1) }
+    ensures { Split directory.now.index.now result.words × (result.count ≤ length lines.new) ×
+        (take result.count lines.new ≡ leading_lines least (lexicon_of directory.now.words)
+        directory.now.index.now string.now result.words) }
 {
-    let word_lines = count_word_lines(index);
-    let count = fill_leading(chars, word_starts, index, string, word_lines, least, lines);
-    Leading {
-        words: word_lines,
-        count,
-    }
+    let words = count_word_lines(directory.index);
+    let count = fill_leading(directory, string, words, least, lines);
+    Leading { words, count }
 }

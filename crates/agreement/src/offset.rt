@@ -6,7 +6,6 @@ ghost use Rattle.std.specs.Prelude.{◌≡◌};
 ghost use Rattle.spec.specs.Search.{agrees, agrees_at, string_start, key_start};
 
 use copying::compare::same_run;
-use copying::numbers::min;
 
 // Whether two strings agree, the first laid at 0 and the second at `at`.
 fn agrees_after(first: &[u16], second: &[u16], at: usize) -> bool
@@ -15,10 +14,11 @@ fn agrees_after(first: &[u16], second: &[u16], at: usize) -> bool
     if first.len() <= at {
         return false;
     }
-    if second.len() == 0 {
+    if second.is_empty() {
         return false;
     }
-    same_run(first, at, second, 0, min(first.len() - at, second.len()))
+    let shared = second.len().min(first.len() - at);
+    same_run(first, at, second, 0, shared)
 }
 
 // Where the string starts at an offset, counted from the first of string and key to begin.

@@ -4,19 +4,19 @@
 // within the last one, by binary search. A word that ends on the way agrees, and where the string ends all words left do. Where at most
 // four lines are left they are compared. Search, estimate and cut-down index each walk what is found here.
 ghost use Rattle.std.specs.Prelude.{◌+◌, ◌≤◌, ◌<◌, length};
-ghost use Rattle.models.specs.WordStarts.{lexicon_at};
-ghost use Rattle.laws.specs.Window.LineRanges.{SearchLines};
+ghost use Rattle.laws.specs.Search.Sizing.{IsString};
+ghost use Rattle.laws.specs.Window.LineRanges.{Split};
 ghost use Rattle.laws.specs.Window.AgreeingLines.{AgreeingListed, AgreeingFound};
 ghost use Rattle.laws.specs.Window.AgreeingWords.{Refining};
+ghost use Rattle.dictionary.specs.Words.{lexicon_of};
 
 use crate::offset::agrees_at;
-use directory::lines::word_at;
+use directory::lines::Directory;
 use directory::ranges::equal_range;
-use width::Number;
 
 // Lines of words that agree: the first `count` of a list, then the lines `from` to `to` - 1, whose words share `depth` characters with the
 // string.
-#[derive(Drop)]
+#[derive(Clone, Copy)]
 pub struct Agreeing {
     pub count: usize,
     pub from: usize,
@@ -26,41 +26,42 @@ pub struct Agreeing {
 
 // Refines the range of the first `word_lines` lines, which are those of words, until the string ends or at most four lines are left.
 fn refine(
-    chars: &[u16],
-    word_starts: &[u16],
-    index: &[Number],
+    directory: &Directory,
     string: &[u16],
     key_start: usize,
     word_lines: usize,
     lines: &mut [u16],
 ) -> Agreeing
-    requires { SearchLines chars.now word_starts.now index.now string.now word_lines × (key_start < length string.now) ×
-        (36 ≤ length lines.old) }
-    ensures { Refining chars.now word_starts.now index.now string.now key_start word_lines
-        lines.new result.count result.from result.to result.depth ×
-        (key_start + result.depth < length string.now → result.to ≤ result.from + 4) }
+    requires split { Split directory.now.index.now word_lines }
+    requires is_string { IsString string.now }
+    requires inside { key_start < length string.now }
+    requires room { 36 ≤ length lines.old }
+    ensures refining { Refining directory.now.words.chars.now directory.now.words.starts.now directory.now.index.now
+        string.now key_start word_lines lines.new result.count result.from result.to result.depth }
+    ensures few { key_start + result.depth < length string.now → result.to ≤ result.from + 4 }
 {
     let left = string.len() - key_start;
     let mut count = 0;
     let mut low = 0;
     let mut high = word_lines;
     let mut depth = 0;
-    while low + 4 < high {
-        if left <= depth {
-            return Agreeing {
-                count,
-                from: low,
-                to: high,
-                depth,
-            };
-        }
-        if word_at(chars, word_starts, index, low).len() == depth {
+    // A `while`: the range narrows from either end by what is found, so no counted loop is plainer.
+    while low + 4 < high && depth < left {
+        if directory.word(low).len() == depth {
             lines[count] = low as u16;
             count += 1;
             low += 1;
         } else {
             let character = string[key_start + depth];
-            let range = equal_range(chars, index, word_starts, low, high, depth, character);
+            let range = equal_range(
+                directory.words.chars,
+                directory.index,
+                directory.words.starts,
+                low,
+                high,
+                depth,
+                character,
+            );
             low = range.from;
             high = range.to;
             depth += 1;
@@ -76,27 +77,23 @@ fn refine(
 
 // Compares the at most four lines that are left.
 fn compare_few(
-    chars: &[u16],
-    word_starts: &[u16],
-    index: &[Number],
+    directory: &Directory,
     string: &[u16],
     key_start: usize,
     word_lines: usize,
     refined: Agreeing,
     lines: &mut [u16],
 ) -> Agreeing
-    requires { Refining chars.now word_starts.now index.now string.now key_start word_lines lines.old refined.count
-        refined.from refined.to refined.depth × (refined.to ≤ refined.from + 4) }
-    ensures { AgreeingListed key_start (lexicon_at chars.now word_starts.now) index.now
-        string.now word_lines lines.new result.count result.from result.to × (result.to ≤ result.from) }
+    requires refining { Refining directory.now.words.chars.now directory.now.words.starts.now directory.now.index.now
+        string.now key_start word_lines lines.old refined.count refined.from refined.to refined.depth }
+    requires few { refined.to ≤ refined.from + 4 }
+    ensures listed { AgreeingListed key_start (lexicon_of directory.now.words) directory.now.index.now
+        string.now word_lines lines.new result.count result.from result.to }
+    ensures none_left { result.to ≤ result.from }
 {
     let mut count = refined.count;
-    let mut low = refined.from;
-    let high = refined.to;
-    while low < high {
-        let line = low;
-        low += 1;
-        let word = word_at(chars, word_starts, index, line);
+    for line in refined.from..refined.to {
+        let word = directory.word(line);
         if agrees_at(word, string, key_start as i32) {
             lines[count] = line as u16;
             count += 1;
@@ -104,47 +101,29 @@ fn compare_few(
     }
     Agreeing {
         count,
-        from: high,
-        to: high,
-        depth: refined.depth,
+        from: refined.to,
+        ..refined
     }
 }
 
 // The lines of words, the first `word_lines`, that agree with the string at the offset `key_start`; some of them go into `lines`.
 pub fn agreeing_words(
-    chars: &[u16],
-    word_starts: &[u16],
-    index: &[Number],
+    directory: &Directory,
     string: &[u16],
     key_start: usize,
     word_lines: usize,
     lines: &mut [u16],
 ) -> Agreeing
-    requires { SearchLines chars.now word_starts.now index.now string.now word_lines × (key_start < length string.now) ×
-        (36 ≤ length lines.old) }
-    ensures { AgreeingFound key_start (lexicon_at chars.now word_starts.now) index.now
+    requires split { Split directory.now.index.now word_lines }
+    requires is_string { IsString string.now }
+    requires inside { key_start < length string.now }
+    requires room { 36 ≤ length lines.old }
+    ensures { AgreeingFound key_start (lexicon_of directory.now.words) directory.now.index.now
         string.now word_lines lines.new result.count result.from result.to }
 {
-    let refined = refine(
-        chars,
-        word_starts,
-        index,
-        string,
-        key_start,
-        word_lines,
-        lines,
-    );
+    let refined = refine(directory, string, key_start, word_lines, lines);
     if string.len() <= key_start + refined.depth {
         return refined;
     }
-    compare_few(
-        chars,
-        word_starts,
-        index,
-        string,
-        key_start,
-        word_lines,
-        refined,
-        lines,
-    )
+    compare_few(directory, string, key_start, word_lines, refined, lines)
 }

@@ -7,10 +7,8 @@ pub(crate) fn flag_list(lines: &[u16], flags: &mut [u8])
     requires { AllBelow lines.now (length flags.old) }
     ensures { OnesAt lines.now flags.old flags.new }
 {
-    let mut i = 0;
-    while i < lines.len() {
-        flags[lines[i] as usize] = 1;
-        i += 1;
+    for line in lines {
+        flags[*line as usize] = 1;
     }
 }
 
@@ -19,9 +17,5 @@ pub(crate) fn flag_run(from: usize, to: usize, flags: &mut [u8])
     requires { (from ≤ to) × (to ≤ length flags.old) }
     ensures { Ones from to flags.old flags.new }
 {
-    let mut line = from;
-    while line < to {
-        flags[line] = 1;
-        line += 1;
-    }
+    flags[from..to].fill(1);
 }

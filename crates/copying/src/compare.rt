@@ -11,9 +11,7 @@ pub fn same_run(chars: &[u16], at: usize, numbers: &[Number], from: usize, count
     requires { (at + count ≤ length chars.now) × (from + count ≤ length numbers.now) }
     ensures { Reflects result (SameRun chars.now at numbers.now from count) }
 {
-    let mut i = count;
-    while 0 < i {
-        i -= 1;
+    for i in (0..count).rev() {
         if chars[at + i] as usize != number_at(numbers, from + i) {
             return false;
         }

@@ -1,6 +1,5 @@
-// Slices copied, filled and compared, and the lesser, the greater and the difference of two numbers.
+// Runs of characters compared, and characters written.
 #![tactic(auto)]
 
 pub mod compare;
-pub mod numbers;
 pub mod slices;

@@ -9,4 +9,5 @@ mod leading;
 mod lines;
 mod lower_bound;
 mod offsets;
+mod placement;
 pub mod window;

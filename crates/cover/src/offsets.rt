@@ -4,95 +4,39 @@
 ghost use Rattle.std.specs.Prelude.{◌-◌, ◌<◌, length};
 ghost use Rattle.spec.specs.Index.{lines_in};
 ghost use Rattle.models.specs.Window.{offset_all, offsets_all};
-ghost use Rattle.models.specs.WordStarts.{lexicon_at};
-ghost use Rattle.laws.specs.Window.Window.{Within, Reaches};
-ghost use Rattle.laws.specs.Window.Searches.{Searches, SearchesOffset};
+ghost use Rattle.laws.specs.Window.Window.{Reaches};
+ghost use Rattle.dictionary.specs.Words.{lexicon_of};
+ghost use Rattle.cover.specs.Windows.{IsWindow, SameStarts};
 
+use crate::extend::Window;
 use crate::lines::{extend_lone, extend_words};
-use width::{Number, Sum};
+use crate::window::Query;
 
-// Extends the window by every key at the offset `key_start`. The first `word_lines` lines are those of words. Answers
-// the greatest reach afterwards.
-fn extend_offset(
-    chars: &[u16],
-    word_starts: &[u16],
-    index: &[Number],
-    list_starts: &[Sum],
-    string: &[u16],
-    key_start: usize,
-    word_lines: usize,
-    first: usize,
-    reach: &mut [Number],
-    max_reach: usize,
-) -> usize
-    requires { SearchesOffset chars.now word_starts.now index.now list_starts.now string.now word_lines first key_start
-        max_reach reach.old }
-    ensures { Reaches (offset_all key_start (lexicon_at chars.now word_starts.now) (lines_in index.now)
-        string.now first reach.old) reach.new result }
+// Extends the window by every key at the offset `key_start`.
+fn extend_offset(query: &Query, key_start: usize, window: &mut Window)
+    requires inside { key_start < length query.now.string.now }
+    requires is_window { IsWindow window.old }
+    ensures extended { Reaches (offset_all key_start (lexicon_of query.now.postings.directory.words)
+        (lines_in query.now.postings.directory.index.now) query.now.string.now window.old.first window.old.reach.now)
+        window.new.reach.now window.new.highest }
+    ensures same { SameStarts window.old window.new }
 {
-    let highest = extend_words(
-        chars,
-        word_starts,
-        index,
-        list_starts,
-        string,
-        key_start,
-        word_lines,
-        first,
-        reach,
-        max_reach,
-    );
-    extend_lone(
-        chars,
-        word_starts,
-        index,
-        list_starts,
-        string,
-        key_start,
-        word_lines,
-        first,
-        reach,
-        highest,
-    )
+    extend_words(query, key_start, window);
+    extend_lone(query, key_start, window);
 }
 
-// Extends the window at the offsets above 0 in ascending order, to the end of the string or to an offset that no start reaches. Answers
-// the greatest reach afterwards.
-pub(crate) fn extend_offsets(
-    chars: &[u16],
-    word_starts: &[u16],
-    index: &[Number],
-    list_starts: &[Sum],
-    string: &[u16],
-    word_lines: usize,
-    first: usize,
-    reach: &mut [Number],
-    max_reach: usize,
-) -> usize
-    requires { Searches chars.now word_starts.now index.now list_starts.now string.now word_lines first ×
-        Within max_reach reach.old }
-    ensures { Reaches (offsets_all (length string.now - 1) 1 (lexicon_at chars.now word_starts.now)
-        (lines_in index.now) string.now first reach.old) reach.new result }
+// Extends the window at the offsets above 0 in ascending order, to the end of the string or to an offset that no start reaches.
+pub(crate) fn extend_offsets(query: &Query, window: &mut Window)
+    requires { IsWindow window.old }
+    ensures extended { Reaches (offsets_all (length query.now.string.now - 1) 1 (lexicon_of query.now.postings.directory.words)
+        (lines_in query.now.postings.directory.index.now) query.now.string.now window.old.first window.old.reach.now)
+        window.new.reach.now window.new.highest }
+    ensures same { SameStarts window.old window.new }
 {
-    let mut highest = max_reach;
-    let mut key_start = 1;
-    while key_start < string.len() {
-        if highest < key_start {
-            return highest;
+    for key_start in 1..query.string.len() {
+        if window.highest < key_start {
+            return;
         }
-        highest = extend_offset(
-            chars,
-            word_starts,
-            index,
-            list_starts,
-            string,
-            key_start,
-            word_lines,
-            first,
-            reach,
-            highest,
-        );
-        key_start += 1;
+        extend_offset(query, key_start, window);
     }
-    highest
 }

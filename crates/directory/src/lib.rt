@@ -1,8 +1,8 @@
-// The words of a dictionary and the directory of an index by number: tables of starts, the word and the positions of a line, and binary
-// search for keys.
+// The directory of an index with the words of its dictionary: tables of starts, the word and the positions of a line, and binary search for
+// keys.
 #![tactic(auto)]
 
 pub mod lines;
+pub mod opened;
 pub mod ranges;
 pub mod tables;
-pub mod words;

@@ -10,14 +10,32 @@ ghost use Rattle.laws.specs.Numbers.Slices.{Fits};
 ghost use Rattle.basics.specs.LowerBound.{Rising, LowerBound};
 ghost use Rattle.laws.specs.Window.WordLines.{WordColumn, word_char};
 
+use bisect::{Column, lower_bound};
 use layout::fields::{field_at, key_count, value_at};
 use width::Number;
 
 // Lines `from` to `to` - 1.
-#[derive(Drop)]
+#[derive(Clone, Copy)]
 pub struct Range {
     pub from: usize,
     pub to: usize,
+}
+
+// The numbers of lines at a field.
+#[derive(Drop)]
+struct Field<'a> {
+    index: &'a [Number],
+    field: usize,
+}
+
+impl<'a> Column for Field<'a> {
+    ghost can = { λ s line. (header + 3 * line + 2 < length s.index.now) × (s.field ≤ 2) };
+
+    ghost value = { λ s. field_at s.index.now s.field };
+
+    fn at(&self, line: usize) -> usize {
+        field_at(self.index, line, self.field)
+    }
 }
 
 // The first of the lines `low` to `high` - 1 whose number at `field` is not below `least`, or `high`.
@@ -31,17 +49,7 @@ pub fn line_lower_bound(
     requires { (header + 3 * high ≤ length index.now) × (field ≤ 2) × Rising (field_at index.now field) low high }
     ensures { LowerBound (field_at index.now field) low high least result }
 {
-    let mut a = low;
-    let mut b = high;
-    while a < b {
-        let middle = a + (b - a) / 2;
-        if field_at(index, middle, field) < least {
-            a = middle + 1;
-        } else {
-            b = middle;
-        }
-    }
-    a
+    lower_bound(&Field { index, field }, low, high, least)
 }
 
 // How many lines are those of words: the lower bound of kind 1.
@@ -52,40 +60,25 @@ pub fn count_word_lines(index: &[Number]) -> usize
     line_lower_bound(index, 0, key_count(index), 0, 1)
 }
 
-// The character at `depth` of the word of a line.
-fn char_at(chars: &[u16], index: &[Number], word_starts: &[u16], line: usize, depth: usize) -> u16
-    requires { (header + 3 * line + 2 < length index.now) × (value_at index.now line < length word_starts.now) ×
-        (get_or word_starts.now (value_at index.now line) 0 + depth < length chars.now) }
-    ensures { result ≡ word_char chars.now index.now word_starts.now depth line }
-{
-    let start = word_starts[value_at(index, line)] as usize;
-    chars[start + depth]
+// The characters at a depth of the words of lines.
+#[derive(Drop)]
+struct Characters<'a> {
+    chars: &'a [u16],
+    index: &'a [Number],
+    word_starts: &'a [u16],
+    depth: usize,
 }
 
-// The first of the lines `low` to `high` - 1 whose word's character at `depth` is not below `least`, or `high`.
-fn word_lower_bound(
-    chars: &[u16],
-    index: &[Number],
-    word_starts: &[u16],
-    low: usize,
-    high: usize,
-    depth: usize,
-    least: usize,
-) -> usize
-    requires { WordColumn chars.now index.now word_starts.now low high depth }
-    ensures { LowerBound (word_char chars.now index.now word_starts.now depth) low high least result }
-{
-    let mut a = low;
-    let mut b = high;
-    while a < b {
-        let middle = a + (b - a) / 2;
-        if (char_at(chars, index, word_starts, middle, depth) as usize) < least {
-            a = middle + 1;
-        } else {
-            b = middle;
-        }
+impl<'a> Column for Characters<'a> {
+    ghost can = { λ s line. (header + 3 * line + 2 < length s.index.now) × (value_at s.index.now line < length s.word_starts.now) ×
+        (get_or s.word_starts.now (value_at s.index.now line) 0 + s.depth < length s.chars.now) };
+
+    ghost value = { λ s. word_char s.chars.now s.index.now s.word_starts.now s.depth };
+
+    fn at(&self, line: usize) -> usize {
+        let start = self.word_starts[value_at(self.index, line)] as usize;
+        self.chars[start + self.depth] as usize
     }
-    a
 }
 
 // The equal range among the lines `low` to `high` - 1: those whose word has this character at `depth`.
@@ -103,13 +96,20 @@ pub fn equal_range(
         LowerBound (word_char chars.now index.now word_starts.now depth) result.from high (character + 1)
         result.to }
 {
+    let column = Characters {
+        chars,
+        index,
+        word_starts,
+        depth,
+    };
+    let least = character as usize;
     if low < high {
-        let first = char_at(chars, index, word_starts, low, depth);
-        if character < first {
+        let first = column.at(low);
+        if least < first {
             return Range { from: low, to: low };
         }
-        let last = char_at(chars, index, word_starts, high - 1, depth);
-        if last < character {
+        let last = column.at(high - 1);
+        if last < least {
             return Range {
                 from: high,
                 to: high,
@@ -122,8 +122,7 @@ pub fn equal_range(
             };
         }
     }
-    let least = character as usize;
-    let from = word_lower_bound(chars, index, word_starts, low, high, depth, least);
-    let to = word_lower_bound(chars, index, word_starts, from, high, depth, least + 1);
+    let from = lower_bound(&column, low, high, least);
+    let to = lower_bound(&column, from, high, least + 1);
     Range { from, to }
 }

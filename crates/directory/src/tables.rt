@@ -19,13 +19,11 @@ pub fn fill_word_starts(lengths: &[u16], word_starts: &mut [u16])
     ensures { word_starts.new ≡ over (starts_from 0 lengths.now) word_starts.old }
 {
     let mut at: usize = 0;
-    let mut i = 0;
-    while i < lengths.len() {
+    for (i, len) in lengths.iter().enumerate() {
         word_starts[i] = at as u16;
-        at += lengths[i] as usize;
-        i += 1;
+        at += *len as usize;
     }
-    word_starts[i] = at as u16;
+    word_starts[lengths.len()] = at as u16;
 }
 
 // Fills the table of where the positions of each of the `keys` lines start, counted from the end of the directory.
@@ -34,11 +32,10 @@ pub fn fill_list_starts(index: &[Number], keys: usize, list_starts: &mut [Sum])
     ensures { ListStarts index.now (keys_of index.now) list_starts.new }
 {
     let mut at: usize = 0;
-    let mut i = 0;
-    while i < keys {
+    // No `Lines`, which count from the start of the index.
+    for i in 0..keys {
         let line = next_line(index, i, at);
         list_starts[i] = to_sum(line.from);
         at = line.to;
-        i += 1;
     }
 }

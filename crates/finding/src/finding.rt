@@ -1,7 +1,7 @@
 // The starts found in a window: those whose reach is at least the string's length.
 //
 // One pass counts them, without a branch on a reach, and one writes them once their number is known to fit.
-ghost use Rattle.std.specs.Prelude.{◌≡◌, ◌+◌, ◌^◌, ◌≤◌, length, drop};
+ghost use Rattle.std.specs.Prelude.{◌≡◌, ◌+◌, ◌^◌, ◌≤◌, length, drop, unwrap_or, IfSome};
 ghost use Rattle.spec.specs.Index.{greatest_number};
 ghost use Rattle.spec.specs.Calls.{in_front};
 ghost use Rattle.spec.specs.First.{first_of};
@@ -10,19 +10,14 @@ ghost use Rattle.laws.specs.Window.Finding.{NextFound};
 
 use width::Number;
 
-// The first start whose reach is `len` or more, counted from `first`; 0 where there is none.
-pub fn first_found(reach: &[Number], len: usize, first: usize) -> usize
+// The first start whose reach is `len` or more, counted from `first`, where there is one.
+pub fn first_found(reach: &[Number], len: usize, first: usize) -> Option<usize>
     requires { first + length reach.now ≤ 2 ^ 32 }
-    ensures { result ≡ first_of (found_in len first reach.now) }
+    ensures is { unwrap_or result 0 ≡ first_of (found_in len first reach.now) }
+    ensures onward { IfSome result (λ p. first ≤ p) }
 {
-    let mut i = 0;
-    while i < reach.len() {
-        if len <= reach[i] as usize {
-            return first + i;
-        }
-        i += 1;
-    }
-    0
+    let i = reach.iter().position(|reached| len <= *reached as usize)?;
+    Some(first + i)
 }
 
 // How many starts have a reach of `len` or more.
@@ -30,10 +25,8 @@ pub(crate) fn count_found(reach: &[Number], len: usize) -> usize
     ensures { result ≡ count_in len reach.now }
 {
     let mut total = 0;
-    let mut i = 0;
-    while i < reach.len() {
-        total += (len <= reach[i] as usize) as usize;
-        i += 1;
+    for reached in reach {
+        total += usize::from(len <= *reached as usize);
     }
     total
 }
@@ -44,6 +37,7 @@ fn next_found(reach: &[Number], len: usize, from: usize) -> usize
     ensures { NextFound len reach.now from result }
 {
     let mut i = from;
+    // A `while`: one is known to come, so no end is tested.
     while (reach[i] as usize) < len {
         i += 1;
     }
@@ -62,12 +56,10 @@ pub(crate) fn write_found(
         (first + length reach.now ≤ greatest_number + 1) }
     ensures { output.new ≡ in_front (found_in len first reach.now) output.old }
 {
-    let mut written = 0;
     let mut i = 0;
-    while written < count {
+    for written in 0..count {
         let here = next_found(reach, len, i);
         output[written] = (first + here) as Number;
-        written += 1;
         i = here + 1;
     }
 }

@@ -6,11 +6,11 @@
 ghost use Rattle.std.specs.Prelude.{◌≡◌, true, false, ℕ, suc, ◌+◌, ◌≤◌, length};
 ghost use Rattle.basics.specs.Absent.{LeastAbsent};
 ghost use Rattle.spec.specs.Index.{n_of, lines_in};
-ghost use Rattle.models.specs.WordStarts.{lexicon_at};
-ghost use Rattle.laws.specs.Receive.ReconstructionWalk.{Reconstructs};
 ghost use Rattle.laws.specs.TextScan.ZSearch.{PrefixLengths};
 ghost use Rattle.laws.specs.TextScan.ReconstructedSearch.{Checked, Finds};
+ghost use Rattle.dictionary.specs.Words.{lexicon_of};
 
+use directory::lines::Directory;
 use reconstruction::checked::reconstruct_checked;
 use width::Number;
 use zsearch::prefix_lengths::fill_prefix_lengths;
@@ -29,24 +29,21 @@ fn reach_prefixes(text: &[Number], string: &[u16], reach: &mut [Number])
 
 // Reconstructs the text in the slice lent for it, and answers whether every entry stands there. Only then is the window filled.
 pub fn reach_reconstructed(
-    chars: &[u16],
-    word_starts: &[u16],
-    index: &[Number],
+    directory: &Directory,
     string: &[u16],
     text: &mut [Number],
     reach: &mut [Number],
 ) -> bool
-    requires { Reconstructs chars.now word_starts.now index.now text.old × (length string.now ≤ 256) ×
-        (length reach.old + length string.now ≤ suc (n_of index.now)) }
-    ensures told { result ≡ true → Finds (lexicon_at chars.now word_starts.now) index.now string.now
-        reach.new }
+    requires { (length text.old ≡ n_of directory.now.index.now) × (length string.now ≤ 256) ×
+        (length reach.old + length string.now ≤ suc (n_of directory.now.index.now)) }
+    ensures told { result ≡ true → Finds (lexicon_of directory.now.words) directory.now.index.now string.now reach.new }
     ensures kept { result ≡ false → reach.new ≡ reach.old }
-    ensures reconstructed { (g : ℕ) → LeastAbsent string.now g → Checked (lexicon_at chars.now word_starts.now)
-        (lines_in index.now) (n_of index.now) g text.new result }
+    ensures reconstructed { (g : ℕ) → LeastAbsent string.now g → Checked (lexicon_of directory.now.words)
+        (lines_in directory.now.index.now) (n_of directory.now.index.now) g text.new result }
     ensures reached { result ≡ true → PrefixLengths string.now text.new reach.new }
 {
     let sentinel = sentinel_of(string);
-    if !reconstruct_checked(chars, word_starts, index, sentinel, text) {
+    if !reconstruct_checked(directory, sentinel, text) {
         return false;
     }
     reach_prefixes(text, string, reach);

@@ -1,11 +1,11 @@
 // Width folding: full-width forms, the characters FF01 to FF5E, are each replaced by the character FEE0 lower.
 //
 // The loops have no branch that depends on a character, so that they compile to vector instructions and run at the speed of memory.
-ghost use Rattle.std.specs.Prelude.{◌≡◌, false, ◌-◌, ◌≤◌, length, take};
+ghost use Rattle.std.specs.Prelude.{◌≡◌, false, ℕ, ◌-◌, ◌≤◌, ◌<◌, length, get_or, slice_index_or, take};
 ghost use Rattle.spec.specs.Replaced.{is_full_width, replaced_char, replaced, holds_full_width};
 ghost use Rattle.spec.specs.Calls.{in_front};
 
-use width::{Number, from_char};
+use width::Number;
 
 // The first and the last full-width form.
 pub const FIRST_FORM: u16 = 0xFF01;
@@ -35,34 +35,19 @@ fn find_full_width(text: &[u16]) -> bool
     ensures { result ≡ holds_full_width text.now }
 {
     let mut held = false;
-    let mut i = 0;
-    while i < text.len() {
-        held = held | is_full_width(text[i]);
-        i += 1;
+    for character in text {
+        held |= is_full_width(*character);
     }
     held
 }
 
-// By how much a character exceeds FF00, which every full-width form does; 0 where it does not.
-fn excess(character: u16) -> u16
-    ensures { result ≡ character - 65280 }
-{
-    if character < 0xFF00 {
-        0
-    } else {
-        character - 0xFF00
-    }
-}
-
-// The bitwise or of all excesses: 0 only if no full-width form is one of the characters.
+// The bitwise or of how much each character exceeds FF00, which every full-width form does: 0 only if none is one of the characters.
 fn excesses(text: &[u16]) -> u16
     ensures { result ≡ 0 → holds_full_width text.now ≡ false }
 {
-    let mut all: u16 = 0;
-    let mut i = 0;
-    while i < text.len() {
-        all = all | excess(text[i]);
-        i += 1;
+    let mut all = 0;
+    for character in text {
+        all |= character.saturating_sub(0xFF00);
     }
     all
 }
@@ -71,21 +56,18 @@ fn excesses(text: &[u16]) -> u16
 pub fn holds_full_width(text: &[u16]) -> bool
     ensures { result ≡ holds_full_width text.now }
 {
-    if excesses(text) == 0 {
-        return false;
-    }
-    find_full_width(text)
+    excesses(text) != 0 && find_full_width(text)
 }
 
-// Writes the replaced text to the start of a slice.
-fn replace_into(text: &[u16], slots: &mut [u16])
+// Writes the replaced text to the start of a slice, of any numbers that a character converts to; the rest stays.
+fn replace_into<T: From<u16> + Copy>(text: &[u16], slots: &mut [T])
     requires { length text.now ≤ length slots.old }
-    ensures { slots.new ≡ in_front (replaced text.now) slots.old }
+    ensures front { (k : ℕ) (d : T) → k < length text.now →
+        T.from_gives (replaced_char (get_or text.now k 0)) (slice_index_or slots.new k d) }
+    ensures rest { (k : ℕ) (d : T) → length text.now ≤ k → slice_index_or slots.new k d ≡ slice_index_or slots.old k d }
 {
-    let mut i = 0;
-    while i < text.len() {
-        slots[i] = replace(text[i]);
-        i += 1;
+    for (i, character) in text.iter().enumerate() {
+        slots[i] = T::from(replace(*character));
     }
 }
 
@@ -94,11 +76,7 @@ pub fn replace_as_numbers(text: &[u16], numbers: &mut [Number])
     requires { length text.now ≤ length numbers.old }
     ensures { numbers.new ≡ in_front (replaced text.now) numbers.old }
 {
-    let mut i = 0;
-    while i < text.len() {
-        numbers[i] = from_char(replace(text[i]));
-        i += 1;
-    }
+    replace_into(text, numbers);
 }
 
 // A search string, replaced, at the start of an array that is long enough for any.

@@ -3,9 +3,13 @@
 // A key is one number, its code: the word number, or 4,096 + the character, so that codes in order are keys in order. There are 69,632. A
 // pass from the last position to the first puts each position that has a token at the head of its code's chain. The link overwrites the
 // token, so the chains take no room of their own, and they run through ascending positions. A flag for each page of 64 codes lets walks
-// over all codes skip the pages that no key of this text falls into. Keys and entries are counted before anything is written.
-ghost use Rattle.std.specs.Prelude.{◌≡◌, suc, ◌+◌, ◌≤◌, ◌<◌, length};
-ghost use Rattle.basics.specs.Chain.{chain, Threaded};
+// over all codes skip the pages that no key of this text falls into. Keys and entries are counted before anything is written. The codes in
+// use and the positions of a chain are iterators over these tables.
+ghost use Rattle.std.specs.Prelude.{◌≡◌, ℕ, suc, ◌+◌, ◌-◌, ◌*◌, ◌/◌, ◌≤◌, ◌<◌, length, get_or, MatchOption};
+ghost use Rattle.std.specs.Iterator.{YieldsFirst, at_most, item_count};
+ghost use Rattle.basics.specs.Chain.{chain, Chained, Threaded};
+ghost use Rattle.basics.specs.Member.{In};
+ghost use Rattle.inversion.specs.ChainProp.{Chained-prop};
 ghost use Rattle.spec.specs.Replaced.{replaced_char, replaced};
 ghost use Rattle.models.specs.Inversion.{coded};
 ghost use Rattle.models.specs.Readability.{most_keys};
@@ -41,9 +45,7 @@ pub fn chain_positions(
 {
     let mut keys = 0;
     let mut entries = 0;
-    let mut p = tokens.len();
-    while 0 < p {
-        p -= 1;
+    for p in (0..tokens.len()).rev() {
         let token = number_at(tokens, p);
         if token != 0 {
             let code = code_of(token, text[p]);
@@ -60,26 +62,76 @@ pub fn chain_positions(
     Size { keys, entries }
 }
 
-// The first code from `from` on that has a chain, or the number of codes.
-pub(crate) fn next_code(heads: &[Number], pages: &[u8], from: usize) -> usize
+// The first code from `from` on that has a chain, if any.
+fn next_code(heads: &[Number], pages: &[u8], from: usize) -> Option<usize>
     requires paged { Paged heads.now pages.now }
     requires from_in_bounds { from ≤ length heads.now }
-    ensures { Next heads.now from result }
+    ensures { MatchOption result (Next heads.now from (length heads.now)) (λ code. Next heads.now from code × (code < length heads.now)) }
 {
     let mut code = from;
+    // A `while`: the code jumps over a page that has none in use.
     while code < heads.len() {
-        if code % 64 == 0 {
-            if pages[code / 64] == 0 {
-                code += 64;
-                continue;
-            }
+        if code % 64 == 0 && pages[code / 64] == 0 {
+            code += 64;
+        } else if heads[code] == 0 {
+            code += 1;
+        } else {
+            return Some(code);
         }
-        if heads[code] != 0 {
-            return code;
-        }
-        code += 1;
     }
-    code
+    None
+}
+
+// The codes from `from` on that have a chain, in order.
+#[derive(Drop)]
+pub(crate) struct Codes<'a> {
+    pub(crate) heads: &'a [Number],
+    pub(crate) pages: &'a [u8],
+    pub(crate) from: usize,
+    ghost whole: { length heads.now ≡ 64 * length pages.now },
+    ghost unused: { (k : ℕ) → k < length heads.now → get_or pages.now (k / 64) 0 ≡ 0 → get_or heads.now k 0 ≡ 0 },
+    ghost within: { from ≤ length heads.now },
+}
+
+impl<'a> Iterator for Codes<'a> {
+    type Item = usize;
+
+    ghost next_gives = { λ s r t. MatchOption r (Next s.heads.now s.from (length s.heads.now))
+        (λ code. Next s.heads.now s.from code × (code < length s.heads.now) × (t.heads.now ≡ s.heads.now) × (t.from ≡ code + 1)) };
+
+    ghost remaining = { λ s. at_most (length s.heads.now - s.from) };
+
+    fn next(&mut self) -> Option<usize> {
+        let code = next_code(self.heads, self.pages, self.from)?;
+        self.from = code + 1;
+        Some(code)
+    }
+}
+
+// The positions of a chain that are left, each linked to the next one; the last is linked to 0.
+#[derive(Drop)]
+pub(crate) struct Chain<'a> {
+    pub(crate) links: &'a [Number],
+    pub(crate) at: Number,
+    ghost chained: { Chained links.now at (chain links.now at) } by { Chained-prop links.now at (chain links.now at) },
+    ghost within: { (p : ℕ) → In p (chain links.now at) → p ≤ length links.now },
+}
+
+impl<'a> Iterator for Chain<'a> {
+    type Item = Number;
+
+    ghost next_gives = { YieldsFirst (λ s. chain s.links.now s.at) };
+
+    ghost remaining = { item_count (λ s. chain s.links.now s.at) };
+
+    fn next(&mut self) -> Option<Number> {
+        if self.at == 0 {
+            return None;
+        }
+        let position = self.at;
+        self.at = self.links[position as usize - 1];
+        Some(position)
+    }
 }
 
 // How many positions a chain has.
@@ -87,11 +139,5 @@ pub(crate) fn chain_length(links: &[Number], head: Number) -> usize
     requires { Threaded links.now head }
     ensures { result ≡ length (chain links.now head) }
 {
-    let mut count = 0;
-    let mut at = head as usize;
-    while at != 0 {
-        count += 1;
-        at = number_at(links, at - 1);
-    }
-    count
+    Chain { links, at: head }.count()
 }

@@ -13,22 +13,23 @@ ghost use Rattle.models.specs.Readability.{most_keys};
 ghost use Rattle.laws.specs.Numbers.Header.{SizeOf};
 ghost use Rattle.laws.specs.Build.PostingChains.{lines_at};
 ghost use Rattle.laws.specs.Build.CodeWalk.{Listable};
+ghost use Rattle.layout.specs.Keys.{key_of};
 
-use crate::chains::{chain_length, next_code};
+use crate::chains::{Chain, Codes, chain_length};
 use layout::fields::line_start;
-use layout::write::{Size, write_header, write_line};
+use layout::keys::Key;
+use layout::write::{Size, write_header, write_key};
 use width::Number;
 
-// Writes the directory line of a code: kind, value, count.
-fn put_line(output: &mut [Number], line: usize, code: usize, count: usize)
-    requires { (header + 3 * line + 3 ≤ length output.old) × (code < most_keys) × (count ≤ greatest_number) }
-    ensures { output.new ≡ placed ((code_key code).kind ∷ (code_key code).value ∷ count ∷ []) (header + 3 * line)
-        output.old }
+// The key of a code: a word by its number, or 4,096 and a lone character.
+fn key_of_code(code: usize) -> Key
+    requires { code < most_keys }
+    ensures { (key_of result ≡ code_key code) × ((key_of result).value ≤ greatest_number) }
 {
     if code < 4096 {
-        write_line(output, line, 0, code, count);
+        Key::Word(code)
     } else {
-        write_line(output, line, 1, code - 4096, count);
+        Key::Lone(code - 4096)
     }
 }
 
@@ -39,12 +40,14 @@ fn write_directory(heads: &[Number], pages: &[u8], links: &[Number], output: &mu
     ensures { output.new ≡ placed (directory (lines_at heads.now links.now 0)) header output.old }
 {
     let mut line = 0;
-    let mut code = next_code(heads, pages, 0);
-    while code < heads.len() {
+    for code in (Codes {
+        heads,
+        pages,
+        from: 0,
+    }) {
         let count = chain_length(links, heads[code]);
-        put_line(output, line, code, count);
+        write_key(output, line, key_of_code(code), count);
         line += 1;
-        code = next_code(heads, pages, code + 1);
     }
 }
 
@@ -55,11 +58,9 @@ fn write_chain(links: &[Number], head: Number, part: &mut [Number], at: usize) -
     ensures { Wrote (chain links.now head) at part.old result part.new }
 {
     let mut here = at;
-    let mut member = head;
-    while member != 0 {
-        part[here] = member;
+    for position in (Chain { links, at: head }) {
+        part[here] = position;
         here += 1;
-        member = links[member as usize - 1];
     }
     here
 }
@@ -71,10 +72,12 @@ fn write_positions(heads: &[Number], pages: &[u8], links: &[Number], part: &mut 
     ensures { part.new ≡ over (all_positions (lines_at heads.now links.now 0)) part.old }
 {
     let mut here = 0;
-    let mut code = next_code(heads, pages, 0);
-    while code < heads.len() {
+    for code in (Codes {
+        heads,
+        pages,
+        from: 0,
+    }) {
         here = write_chain(links, heads[code], part, here);
-        code = next_code(heads, pages, code + 1);
     }
 }
 

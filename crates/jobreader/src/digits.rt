@@ -1,17 +1,16 @@
-// Hexadecimal digits, by comparison with their ranges. Upper case only: `a` to `f` are no digits.
-ghost use Rattle.std.specs.Prelude.{◌≡◌, ◌≤◌};
-ghost use Rattle.spec.specs.JobSheet.{digit};
+// Hexadecimal digits, by the ranges they stand in. Upper case only: `a` to `f` are no digits.
+ghost use Rattle.std.specs.Prelude.{◌≡◌, ◌<◌, IfSome, unwrap_or};
+ghost use Rattle.spec.specs.JobSheet.{digit, no_digit};
 
-// The value of a hexadecimal digit, and 16 for every byte that is none.
-pub(crate) fn value_of(byte: u8) -> u8
-    ensures value { result ≡ digit byte }
-    ensures small { result ≤ 16 }
+// The value of a hexadecimal digit; a byte that is none has no value.
+#[tactic(auto, unfolding(spec::specs::JobSheet::digit))]
+pub(crate) fn value_of(byte: u8) -> Option<u8>
+    ensures value { unwrap_or result no_digit ≡ digit byte }
+    ensures small { IfSome result (λ v. v < no_digit) }
 {
-    if (b'0' <= byte) & (byte <= b'9') {
-        return byte - b'0';
+    match byte {
+        b'0'..=b'9' => Some(byte - b'0'),
+        b'A'..=b'F' => Some(byte - b'A' + 10),
+        _ => None,
     }
-    if (b'A' <= byte) & (byte <= b'F') {
-        return byte - b'A' + 10;
-    }
-    16
 }

@@ -5,60 +5,36 @@
 ghost use Rattle.std.specs.Prelude.{◌≤◌, length};
 ghost use Rattle.basics.specs.Placed.{Wrote};
 ghost use Rattle.spec.specs.JobAnswer.{job_answer, JobSays};
+ghost use Rattle.spec.specs.Refusals.{answer_of};
 ghost use Rattle.laws.specs.Search.Sizing.{Sized};
 ghost use Rattle.laws.specs.JobSheet.JobParts.{PartsThere, printed_there};
 
+use crate::job::Job;
 use crate::lines::put_printed;
 use jobreader::job::read_job;
+use jobreader::sheet::Parts;
 use printer::print::{put_bytes, put_refused_line};
-use spec::Answer;
+use spec::Refusal;
 
 // Writes the lines of a job that is not refused, from the parts of the slices it was read into.
-fn put_parts<'a>(
-    chars: &'a [u16],
-    lengths: &'a [u16],
-    words: usize,
-    dictionary: usize,
-    text: usize,
-    finds: usize,
-    out: &mut [u8],
-) -> usize
-    requires { PartsThere words dictionary text finds chars.now lengths.now × (700000 ≤ length out.old) }
-    ensures { Wrote (printed_there words dictionary text finds chars.now lengths.now) 0 out.old result
-        out.new }
+fn put_parts(parts: &Parts, chars: &[u16], lengths: &[u16], out: &mut [u8]) -> usize
+    requires { PartsThere parts.now.words parts.now.dictionary parts.now.text parts.now.finds chars.now lengths.now
+        × (700000 ≤ length out.old) }
+    ensures { Wrote (printed_there parts.now.words parts.now.dictionary parts.now.text parts.now.finds chars.now lengths.now) 0
+        out.old result out.new }
 {
-    let after = dictionary + text;
-    let first = words + 1;
-    let end = first + finds;
-    put_printed(
-        &chars[..dictionary],
-        &lengths[..words],
-        &chars[dictionary..after],
-        &chars[after..],
-        &lengths[first..end],
-        out,
-    )
-}
-
-// Writes the answer to a sheet, with slices lent for its characters and lengths.
-fn put_job(sheet: &[u8], chars: &mut [u16], lengths: &mut [u16], out: &mut [u8]) -> usize
-    requires { (6554 ≤ length chars.old) × (4682 ≤ length lengths.old) × (700000 ≤ length out.old) }
-    ensures { Wrote (job_answer sheet.now) 0 out.old result out.new }
-{
-    let job = read_job(sheet, chars, lengths);
-    let refusal = job.refusal;
-    if refusal != 0 {
-        return put_refused_line(out, 0, refusal as usize);
-    }
-    put_parts(
-        chars,
-        lengths,
-        job.words,
-        job.dictionary,
-        job.text,
-        job.finds,
-        out,
-    )
+    let dictionary = parts.dictionary;
+    let after = dictionary + parts.text;
+    let first = parts.words + 1;
+    let end = first + parts.finds;
+    let job = Job {
+        chars: &chars[..dictionary],
+        lengths: &lengths[..parts.words],
+        text: &chars[dictionary..after],
+        strings: &chars[after..],
+        counts: &lengths[first..end],
+    };
+    put_printed(job, out)
 }
 
 // Writes the answer to a sheet into a slice that holds any.
@@ -68,45 +44,33 @@ fn put_answer(sheet: &[u8], out: &mut [u8]) -> usize
 {
     let mut chars = [0u16; 6554];
     let mut lengths = [0u16; 4682];
-    put_job(sheet, &mut chars, &mut lengths, out)
+    match read_job(sheet, &mut chars, &mut lengths) {
+        Ok(parts) => put_parts(&parts, &chars, &lengths, out),
+        Err(refusal) => put_refused_line(out, 0, refusal.number() as usize),
+    }
 }
 
-// Copies bytes to the start of the output, or answers 8 where they do not fit.
-fn hand_over(bytes: &[u8], output: &mut [u8]) -> Answer
-    ensures { Sized bytes.now result output.old output.new }
+// Copies bytes to the start of the output, unless it is too short for them.
+fn hand_over(bytes: &[u8], output: &mut [u8]) -> Result<usize, Refusal>
+    ensures { Sized bytes.now (answer_of result) output.old output.new }
 {
     if output.len() < bytes.len() {
-        return Answer {
-            refusal: 8,
-            count: 0,
-        };
+        return Err(Refusal::OutputShort);
     }
-    put_bytes(output, 0, bytes);
-    Answer {
-        refusal: 0,
-        count: bytes.len(),
-    }
+    Ok(put_bytes(output, 0, bytes))
 }
 
-// Answers a sheet by way of a buffer that holds any answer.
-fn answer_through(sheet: &[u8], buffer: &mut [u8], output: &mut [u8]) -> Answer
-    requires { 700000 ≤ length buffer.old }
-    ensures { JobSays sheet.now result output.old output.new }
-{
-    let end = put_answer(sheet, buffer);
-    hand_over(&buffer[..end], output)
-}
-
-// A buffer that holds any answer.
+// A buffer that holds any answer. It is made in a function of its own, so that no proof computes its 700,000 zeros.
 fn blank() -> [u8; 700000] {
     [0u8; 700000]
 }
 
 // Answers a job sheet: writes the answer's bytes to the start of the output and answers how many they are, or 8 where
 // the output is too short for them.
-pub fn answer(sheet: &[u8], output: &mut [u8]) -> Answer
-    ensures { JobSays sheet.now result output.old output.new }
+pub fn answer(sheet: &[u8], output: &mut [u8]) -> Result<usize, Refusal>
+    ensures { JobSays sheet.now (answer_of result) output.old output.new }
 {
     let mut buffer = blank();
-    answer_through(sheet, &mut buffer, output)
+    let end = put_answer(sheet, &mut buffer);
+    hand_over(&buffer[..end], output)
 }

@@ -2,5 +2,6 @@
 #![tactic(auto)]
 
 pub mod answer;
-pub mod finds;
-pub mod lines;
+mod finds;
+mod job;
+mod lines;

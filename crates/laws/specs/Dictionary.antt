@@ -2,6 +2,7 @@
 pub mod WordCode
 pub mod Admission
 pub mod Answering
+pub mod Refused
 pub mod Keys
 pub mod WordOrder
 pub mod Lexicon

@@ -4,6 +4,7 @@ pub mod KeyOrder
 pub mod FlatOrder
 pub mod KeyNumbers
 pub mod Header
+pub mod Copied
 pub mod Slices
 pub mod LineNumbers
 pub mod DirectoryWalk

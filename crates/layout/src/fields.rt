@@ -48,7 +48,7 @@ pub fn kind_at(index: &[Number], line: usize) -> usize
     requires { header + 3 * line + 2 < length index.now }
     ensures { (result ≡ kind_at index.now line) × (result ≤ greatest_number) }
 {
-    number_at(index, HEADER + 3 * line)
+    field_at(index, line, 0)
 }
 
 // The value of a line: the number of a word, or a lone character.
@@ -56,7 +56,7 @@ pub fn value_at(index: &[Number], line: usize) -> usize
     requires { header + 3 * line + 2 < length index.now }
     ensures { (result ≡ value_at index.now line) × (result ≤ greatest_number) }
 {
-    number_at(index, HEADER + 3 * line + 1)
+    field_at(index, line, 1)
 }
 
 // The count of a line: how many positions it has.
@@ -64,5 +64,5 @@ pub fn count_at(index: &[Number], line: usize) -> usize
     requires { header + 3 * line + 2 < length index.now }
     ensures { (result ≡ count_at index.now line) × (result ≤ greatest_number) }
 {
-    number_at(index, HEADER + 3 * line + 2)
+    field_at(index, line, 2)
 }

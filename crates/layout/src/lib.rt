@@ -3,5 +3,6 @@
 #![tactic(auto)]
 
 pub mod fields;
+pub mod keys;
 pub mod lines;
 pub mod write;

@@ -17,18 +17,17 @@ fn sheet_buffer() -> [u8; 32769] {
     [0; 32769]
 }
 
-// Room for any answer.
+// Room for any answer. Each buffer is made in a function of its own, so that no proof computes its zeros.
 fn output_buffer() -> [u8; 700000] {
     [0; 700000]
 }
 
-// Writes the answer to a sheet to the start of the output, and answers how many bytes it has.
+// Writes the answer to a sheet to the start of the output, which holds any, and answers how many bytes it has.
 fn put_answer(sheet: &[u8], output: &mut [u8]) -> usize
     requires { 700000 ≤ length output.old }
     ensures { InHand (job_answer sheet.now) result output.new }
 {
-    let answered = answer(sheet, output);
-    answered.count
+    answer(sheet, output).unwrap()
 }
 
 // Reads until the buffer is full or the input ends, and answers how many bytes it put at the start of the buffer.
@@ -36,6 +35,7 @@ fn read_full<R: Read>(input: &mut R, buffer: &mut [u8]) -> io::Result<usize>
     ensures { IfOk result (λ count. count ≤ length buffer.new) }
 {
     let mut done = 0;
+    // A `while`: a read takes as many bytes as there are, so the index jumps.
     while done < buffer.len() {
         let count = input.read(&mut buffer[done..])?;
         if count == 0 {

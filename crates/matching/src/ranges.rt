@@ -4,93 +4,66 @@
 // share the next one. The cost is bounded by the longest word times the logarithm of k, however many words begin alike. Where the first
 // and the last word of a range have the text's character, as nearly always after the first few, so have all, and nothing is searched.
 ghost use Rattle.std.specs.Prelude.{◌≡◌, ◌+◌, ◌≤◌, ◌<◌, length, get_or};
-ghost use Rattle.basics.specs.LowerBound.{LowerBound};
-ghost use Rattle.models.specs.WordStarts.{lengths_of, lexicon_at};
-ghost use Rattle.laws.specs.Match.MatchTable.{Started};
+ghost use Rattle.models.specs.WordStarts.{lengths_of};
+ghost use Rattle.dictionary.specs.Words.{lexicon_of};
 ghost use Rattle.laws.specs.Match.PrefixRanges.{LastStanding};
-ghost use Rattle.laws.specs.Match.Columns.{Column, column};
+ghost use Rattle.laws.specs.Match.Columns.{column};
+ghost use Rattle.matching.specs.Answers.{plus_one};
 
-use crate::table::word_len;
+use bisect::{Column, lower_bound_after_ends};
+use dictionary::words::Words;
 use width::{Number, number_at};
 
-// The character at `depth` of a word.
-fn char_at(chars: &[u16], word_starts: &[u16], word: usize, depth: usize) -> u16
-    requires { (word < length word_starts.now) × (get_or word_starts.now word 0 + depth < length chars.now) }
-    ensures { result ≡ column chars.now word_starts.now depth word }
-{
-    let at = word_starts[word] as usize + depth;
-    chars[at]
-}
-
-// The first of the words `low` to `high` - 1 whose character at `depth` is not below `least`, or `high`. The loop has a start and a length,
-// which takes a register less than two ends do.
-fn lower_bound(
-    chars: &[u16],
-    word_starts: &[u16],
-    low: usize,
-    high: usize,
+// The characters at a depth of the words.
+#[derive(Drop)]
+struct CharColumn<'a> {
+    words: Words<'a>,
     depth: usize,
-    least: usize,
-) -> usize
-    requires { Column chars.now word_starts.now low high depth }
-    ensures { LowerBound (column chars.now word_starts.now depth) low high least result }
-{
-    if high <= low {
-        return low;
-    }
-    if least <= char_at(chars, word_starts, low, depth) as usize {
-        return low;
-    }
-    if (char_at(chars, word_starts, high - 1, depth) as usize) < least {
-        return high;
-    }
-    let mut a = low;
-    let mut left = high - low;
-    while 0 < left {
-        let half = left / 2;
-        let middle = a + half;
-        if (char_at(chars, word_starts, middle, depth) as usize) < least {
-            a = middle + 1;
-            left -= half + 1;
-        } else {
-            left = half;
-        }
-    }
-    a
 }
 
-// One more than the number of the last of the first `count` words that stands in the text at index `at`, or 0.
+impl<'a> Column for CharColumn<'a> {
+    ghost can = { λ s word. (word < length s.words.starts.now) × (get_or s.words.starts.now word 0 + s.depth < length s.words.chars.now) };
+
+    ghost value = { λ s. column s.words.chars.now s.words.starts.now s.depth };
+
+    fn at(&self, word: usize) -> usize {
+        let start = self.words.starts[word] as usize;
+        self.words.chars[start + self.depth] as usize
+    }
+}
+
+// The number of the last of the first `count` words that stands in the text at index `at`, if one does.
 pub(crate) fn find_last_standing(
-    chars: &[u16],
-    word_starts: &[u16],
+    words: &Words,
     text: &[Number],
     at: usize,
     count: usize,
-) -> usize
-    requires { Started chars.now word_starts.now × (at < length text.now) × (count ≤ length (lengths_of word_starts.now)) }
-    ensures { LastStanding (lexicon_at chars.now word_starts.now).words text.now (at + 1) count result }
+) -> Option<usize>
+    requires { (at < length text.now) × (count ≤ length (lengths_of words.now.starts.now)) }
+    ensures { LastStanding (lexicon_of words.now).words text.now (at + 1) count (plus_one result) }
 {
-    let mut best = 0;
+    let mut best = None;
     let mut low = 0;
     let mut high = count;
     let mut depth = 0;
+    // A `while`: the range shrinks from both ends, by searches.
     while low < high {
-        if word_len(word_starts, low) == depth {
+        if words.word_len(low) == depth {
+            best = Some(low);
             low += 1;
-            best = low;
         } else {
             if text.len() <= at + depth {
                 return best;
             }
             let c = number_at(text, at + depth);
-            if char_at(chars, word_starts, low, depth) as usize == c {
-                if char_at(chars, word_starts, high - 1, depth) as usize == c {
-                    depth += 1;
-                    continue;
-                }
+            let column = CharColumn {
+                words: *words,
+                depth,
+            };
+            if column.at(low) != c || column.at(high - 1) != c {
+                low = lower_bound_after_ends(&column, low, high, c);
+                high = lower_bound_after_ends(&column, low, high, c + 1);
             }
-            low = lower_bound(chars, word_starts, low, high, depth, c);
-            high = lower_bound(chars, word_starts, low, high, depth, c + 1);
             depth += 1;
         }
     }

@@ -1,4 +1,4 @@
-// The tally of an index, the shorter of two position lists, and whether a key agrees with a string at an offset.
+// The tally of an index, and the shorter of two position lists.
 #![tactic(auto)]
 
 pub mod lines;

@@ -1,95 +1,58 @@
 // The tally of an index: its entries by word length. One walk over the directory adds each key's count to one of 32
 // counts, which travel by value.
-ghost use Rattle.std.specs.Prelude.{◌≡◌, true, ℕ, ◌+◌, ◌*◌, ◌^◌, ◌≤◌, length, get_or};
+ghost use Rattle.std.specs.Prelude.{◌≡◌, true, ℕ, ◌^◌, ◌≤◌, length, get_or};
 ghost use Rattle.spec.specs.Dictionary.{longest_text, lexicon};
-ghost use Rattle.spec.specs.Words.{key, spells};
-ghost use Rattle.spec.specs.Index.{header, keys_of, readable};
+ghost use Rattle.spec.specs.Words.{spells};
+ghost use Rattle.spec.specs.Index.{readable};
 ghost use Rattle.spec.specs.Tally.{tally};
 ghost use Rattle.spec.specs.Calls.{TallySays};
+ghost use Rattle.spec.specs.Refusals.{tally_answer_of};
 ghost use Rattle.models.specs.Tally.{added};
 ghost use Rattle.laws.specs.Text.Facts.{IsKey};
-ghost use Rattle.laws.specs.Dictionary.Lexicon.{IsAdmitted};
-ghost use Rattle.laws.specs.Readable.Opening.{Bounded};
+ghost use Rattle.layout.specs.Keys.{key_of};
 
-use layout::lines::next_line;
+use dictionary::admission::Dictionary;
+use layout::keys::Key;
+use layout::lines::Lines;
 use opening::opened::open_index;
-use spec::TallyAnswer;
+use spec::{Refusal, Tally};
 use width::Number;
 
-// How many characters a key spells.
-fn key_length(chars: &[u16], lengths: &[u16], kind: usize, value: usize) -> usize
-    requires { IsAdmitted chars.now lengths.now × IsKey (lexicon chars.now lengths.now) (key kind value) }
-    ensures { result ≡ length (spells (lexicon chars.now lengths.now) (key kind value)) }
+// How many characters a key spells: 1 to 32.
+fn key_length(dictionary: &Dictionary, key: Key) -> usize
+    requires { IsKey (lexicon dictionary.now.chars.now dictionary.now.lengths.now) (key_of key) }
+    ensures { (result ≡ length (spells (lexicon dictionary.now.chars.now dictionary.now.lengths.now) (key_of key))) ×
+        (1 ≤ result) × (result ≤ 32) }
 {
-    if kind != 0 {
-        return 1;
+    match key {
+        Key::Word(number) => usize::from(dictionary.lengths[number]),
+        Key::Lone(_) => 1,
     }
-    lengths[value] as usize
 }
 
 // The counts, with the number of positions of each key of a readable index added to the count for its length. Each is at most 2³²
 // on entry, so that no sum wraps.
-fn raised(
-    chars: &[u16],
-    lengths: &[u16],
-    index: &[Number],
-    keys: usize,
-    counts: [u64; 32],
-) -> [u64; 32]
-    requires { IsAdmitted chars.now lengths.now × (readable longest_text (lexicon chars.now lengths.now) index.now ≡ true) ×
-        (keys ≡ keys_of index.now) × (header + 3 * keys ≤ length index.now) × ((j : ℕ) → get_or counts j 0 ≤ 2 ^ 32) }
-    ensures { result ≡ added counts (tally (lexicon chars.now lengths.now) index.now) }
+fn raised(dictionary: &Dictionary, index: &[Number], counts: [u64; 32]) -> [u64; 32]
+    requires { (readable longest_text (lexicon dictionary.now.chars.now dictionary.now.lengths.now) index.now ≡ true) ×
+        ((j : ℕ) → get_or counts j 0 ≤ 2 ^ 32) }
+    ensures { result ≡ added counts (tally (lexicon dictionary.now.chars.now dictionary.now.lengths.now) index.now) }
 {
     let mut counts = counts;
-    let mut i = 0;
-    while i < keys {
-        // Counted from 0, its positions go to its count.
-        let line = next_line(index, i, 0);
-        let position = key_length(chars, lengths, line.kind, line.value) - 1;
-        counts[position] = counts[position] + line.to as u64;
-        i += 1;
+    for list in Lines::new(index) {
+        let position = key_length(dictionary, list.key) - 1;
+        counts[position] += list.positions.len() as u64;
     }
     counts
 }
 
-// The tally of an opened index, by its bounds.
-fn tally_opened<'a>(
-    chars: &'a [u16],
-    lengths: &'a [u16],
-    index: &'a [Number],
-    refusal: u32,
-    keys: usize,
-    first: usize,
-) -> TallyAnswer
-    requires { Bounded longest_text chars.now lengths.now index.now refusal keys first }
-    ensures { TallySays longest_text chars.now lengths.now index.now result }
+// The tally of an index: M and the 32 counts. Refusals 1, 2, 3, 12, 5.
+pub fn tally(chars: &[u16], lengths: &[u16], index: &[Number]) -> Result<Tally, Refusal>
+    ensures { TallySays longest_text chars.now lengths.now index.now (tally_answer_of result) }
 {
-    if refusal != 0 {
-        return TallyAnswer {
-            refusal,
-            count: 0,
-            by_length: [0u64; 32],
-        };
-    }
-    let by_length = raised(chars, lengths, index, keys, [0u64; 32]);
-    TallyAnswer {
-        refusal,
-        count: index.len() - first,
+    let opened = open_index(chars, lengths, index)?;
+    let by_length = raised(&opened.dictionary, index, [0; 32]);
+    Ok(Tally {
+        count: index.len() - opened.first,
         by_length,
-    }
-}
-
-// The tally of an index: M and the 32 counts, or the refusal and 32 zeros.
-pub fn tally<'a>(chars: &'a [u16], lengths: &'a [u16], index: &'a [Number]) -> TallyAnswer
-    ensures { TallySays longest_text chars.now lengths.now index.now result }
-{
-    let opened = open_index(chars, lengths, index);
-    tally_opened(
-        chars,
-        lengths,
-        opened.numbers,
-        opened.refusal,
-        opened.keys,
-        opened.first,
-    )
+    })
 }

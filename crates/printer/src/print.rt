@@ -1,17 +1,22 @@
 // Prints bytes, numbers and the lines of an answer, each into a lent slice from an index on. Every function answers the index after what it
 // wrote, and leaves the rest of the slice unchanged. The cost is linear in the bytes written.
+//
+// The index is an argument and an answer: each method of a struct of slice and index would have to promise, beside what it writes, that the
+// slice is still the one lent, or the lender would not learn what is written. Digits are computed: `itoa` has a table of 200 bytes in
+// read-only memory.
 ghost use Rattle.std.specs.Prelude.{◌≡◌, ◌∷◌, [], ◌++◌, ◌+◌, ◌≤◌, ◌<◌, length};
 ghost use Rattle.basics.specs.Placed.{Wrote};
-ghost use Rattle.spec.specs.Words.{key};
 ghost use Rattle.spec.specs.Numbers.{line};
 ghost use Rattle.spec.specs.Index.{lines_in};
 ghost use Rattle.spec.specs.JobAnswer.{decimal, digit_byte, hexadecimal, gap, spaced, index_line, found_line, refused_line, key_name};
 ghost use Rattle.spec.specs.JobAnswer.{key_line, key_lines, index_lines};
 ghost use Rattle.models.specs.JobSheet.{each_spaced, listed};
 ghost use Rattle.laws.specs.Numbers.Slices.{Fits};
+ghost use Rattle.layout.specs.Keys.{key_of};
 
 use layout::fields::{key_count, line_start, text_len};
-use layout::lines::next_line;
+use layout::keys::Key;
+use layout::lines::{Lines, PostingList};
 use width::Number;
 
 // Writes one byte.
@@ -28,22 +33,17 @@ pub fn put_bytes(out: &mut [u8], at: usize, bytes: &[u8]) -> usize
     requires { at + length bytes.now ≤ length out.old }
     ensures { Wrote bytes.now at out.old result out.new }
 {
-    let mut end = at;
-    let mut i = 0;
-    while i < bytes.len() {
-        out[end] = bytes[i];
-        end += 1;
-        i += 1;
-    }
+    let end = at + bytes.len();
+    out[at..end].copy_from_slice(bytes);
     end
 }
 
-// Writes a number in decimal: by recursion the digits of its tenth part, then the last.
+// Writes a number in decimal: by recursion, as division gives the last digit first.
 fn put_decimal(out: &mut [u8], at: usize, n: usize) -> usize
     requires { at + length (decimal n) ≤ length out.old }
     ensures { Wrote (decimal n) at out.old result out.new }
 {
-    let last = (48 + n % 10) as u8;
+    let last = b'0' + (n % 10) as u8;
     if n < 10 {
         return put_byte(out, at, last);
     }
@@ -52,14 +52,14 @@ fn put_decimal(out: &mut [u8], at: usize, n: usize) -> usize
 }
 
 // The byte of a hexadecimal digit.
+#[tactic(auto, unfolding(spec::specs::JobAnswer::digit_byte))]
 fn digit_byte(value: usize) -> u8
     requires { value < 16 }
     ensures { result ≡ digit_byte value }
 {
-    if value < 10 {
-        48 + value as u8
-    } else {
-        55 + value as u8
+    match value {
+        0..=9 => b'0' + value as u8,
+        _ => b'A' - 10 + value as u8,
     }
 }
 
@@ -92,10 +92,8 @@ fn put_next_positions(out: &mut [u8], at: usize, positions: &[Number]) -> usize
     ensures { Wrote (each_spaced positions.now) at out.old result out.new }
 {
     let mut end = at;
-    let mut i = 0;
-    while i < positions.len() {
-        end = put_next_decimal(out, end, positions[i] as usize);
-        i += 1;
+    for position in positions {
+        end = put_next_decimal(out, end, *position as usize);
     }
     end
 }
@@ -105,11 +103,11 @@ fn put_positions(out: &mut [u8], at: usize, positions: &[Number]) -> usize
     requires { at + length (spaced positions.now) ≤ length out.old }
     ensures { Wrote (spaced positions.now) at out.old result out.new }
 {
-    if positions.len() == 0 {
+    let Some((first, others)) = positions.split_first() else {
         return at;
-    }
-    let end = put_decimal(out, at, positions[0] as usize);
-    put_next_positions(out, end, &positions[1..])
+    };
+    let end = put_decimal(out, at, *first as usize);
+    put_next_positions(out, end, others)
 }
 
 // Writes positions in parentheses, and the end of a line.
@@ -155,25 +153,29 @@ pub fn put_refused_line(out: &mut [u8], at: usize, refusal: usize) -> usize
 }
 
 // Writes a key: a word by its number, a lone character by itself.
-fn put_key_name(out: &mut [u8], at: usize, kind: usize, value: usize) -> usize
-    requires { at + length (key_name (key kind value)) ≤ length out.old }
-    ensures { Wrote (key_name (key kind value)) at out.old result out.new }
+fn put_key_name(out: &mut [u8], at: usize, key: Key) -> usize
+    requires { at + length (key_name (key_of key)) ≤ length out.old }
+    ensures { Wrote (key_name (key_of key)) at out.old result out.new }
 {
-    if kind == 0 {
-        let number = put_bytes(out, at, b"(key word ");
-        return put_decimal(out, number, value);
+    match key {
+        Key::Word(number) => {
+            let value = put_bytes(out, at, b"(key word ");
+            put_decimal(out, value, number)
+        }
+        Key::Lone(character) => {
+            let value = put_bytes(out, at, b"(key lone ");
+            put_hexadecimal(out, value, character)
+        }
     }
-    let character = put_bytes(out, at, b"(key lone ");
-    put_hexadecimal(out, character, value)
 }
 
 // Writes the line of a key.
-fn put_key_line(out: &mut [u8], at: usize, kind: usize, value: usize, positions: &[Number]) -> usize
-    requires { at + length (key_line (line (key kind value) positions.now)) ≤ length out.old }
-    ensures { Wrote (key_line (line (key kind value) positions.now)) at out.old result out.new }
+fn put_key_line(out: &mut [u8], at: usize, list: &PostingList) -> usize
+    requires { at + length (key_line (line (key_of list.now.key) list.now.positions.now)) ≤ length out.old }
+    ensures { Wrote (key_line (line (key_of list.now.key) list.now.positions.now)) at out.old result out.new }
 {
-    let list = put_key_name(out, at, kind, value);
-    put_list(out, list, positions)
+    let positions = put_key_name(out, at, list.key);
+    put_list(out, positions, list.positions)
 }
 
 // Writes a line for each key of an index, in order.
@@ -181,16 +183,9 @@ fn put_key_lines(out: &mut [u8], at: usize, numbers: &[Number]) -> usize
     requires { Fits numbers.now × (at + length (key_lines (lines_in numbers.now)) ≤ length out.old) }
     ensures { Wrote (key_lines (lines_in numbers.now)) at out.old result out.new }
 {
-    let keys = key_count(numbers);
-    let mut position = line_start(keys);
     let mut end = at;
-    let mut i = 0;
-    while i < keys {
-        let line = next_line(numbers, i, position);
-        let next = line.to;
-        end = put_key_line(out, end, line.kind, line.value, &numbers[position..next]);
-        position = next;
-        i += 1;
+    for list in Lines::new(numbers) {
+        end = put_key_line(out, end, &list);
     }
     end
 }

@@ -9,79 +9,61 @@ ghost use Rattle.spec.specs.Index.{header, keys_of};
 ghost use Rattle.models.specs.Readability.{floor_of, one_if, descents};
 ghost use Rattle.laws.specs.Readable.Descents.{all_descents, at_first};
 
+use crate::lists::ListForm;
 use layout::fields::{key_count, line_start};
 use width::Number;
 
 // How many numbers are compared before their descents are added up: as many as 16 bits count.
 const BLOCK: usize = 65535;
 
-// What a number has to exceed: the position before it, or, as a gap, 0.
-fn floor_of(as_gaps: bool, before: Number) -> Number
-    ensures { result ≡ floor_of as_gaps before }
-{
-    if as_gaps { 0 } else { before }
-}
-
 // 1 if a number does not exceed what it has to.
-fn descent(as_gaps: bool, before: Number, number: Number) -> u16
-    ensures { result ≡ one_if (leb number (floor_of as_gaps before)) }
+fn descent<F: ListForm>(before: Number, number: Number) -> u16
+    ensures { result ≡ one_if (leb number (floor_of F.as_gaps before)) }
 {
-    if number <= floor_of(as_gaps, before) {
-        1
-    } else {
-        0
-    }
+    u16::from(number <= F::floor_of(before))
 }
 
 // The descents of a run that 16 bits count.
-fn count_block(run: &[Number], as_gaps: bool) -> usize
+fn count_block<F: ListForm>(run: &[Number]) -> usize
     requires { length run.now ≤ 65536 }
-    ensures { result ≡ descents as_gaps run.now }
+    ensures { result ≡ descents F.as_gaps run.now }
 {
     let mut count: u16 = 0;
-    let mut i = 0;
-    while i + 1 < run.len() {
-        count += descent(as_gaps, run[i], run[i + 1]);
-        i += 1;
+    for pair in run.windows(2) {
+        count += descent::<F>(pair[0], pair[1]);
     }
     count as usize
 }
 
 // The descents of a run. Blocks share a number, the last of one and the first of the next.
-fn count_descents(run: &[Number], as_gaps: bool) -> usize
-    ensures { result ≡ descents as_gaps run.now }
+fn count_descents<F: ListForm>(run: &[Number]) -> usize
+    ensures { result ≡ descents F.as_gaps run.now }
 {
     let mut count = 0;
-    let mut at = 0;
-    while BLOCK < run.len() - at {
-        let end = at + BLOCK + 1;
-        count += count_block(&run[at..end], as_gaps);
-        at += BLOCK;
+    for at in (0..run.len()).step_by(BLOCK) {
+        let end = run.len().min(at + BLOCK + 1);
+        count += count_block::<F>(&run[at..end]);
     }
-    count + count_block(&run[at..], as_gaps)
+    count
 }
 
 // 1 if the position at `at`, the first of its list, is a descent and not 0.
-pub(crate) fn first_descent(index: &[Number], at: usize, as_gaps: bool) -> usize
+pub(crate) fn first_descent<F: ListForm>(index: &[Number], at: usize) -> usize
     requires { (1 ≤ at) × (at < length index.now) }
-    ensures { result ≡ at_first as_gaps index.now at }
+    ensures { result ≡ at_first F.as_gaps index.now at }
 {
     let first = index[at];
-    if (0 < first) & (first <= floor_of(as_gaps, index[at - 1])) {
-        1
-    } else {
-        0
-    }
+    usize::from((0 < first) & (first <= F::floor_of(index[at - 1])))
 }
 
 // Whether the positions end with the index, where those of the last line end at `at`, and have `found` descents.
-pub(crate) fn lists_ascend(index: &[Number], at: usize, found: usize, as_gaps: bool) -> bool
+pub(crate) fn lists_ascend<F: ListForm>(index: &[Number], at: usize, found: usize) -> bool
     requires { (header ≤ length index.now) × (header + 3 * keys_of index.now ≤ length index.now) }
-    ensures { result ≡ (eqb at (length index.now) && eqb (all_descents as_gaps index.now) found) }
+    ensures { result ≡ (eqb at (length index.now) && eqb (all_descents F.as_gaps index.now) found) }
 {
     if at != index.len() {
         return false;
     }
     let before = line_start(key_count(index)) - 1;
-    count_descents(&index[before..], as_gaps) == found
+    count_descents::<F>(&index[before..]) == found
 }

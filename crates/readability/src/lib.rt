@@ -3,5 +3,5 @@
 
 mod descents;
 mod lines;
-mod lists;
+pub mod lists;
 pub mod readability;

@@ -1,14 +1,35 @@
 // Whether the list of one directory line is good: the positions of an index, or the gaps of a gap form.
 //
-// A list is tested by one pass without a branch for each number. Sums of gaps are in a `Sum`, so that none wraps. Most lists have one
-// number, which is tested without a loop.
-ghost use Rattle.std.specs.Prelude.{◌≡◌, ◌-◌, ◌≤◌, length, drop};
+// How the numbers of a list are read is a type parameter, so that each of the two is compiled without a test for the other. A list is
+// tested by one pass without a branch for each number. Sums of gaps are in a `Sum`, so that none wraps. Most lists have one number, which
+// is tested without a loop.
+ghost use Rattle.std.specs.Prelude.{◌≡◌, ◌-◌, ◌≤◌, Bool, true, false, length, drop};
 ghost use Rattle.spec.specs.Index.{greatest_number, rise_from};
-ghost use Rattle.spec.specs.Gaps.{prefix_sums};
-ghost use Rattle.models.specs.Readability.{as_is, list_good, line_list_good, read_as};
+ghost use Rattle.models.specs.Readability.{floor_of, list_good, line_list_good, read_as};
 
 use layout::lines::Line;
 use width::{Number, Sum, from_sum, number_at};
+
+// The form of a list: how its numbers are read as positions.
+pub trait ListForm {
+    ghost as_gaps: { Bool };
+
+    // What a number has to exceed, after the number before it.
+    fn floor_of(before: Number) -> Number
+        ensures { result ≡ floor_of as_gaps before };
+
+    // Whether the positions ascend strictly from 1 or more, and a key of `len` characters ends by n at the last of them.
+    fn list_good(numbers: &[Number], n: usize, len: usize) -> bool
+        requires { (1 ≤ length numbers.now) × (length numbers.now ≤ greatest_number) × (n ≤ greatest_number) ×
+            (len ≤ greatest_number) }
+        ensures { result ≡ list_good (read_as as_gaps) n len numbers.now };
+}
+
+// Numbers that are the positions themselves.
+pub struct Positions;
+
+// Numbers that add up to the positions.
+pub struct Gaps;
 
 // Whether positions ascend strictly from 1 or more.
 fn rise(positions: &[Number]) -> bool
@@ -16,77 +37,69 @@ fn rise(positions: &[Number]) -> bool
 {
     let mut good = true;
     let mut last: Number = 0;
-    let mut i = 0;
-    while i < positions.len() {
-        let position = positions[i];
-        good = good & (last < position);
-        last = position;
-        i += 1;
+    for position in positions {
+        good &= last < *position;
+        last = *position;
     }
     good
 }
 
-// Whether positions ascend strictly from 1 or more, and a key of `len` characters ends by n at the last of them.
-fn positions_good(positions: &[Number], n: usize, len: usize) -> bool
-    requires { (1 ≤ length positions.now) × (n ≤ greatest_number) × (len ≤ greatest_number) }
-    ensures { result ≡ list_good as_is n len positions.now }
-{
-    let last = number_at(positions, positions.len() - 1);
-    if n + 1 < last + len {
-        return false;
+impl ListForm for Positions {
+    ghost as_gaps = { false };
+
+    fn floor_of(before: Number) -> Number {
+        before
     }
-    rise(positions)
+
+    fn list_good(numbers: &[Number], n: usize, len: usize) -> bool {
+        let last = number_at(numbers, numbers.len() - 1);
+        if n + 1 < last + len {
+            return false;
+        }
+        rise(numbers)
+    }
 }
 
-// Whether the positions that gaps add up to ascend from 1 or more, and a key of `len` characters ends by n at the last of them. They ascend
-// if no gap is 0, and the last of them is the sum of all gaps, which a `Sum` holds.
-fn gaps_good(gaps: &[Number], n: usize, len: usize) -> bool
-    requires { (1 ≤ length gaps.now) × (length gaps.now ≤ greatest_number) × (n ≤ greatest_number) × (len ≤ greatest_number) }
-    ensures { result ≡ list_good prefix_sums n len gaps.now }
-{
-    let mut good = true;
-    let mut sum: Sum = 0;
-    let mut i = 0;
-    while i < gaps.len() {
-        let gap = gaps[i];
-        good = good & (0 < gap);
-        sum += gap as Sum;
-        i += 1;
+// The positions ascend if no gap is 0, and the last of them is the sum of all gaps, which a `Sum` holds.
+impl ListForm for Gaps {
+    ghost as_gaps = { true };
+
+    fn floor_of(_before: Number) -> Number {
+        0
     }
-    if n + 1 < from_sum(sum) + len {
-        return false;
+
+    fn list_good(numbers: &[Number], n: usize, len: usize) -> bool {
+        let mut good = true;
+        let mut sum: Sum = 0;
+        for gap in numbers {
+            good &= 0 < *gap;
+            sum += *gap as Sum;
+        }
+        if n + 1 < from_sum(sum) + len {
+            return false;
+        }
+        good
     }
-    good
 }
 
-// Whether the numbers of a line are there, at least one, and are good positions, or gaps, of a key of `len` characters. A list of one
-// number is both.
-pub(crate) fn line_list_good(
+// Whether the numbers of a line are there, at least one, and are a good list of a key of `len` characters. A list of one number is read
+// alike in both forms.
+pub(crate) fn line_list_good<F: ListForm>(
     index: &[Number],
     line: Line,
     n: usize,
     len: usize,
-    as_gaps: bool,
 ) -> bool
     requires { (line.from ≤ line.to) × (line.from ≤ length index.now) × (line.to - line.from ≤ greatest_number) ×
         (n ≤ greatest_number) × (len ≤ greatest_number) }
-    ensures { result ≡ line_list_good (read_as as_gaps) n len (line.to - line.from) (drop line.from index.now) }
+    ensures { result ≡ line_list_good (read_as F.as_gaps) n len (line.to - line.from) (drop line.from index.now) }
 {
-    let from = line.from;
-    let to = line.to;
-    if index.len() < to {
+    if index.len() < line.to {
         return false;
     }
-    if to == from {
-        return false;
-    }
-    if to - from == 1 {
-        let only = number_at(index, from);
-        return (only + len <= n + 1) & (0 < only);
-    }
-    if as_gaps {
-        gaps_good(&index[from..to], n, len)
-    } else {
-        positions_good(&index[from..to], n, len)
+    match &index[line.from..line.to] {
+        [] => false,
+        [only] => (*only as usize + len <= n + 1) & (0 < *only),
+        list => F::list_good(list, n, len),
     }
 }

@@ -2,23 +2,25 @@
 //
 // One walk over the directory, with the list of each line as it is reached. A gap form is tested by the same walk, without restoring it:
 // only a line's list is read differently.
-ghost use Rattle.std.specs.Prelude.{◌≡◌};
+ghost use Rattle.std.specs.Prelude.{◌≡◌, IfOk};
 ghost use Rattle.spec.specs.Dictionary.{longest_text, lexicon};
 ghost use Rattle.spec.specs.Index.{readable};
 ghost use Rattle.spec.specs.Gaps.{with_lists};
 ghost use Rattle.spec.specs.Calls.{index_refusal};
+ghost use Rattle.spec.specs.Refusals.{number_of};
 ghost use Rattle.models.specs.Readability.{read_as};
-ghost use Rattle.laws.specs.Dictionary.Lexicon.{IsAdmitted};
 
 use crate::lines::lines_good;
+use crate::lists::{ListForm, Positions};
+use dictionary::admission::{Dictionary, admit};
 use layout::fields::{HEADER, key_count, line_start, text_len};
+use spec::Refusal;
 use width::{LONGEST, Number};
 
 // Whether an index is readable with an admitted dictionary, or, of a gap form, whether what it restores to is.
-fn readable(chars: &[u16], lengths: &[u16], index: &[Number], as_gaps: bool) -> bool
-    requires { IsAdmitted chars.now lengths.now }
-    ensures { result ≡ readable longest_text (lexicon chars.now lengths.now)
-        (with_lists (read_as as_gaps) index.now) }
+fn readable<F: ListForm>(dictionary: &Dictionary, index: &[Number]) -> bool
+    ensures { result ≡ readable longest_text (lexicon dictionary.now.chars.now dictionary.now.lengths.now)
+        (with_lists (read_as F.as_gaps) index.now) }
 {
     if index.len() < HEADER {
         return false;
@@ -29,27 +31,34 @@ fn readable(chars: &[u16], lengths: &[u16], index: &[Number], as_gaps: bool) -> 
     if index.len() < line_start(key_count(index)) {
         return false;
     }
-    lines_good(chars, lengths, index, as_gaps)
+    lines_good::<F>(dictionary, index)
 }
 
-// The number of the first line of 1, 2, 3, 12 and 5 that dictionary and numbers meet, or 0. The numbers are an index, or a gap form, of
-// which 5 asks whether what it restores to is readable.
-pub fn refusal_as(chars: &[u16], lengths: &[u16], index: &[Number], as_gaps: bool) -> u32
-    ensures { result ≡ index_refusal longest_text chars.now lengths.now (with_lists (read_as as_gaps) index.now) }
+// Admits the dictionary and tests the numbers, an index or a gap form, of which 5 asks whether what it restores to is readable: the refusal
+// is the first line of 1, 2, 3, 12 and 5 that they meet.
+pub fn admit_as<'a, F: ListForm>(
+    chars: &'a [u16],
+    lengths: &'a [u16],
+    index: &[Number],
+) -> Result<Dictionary<'a>, Refusal>
+    ensures number { number_of result ≡ index_refusal longest_text chars.now lengths.now (with_lists (read_as F.as_gaps) index.now) }
+    ensures lent { IfOk result (λ d. (d.chars ≡ chars.entry) × (d.lengths ≡ lengths.entry)) }
 {
-    let refusal = dictionary::admission::refusal_of(chars, lengths);
-    if refusal != 0 {
-        return refusal;
+    let dictionary = admit(chars, lengths)?;
+    if !readable::<F>(&dictionary, index) {
+        return Err(Refusal::Unreadable);
     }
-    if !readable(chars, lengths, index, as_gaps) {
-        return 5;
-    }
-    0
+    Ok(dictionary)
 }
 
-// The number of the first line of 1, 2, 3, 12 and 5 that dictionary and index meet, or 0.
-pub fn refusal_of(chars: &[u16], lengths: &[u16], index: &[Number]) -> u32
-    ensures { result ≡ index_refusal longest_text chars.now lengths.now index.now }
+// Admits the dictionary and tests the index: the refusal is the first line of 1, 2, 3, 12 and 5 that they meet.
+pub fn admit_index<'a>(
+    chars: &'a [u16],
+    lengths: &'a [u16],
+    index: &[Number],
+) -> Result<Dictionary<'a>, Refusal>
+    ensures number { number_of result ≡ index_refusal longest_text chars.now lengths.now index.now }
+    ensures lent { IfOk result (λ d. (d.chars ≡ chars.entry) × (d.lengths ≡ lengths.entry)) }
 {
-    refusal_as(chars, lengths, index, false)
+    admit_as::<Positions>(chars, lengths, index)
 }

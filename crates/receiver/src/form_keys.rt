@@ -16,9 +16,7 @@ pub(crate) fn has_form_key(index: &[Number]) -> bool
     requires { OrderedKeys index.now }
     ensures { result ≡ some_form_key (lines_in index.now) }
 {
-    let mut line = key_count(index);
-    while line > 0 {
-        line -= 1;
+    for line in (0..key_count(index)).rev() {
         if kind_at(index, line) == 0 {
             return false;
         }

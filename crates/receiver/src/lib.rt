@@ -4,4 +4,4 @@
 mod form_keys;
 pub mod receive;
 pub mod recover;
-pub mod text;
+mod text;

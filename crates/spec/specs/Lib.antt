@@ -1,4 +1,5 @@
 -- The definitions that a reader has to believe, lowest first, and the statements made of them.
+pub mod Refusals
 pub mod Replaced
 pub mod Dictionary
 pub mod Words

@@ -19,7 +19,7 @@ pub const LONGEST: usize = 65535;
 pub fn from_char(character: u16) -> Number
     ensures { result ≡ character }
 {
-    character as Number
+    Number::from(character)
 }
 
 // A sum of no more counts than a number can state, kept in a table.

@@ -3,5 +3,6 @@
 
 pub mod prefix_lengths;
 pub mod sentinel;
+pub mod symbol;
 pub mod zarray;
 pub mod zbox;

@@ -5,7 +5,7 @@
 ghost use Rattle.std.specs.Prelude.{suc, ◌+◌, ◌≤◌, length};
 ghost use Rattle.laws.specs.TextScan.ZSearch.{ZArray, PrefixLengths};
 
-use crate::zbox::{extend, known_from};
+use crate::zbox::ZBox;
 use width::Number;
 
 // Fills `reach` with the length of the longest prefix of the string that matches at each start of the text, by the string's Z-array.
@@ -14,18 +14,8 @@ pub fn fill_prefix_lengths(text: &[Number], string: &[u16], zarray: &[u16], reac
         (length reach.old + length string.now ≤ suc (length text.now)) }
     ensures { PrefixLengths string.now text.now reach.new }
 {
-    let mut left = 0;
-    let mut right = 0;
-    let mut at = 0;
-    while at < reach.len() {
-        let here = at;
-        let known = known_from(zarray, here, left, right);
-        let len = extend(text, string, here, known, string.len());
-        reach[here] = len as Number;
-        at += 1;
-        if right < here + len {
-            left = here;
-            right = here + len;
-        }
+    let mut zbox = ZBox::default();
+    for at in 0..reach.len() {
+        reach[at] = zbox.longest_prefix(zarray, text, string, at, string.len()) as Number;
     }
 }

@@ -1,8 +1,9 @@
 -- `put_answer` meets its contract: the output holds any answer, so the call is accepted.
-use Rattle.laws.specs.JobSheet.AnswerLength.{answered}
+use Rattle.jobsheet.specs.Accepted.{answer_ok, answer_taken}
 use Rattle.lookup.proofs.put_answer.Goals as goal
 
+pub unwrap-requires : goal.unwrap-requires
+unwrap-requires c = answer_ok c.args.sheet.now c.args.output.now c.answer.new.output c.requires _ c.answer.ensures
+
 pub returns : goal.returns
-returns c =
-    let call = c.answer-answered in
-    answered c.args.sheet.now call.result c.args.output.now call.new.output c.requires call.ensures
+returns c = answer_taken c.args.sheet.now c.args.output.now c.answer.new.output c.requires c.unwrap.ensures c.answer.ensures

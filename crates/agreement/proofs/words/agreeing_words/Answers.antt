@@ -5,5 +5,5 @@ use Rattle.agreement.proofs.words.agreeing_words.Goals as goal
 
 pub returns-then-string-key_start : goal.returns-then-string-key_start
 returns-then-string-key_start c =
-    let found = c.refine-refined.ensures.0 in
+    let found = c.refine-refined.ensures.refining in
     record { listed = found.listed; range = refining_all found (omega arith) }

@@ -3,16 +3,19 @@ use mathlib.Core.Path.{refl, sym, ap, ◌∙◌}
 use native.Mathlib.Omega.{arith}
 use lib.ListN.{length-set}
 use Rattle.laws.specs.Window.AgreeingWords.{refining_start, refining_push, refining_deep, refining_column, refining_step}
+use Rattle.agreement.specs.Lines.{search_lines}
 use Rattle.agreement.proofs.words.refine.Goals as goal
 
 pub loop-low-init : goal.loop-low-init
-loop-low-init c = (refining_start c.requires.0 c.requires.1 c.requires.2, refl, refl)
+loop-low-init c =
+    let lines = search_lines c.args.directory.now c.requires.split c.requires.is_string in
+    (refining_start lines c.requires.inside c.requires.room, refl, refl)
 
-pub loop-low-preserved-then-word_at-depth : goal.loop-low-preserved-then-word_at-depth
-loop-low-preserved-then-word_at-depth c =
+pub loop-low-preserved-then-word-depth : goal.loop-low-preserved-then-word-depth
+loop-low-preserved-then-word-depth c =
     let l = c.loop-low in (
       refining_push l.invariant.0 (omega arith)
-          (sym (ap length c.word_at.ensures) ∙ c.if-word_at-depth.true),
+          (sym (ap length c.word.ensures) ∙ c.if-word-depth.true),
       l.invariant.1,
       length-set l.lines l.count l.low ∙ l.invariant.2,
     )
@@ -21,7 +24,7 @@ pub equal_range-range-requires : goal.equal_range-range-requires
 equal_range-range-requires c =
     let l = c.loop-low in
     refining_column l.invariant.0 (omega arith)
-    (λ e. c.if-word_at-depth.false (ap length c.word_at.ensures ∙ e))
+    (λ e. c.if-word-depth.false (ap length c.word.ensures ∙ e))
 
 pub loop-low-smaller : goal.loop-low-smaller
 loop-low-smaller c =
@@ -29,14 +32,14 @@ loop-low-smaller c =
     omega (
       arith,
       refining_deep l.invariant.0 (omega arith)
-          (λ e. c.if-word_at-depth.false (ap length c.word_at.ensures ∙ e)),
+          (λ e. c.if-word-depth.false (ap length c.word.ensures ∙ e)),
     )
 
 pub loop-low-preserved : goal.loop-low-preserved
 loop-low-preserved c =
     let l = c.loop-low in (
       refining_step l.invariant.0 (omega arith)
-          (λ e. c.if-word_at-depth.false (ap length c.word_at.ensures ∙ e)) (omega arith)
+          (λ e. c.if-word-depth.false (ap length c.word.ensures ∙ e)) (omega arith)
           c.equal_range-range.ensures.0 c.equal_range-range.ensures.1,
       l.invariant.1,
       l.invariant.2,

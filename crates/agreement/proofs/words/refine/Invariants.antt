@@ -6,7 +6,8 @@ use Rattle.agreement.proofs.words.refine.Given as goal
 
 abbrev pub invariant-loop-low : goal.invariant-loop-low
 invariant-loop-low l =
-    Refining l.chars l.word_starts l.index l.string l.key_start l.word_lines l.lines l.count l.low l.high l.depth ×
+    Refining l.directory.words.chars.now l.directory.words.starts.now l.directory.index.now
+    l.string l.key_start l.word_lines l.lines l.count l.low l.high l.depth ×
     (l.left ≡ length l.string - l.key_start) × (length l.lines ≡ length l.initial.lines)
 
 abbrev pub decreases-loop-low : goal.decreases-loop-low

@@ -4,9 +4,9 @@ use lib.ListN.{get_or}
 use Rattle.laws.specs.Cut.Flagging.{ones_at_next}
 use Rattle.bearing.proofs.flags.flag_list.Goals as goal
 
-pub loop-i-preserved : goal.loop-i-preserved
-loop-i-preserved c =
-    let l = c.loop-i in
-    let room : get_or c.args.lines.now l.i 0 < length l.flags =
-    omega (arith, c.requires l.i c.loop-i-test.true, l.invariant.0.len) in
-    (ones_at_next c.args.lines.now l.i l.invariant.0 c.loop-i-test.true room, omega arith)
+pub loop-line-preserved : goal.loop-line-preserved
+loop-line-preserved c =
+    let l = c.loop-line in
+    let room : get_or c.args.lines.now l.line-index 0 < length l.flags =
+    omega (arith, c.requires l.line-index c.loop-line-test.true, l.invariant.len) in
+    ones_at_next c.args.lines.now l.line-index l.invariant c.loop-line-test.true room

@@ -7,8 +7,7 @@ use Rattle.copying.proofs.slices.write_chars.Goals as goal
 pub loop-i-preserved : goal.loop-i-preserved
 loop-i-preserved c = (
   omega (arith, c.loop-i-test.true),
-  rw c.number_at.ensures.0
-      (copy_step c.args.text.now c.loop-i.i c.loop-i.invariant.1 c.loop-i-test.true),
+  copy_step c.args.text.now c.loop-i.i c.loop-i.invariant.1 c.loop-i-test.true,
 )
 
 pub returns : goal.returns

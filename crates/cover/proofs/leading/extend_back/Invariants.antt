@@ -1,11 +1,12 @@
--- `extend_back` meets its contract. The invariant: the window is extended at the first i offsets. The measure is how
--- many are left.
-use Rattle.std.proofs.Common.{length, ◌-◌}
+-- `extend_back` meets its contract. The invariant: the window is extended at the offsets from 0 down to above -`at`.
+use Rattle.cover.specs.Windows.{SameStarts}
 use Rattle.laws.specs.Window.Extending.{Backing}
 use Rattle.cover.proofs.leading.extend_back.Given as goal
 
-abbrev pub invariant-loop-i : goal.invariant-loop-i
-invariant-loop-i l = Backing l.string l.key l.first l.positions l.initial.reach l.reach l.highest l.i
-
-abbrev pub decreases-loop-i : goal.decreases-loop-i
-decreases-loop-i l = length l.key - l.i
+abbrev pub invariant-loop-at : goal.invariant-loop-at
+invariant-loop-at l =
+    record {
+      way : Backing l.query.string.now l.key l.initial.window.first l.positions l.initial.window.reach.now l.window.reach.now
+          l.window.highest l.at;
+      same : SameStarts l.initial.window l.window;
+    }

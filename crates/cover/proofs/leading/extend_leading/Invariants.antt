@@ -1,14 +1,14 @@
--- `extend_leading` meets its contract: the listed lines of words, then the lone character at the offset 0. The invariant: the window is
--- extended by the first i listed lines. The measure is how many are left.
-use Rattle.std.proofs.Common.{length, ◌-◌}
-use Rattle.models.specs.WordStarts.{lexicon_at}
-use Rattle.models.specs.Window.{leading_at}
+-- `extend_leading` meets its contract: the leading lines, then the lone character at the offset 0. The invariant: the window is extended
+-- by the leading lines before `line`.
+use Rattle.cover.specs.Queries.{leading_step}
+use Rattle.cover.specs.Windows.{SameStarts}
 use Rattle.laws.specs.Window.LeadingLines.{Listed}
 use Rattle.cover.proofs.leading.extend_leading.Given as goal
 
-abbrev pub invariant-loop-i : goal.invariant-loop-i
-invariant-loop-i l =
-    Listed (leading_at (lexicon_at l.chars l.word_starts) l.index l.string l.first) l.lines l.initial.reach l.reach l.highest l.i
-
-abbrev pub decreases-loop-i : goal.decreases-loop-i
-decreases-loop-i l = length l.lines - l.i
+abbrev pub invariant-loop-line : goal.invariant-loop-line
+invariant-loop-line l =
+    record {
+      way : Listed (leading_step l.query l.initial.window.first) l.query.leading.now l.initial.window.reach.now
+          l.window.reach.now l.window.highest l.line-index;
+      same : SameStarts l.initial.window l.window;
+    }

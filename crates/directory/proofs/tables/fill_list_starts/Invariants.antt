@@ -1,6 +1,5 @@
--- `fill_list_starts` meets its contract. The invariant: the starts of the first i lines are in the table, and `at` is the next one. The
--- measure is how many lines are left.
-use Rattle.std.proofs.Common.{◌-◌, ◌≡◌, ◌≤◌, length, ◌*◌}
+-- `fill_list_starts` meets its contract. The invariant: the starts of the first i lines are in the table, and `at` is the next one.
+use Rattle.std.proofs.Common.{◌≡◌, ◌≤◌, length, ◌*◌}
 use Rattle.spec.specs.Index.{greatest_number, keys_of}
 use Rattle.laws.specs.Numbers.Slices.{Fits}
 use Rattle.laws.specs.Directory.Tables.{ListStarts}
@@ -12,6 +11,3 @@ invariant-loop-i l =
     ListStarts l.index l.i l.list_starts × (length l.list_starts ≡ length l.initial.list_starts) ×
     (l.at ≡ counts_from l.i 0 l.index) × (l.at ≤ greatest_number * l.i) × (l.keys ≡ keys_of l.index) ×
     (l.keys ≤ greatest_number) × Fits l.index
-
-abbrev pub decreases-loop-i : goal.decreases-loop-i
-decreases-loop-i l = l.keys - l.i

@@ -1,3 +1,4 @@
+use Rattle.std.proofs.Common.{◌≡◌, length}
 use native.Mathlib.Omega.{arith}
 use Rattle.laws.specs.Dictionary.WordStarts.{filling_start, filling_step, filling_end, filling_at}
 use Rattle.directory.proofs.tables.fill_word_starts.Goals as goal
@@ -27,4 +28,5 @@ loop-i-preserved c =
 pub returns : goal.returns
 returns c =
     let a = c.args in
-    filling_end a.lengths.now a.word_starts.now c.loop-i.invariant c.loop-i-test.false
+    let all : length a.lengths.now ≡ c.loop-i.i = omega (arith, c.loop-i.invariant.within, c.loop-i-test.false) in
+    rw all (filling_end a.lengths.now a.word_starts.now c.loop-i.invariant c.loop-i-test.false)

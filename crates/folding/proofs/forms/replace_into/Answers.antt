@@ -1,30 +1,10 @@
-use Rattle.spec.specs.Replaced.{replaced}
 use native.Mathlib.Omega.{arith}
-use Rattle.basics.specs.Placed.{writing_start}
-use Rattle.basics.specs.PlacedCopies.{copy_step, copy_end}
-use Rattle.laws.specs.Text.WidthFolding.{length_replaced, getD_replaced}
-use Rattle.laws.specs.Receive.Receiving.{text_put}
+use Rattle.folding.proofs.Front.{front_start, front_step}
 use Rattle.folding.proofs.forms.replace_into.Goals as goal
 
 pub loop-i-init : goal.loop-i-init
-loop-i-init c = (
-  omega arith,
-  writing_start (replaced c.args.text.now) 0 c.args.slots.now
-      (omega (arith, length_replaced c.args.text.now)),
-)
+loop-i-init g c = front_start _ _
 
 pub loop-i-preserved : goal.loop-i-preserved
-loop-i-preserved c =
-    let text = c.args.text.now in
-    let turn = c.loop-i in (
-      omega arith,
-      rw (c.replace.ensures, ← getD_replaced text turn.i)
-          (copy_step (replaced text) turn.i turn.invariant.1 (omega (arith, length_replaced text))),
-    )
-
-pub returns : goal.returns
-returns c =
-    let turn = c.loop-i in
-    text_put
-    (copy_end (replaced c.args.text.now) turn.i turn.invariant.1
-    (omega (arith, length_replaced c.args.text.now)))
+loop-i-preserved g c =
+    front_step _ _ _ _ _ c.loop-i.invariant (omega arith) (rw (← c.replace.ensures) c.from.ensures)

@@ -1,13 +1,6 @@
--- `replace_into` meets its contract. The invariant: the rest of the replaced text is to be written from i on. The measure
--- is its length.
-use Rattle.std.proofs.Common.{length, ◌-◌, ◌≤◌}
-use Rattle.spec.specs.Replaced.{replaced}
-use lib.ListN.{drop}
-use Rattle.basics.specs.Placed.{Writing}
+-- `replace_into` meets its contract. The invariant: the first i characters are written, replaced, and the rest of the slice is unchanged.
+use Rattle.folding.proofs.Front.{Front}
 use Rattle.folding.proofs.forms.replace_into.Given as goal
 
 abbrev pub invariant-loop-i : goal.invariant-loop-i
-invariant-loop-i l = (l.i ≤ length l.text) × Writing (replaced l.text) 0 l.initial.slots (drop l.i (replaced l.text)) l.i l.slots
-
-abbrev pub decreases-loop-i : goal.decreases-loop-i
-decreases-loop-i l = length l.text - l.i
+invariant-loop-i g l = Front g.T.From.from_gives l.text l.initial.slots l.slots l.i

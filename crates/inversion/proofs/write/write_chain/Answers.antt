@@ -1,13 +1,11 @@
-use native.Mathlib.Omega.{arith}
-use Rattle.basics.specs.Copying.{copy_member, copy_end}
+use Rattle.basics.specs.Chain.{chain}
+use Rattle.basics.specs.Placed.{writing_as, writing_one, writing_end}
 use Rattle.inversion.proofs.write.write_chain.Goals as goal
 
-pub bounds-links-member : goal.bounds-links-member
-bounds-links-member c =
-    let hand = copy_member c.loop-member.invariant c.requires.threaded c.loop-member-test.true in omega (arith, hand.linked)
-
-pub loop-member-preserved : goal.loop-member-preserved
-loop-member-preserved c = (copy_member c.loop-member.invariant c.requires.threaded c.loop-member-test.true).next
+pub loop-position-preserved : goal.loop-position-preserved
+loop-position-preserved c =
+    let left = c.next.new.self in
+    writing_one c.in-Some.position (chain left.links.now left.at) (writing_as c.in-Some.ensures.steps c.loop-position.invariant)
 
 pub returns : goal.returns
-returns c = copy_end c.loop-member.invariant c.loop-member-test.false
+returns c = writing_end (writing_as c.in-None.ensures.steps.0 c.loop-position.invariant)

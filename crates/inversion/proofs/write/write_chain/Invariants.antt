@@ -1,12 +1,8 @@
--- `write_chain` meets its contract. The invariant: the positions before `here` are written, and `member` is the next one, or 0. The measure
--- is how many are left.
-use Rattle.std.proofs.Common.{length, ◌-◌}
+-- `write_chain` meets its contract. The invariant: of the chain, what the iterator has left is still to be written, from `here` on.
 use Rattle.basics.specs.Chain.{chain}
-use Rattle.basics.specs.Copying.{Copying}
+use Rattle.basics.specs.Placed.{Writing}
 use Rattle.inversion.proofs.write.write_chain.Given as goal
 
-abbrev pub invariant-loop-member : goal.invariant-loop-member
-invariant-loop-member l = Copying l.links l.head l.initial.part l.part l.at l.here l.member
-
-abbrev pub decreases-loop-member : goal.decreases-loop-member
-decreases-loop-member l = length (chain l.links l.head) - (l.here - l.at)
+abbrev pub invariant-loop-position : goal.invariant-loop-position
+invariant-loop-position l =
+    Writing (chain l.links l.head) l.at l.initial.part (chain l.position-iterator.links.now l.position-iterator.at) l.here l.part

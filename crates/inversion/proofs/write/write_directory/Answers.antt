@@ -1,42 +1,39 @@
-use Rattle.std.proofs.Common.{length}
-use Rattle.basics.specs.Chain.{chain}
-use Rattle.spec.specs.Index.{header}
-use Rattle.models.specs.Inversion.{code_key}
-use native.Mathlib.Omega.{arith}
-use lib.ListN.{get_or}
-use Rattle.basics.specs.Chain.{chain_short}
+use Rattle.std.proofs.Common.{length, get_or, arith}
+use Rattle.basics.specs.Chain.{chain, chain_short}
 use Rattle.spec.specs.Numbers.{line}
-use Rattle.laws.specs.Build.CodeWalk.{line_numbers_three, line_numbers_are, directory_by_line, listing_start, listing_room}
-use Rattle.laws.specs.Build.CodeWalk.{listing_step, listing_end}
+use Rattle.models.specs.Inversion.{code_key}
+use Rattle.laws.specs.Build.CodeWalk.{line_numbers_three, line_numbers_are, directory_by_line, listing_room}
+use Rattle.inversion.proofs.CodeWalk.{listed_next, listed_step, listed_end}
 use Rattle.inversion.proofs.write.write_directory.Goals as goal
 
-pub loop-code-init : goal.loop-code-init
-loop-code-init c =
-    let a = c.args in
-    listing_start directory_by_line a.heads.now a.links.now a.output.now header c.requires.links_in_bounds c.next_code-code.ensures
-
-pub put_line-requires : goal.put_line-requires
-put_line-requires c =
-    let l = c.loop-code in
+pub write_key-requires : goal.write_key-requires
+write_key-requires c =
+    let code = c.in-Some.code in
     let links = c.args.links.now in
-    let head = get_or c.args.heads.now l.code 0 in (
+    let head = get_or c.args.heads.now code 0 in
+    let step = rw c.loop-code.invariant.0 at c.in-Some.ensures.steps in (
       omega (
         arith,
-        listing_room directory_by_line l.invariant c.requires.listable.threads c.loop-code-test.true,
-        line_numbers_three (line (code_key l.code) (chain links head)),
+        listing_room directory_by_line (listed_next c.loop-code.invariant.1 step.0) c.requires.listable.threads step.1,
+        line_numbers_three (line (code_key code) (chain links head)),
       ),
-      omega arith,
+      c.key_of_code.ensures.1,
       omega (arith, chain_short (length links) links head),
     )
 
 pub loop-code-preserved : goal.loop-code-preserved
 loop-code-preserved c =
-    let l = c.loop-code in
+    let code = c.in-Some.code in
     let count = c.chain_length-count in
-    let written = c.put_line in
-    listing_step directory_by_line l.invariant c.requires.listable.threads c.loop-code-test.true c.next_code-code-in-loop-code.ensures
-    (line_numbers_are l.code count.result (chain c.args.links.now (get_or c.args.heads.now l.code 0)) count.ensures)
-    (record { ends = omega arith; content = written.ensures })
+    let step = rw c.loop-code.invariant.0 at c.in-Some.ensures.steps in (
+      step.2,
+      rw step.3
+          (listed_step c.loop-code.invariant.1 step.0 directory_by_line c.requires.listable.threads step.1
+          (line_numbers_are code count.result (chain c.args.links.now (get_or c.args.heads.now code 0)) count.ensures)
+          (record { ends = omega arith; content = rw c.key_of_code.ensures.0 at c.write_key.ensures })),
+    )
 
 pub returns : goal.returns
-returns c = (listing_end directory_by_line c.loop-code.invariant c.loop-code-test.false).content
+returns c =
+    let none = rw c.loop-code.invariant.0 at c.in-None.ensures.steps in
+    (listed_end c.loop-code.invariant.1 none directory_by_line (omega arith)).content

@@ -1,23 +1,26 @@
-use Rattle.std.proofs.Common.{◌∙◌, sym, arith}
-use Rattle.laws.specs.JobSheet.FormReading.{ends_next, ends_other, ends_last}
+-- `ends_well` meets its contract: what follows the last piece of five bytes is `)`, and every piece is a space and four digits.
+use Rattle.std.proofs.Common.{◌≡◌, ap, sym, ◌∙◌, rules, tests}
+use Rattle.std.specs.List.{list_all}
+use Rattle.std.proofs.lemmas.Bool.Decides.{Decides-eqb}
+use Rattle.std.proofs.lemmas.Slice.Eq.{slice_eq-Decides}
+use Rattle.std.proofs.lemmas.Iterator.Search.{all_from_yields_List}
+use Rattle.models.specs.JobSheet.{spaced_at}
+use Rattle.jobreader.proofs.Fives.{rest_of, fives_of, fives_yielded, ends_closed, ends_open}
 use Rattle.jobreader.proofs.form.ends_well.Goals as goal
 
-pub returns-then-not-is_spaced : goal.returns-then-not-is_spaced
-returns-then-not-is_spaced c =
-    sym (sym c.loop-at.invariant.1 ∙ ends_next c.args.line.now c.loop-at.at c.loop-at-test.true
-    ∙ rw (sym c.is_spaced.ensures ∙ c.if-not-is_spaced.true))
+pub returns-then-eq : goal.returns-then-eq
+returns-then-eq c =
+    let all = all_from_yields_List (λ x. spaced_at x 0) _ _ c.all.result c.all.ensures.ran
+    (fives_yielded _ cc) (λ x b q k. search (rules, tests)) in
+    let closing = slice_eq-Decides Decides-eqb _ _ _ (rw c.as_slice.ensures at c.eq.ensures) in
+    let rest : c.remainder.result.now ≡ rest_of c.args.rest.now = c.remainder.ensures ∙ c.chunks_exact-fives.ensures.remainder in
+    all
+    ∙ ap (λ l. list_all (λ x. spaced_at x 0) (fives_of l)) c.chunks_exact-fives.ensures.rest
+    ∙ sym (ends_closed c.args.rest.now (sym rest ∙ closing.0 c.if-eq.true))
 
-pub loop-at-preserved : goal.loop-at-preserved
-loop-at-preserved c = (
-  omega arith,
-  sym (ends_next c.args.line.now c.loop-at.at c.loop-at-test.true
-      ∙ rw (sym c.is_spaced.ensures ∙ c.if-not-is_spaced.false)) ∙ c.loop-at.invariant.1,
-)
-
-pub returns-then-at-line : goal.returns-then-at-line
-returns-then-at-line c =
-    sym (sym c.loop-at.invariant.1
-    ∙ ends_other c.args.line.now c.loop-at.at c.loop-at-test.false c.loop-at.invariant.0 c.if-at-line.true)
-
-pub returns : goal.returns
-returns c = sym (ends_last c.args.line.now c.loop-at.at c.if-at-line.false) ∙ c.loop-at.invariant.1
+pub returns-else-eq : goal.returns-else-eq
+returns-else-eq c =
+    let closing = slice_eq-Decides Decides-eqb _ _ _ (rw c.as_slice.ensures at c.eq.ensures) in
+    let rest : c.remainder.result.now ≡ rest_of c.args.rest.now = c.remainder.ensures ∙ c.chunks_exact-fives.ensures.remainder in
+    c.if-eq.false
+    ∙ sym (ends_open c.args.rest.now (λ e. let t = closing.1 (rest ∙ e) in cc))

@@ -1,21 +1,34 @@
--- `is_form` meets its contract: the line is too short, or has another head, or its end decides.
-use Rattle.std.proofs.Common.{sym, ◌∙◌}
-use borrow.Author.Tests.{not-true, not-false}
-use Rattle.laws.specs.JobSheet.FormReading.{form_short, form_other, form_headed}
-use Rattle.std.proofs.lemmas.Bool.{not_from_true}
-use Rattle.std.proofs.lemmas.Bool.{not_from_false}
+-- `is_form` meets its contract: the line begins with another head, or its end decides.
+use Rattle.std.proofs.Common.{◌≡◌, List, [], ◌∷◌, ℕ, ◌-◌, eqb, nat_eq, length, drop, refl, ap, sym, ◌∙◌, arith}
+use Rattle.std.specs.Cmp.Lexicographic.{pointwise}
+use Rattle.std.proofs.Math.Seq.{take_all}
+use Rattle.spec.specs.JobSheet.{ends_well}
+use Rattle.std.proofs.Common.{length-drop}
+use Rattle.std.proofs.lemmas.Bool.Decides.{nat_tests}
+use Rattle.spec.specs.Words.{same}
+use Rattle.laws.specs.JobSheet.FormReading.{form_other, form_headed}
 use Rattle.jobreader.proofs.form.is_form.Goals as goal
 
-pub returns-then-line-lt5 : goal.returns-then-line-lt5
-returns-then-line-lt5 c = sym (form_short c.args.line.now c.args.head.now
-    c.requires c.if-line-lt5.true)
+eqb_sym : (x y : ℕ) → eqb x y ≡ eqb y x
+eqb_sym x y = grind (arith, nat_tests)
 
-pub returns-then-not-has_head : goal.returns-then-not-has_head
-returns-then-not-has_head c =
-    sym (form_other c.args.line.now c.args.head.now c.requires
-    (sym c.has_head.ensures ∙ not-true c.has_head.result (not_from_false _ c.if-not-has_head.true)))
+-- the order of the two sides does not matter
+same_is : (a b : List ℕ) → pointwise nat_eq b a ≡ same a b
+unfolding same
+same_is [] [] = refl
+same_is [] (y ∷ ys) = refl
+same_is (x ∷ xs) [] = refl
+same_is (x ∷ xs) (y ∷ ys) = rw (eqb_sym y x, same_is xs ys) refl
 
-pub returns : goal.returns
-returns c =
-    c.ends_well.ensures ∙ sym (form_headed c.args.line.now c.args.head.now c.requires
-    (sym c.has_head.ensures ∙ not-false c.has_head.result (not_from_true _ c.if-not-has_head.false)))
+pub returns-then-starts_with : goal.returns-then-starts_with
+returns-then-starts_with c =
+    let l = c.args.line.now in
+    c.ends_well.ensures
+    ∙ ap ends_well (take_all (length l - 5) (drop 5 l) (omega (arith, length-drop 5 l)))
+    ∙ sym (form_headed l c.args.head.now c.requires (sym (same_is _ _) ∙ sym c.starts_with.ensures.value ∙ c.if-starts_with.true))
+
+pub returns-else-starts_with : goal.returns-else-starts_with
+returns-else-starts_with c =
+    c.if-starts_with.false
+    ∙ sym (form_other c.args.line.now c.args.head.now c.requires
+    (sym (same_is _ _) ∙ sym c.starts_with.ensures.value ∙ c.if-starts_with.false))

@@ -1,14 +1,11 @@
--- `put_finds` meets its contract. The invariant: the first i finds are printed, and `from` is where the next string begins. The measure is
--- how many finds are left.
-use Rattle.std.proofs.Common.{length, ◌-◌, ◌≡◌}
-use Rattle.models.specs.WordStarts.{lexicon_at}
+-- `put_finds` meets its contract. The invariant: the first i finds are printed, and `from` is where the next string begins.
+use Rattle.std.proofs.Common.{length, ◌≡◌}
 use Rattle.laws.specs.JobSheet.FindWalk.{FindsPrinted}
+use Rattle.dictionary.specs.Words.{lexicon_of}
 use Rattle.jobsheet.proofs.finds.put_finds.Given as goal
 
-abbrev pub invariant-loop-i : goal.invariant-loop-i
-invariant-loop-i l =
+abbrev pub invariant-loop-count : goal.invariant-loop-count
+invariant-loop-count l =
     (length l.found ≡ length l.initial.found)
-    × FindsPrinted (lexicon_at l.chars l.word_starts) l.index l.strings l.counts l.at l.initial.out l.from l.end l.i l.out
-
-abbrev pub decreases-loop-i : goal.decreases-loop-i
-decreases-loop-i l = length l.counts - l.i
+    × FindsPrinted (lexicon_of l.postings.directory.words) l.postings.directory.index.now l.strings l.counts l.at l.initial.out
+    l.from l.end l.count-index l.out

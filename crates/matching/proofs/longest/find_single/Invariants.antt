@@ -4,8 +4,8 @@ use lib.ListN.{get_or}
 use Rattle.laws.specs.Match.WordChains.{SingleWalk}
 use Rattle.matching.proofs.longest.find_single.Given as goal
 
-abbrev pub invariant-loop-next : goal.invariant-loop-next
-invariant-loop-next l = SingleWalk l.chars l.word_starts l.links (get_or l.text l.at 0) l.next
+abbrev pub invariant-loop-number : goal.invariant-loop-number
+invariant-loop-number l = SingleWalk l.table.words.chars.now l.table.words.starts.now l.table.links.now (get_or l.text l.at 0) l.next
 
-abbrev pub decreases-loop-next : goal.decreases-loop-next
-decreases-loop-next l = l.next
+abbrev pub decreases-loop-number : goal.decreases-loop-number
+decreases-loop-number l = l.next

@@ -1,4 +1,4 @@
-use Rattle.std.proofs.Common.{◌≤◌}
+use Rattle.std.proofs.Common.{◌≡◌, ◌≤◌, length}
 use mathlib.Core.Path.{refl}
 use native.Mathlib.Omega.{arith}
 use lib.ListN.{length-set}
@@ -48,9 +48,12 @@ overflow_cast-word_starts-2 c =
 
 pub returns-clause-starts : goal.returns-clause-starts
 returns-clause-starts c =
-    filling_end c.args.lengths.now c.args.word_starts.now c.loop-i.invariant.0 c.loop-i-test.false
+    let all : length c.args.lengths.now ≡ c.loop-i.i = omega (arith, c.loop-i.invariant.0.within, c.loop-i-test.false) in
+    rw all (filling_end c.args.lengths.now c.args.word_starts.now c.loop-i.invariant.0 c.loop-i-test.false)
 
 pub returns-clause-table : goal.returns-clause-table
 returns-clause-table c =
+    let all : length c.args.lengths.now ≡ c.loop-i.i = omega (arith, c.loop-i.invariant.0.within, c.loop-i-test.false) in
     let filled = filling_end c.args.lengths.now c.args.word_starts.now c.loop-i.invariant.0 c.loop-i-test.false in
-    chained_all c.requires filled c.loop-i.invariant.1 (omega (arith, c.loop-i.invariant.0.within, c.loop-i-test.false))
+    rw all
+    (rw all at (chained_all c.requires filled c.loop-i.invariant.1 (omega (arith, c.loop-i.invariant.0.within, c.loop-i-test.false))))

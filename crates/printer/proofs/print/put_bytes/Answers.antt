@@ -1,9 +1,9 @@
-use Rattle.std.proofs.Common.{arith}
-use Rattle.basics.specs.PlacedCopies.{copy_step, copy_end}
+-- `put_bytes` meets its contract: the slice has the bytes in the place of as many of its own.
+use Rattle.std.proofs.Common.{refl, arith}
+use Rattle.laws.specs.Numbers.Copied.{copied}
 use Rattle.printer.proofs.print.put_bytes.Goals as goal
 
-pub loop-i-preserved : goal.loop-i-preserved
-loop-i-preserved c = (omega arith, copy_step c.args.bytes.now c.loop-i.i c.loop-i.invariant.1 c.loop-i-test.true)
-
 pub returns : goal.returns
-returns c = copy_end c.args.bytes.now c.loop-i.i c.loop-i.invariant.1 c.loop-i-test.false
+returns c =
+    let a = c.args in
+    record { ends = refl; content = copied a.at _ a.out.now a.bytes.now _ c.copy_from_slice.ensures.after (omega arith) }

@@ -1,47 +1,45 @@
 -- `put_key_name` meets its contract: two writes for a word, two for a lone character.
-use Rattle.std.proofs.Common.{arith}
-use Rattle.spec.specs.Words.{key}
-use Rattle.basics.specs.Placed.{writing_start, writing_as, writing_room, writing_step, writing_last}
-use Rattle.spec.specs.JobAnswer.{decimal, hexadecimal, key_word_head, key_lone_head, key_name}
+use Rattle.std.proofs.Common.{◌≡◌, ◌++◌, ℕ, refl, arith}
+use Rattle.spec.specs.JobAnswer.{decimal, hexadecimal, key_name, key_word_head, key_lone_head}
 use Rattle.laws.specs.JobSheet.Printing.{word_name, lone_name, length_hexadecimal}
+use Rattle.layout.specs.declared.keys.Key.{Key}
+use Rattle.layout.specs.declared.keys.Key.TheVariants.{Word, Lone}
+use Rattle.layout.specs.Keys.{key_of}
+use Rattle.printer.proofs.Runs.{room_start, room_first, room_next, wrote_both}
 use Rattle.printer.proofs.print.put_key_name.Goals as goal
 
-pub put_bytes-number-requires : goal.put_bytes-number-requires
-put_bytes-number-requires c =
-    let at_word = writing_as (word_name c.args.value c.args.kind c.if-kind-eq0.true)
-    (writing_start (key_name (key c.args.kind c.args.value)) c.args.at c.args.out.now c.requires) in
-    writing_room key_word_head (decimal c.args.value) at_word
+word : {k : Key} {number : ℕ} → k ≡ Word number → key_name (key_of k) ≡ key_word_head ++ decimal number
+word {number} e = rw e (word_name number 0 refl)
+
+lone : {k : Key} {character : ℕ} → k ≡ Lone character → key_name (key_of k) ≡ key_lone_head ++ hexadecimal character
+lone {character} e = rw e (lone_name character 1 (λ n. omega (arith, n)))
+
+pub put_bytes-value-requires : goal.put_bytes-value-requires
+put_bytes-value-requires c =
+    let run = room_start (word c.in-Word.is) c.args.at c.args.out.now c.requires in
+    room_first key_word_head _ run
 
 pub put_decimal-requires : goal.put_decimal-requires
 put_decimal-requires c =
-    let at_word = writing_as (word_name c.args.value c.args.kind c.if-kind-eq0.true)
-    (writing_start (key_name (key c.args.kind c.args.value)) c.args.at c.args.out.now c.requires) in
-    let at_number = writing_step key_word_head (decimal c.args.value) at_word c.put_bytes-number.ensures in
-    at_number.room
+    let run = room_start (word c.in-Word.is) c.args.at c.args.out.now c.requires in
+    (room_next run c.put_bytes-value.ensures).room
 
-pub returns-then-kind-eq0 : goal.returns-then-kind-eq0
-returns-then-kind-eq0 c =
-    let at_word = writing_as (word_name c.args.value c.args.kind c.if-kind-eq0.true)
-    (writing_start (key_name (key c.args.kind c.args.value)) c.args.at c.args.out.now c.requires) in
-    let at_number = writing_step key_word_head (decimal c.args.value) at_word c.put_bytes-number.ensures in
-    writing_last _ at_number c.put_decimal.ensures
+pub returns-in-Word : goal.returns-in-Word
+returns-in-Word c =
+    let run = room_start (word c.in-Word.is) c.args.at c.args.out.now c.requires in
+    rw (word c.in-Word.is) (wrote_both run c.put_bytes-value.ensures c.put_decimal.ensures)
 
-pub put_bytes-character-requires : goal.put_bytes-character-requires
-put_bytes-character-requires c =
-    let at_lone = writing_as (lone_name c.args.value c.args.kind c.if-kind-eq0.false)
-    (writing_start (key_name (key c.args.kind c.args.value)) c.args.at c.args.out.now c.requires) in
-    writing_room key_lone_head (hexadecimal c.args.value) at_lone
+pub put_bytes-value-requires-in-Lone : goal.put_bytes-value-requires-in-Lone
+put_bytes-value-requires-in-Lone c =
+    let run = room_start (lone c.in-Lone.is) c.args.at c.args.out.now c.requires in
+    room_first key_lone_head _ run
 
 pub put_hexadecimal-requires : goal.put_hexadecimal-requires
 put_hexadecimal-requires c =
-    let at_lone = writing_as (lone_name c.args.value c.args.kind c.if-kind-eq0.false)
-    (writing_start (key_name (key c.args.kind c.args.value)) c.args.at c.args.out.now c.requires) in
-    let at_character = writing_step key_lone_head (hexadecimal c.args.value) at_lone c.put_bytes-character.ensures in
-    omega (arith, at_character.room, length_hexadecimal c.args.value)
+    let run = room_start (lone c.in-Lone.is) c.args.at c.args.out.now c.requires in
+    omega (arith, (room_next run c.put_bytes-value-in-Lone.ensures).room, length_hexadecimal c.in-Lone.character)
 
-pub returns : goal.returns
-returns c =
-    let at_lone = writing_as (lone_name c.args.value c.args.kind c.if-kind-eq0.false)
-    (writing_start (key_name (key c.args.kind c.args.value)) c.args.at c.args.out.now c.requires) in
-    let at_character = writing_step key_lone_head (hexadecimal c.args.value) at_lone c.put_bytes-character.ensures in
-    writing_last _ at_character c.put_hexadecimal.ensures
+pub returns-in-Lone : goal.returns-in-Lone
+returns-in-Lone c =
+    let run = room_start (lone c.in-Lone.is) c.args.at c.args.out.now c.requires in
+    rw (lone c.in-Lone.is) (wrote_both run c.put_bytes-value-in-Lone.ensures c.put_hexadecimal.ensures)

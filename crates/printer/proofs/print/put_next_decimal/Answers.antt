@@ -1,22 +1,23 @@
 -- `put_next_decimal` meets its contract: a run of two writes.
-use Rattle.std.proofs.Common.{◌++◌}
-use Rattle.basics.specs.Placed.{writing_start, writing_room, writing_step, writing_last}
+use Rattle.std.proofs.Common.{◌≡◌, ℕ, refl, ◌++◌}
 use Rattle.spec.specs.JobAnswer.{decimal, gap}
+use Rattle.printer.proofs.Runs.{room_start, room_first, room_next, wrote_both}
 use Rattle.printer.proofs.print.put_next_decimal.Goals as goal
+
+two : (n : ℕ) → gap ++ decimal n ≡ gap ++ decimal n
+two n = refl
 
 pub put_bytes-end-requires : goal.put_bytes-end-requires
 put_bytes-end-requires c =
-    let at_space = writing_start (gap ++ decimal c.args.n) c.args.at c.args.out.now c.requires in
-    writing_room gap (decimal c.args.n) at_space
+    let run = room_start (two c.args.n) c.args.at c.args.out.now c.requires in
+    room_first gap _ run
 
 pub put_decimal-requires : goal.put_decimal-requires
 put_decimal-requires c =
-    let at_space = writing_start (gap ++ decimal c.args.n) c.args.at c.args.out.now c.requires in
-    let at_number = writing_step gap (decimal c.args.n) at_space c.put_bytes-end.ensures in
-    at_number.room
+    let run = room_start (two c.args.n) c.args.at c.args.out.now c.requires in
+    (room_next run c.put_bytes-end.ensures).room
 
 pub returns : goal.returns
 returns c =
-    let at_space = writing_start (gap ++ decimal c.args.n) c.args.at c.args.out.now c.requires in
-    let at_number = writing_step gap (decimal c.args.n) at_space c.put_bytes-end.ensures in
-    writing_last _ at_number c.put_decimal.ensures
+    let run = room_start (two c.args.n) c.args.at c.args.out.now c.requires in
+    wrote_both run c.put_bytes-end.ensures c.put_decimal.ensures

@@ -1,41 +1,36 @@
 -- `line_list_good` meets its contract: for each return one law, whose tests the path has passed.
-use Rattle.std.proofs.Common.{◌-◌, drop}
+use Rattle.std.proofs.Common.{◌≡◌, ◌-◌, ◌≤◌, ◌∙◌, ℕ, List, length, take, drop, length-drop, length-take-le, arith}
 use Rattle.models.specs.Readability.{read_as}
-use mathlib.Core.Path.{◌∙◌}
-use native.Mathlib.Omega.{arith}
-use lib.ListN.{take}
 use Rattle.laws.specs.Readable.LineSteps.{positions_missing, positions_none, positions_there}
-use Rattle.laws.specs.Gaps.ReadLists.{good_gaps, good_positions, positions_only}
+use Rattle.laws.specs.Gaps.ReadLists.{good_only}
 use Rattle.readability.proofs.lists.line_list_good.Goals as goal
 
-pub returns-then-index-to : goal.returns-then-index-to
-returns-then-index-to c =
-    let a = c.args in
-    positions_missing (read_as a.as_gaps) a.index.now a.n a.len c.requires.1 c.if-index-to.true
+-- how many numbers a line has, where they are there
+count_there : (from to : ℕ) (xs : List ℕ) → from ≤ length xs → to ≤ length xs → length (take (to - from) (drop from xs)) ≡ to - from
+count_there from to xs start present = length-take-le (to - from) (drop from xs) (omega (arith, length-drop from xs))
 
-pub returns-then-to-from : goal.returns-then-to-from
-returns-then-to-from c =
+pub returns-then-index-line : goal.returns-then-index-line
+returns-then-index-line g c =
     let a = c.args in
-    positions_none (read_as a.as_gaps) a.index.now a.n a.len c.if-to-from.true
+    positions_missing (read_as g.F.ListForm.as_gaps) a.index.now a.n a.len c.requires.1 c.if-index-line.true
 
-pub returns-then-to-from-eq1 : goal.returns-then-to-from-eq1
-returns-then-to-from-eq1 c =
+pub returns-in-empty : goal.returns-in-empty
+returns-in-empty g c =
     let a = c.args in
-    rw c.number_at-only.ensures.0
-    (positions_only a.as_gaps a.index.now a.n a.len a.line.from c.if-to-from-eq1.true (omega arith))
+    let count = count_there a.line.from a.line.to a.index.now c.requires.1 c.if-index-line.false in
+    positions_none (read_as g.F.ListForm.as_gaps) a.index.now a.n a.len (omega arith)
 
-pub returns-then-as_gaps : goal.returns-then-as_gaps
-returns-then-as_gaps c =
+pub returns-in-len1 : goal.returns-in-len1
+returns-in-len1 g c =
     let a = c.args in
-    c.gaps_good.ensures
-    ∙ good_gaps a.as_gaps a.n a.len (take (a.line.to - a.line.from) (drop a.line.from a.index.now))
-    c.if-as_gaps.true
-    ∙ positions_there (read_as a.as_gaps) a.index.now a.n a.len (omega arith) (omega arith)
+    let list = take (a.line.to - a.line.from) (drop a.line.from a.index.now) in
+    let count = count_there a.line.from a.line.to a.index.now c.requires.1 c.if-index-line.false in
+    good_only g.F.ListForm.as_gaps a.n a.len list (omega arith)
+    ∙ positions_there (read_as g.F.ListForm.as_gaps) a.index.now a.n a.len (omega arith) c.if-index-line.false
 
-pub returns-else-as_gaps : goal.returns-else-as_gaps
-returns-else-as_gaps c =
+pub returns-in_default : goal.returns-in_default
+returns-in_default g c =
     let a = c.args in
-    c.positions_good.ensures
-    ∙ good_positions a.as_gaps a.n a.len (take (a.line.to - a.line.from) (drop a.line.from a.index.now))
-    c.if-as_gaps.false
-    ∙ positions_there (read_as a.as_gaps) a.index.now a.n a.len (omega arith) (omega arith)
+    let count = count_there a.line.from a.line.to a.index.now c.requires.1 c.if-index-line.false in
+    c.list_good.ensures
+    ∙ positions_there (read_as g.F.ListForm.as_gaps) a.index.now a.n a.len (omega arith) c.if-index-line.false

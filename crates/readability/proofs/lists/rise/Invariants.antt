@@ -1,11 +1,6 @@
 -- `rise` meets its contract. The invariant: all positions ascend exactly if those read do and those from i on ascend after the last read.
--- The measure is how many are left.
-use Rattle.std.proofs.Common.{length, ◌-◌}
 use Rattle.laws.specs.Readable.LineSteps.{Rises}
 use Rattle.readability.proofs.lists.rise.Given as goal
 
-abbrev pub invariant-loop-i : goal.invariant-loop-i
-invariant-loop-i l = Rises l.positions l.good l.last l.i
-
-abbrev pub decreases-loop-i : goal.decreases-loop-i
-decreases-loop-i l = length l.positions - l.i
+abbrev pub invariant-loop-position : goal.invariant-loop-position
+invariant-loop-position l = Rises l.positions l.good l.last l.position-index

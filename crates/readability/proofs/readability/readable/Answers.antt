@@ -9,21 +9,24 @@ use Rattle.laws.specs.Gaps.ReadLists.{read_keeps, header_missing, directory_miss
 use Rattle.readability.proofs.readability.readable.Goals as goal
 
 pub returns-then-index-lt-HEADER : goal.returns-then-index-lt-HEADER
-returns-then-index-lt-HEADER c =
-    let args = c.args in
-    header_missing (read_as args.as_gaps) (read_keeps args.as_gaps) longest_text (lexicon args.chars.now args.lengths.now)
-    args.index.now c.if-index-lt-HEADER.true
+returns-then-index-lt-HEADER g c =
+    let d = c.args.dictionary.now in
+    let b = g.F.ListForm.as_gaps in
+    header_missing (read_as b) (read_keeps b) longest_text (lexicon d.chars.now d.lengths.now)
+    c.args.index.now c.if-index-lt-HEADER.true
 
 pub returns-then-index-line_start : goal.returns-then-index-line_start
-returns-then-index-line_start c =
-    let args = c.args in
-    directory_missing (read_as args.as_gaps) (read_keeps args.as_gaps) longest_text (lexicon args.chars.now args.lengths.now)
-    args.index.now (omega arith)
+returns-then-index-line_start g c =
+    let d = c.args.dictionary.now in
+    let b = g.F.ListForm.as_gaps in
+    directory_missing (read_as b) (read_keeps b) longest_text (lexicon d.chars.now d.lengths.now)
+    c.args.index.now (omega arith)
 
 pub returns : goal.returns
-returns c =
-    let args = c.args in
+returns g c =
+    let d = c.args.dictionary.now in
+    let b = g.F.ListForm.as_gaps in
     c.lines_good.ensures
-    ∙ walk_tells (read_as args.as_gaps) (read_keeps args.as_gaps) longest_text (lexicon args.chars.now args.lengths.now)
-    args.index.now (omega (arith, word_count c.requires, c.requires.few)) (omega arith)
+    ∙ walk_tells (read_as b) (read_keeps b) longest_text (lexicon d.chars.now d.lengths.now)
+    c.args.index.now (omega (arith, word_count d.admitted, d.admitted.few)) (omega arith)
     (omega (arith, c.text_len.ensures.0))

@@ -1,11 +1,6 @@
--- `reconstruct_string` meets its contract. The invariant: the first i characters are written. The measure is how
--- many are left.
-use Rattle.std.proofs.Common.{length, ◌-◌}
+-- `reconstruct_string` meets its contract. The invariant: the first i characters are written.
 use Rattle.laws.specs.Receive.PositionWalk.{Setting}
 use Rattle.reconstruction.proofs.entries.reconstruct_string.Given as goal
 
 abbrev pub invariant-loop-i : goal.invariant-loop-i
 invariant-loop-i l = Setting l.string l.at l.initial.text l.text l.i
-
-abbrev pub decreases-loop-i : goal.decreases-loop-i
-decreases-loop-i l = length l.string - l.i

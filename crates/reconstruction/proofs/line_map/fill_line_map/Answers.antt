@@ -1,42 +1,21 @@
-use native.Mathlib.Omega.{arith}
-use Rattle.laws.specs.Numbers.DirectoryWalk.{IsLine, line_within, is_line}
-use Rattle.laws.specs.Receive.LineMapWalk.{mapping_start, mapping_room, mapping_step, mapping_end}
+use Rattle.std.proofs.Common.{arith}
+use Rattle.laws.specs.Receive.LineMapWalk.{mapping_room, mapping_step, mapping_end}
+use Rattle.layout.specs.Lists.{list_part}
 use Rattle.reconstruction.proofs.line_map.fill_line_map.Goals as goal
-
-pub loop-number-init : goal.loop-number-init
-loop-number-init c = mapping_start (omega arith)
-
-pub next_line-line-requires : goal.next_line-line-requires
-next_line-line-requires c =
-    line_within c.requires.fits (omega arith) c.loop-number.invariant.at_is
-
-pub offset_bounds-index-from : goal.offset_bounds-index-from
-offset_bounds-index-from c =
-    let line = c.next_line-line.result in
-    let here : IsLine c.args.index.now c.loop-number.number line.kind line.value line.from line.to =
-    is_line c.requires.fits (omega arith) c.loop-number.invariant.at_is c.next_line-line.ensures in
-    let l = here in omega arith
-
-pub slice_bounds-fill_at-end : goal.slice_bounds-fill_at-end
-slice_bounds-fill_at-end c =
-    let line = c.next_line-line.result in
-    let here : IsLine c.args.index.now c.loop-number.number line.kind line.value line.from line.to =
-    is_line c.requires.fits (omega arith) c.loop-number.invariant.at_is c.next_line-line.ensures in
-    let l = here in omega arith
 
 pub fill_at-requires : goal.fill_at-requires
 fill_at-requires c =
-    let line = c.next_line-line.result in
-    let here : IsLine c.args.index.now c.loop-number.number line.kind line.value line.from line.to =
-    is_line c.requires.fits (omega arith) c.loop-number.invariant.at_is c.next_line-line.ensures in
-    (mapping_room c.loop-number.invariant here c.requires, omega arith)
+    let step = rw c.loop-line.invariant.0 at c.in-Some.ensures.steps in (
+      rw (list_part step.0) (mapping_room c.loop-line.invariant.1 step.0.is c.requires),
+      omega (arith, step.1, step.0.is.below, c.type_inv.index 1),
+    )
 
-pub loop-number-preserved : goal.loop-number-preserved
-loop-number-preserved c =
-    let line = c.next_line-line.result in
-    let here : IsLine c.args.index.now c.loop-number.number line.kind line.value line.from line.to =
-    is_line c.requires.fits (omega arith) c.loop-number.invariant.at_is c.next_line-line.ensures in
-    mapping_step c.loop-number.invariant here c.fill_at.ensures
+pub loop-line-preserved : goal.loop-line-preserved
+loop-line-preserved c =
+    let step = rw c.loop-line.invariant.0 at c.in-Some.ensures.steps in
+    (step.2, rw step.3 (mapping_step c.loop-line.invariant.1 step.0.is (rw (list_part step.0, step.1) at c.fill_at.ensures)))
 
 pub returns : goal.returns
-returns c = mapping_end c.loop-number.invariant (omega arith)
+returns c =
+    let none = rw c.loop-line.invariant.0 at c.in-None.ensures.steps in
+    mapping_end c.loop-line.invariant.1 none

@@ -1,43 +1,33 @@
-use Rattle.models.specs.WordStarts.{lexicon_at}
-use Rattle.laws.specs.Numbers.DirectoryWalk.{IsLine}
-use native.Mathlib.Omega.{arith}
 use Rattle.basics.specs.Bools.{reflects_yes, reflects_no}
-use Rattle.laws.specs.Numbers.DirectoryWalk.{line_within, is_line}
-use Rattle.laws.specs.Receive.EntriesMatch.{matching_start, matching_step, matching_end, line_matches}
+use Rattle.laws.specs.Receive.EntriesMatch.{matching_step, matching_end, line_matches}
+use Rattle.dictionary.specs.Words.{lexicon_of}
+use Rattle.directory.specs.Directory.{directory_reads}
+use Rattle.layout.specs.Lists.{list_part}
 use Rattle.reconstruction.proofs.matches.entries_match.Goals as goal
 
-pub loop-number-init : goal.loop-number-init
-loop-number-init c = matching_start (omega arith)
-
-pub next_line-line-requires : goal.next_line-line-requires
-next_line-line-requires c =
-    line_within c.requires.reads.can.fits (omega arith) c.loop-number.invariant.at_is
+pub new-line-items-requires : goal.new-line-items-requires
+new-line-items-requires c = (directory_reads c.args.directory.now).can.fits
 
 pub line_stands-requires : goal.line_stands-requires
 line_stands-requires c =
-    let line = c.next_line-line.result in
-    let here : IsLine c.args.index.now c.loop-number.number line.kind line.value line.from line.to =
-    is_line c.requires.reads.can.fits (omega arith) c.loop-number.invariant.at_is c.next_line-line.ensures in
-    (c.requires, here)
+    let step = rw c.loop-line.invariant.0 at c.in-Some.ensures.steps in
+    record { len = c.requires; line_is = rw step.1 step.0 }
 
 pub returns-then-not-line_stands : goal.returns-then-not-line_stands
 returns-then-not-line_stands c =
-    let line = c.next_line-line.result in
-    let here : IsLine c.args.index.now c.loop-number.number line.kind line.value line.from line.to =
-    is_line c.requires.reads.can.fits (omega arith) c.loop-number.invariant.at_is c.next_line-line.ensures in
-    let a = c.args in
+    let step = rw c.loop-line.invariant.0 at c.in-Some.ensures.steps in
+    let stands = rw (list_part step.0, step.1) at c.line_stands.ensures in
     reflects_no
     (λ all.
-    c.line_stands.ensures.fails c.if-not-line_stands.true
-    (line_matches (lexicon_at a.chars.now a.word_starts.now) a.text.now here all))
+    stands.fails c.if-not-line_stands.true (line_matches (lexicon_of c.args.directory.now.words) c.args.text.now step.0.is all))
 
-pub loop-number-preserved : goal.loop-number-preserved
-loop-number-preserved c =
-    let line = c.next_line-line.result in
-    let here : IsLine c.args.index.now c.loop-number.number line.kind line.value line.from line.to =
-    is_line c.requires.reads.can.fits (omega arith) c.loop-number.invariant.at_is c.next_line-line.ensures in
-    matching_step c.loop-number.invariant here
-    (c.line_stands.ensures.holds c.if-not-line_stands.false)
+pub loop-line-preserved : goal.loop-line-preserved
+loop-line-preserved c =
+    let step = rw c.loop-line.invariant.0 at c.in-Some.ensures.steps in
+    let stands = rw (list_part step.0, step.1) at c.line_stands.ensures in
+    (step.2, rw step.3 (matching_step c.loop-line.invariant.1 step.0.is (stands.holds c.if-not-line_stands.false)))
 
 pub returns : goal.returns
-returns c = reflects_yes (matching_end c.loop-number.invariant (omega arith))
+returns c =
+    let none = rw c.loop-line.invariant.0 at c.in-None.ensures.steps in
+    reflects_yes (matching_end c.loop-line.invariant.1 none)

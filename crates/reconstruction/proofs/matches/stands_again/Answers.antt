@@ -17,8 +17,8 @@ returns-then-step-period c =
     (subst (λ (d : ℕ). Stand a.string.now a.text.now (a.position - d)) apart c.requires.2))
     (λ st. stand_part st (length a.string.now - a.period)) c.equal_from.ensures
 
-pub returns : goal.returns
-returns c =
+pub returns-else-step-period : goal.returns-else-step-period
+returns-else-step-period c =
     let a = c.args in
-    reflects_same c.equal_from-2.result (stand_all a.string.now a.text.now a.position (omega arith) c.requires.3)
-    (λ st. stand_part st 0) c.equal_from-2.ensures
+    reflects_same c.equal_from-else-step-period.result (stand_all a.string.now a.text.now a.position (omega arith) c.requires.3)
+    (λ st. stand_part st 0) c.equal_from-else-step-period.ensures

@@ -8,16 +8,15 @@ loop-at-init c = behind_start c.args.n
 pub step-next-requires : goal.step-next-requires
 step-next-requires c =
     let n = c.args.n in (
-      c.requires.0,
-      behind_chars n c.requires.2 c.loop-at.invariant c.requires.1,
-      behind_below n c.requires.2 c.loop-at.invariant c.loop-at-test.true,
-      behind_end_within n c.requires.2 c.loop-at.invariant,
+      behind_chars n c.requires.1 c.loop-at.invariant c.requires.0,
+      behind_below n c.requires.1 c.loop-at.invariant c.loop-at-test.true,
+      behind_end_within n c.requires.1 c.loop-at.invariant,
     )
 
 pub loop-at-preserved : goal.loop-at-preserved
 loop-at-preserved c =
-    behind_step c.args.n c.requires.2 c.loop-at.invariant c.step-next.result.end
+    behind_step c.args.n c.requires.1 c.loop-at.invariant c.step-next.result.end
     c.loop-at-test.true c.step-next.ensures.stepped
 
 pub returns-clause-tokens : goal.returns-clause-tokens
-returns-clause-tokens c = behind_tokens c.args.n c.requires.2 c.loop-at.invariant c.loop-at-test.false
+returns-clause-tokens c = behind_tokens c.args.n c.requires.1 c.loop-at.invariant c.loop-at-test.false

@@ -1,34 +1,26 @@
--- `line_has_key` meets its contract: one law for each return.
-use Rattle.laws.specs.Receive.Verify.{token_unmapped, lone_kind, lone_value, word_kind, word_value}
+-- `line_has_key` meets its contract: the line's kind and value are compared with those of the token's key.
+use Rattle.std.proofs.Common.{arith}
+use Rattle.std.proofs.lemmas.Grind.{common_steps}
+use Rattle.spec.specs.Words.{key, same_key}
+use Rattle.models.specs.Reception.{token_mapped, token_key}
 use Rattle.verification.proofs.verify.line_has_key.Goals as goal
 
-pub returns-then-mapped-eq0 : goal.returns-then-mapped-eq0
-returns-then-mapped-eq0 c =
-    let a = c.args in
-    token_unmapped a.index.now a.mapped a.token a.character c.if-mapped-eq0.true
+pub returns-in_default : goal.returns-in_default
+unfolding token_mapped
+returns-in_default c = grind (arith, common_steps, c.in_default.ensures)
 
-pub returns-then-kind-ne1 : goal.returns-then-kind-ne1
-returns-then-kind-ne1 c =
-    let a = c.args in
-    lone_kind a.index.now a.mapped a.token a.character c.if-mapped-eq0.false c.if-token-eq4097.true
-    (rw (← c.kind_at-kind.ensures.0) c.if-kind-ne1.true)
+pub returns-then-kind_at-eq1 : goal.returns-then-kind_at-eq1
+unfolding token_mapped token_key same_key key
+returns-then-kind_at-eq1 c = grind (arith, common_steps, c.in-Some.ensures)
 
-pub returns-then-token-eq4097 : goal.returns-then-token-eq4097
-returns-then-token-eq4097 c =
-    let a = c.args in
-    rw c.value_at-value.ensures.0
-    (lone_value a.index.now a.mapped a.token a.character c.if-mapped-eq0.false c.if-token-eq4097.true
-    (rw (← c.kind_at-kind.ensures.0) c.if-kind-ne1.false))
+pub returns-else-kind_at-eq1 : goal.returns-else-kind_at-eq1
+unfolding token_mapped token_key same_key key
+returns-else-kind_at-eq1 c = grind (arith, common_steps, c.in-Some.ensures)
 
-pub returns-then-kind-ne0 : goal.returns-then-kind-ne0
-returns-then-kind-ne0 c =
-    let a = c.args in
-    word_kind a.index.now a.mapped a.token a.character c.if-mapped-eq0.false c.if-token-eq4097.false
-    (rw (← c.kind_at-kind.ensures.0) c.if-kind-ne0.true)
+pub returns-then-kind_at-eq0 : goal.returns-then-kind_at-eq0
+unfolding token_mapped token_key same_key key
+returns-then-kind_at-eq0 c = grind (arith, common_steps, c.in-Some.ensures)
 
-pub returns : goal.returns
-returns c =
-    let a = c.args in
-    rw c.value_at-value.ensures.0
-    (word_value a.index.now a.mapped a.token a.character c.if-mapped-eq0.false c.if-token-eq4097.false
-    (rw (← c.kind_at-kind.ensures.0) c.if-kind-ne0.false))
+pub returns-else-kind_at-eq0 : goal.returns-else-kind_at-eq0
+unfolding token_mapped token_key same_key key
+returns-else-kind_at-eq0 c = grind (arith, common_steps, c.in-Some.ensures)

@@ -1,28 +1,33 @@
-use Rattle.std.proofs.Common.{◌+◌}
-use native.Mathlib.Omega.{arith}
+use Rattle.std.proofs.Common.{ℕ, subst, arith, eqb-true}
+use Rattle.std.proofs.lemmas.Bool.{eqb-false}
 use Rattle.basics.specs.Absent.{LowerIn, lower_next, lower_few}
+use Rattle.basics.specs.Member.{In, in_getD, member_index}
 use Rattle.zsearch.proofs.sentinel.sentinel_of.Goals as goal
 
-pub overflow_add-sentinel : goal.overflow_add-sentinel
-overflow_add-sentinel c =
-    let more : LowerIn c.args.string.now (c.loop-sentinel.sentinel + 1) =
-    lower_next c.args.string.now c.loop-sentinel.sentinel c.loop-sentinel.invariant
-    (c.has_char.ensures.holds c.loop-sentinel-test.true) in
-    omega (arith, lower_few c.args.string.now (c.loop-sentinel.sentinel + 1) more)
-
-pub loop-sentinel-smaller : goal.loop-sentinel-smaller
-loop-sentinel-smaller c =
-    let more : LowerIn c.args.string.now (c.loop-sentinel.sentinel + 1) =
-    lower_next c.args.string.now c.loop-sentinel.sentinel c.loop-sentinel.invariant
-    (c.has_char.ensures.holds c.loop-sentinel-test.true) in
-    omega (arith, lower_few c.args.string.now (c.loop-sentinel.sentinel + 1) more)
+pub returns-then-not-contains : goal.returns-then-not-contains
+returns-then-not-contains c =
+    let xs = c.args.string.now in
+    let g = c.loop-sentinel.sentinel-counter in
+    rw c.from.ensures (
+      record {
+        absent =
+            λ (m : In g xs).
+            let found = member_index g xs 0 m in
+            eqb-false _ _ (c.if-not-contains.ensures.cases found.0 0 (omega arith) found.1) found.2;
+        lower = c.loop-sentinel.invariant;
+      },
+      omega arith,
+    )
 
 pub loop-sentinel-preserved : goal.loop-sentinel-preserved
 loop-sentinel-preserved c =
-    lower_next c.args.string.now c.loop-sentinel.sentinel c.loop-sentinel.invariant (c.has_char.ensures.holds c.loop-sentinel-test.true)
+    let xs = c.args.string.now in
+    let found = c.if-not-contains.ensures.cases in
+    lower_next xs c.loop-sentinel.sentinel-counter c.loop-sentinel.invariant
+    (subst (λ (x : ℕ). In x xs) (eqb-true _ _ (found.2 0)) (in_getD xs found.0 0 found.1))
 
 pub returns : goal.returns
-returns c = (
-  record { absent = c.has_char.ensures.fails c.loop-sentinel-test.false; lower = c.loop-sentinel.invariant },
-  omega (arith, lower_few c.args.string.now c.loop-sentinel.sentinel c.loop-sentinel.invariant),
-)
+returns c =
+    let xs = c.args.string.now in
+    let all : LowerIn xs 256 = λ k b. c.loop-sentinel.invariant k (omega arith) in
+    (record { absent = λ (m : In 256 xs). omega (arith, lower_few xs 257 (lower_next xs 256 all m)); lower = all }, omega arith)

@@ -1,0 +1,2 @@
+-- What holds for the lines of a directory.
+pub mod Lines

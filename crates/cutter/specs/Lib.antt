@@ -1,0 +1,2 @@
+-- What holds for a flagged directory.
+pub mod Flags

@@ -1,0 +1,3 @@
+-- What holds for a directory.
+pub mod Directory
+pub mod Opening

@@ -1,0 +1,2 @@
+pub mod ChainHead
+pub mod CodeWalk

@@ -1,0 +1,2 @@
+pub mod Fives
+pub mod Lines

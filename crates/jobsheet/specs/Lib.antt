@@ -1,0 +1,2 @@
+-- What holds of calls whose refusal is ruled out.
+pub mod Accepted

@@ -1,0 +1,2 @@
+-- Where the scan of a text may step.
+pub mod Steps

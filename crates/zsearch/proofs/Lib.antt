@@ -1,0 +1,2 @@
+-- What the two walks of the Z-algorithm share.
+pub mod Walk
