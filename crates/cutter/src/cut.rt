@@ -49,7 +49,8 @@ fn cut_within<const KEYS: usize>(
     Ok(count)
 }
 
-// Cuts down an index, with the smallest array of flags that is long enough.
+// Cuts down an index, with the smallest array of flags that is long enough. Choices of a size are not shared with search: they would take
+// a closure, and of an output that it captures nothing would be known.
 fn cut_lines(directory: &Directory, string: &[u16], output: &mut [Number]) -> Result<usize, Refusal>
     requires { IsString string.now }
     ensures { Sized (cut_down (lexicon_of directory.now.words) directory.now.index.now string.now)

@@ -79,8 +79,8 @@ fn comes_before(left: &[u16], right: &[u16]) -> bool
     left.cmp(right).is_lt()
 }
 
-// Whether the word from `at` to `next` comes before the one from `next` to `end`. Codes that differ decide: two tests, as a `match` on their
-// `cmp` makes admission a third slower.
+// Whether the word from `at` to `next` comes before the one from `next` to `end`. Codes that differ decide: by two tests, since a `match`
+// on their `cmp` makes admission a third slower.
 fn neighbours_ascend(
     chars: &[u16],
     at: usize,

@@ -1,5 +1,5 @@
-// The directory of an opened index, and its postings, with the tables of starts that they go by. The tables are the same for every string: a
-// caller that searches for many fills them once.
+// The directory of an opened index, and its postings, with the tables of starts that they go by. The tables are the same for every string:
+// a caller that searches for many fills them once.
 ghost use Rattle.std.specs.Prelude.{◌≡◌, ◌≤◌, length};
 ghost use Rattle.spec.specs.Dictionary.{lexicon};
 ghost use Rattle.spec.specs.Index.{keys_of};

@@ -108,7 +108,8 @@ impl<'a> Iterator for Codes<'a> {
     }
 }
 
-// The positions of a chain that are left, each linked to the next one; the last is linked to 0.
+// The positions of a chain that are left, each linked to the next one; the last is linked to 0. Links lie in the work slice, two bytes
+// each, so none is an `Option`.
 #[derive(Drop)]
 pub(crate) struct Chain<'a> {
     pub(crate) links: &'a [Number],

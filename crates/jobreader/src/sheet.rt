@@ -56,6 +56,7 @@ fn read_forms(
         mut used,
         mut count,
     } = from;
+    // A `while`: as many forms as follow.
     while let Some(end) = form_end(sheet, at, head) {
         let next = put_string(&sheet[at..end], chars, used);
         lengths[count] = (next - used) as u16;

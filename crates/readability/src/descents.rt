@@ -1,9 +1,9 @@
 // Whether all position lists of an index ascend, by counting descents: positions that do not exceed the number before them.
 //
 // A list ascends from 1 exactly if it has no descent after a 0. So all lists ascend exactly if the only descents among all positions are
-// those to the first position of a list, and none of these is 0. The walk over the directory counts those, and one pass counts all. Lists
-// are short, and a loop for each list would cost a mispredicted branch where it ends; the pass has no branch that depends on a number and
-// compiles to vector instructions. A gap form is tested in the same way: its descents are the gaps that are 0.
+// those to the first position of a list, and none of these is 0. A walk over the directory can count those, and one pass counts all; no
+// walk calls the pass yet. Lists are short, and a loop for each list would cost a mispredicted branch where it ends; the pass has no branch
+// that depends on a number and compiles to vector instructions. A gap form is tested in the same way: its descents are the gaps that are 0.
 ghost use Rattle.std.specs.Prelude.{◌≡◌, ◌&&◌, ◌+◌, ◌*◌, ◌≤◌, ◌<◌, leb, eqb, length};
 ghost use Rattle.spec.specs.Index.{header, keys_of};
 ghost use Rattle.models.specs.Readability.{floor_of, one_if, descents};

@@ -51,6 +51,7 @@ struct Cursor {
 }
 
 // The first word from `from` on that does not start with a character below `value`, and whether it is `value` alone: no other word can be.
+// Both are wanted on every path, so no `Option`.
 fn seek(dictionary: &Dictionary, from: Cursor, value: usize) -> (Cursor, bool)
     requires { Passed dictionary.now.chars.now dictionary.now.lengths.now from.word from.at value }
     ensures { Passed dictionary.now.chars.now dictionary.now.lengths.now result.0.word result.0.at value ×
@@ -115,7 +116,8 @@ fn lone_lines<F: ListForm>(
     at == index.len()
 }
 
-// Whether all lines are good, and their positions are all that follows the directory.
+// Whether all lines are good, and their positions are all that follows the directory. The walks are no `Lines`: that the lengths fit is
+// what they test.
 pub(crate) fn lines_good<F: ListForm>(dictionary: &Dictionary, index: &[Number]) -> bool
     requires { (header ≤ length index.now) ×
         (header + 3 * keys_of index.now ≤ length index.now) }

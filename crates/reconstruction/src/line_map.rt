@@ -1,4 +1,4 @@
-// The line map: at each position, the number plus 1 of a directory line whose list has it.
+// The line map: at each position, the number plus 1 of a directory line whose list has it; 0 for no line, as it lies in the work slice.
 //
 // One walk over the directory with the positions of each line as it is reached. A line's number plus 1 fits a `Number`, since the count of
 // keys is one. The cost is one store a position.

@@ -3,7 +3,7 @@
 // A string's characters are `u16`s, as are today the numbers that a text reconstructed from an index lies as.
 ghost use Rattle.std.specs.Prelude.{◌≡◌, ℕ};
 
-// What the characters of a string are compared with.
+// What the characters of a string are compared with. `From` gives no `usize` of wider numbers.
 pub(crate) trait Symbol: Copy {
     ghost value: { Self → ℕ };
 
