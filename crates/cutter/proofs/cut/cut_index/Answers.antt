@@ -1,4 +1,5 @@
--- `cut_index` meets its contract: the call is refused, or the index, which is readable, is cut down for the replaced string, by its directory.
+-- `cut_index` meets its contract: the call is refused, or the index, which is readable, is cut down for the replaced string, by its
+-- directory.
 use Rattle.std.specs.Prelude.{◌≡◌, cond, List, ℕ}
 use Rattle.std.proofs.Math.Path.{sym}
 use native.Mathlib.Omega.{arith}

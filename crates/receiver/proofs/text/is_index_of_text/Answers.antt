@@ -31,8 +31,9 @@ module _ (n : ℕ) (text line_map more : List ℕ) (text_len : length text ≡ n
 
   -- the text is reconstructed and the line map filled in cleared parts of a work slice
   in_work :
-      {lex : Lexicon} {xs clear_text clear_map : List ℕ} (text_part map_part : List ℕ) → GoodLexicon lex → readable longest_text lex xs ≡ true →
-      n ≡ n_of xs → length text_part ≡ n → length map_part ≡ n → clear_text ≡ zeros text_part → clear_map ≡ zeros map_part →
+      {lex : Lexicon} {xs clear_text clear_map : List ℕ} (text_part map_part : List ℕ) →
+      GoodLexicon lex → readable longest_text lex xs ≡ true → n ≡ n_of xs →
+      length text_part ≡ n → length map_part ≡ n → clear_text ≡ zeros text_part → clear_map ≡ zeros map_part →
       text ≡ reconstruct lex (flat lex (lines_in xs)) clear_text → line_map ≡ fill_line_map 0 (lines_in xs) clear_map →
       InWork longest_text lex xs n (text ++ (line_map ++ more)) (text ++ (line_map ++ more))
   in_work {lex} {xs} text_part map_part good can is text_is map_is text_clear map_clear reconstructs maps =
