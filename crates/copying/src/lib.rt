@@ -1,4 +1,4 @@
-// Runs of characters compared, and characters written.
+// Runs of characters compared, and numbers and characters written.
 #![tactic(auto)]
 
 pub mod compare;

@@ -61,7 +61,9 @@ impl Window<'_> {
         self.highest = highest;
     }
 
-    // Extends the reach of the starts that the positions from index `from` to `to` - 1 fall on, which are those in the window.
+    // Extends the reach of the starts that the positions from index `from` to `to` - 1 fall on, which are those in the window. Within the
+    // function that extends a window, its loop would keep `highest` in memory.
+    #[inline(never)]
     fn extend_at_range(
         &mut self,
         positions: &[Number],

@@ -13,10 +13,11 @@ ghost use Rattle.spec.specs.Calls.{in_front};
 ghost use Rattle.laws.specs.Cut.ExactFlags.{ExactFlags, IsSize};
 ghost use Rattle.dictionary.specs.Words.{lexicon_of};
 
+use copying::slices::write_list;
 use directory::lines::Directory;
-use layout::fields::{line_start, text_len};
-use layout::lines::Lines;
-use layout::write::{Size, write_header, write_key};
+use layout::fields::{key_count, line_start, text_len};
+use layout::lines::{Line, Lines, next_line};
+use layout::write::{Size, write_header, write_line};
 use width::Number;
 
 // A directory with a flag for each of its lines: 1 where the line's key bears on the string, else 0.
@@ -34,12 +35,14 @@ impl<'a> Flagged<'a> {
         ensures { IsSize (lexicon_of self.now.directory.words) self.now.directory.index.now self.now.string.now result.keys
             result.entries }
     {
+        let index = self.directory.index;
         let mut keys = 0;
         let mut entries = 0;
-        for line in Lines::new(self.directory.index) {
-            if self.flags[line.number] != 0 {
+        // No `Lines`, which read each line: of lines that bear on nothing only the flag is read.
+        for line in 0..key_count(index) {
+            if self.flags[line] != 0 {
                 keys += 1;
-                entries += line.positions.len();
+                entries = next_line(index, line, entries).to;
             }
         }
         Size { keys, entries }
@@ -52,10 +55,18 @@ impl<'a> Flagged<'a> {
         ensures { output.new ≡ placed (directory (bearing (lexicon_of self.now.directory.words) self.now.string.now
             (lines_in self.now.directory.index.now))) header output.old }
     {
+        let index = self.directory.index;
         let mut keys = 0;
-        for line in Lines::new(self.directory.index) {
-            if self.flags[line.number] != 0 {
-                write_key(output, keys, line.key, line.positions.len());
+        for line in 0..key_count(index) {
+            if self.flags[line] != 0 {
+                // Counted from 0, its positions go to its count.
+                let Line {
+                    kind,
+                    value,
+                    to,
+                    ..
+                } = next_line(index, line, 0);
+                write_line(output, keys, kind, value, to);
                 keys += 1;
             }
         }
@@ -71,9 +82,8 @@ impl<'a> Flagged<'a> {
         let mut at = 0;
         for line in Lines::new(self.directory.index) {
             if self.flags[line.number] != 0 {
-                let end = at + line.positions.len();
-                part[at..end].copy_from_slice(line.positions);
-                at = end;
+                write_list(line.positions, at, part);
+                at += line.positions.len();
             }
         }
     }

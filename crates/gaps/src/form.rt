@@ -12,6 +12,7 @@ ghost use Rattle.laws.specs.Gaps.GapParts.{Writable};
 ghost use Rattle.laws.specs.Demands.GapCalls.{FormSays};
 
 use crate::writing::WrittenForm;
+use copying::slices::write_list;
 use layout::fields::{key_count, line_start};
 use readability::lists::{Gaps, Positions};
 use readability::readability::admit_as;
@@ -24,7 +25,7 @@ fn write_form<F: WrittenForm>(index: &[Number], form: &mut [Number])
     ensures { form.new ≡ with_lists (write_as F.as_gaps) index.now }
 {
     let first = line_start(key_count(index));
-    form[..first].copy_from_slice(&index[..first]);
+    write_list(&index[..first], 0, form);
     F::write_lists(index, first, &mut form[first..]);
 }
 

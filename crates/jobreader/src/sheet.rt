@@ -33,10 +33,10 @@ fn form_end(sheet: &[u8], at: usize, head: &[u8]) -> Option<usize>
 
 // Where reading goes on: the index of the next byte, and how many characters and forms are read so far.
 #[derive(Clone, Copy)]
-struct Cursor {
-    at: usize,
-    used: usize,
-    count: usize,
+pub struct Cursor {
+    pub at: usize,
+    pub used: usize,
+    pub count: usize,
 }
 
 // Reads all forms with this head that follow one another from a cursor on.

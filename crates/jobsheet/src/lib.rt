@@ -2,6 +2,6 @@
 #![tactic(auto)]
 
 pub mod answer;
-mod finds;
+pub mod finds;
 mod job;
-mod lines;
+pub mod lines;

@@ -32,7 +32,9 @@ impl<'a> Column for CharColumn<'a> {
     }
 }
 
-// The number of the last of the first `count` words that stands in the text at index `at`, if one does.
+// The number of the last of the first `count` words that stands in the text at index `at`, if one does. Inlined into the scan its loop
+// would have too few registers.
+#[inline(never)]
 pub(crate) fn find_last_standing(
     words: &Words,
     text: &[Number],
@@ -42,6 +44,9 @@ pub(crate) fn find_last_standing(
     requires { (at < length text.now) × (count ≤ length (lengths_of words.now.starts.now)) }
     ensures { LastStanding (lexicon_of words.now).words text.now (at + 1) count (plus_one result) }
 {
+    // Copied, so that the loop does not read the record's references again at each turn.
+    let words = *words;
+    let rest = &text[at..];
     let mut best = None;
     let mut low = 0;
     let mut high = count;
@@ -52,18 +57,18 @@ pub(crate) fn find_last_standing(
             best = Some(low);
             low += 1;
         } else {
-            if text.len() <= at + depth {
+            if rest.len() <= depth {
                 return best;
             }
-            let c = number_at(text, at + depth);
-            let column = CharColumn {
-                words: *words,
-                depth,
-            };
-            if column.at(low) != c || column.at(high - 1) != c {
-                low = lower_bound_after_ends(&column, low, high, c);
-                high = lower_bound_after_ends(&column, low, high, c + 1);
+            let c = number_at(rest, depth);
+            let column = CharColumn { words, depth };
+            // A turn of its own, so that it is compiled to a loop of its own, which reads the word's start and end once.
+            if column.at(low) == c && column.at(high - 1) == c {
+                depth += 1;
+                continue;
             }
+            low = lower_bound_after_ends(&column, low, high, c);
+            high = lower_bound_after_ends(&column, low, high, c + 1);
             depth += 1;
         }
     }

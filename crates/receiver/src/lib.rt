@@ -4,4 +4,4 @@
 mod form_keys;
 pub mod receive;
 pub mod recover;
-mod text;
+pub mod text;

@@ -2,7 +2,7 @@
 //
 // A local array is cleared when it is made, so the table that grows with the index comes in three sizes. The size is chosen here as for
 // a search of every position, without a shared function: nothing would be known of an output that a closure of the last step captures.
-ghost use Rattle.std.specs.Prelude.{◌≡◌, ◌^◌, ◌≤◌, unwrap_or};
+ghost use Rattle.std.specs.Prelude.{◌≡◌, ◌^◌, ◌≤◌, unwrap_or, IfOk, IfSome};
 ghost use Rattle.spec.specs.Replaced.{replaced};
 ghost use Rattle.spec.specs.Dictionary.{longest_text};
 ghost use Rattle.spec.specs.Index.{keys_of};
@@ -26,8 +26,9 @@ use width::{Number, Sum};
 // The first found position of a string as it is lent, which is replaced first, in a readable index with its tables of starts lent.
 fn first_tabled(postings: &Postings, string: &[u16]) -> Option<usize>
     requires { IsString string.now }
-    ensures { unwrap_or result 0 ≡ first_position (lexicon_of postings.now.directory.words) postings.now.directory.index.now
+    ensures position { unwrap_or result 0 ≡ first_position (lexicon_of postings.now.directory.words) postings.now.directory.index.now
         (replaced string.now) }
+    ensures onward { IfSome result (λ p. 1 ≤ p) }
 {
     let own = replaced_string(string);
     let starts = Starts::new(*postings, &own[..string.len()]);
@@ -37,7 +38,8 @@ fn first_tabled(postings: &Postings, string: &[u16]) -> Option<usize>
 // The first found position in an index of at most `KEYS` lines, with a local table of list starts.
 fn first_within<const KEYS: usize>(directory: &Directory, string: &[u16]) -> Option<usize>
     requires { IsString string.now × (keys_of directory.now.index.now ≤ KEYS) × (KEYS ≤ 2 ^ 32) }
-    ensures { unwrap_or result 0 ≡ first_position (lexicon_of directory.now.words) directory.now.index.now (replaced string.now) }
+    ensures position { unwrap_or result 0 ≡ first_position (lexicon_of directory.now.words) directory.now.index.now (replaced string.now) }
+    ensures onward { IfSome result (λ p. 1 ≤ p) }
 {
     let mut list_starts: [Sum; KEYS] = [0; KEYS];
     let postings = postings_of(*directory, &mut list_starts);
@@ -47,7 +49,8 @@ fn first_within<const KEYS: usize>(directory: &Directory, string: &[u16]) -> Opt
 // The first found position in a readable index, with the smallest table of list starts that is long enough.
 fn first_lines(directory: &Directory, string: &[u16]) -> Option<usize>
     requires { IsString string.now }
-    ensures { unwrap_or result 0 ≡ first_position (lexicon_of directory.now.words) directory.now.index.now (replaced string.now) }
+    ensures position { unwrap_or result 0 ≡ first_position (lexicon_of directory.now.words) directory.now.index.now (replaced string.now) }
+    ensures onward { IfSome result (λ p. 1 ≤ p) }
 {
     let keys = key_count(directory.index);
     if keys <= 1024 {
@@ -66,7 +69,8 @@ pub fn first_index(
     index: &[Number],
     string: &[u16],
 ) -> Result<Option<u32>, Refusal>
-    ensures { FirstSays longest_text chars.now lengths.now index.now string.now (first_answer_of result) }
+    ensures says { FirstSays longest_text chars.now lengths.now index.now string.now (first_answer_of result) }
+    ensures onward { IfOk result (λ found. IfSome found (λ p. 1 ≤ p)) }
 {
     let opened = open_index(chars, lengths, index)?;
     check_string(string)?;

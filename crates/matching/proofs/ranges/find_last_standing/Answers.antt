@@ -1,14 +1,13 @@
-use Rattle.std.proofs.Common.{◌≡◌, ◌+◌, ◌<◌, ◌≤◌, get_or, ℕ, ◌-◌, List}
+use Rattle.std.proofs.Common.{◌≡◌, ◌+◌, ◌<◌, ◌≤◌, get_or, get_or-drop, take, take_all, drop, length, length-drop, ℕ, ◌-◌, List}
 use Rattle.models.specs.WordStarts.{lexicon_at}
-use Rattle.laws.specs.Match.Columns.{Column, column}
+use Rattle.laws.specs.Match.Columns.{Column}
 use mathlib.Core.Path.{ap, sym, ◌∙◌}
 use native.Mathlib.Omega.{arith}
-use Rattle.basics.specs.LowerBound.{LowerBound, bound_first, bound_last, rising_part}
+use Rattle.basics.specs.LowerBound.{bound_first, bound_last, rising_part}
 use Rattle.models.specs.WordStarts.{word_len}
 use Rattle.laws.specs.Match.Columns.{run_known, run_hit, run_deep, run_column, run_stop, run_step}
 use Rattle.laws.specs.Match.MatchTable.{Started, many_words}
 use Rattle.laws.specs.Match.PrefixRanges.{PrefixRange, prefix_range_start}
-use Rattle.matching.proofs.ranges.find_last_standing.Goals.{then-at-c, else-at-c+else-at-c-2}
 use Rattle.matching.proofs.ranges.find_last_standing.Goals as goal
 
 -- the first word of the range has more characters, by its length n that the code reads
@@ -21,6 +20,13 @@ next_column :
     n ≡ word_len ws lo → (n ≡ d → ⊥) → Column cs ws lo hi d
 next_column t h some is more = run_column t h some (other is more)
 
+-- the character at this depth of what is left of the text is the text's own, its position counted from 1
+next : (ts : List ℕ) (at d : ℕ) {c : ℕ} → c ≡ get_or (take (length ts - at) (drop at ts)) d 0 → c ≡ get_or ts (at + 1 + d - 1) 0
+next ts at d is =
+    let position : at + d ≡ at + 1 + d - 1 = omega arith in
+    let whole = take_all (length ts - at) (drop at ts) (omega (arith, length-drop at ts)) in
+    is ∙ ap (λ (l : List ℕ). get_or l d 0) whole ∙ get_or-drop at ts d 0 ∙ ap (λ (i : ℕ). get_or ts i 0) position
+
 pub loop-low-init : goal.loop-low-init
 loop-low-init c = prefix_range_start (omega (arith, many_words c.args.words.now.started)) (omega arith) (omega arith)
 
@@ -32,8 +38,8 @@ loop-low-preserved-then-word_len-depth c =
     run_hit c.args.words.now.started c.loop-low.invariant c.loop-low-test.true
     (sym c.word_len.ensures.0 ∙ c.if-word_len-depth.true)
 
-pub returns-then-text-at : goal.returns-then-text-at
-returns-then-text-at c =
+pub returns-then-rest-depth : goal.returns-then-rest-depth
+returns-then-rest-depth c =
     run_stop c.args.words.now.started c.loop-low.invariant c.loop-low-test.true (other c.word_len.ensures.0 c.if-word_len-depth.false)
     (omega arith)
 
@@ -43,8 +49,8 @@ at-requires c =
     next_column c.args.words.now.started c.loop-low.invariant c.loop-low-test.true c.word_len.ensures.0 c.if-word_len-depth.false in
     (omega (arith, words.known), words.room c.loop-low.low (omega arith) (omega arith))
 
-pub at-requires-else-at-c : goal.at-requires-else-at-c
-at-requires-else-at-c c =
+pub at-requires-then-at-c : goal.at-requires-then-at-c
+at-requires-then-at-c c =
     let words =
     next_column c.args.words.now.started c.loop-low.invariant c.loop-low-test.true c.word_len.ensures.0 c.if-word_len-depth.false in
     (omega (arith, words.known), words.room (c.loop-low.high - 1) (omega arith) (omega arith))
@@ -65,33 +71,24 @@ lower_bound_after_ends-high-requires c =
       rising = rising_part words.rising found.from found.to;
     }
 
-pub loop-low-smaller : goal.loop-low-smaller
-loop-low-smaller c =
+pub loop-low-smaller-then-at-c-2 : goal.loop-low-smaller-then-at-c-2
+loop-low-smaller-then-at-c-2 c =
     let deep : c.loop-low.depth < 32 =
     run_deep c.args.words.now.started c.loop-low.invariant c.loop-low-test.true (other c.word_len.ensures.0 c.if-word_len-depth.false) in
-    let within : (c.loop-low.low ≤ c.if-at-c.low) × (c.if-at-c.high ≤ c.loop-low.high) =
-    elim c.if-at-c.branch [ then-at-c w ↦ (omega arith, omega arith) | else-at-c+else-at-c-2 w ↦ (omega arith, omega arith) ] in
-    omega (arith, within.0, within.1)
+    omega (arith, deep)
 
-pub loop-low-preserved : goal.loop-low-preserved
-loop-low-preserved c =
-    let chars = column c.args.words.now.chars.now c.args.words.now.starts.now c.loop-low.depth in
-    let next : c.number_at-c.result ≡ get_or c.args.text.now (c.args.at + 1 + c.loop-low.depth - 1) 0 =
-    let position : c.args.at + c.loop-low.depth ≡ c.args.at + 1 + c.loop-low.depth - 1 = omega arith in
-    c.number_at-c.ensures.0 ∙ ap (λ (i : ℕ). get_or c.args.text.now i 0) position in
+pub loop-low-preserved-then-at-c-2 : goal.loop-low-preserved-then-at-c-2
+loop-low-preserved-then-at-c-2 c =
     let rising =
     (next_column c.args.words.now.started c.loop-low.invariant c.loop-low-test.true c.word_len.ensures.0
     c.if-word_len-depth.false).rising in
-    let bounds : LowerBound chars c.loop-low.low c.loop-low.high c.number_at-c.result c.if-at-c.low ×
-    LowerBound chars c.if-at-c.low c.loop-low.high (c.number_at-c.result + 1) c.if-at-c.high =
-    elim c.if-at-c.branch [
-      | then-at-c w ↦
-          rw (w.low-is, w.high-is) (w.lower_bound_after_ends-low.ensures, w.lower_bound_after_ends-high.ensures)
-      | else-at-c+else-at-c-2 w ↦
-          rw (w.low-is, w.high-is) (
-            bound_first rising c.number_at-c.result (omega arith) (omega arith),
-            bound_last rising (c.number_at-c.result + 1) (omega arith) (omega arith),
-          )
-    ] in
     run_step c.args.words.now.started c.loop-low.invariant c.loop-low-test.true (other c.word_len.ensures.0 c.if-word_len-depth.false)
-    next (omega arith) bounds.0 bounds.1
+    (next c.args.text.now c.args.at c.loop-low.depth c.number_at-c.ensures.0) (omega arith)
+    (bound_first rising c.number_at-c.result (omega arith) (omega arith))
+    (bound_last rising (c.number_at-c.result + 1) (omega arith) (omega arith))
+
+pub loop-low-preserved : goal.loop-low-preserved
+loop-low-preserved c =
+    run_step c.args.words.now.started c.loop-low.invariant c.loop-low-test.true (other c.word_len.ensures.0 c.if-word_len-depth.false)
+    (next c.args.text.now c.args.at c.loop-low.depth c.number_at-c.ensures.0) (omega arith)
+    c.lower_bound_after_ends-low.ensures c.lower_bound_after_ends-high.ensures

@@ -1,23 +1,23 @@
-use Rattle.std.proofs.Common.{arith}
-use Rattle.laws.specs.Cut.ExactFlags.{counting_step, counting_pass, counting_end}
-use Rattle.layout.specs.Lists.{list_count}
+use Rattle.std.proofs.Common.{arith, refl}
+use Rattle.laws.specs.Cut.ExactFlags.{counting_start, counting_step, counting_pass, counting_end}
 use Rattle.cutter.specs.Flags.{flagged_lines}
 use Rattle.cutter.proofs.cutting.Flagged.size.Goals as goal
+use Rattle.cutter.proofs.cutting.Flagged.size.Goals.{then-self-line-ne0, else-self-line-ne0}
 
-pub new-line-items-requires : goal.new-line-items-requires
-new-line-items-requires c = (flagged_lines c.args.self.now).fits
+pub key_count-line-end-requires : goal.key_count-line-end-requires
+key_count-line-end-requires c = omega (arith, (flagged_lines c.args.self.now).fits)
 
-pub loop-line-preserved-then-self-line-ne0 : goal.loop-line-preserved-then-self-line-ne0
-loop-line-preserved-then-self-line-ne0 c =
-    let step = rw c.loop-line.invariant.0 at c.in-Some.ensures.steps in
-    (step.2, rw step.3 (counting_step c.loop-line.invariant.1 step.0.is.below (rw step.1 at c.if-self-line-ne0.true) (list_count step.0)))
+pub loop-line-init : goal.loop-line-init
+loop-line-init c = counting_start (flagged_lines c.args.self.now)
 
 pub loop-line-preserved : goal.loop-line-preserved
 loop-line-preserved c =
-    let step = rw c.loop-line.invariant.0 at c.in-Some.ensures.steps in
-    (step.2, rw step.3 (counting_pass c.loop-line.invariant.1 step.0.is.below (rw step.1 at c.if-self-line-ne0.false)))
+    elim c.if-self-line-ne0.branch [
+      | then-self-line-ne0 w ↦ rw (w.keys-is, w.entries-is, w.next_line-entries.ensures.to_is)
+          (counting_step c.loop-line.invariant (omega arith) w.if-self-line-ne0.true refl)
+      | else-self-line-ne0 w ↦ rw (w.keys-is, w.entries-is)
+          (counting_pass c.loop-line.invariant (omega arith) w.if-self-line-ne0.false)
+    ]
 
 pub returns : goal.returns
-returns c =
-    let none = rw c.loop-line.invariant.0 at c.in-None.ensures.steps in
-    counting_end c.loop-line.invariant.1 none (omega arith)
+returns c = counting_end c.loop-line.invariant (omega arith) (omega arith)
