@@ -31,14 +31,16 @@ pub struct Positions;
 // Numbers that add up to the positions.
 pub struct Gaps;
 
-// Whether positions, of which there are some, ascend strictly from 1 or more. The loop has no number that is carried from turn to turn.
+// Whether positions ascend strictly from 1 or more.
 fn rise(positions: &[Number]) -> bool
-    requires { 1 ≤ length positions.now }
     ensures { result ≡ rise_from 1 positions.now }
 {
-    let mut good = 0 < positions[0];
-    for pair in positions.windows(2) {
-        good &= pair[0] < pair[1];
+    let mut good = true;
+    let mut last: Number = 0;
+    for i in 0..positions.len() {
+        let position = positions[i];
+        good &= last < position;
+        last = position;
     }
     good
 }
