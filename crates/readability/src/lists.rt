@@ -31,18 +31,20 @@ pub struct Positions;
 // Numbers that add up to the positions.
 pub struct Gaps;
 
-// Whether positions ascend strictly from 1 or more.
+// Whether positions ascend strictly from 1 or more. Descents, positions that do not exceed the one before, are counted, which takes fewer
+// instructions than a flag.
 fn rise(positions: &[Number]) -> bool
+    requires { length positions.now ≤ greatest_number }
     ensures { result ≡ rise_from 1 positions.now }
 {
-    let mut good = true;
+    let mut descents: Number = 0;
     let mut last: Number = 0;
     for i in 0..positions.len() {
         let position = positions[i];
-        good &= last < position;
+        descents += Number::from(position <= last);
         last = position;
     }
-    good
+    descents == 0
 }
 
 impl ListForm for Positions {

@@ -1,4 +1,4 @@
-use Rattle.std.proofs.Common.{◌≡◌, ◌+◌, ◌<◌, ◌≤◌, get_or, get_or-drop, take, take_all, drop, length, length-drop, ℕ, ◌-◌, List}
+use Rattle.std.proofs.Common.{◌≡◌, ◌+◌, ◌<◌, get_or, get_or-drop, take, take_all, drop, length, length-drop, ℕ, ◌-◌, List}
 use Rattle.models.specs.WordStarts.{lexicon_at}
 use Rattle.laws.specs.Match.Columns.{Column}
 use mathlib.Core.Path.{ap, sym, ◌∙◌}
