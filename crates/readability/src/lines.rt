@@ -73,7 +73,9 @@ fn seek(dictionary: &Dictionary, from: Cursor, value: usize) -> (Cursor, bool)
     (Cursor { word, at }, false)
 }
 
-// Whether the lines from `from` on are good, where only lone characters may follow; the positions of the first start at `start`.
+// Whether the lines from `from` on are good, where only lone characters may follow; the positions of the first start at `start`. Inlined,
+// its loop over a list would cross a boundary of 64 bytes, and take longer.
+#[inline(never)]
 fn lone_lines<F: ListForm>(
     dictionary: &Dictionary,
     index: &[Number],
