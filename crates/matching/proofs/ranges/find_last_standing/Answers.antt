@@ -3,7 +3,7 @@ use Rattle.models.specs.WordStarts.{lexicon_at}
 use Rattle.laws.specs.Match.Columns.{Column}
 use mathlib.Core.Path.{ap, sym, ◌∙◌}
 use native.Mathlib.Omega.{arith}
-use Rattle.basics.specs.LowerBound.{bound_first, bound_last, rising_part}
+use Rattle.basics.specs.LowerBound.{bound_first, bound_last}
 use Rattle.models.specs.WordStarts.{word_len}
 use Rattle.laws.specs.Match.Columns.{run_known, run_hit, run_deep, run_column, run_stop, run_step}
 use Rattle.laws.specs.Match.MatchTable.{Started, many_words}
@@ -55,21 +55,16 @@ at-requires-then-at-c c =
     next_column c.args.words.now.started c.loop-low.invariant c.loop-low-test.true c.word_len.ensures.0 c.if-word_len-depth.false in
     (omega (arith, words.known), words.room (c.loop-low.high - 1) (omega arith) (omega arith))
 
-pub lower_bound_after_ends-low-requires : goal.lower_bound_after_ends-low-requires
-lower_bound_after_ends-low-requires c =
+pub char_range-requires-clause-readable : goal.char_range-requires-clause-readable
+char_range-requires-clause-readable c =
     let words =
     next_column c.args.words.now.started c.loop-low.invariant c.loop-low-test.true c.word_len.ensures.0 c.if-word_len-depth.false in
-    record { readable = λ i a b. (omega (arith, words.known), words.room i a b); rising = words.rising }
+    λ i a b. (omega (arith, words.known), words.room i a b)
 
-pub lower_bound_after_ends-high-requires : goal.lower_bound_after_ends-high-requires
-lower_bound_after_ends-high-requires c =
-    let words =
-    next_column c.args.words.now.started c.loop-low.invariant c.loop-low-test.true c.word_len.ensures.0 c.if-word_len-depth.false in
-    let found = c.lower_bound_after_ends-low.ensures in
-    record {
-      readable = λ i a b. (omega (arith, words.known), words.room i (omega (arith, found.from)) b);
-      rising = rising_part words.rising found.from found.to;
-    }
+pub char_range-requires-clause-rising : goal.char_range-requires-clause-rising
+char_range-requires-clause-rising c =
+    (next_column c.args.words.now.started c.loop-low.invariant c.loop-low-test.true c.word_len.ensures.0
+    c.if-word_len-depth.false).rising
 
 pub loop-low-smaller-then-at-c-2 : goal.loop-low-smaller-then-at-c-2
 loop-low-smaller-then-at-c-2 c =
@@ -91,4 +86,4 @@ pub loop-low-preserved : goal.loop-low-preserved
 loop-low-preserved c =
     run_step c.args.words.now.started c.loop-low.invariant c.loop-low-test.true (other c.word_len.ensures.0 c.if-word_len-depth.false)
     (next c.args.text.now c.args.at c.loop-low.depth c.number_at-c.ensures.0) (omega arith)
-    c.lower_bound_after_ends-low.ensures c.lower_bound_after_ends-high.ensures
+    c.char_range.ensures.0 c.char_range.ensures.1
