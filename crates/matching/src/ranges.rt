@@ -3,13 +3,13 @@
 // Words are sorted, so those that share d characters with the text are neighbours, and binary search finds the equal range of those that
 // share the next one. The cost is bounded by the longest word times the logarithm of k, however many words begin alike. Where the first
 // and the last word of a range have the text's character, as nearly always after the first few, so have all, and nothing is searched.
-ghost use Rattle.std.specs.Prelude.{◌≡◌, ◌+◌, ◌≤◌, ◌<◌, ℕ, length, get_or};
-ghost use Rattle.basics.specs.LowerBound.{LowerBound, Rising};
+ghost use Rattle.std.specs.Prelude.{◌≡◌, ◌+◌, ◌≤◌, ◌<◌, length, get_or};
+ghost use Rattle.basics.specs.LowerBound.{LowerBound};
 ghost use Rattle.spec.specs.Index.{greatest_number};
 ghost use Rattle.models.specs.WordStarts.{lengths_of};
 ghost use Rattle.dictionary.specs.Words.{lexicon_of};
 ghost use Rattle.laws.specs.Match.PrefixRanges.{LastStanding};
-ghost use Rattle.laws.specs.Match.Columns.{column};
+ghost use Rattle.laws.specs.Match.Columns.{Column as IsColumn, column};
 ghost use Rattle.matching.specs.Answers.{plus_one};
 
 use bisect::{Column, lower_bound_after_ends};
@@ -38,9 +38,7 @@ impl<'a> Column for CharColumn<'a> {
 // since its caller seldom needs it, and then has registers for the loop that it needs at each position.
 #[inline(never)]
 fn char_range(words: &Words, depth: usize, low: usize, high: usize, c: usize) -> (usize, usize)
-    requires readable { (i : ℕ) → low ≤ i → i < high →
-        (i < length words.now.starts.now) × (get_or words.now.starts.now i 0 + depth < length words.now.chars.now) }
-    requires rising { Rising (column words.now.chars.now words.now.starts.now depth) low high }
+    requires letters { IsColumn words.now.chars.now words.now.starts.now low high depth }
     requires character { c ≤ greatest_number }
     ensures { LowerBound (column words.now.chars.now words.now.starts.now depth) low high c result.0 ×
         LowerBound (column words.now.chars.now words.now.starts.now depth) result.0 high (c + 1) result.1 }

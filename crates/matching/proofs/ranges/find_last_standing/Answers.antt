@@ -55,16 +55,9 @@ at-requires-then-at-c c =
     next_column c.args.words.now.started c.loop-low.invariant c.loop-low-test.true c.word_len.ensures.0 c.if-word_len-depth.false in
     (omega (arith, words.known), words.room (c.loop-low.high - 1) (omega arith) (omega arith))
 
-pub char_range-requires-clause-readable : goal.char_range-requires-clause-readable
-char_range-requires-clause-readable c =
-    let words =
-    next_column c.args.words.now.started c.loop-low.invariant c.loop-low-test.true c.word_len.ensures.0 c.if-word_len-depth.false in
-    λ i a b. (omega (arith, words.known), words.room i a b)
-
-pub char_range-requires-clause-rising : goal.char_range-requires-clause-rising
-char_range-requires-clause-rising c =
-    (next_column c.args.words.now.started c.loop-low.invariant c.loop-low-test.true c.word_len.ensures.0
-    c.if-word_len-depth.false).rising
+pub char_range-requires-clause-letters : goal.char_range-requires-clause-letters
+char_range-requires-clause-letters c =
+    next_column c.args.words.now.started c.loop-low.invariant c.loop-low-test.true c.word_len.ensures.0 c.if-word_len-depth.false
 
 pub loop-low-smaller-then-at-c-2 : goal.loop-low-smaller-then-at-c-2
 loop-low-smaller-then-at-c-2 c =
